@@ -1,0 +1,10 @@
+use Rattle.history_core.proofs.Prefixes.{legal_consistent}
+use Rattle.history_core.proofs.Offers.{some_permitted}
+use Rattle.history_core.proofs.laws.legal_laws.Goals as goal
+
+pub returns : goal.returns
+returns c = record {
+  formed = λ level events legal. legal.formed;
+  consistent = legal_consistent;
+  permitted = λ level events session cell legal pending. some_permitted level events session cell legal pending;
+}

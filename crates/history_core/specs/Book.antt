@@ -1,0 +1,104 @@
+-- A book: one session's way to a history that others may add to as well.
+use Rattle.std.specs.Prelude.{◌≡◌, ◌≢◌, ◌<◌, ℕ, ℤ, List, [], ◌∷◌, ◌++◌, length, All, Contains, Option}
+use Rattle.cell_base.specs.declared.cell.Cell.{Cell}
+use Rattle.cell_base.specs.declared.value.Value.{Value}
+use Rattle.cell_base.specs.declared.value.Value.TheVariants.{Unset, Wide}
+use Rattle.sql_tree.specs.declared.table.Table.{Table}
+use Rattle.history_core.specs.declared.event.Event.{Event}
+use Rattle.history_core.specs.declared.event.Event.TheVariants.{Define, Look, Read}
+use Rattle.history_core.specs.declared.fault.DefineAnswer.{DefineAnswer}
+use Rattle.history_core.specs.declared.fault.DefineAnswer.TheVariants.{Defined, Taken}
+use Rattle.history_core.specs.Events.{session_in, names, table_of}
+use Rattle.history_core.specs.Chronicle.{Chronicle}
+
+-- where the session of a book stands: none is open; one is open with nothing pending; its transaction is pending, with these writes so far
+pub data Seat : Type 0 where
+  away : Seat
+  seated : ℕ → Seat
+  pending : ℕ → List (Cell × Value) → Seat
+
+-- the history that a book has seen, the events that it made itself, and where its session stands
+pub record Past : Type 0 where
+  pub seen : Chronicle
+  pub own : List Event
+  pub seat : Seat
+
+abbrev pub IsSeated : Seat → Type 0
+IsSeated away = ⊥
+IsSeated (seated s) = Unit {0}
+IsSeated (pending s writes) = Unit {0}
+
+abbrev pub IsIdle : Seat → Type 0
+IsIdle away = ⊥
+IsIdle (seated s) = Unit {0}
+IsIdle (pending s writes) = ⊥
+
+abbrev pub IsInTransaction : Seat → Type 0
+IsInTransaction away = ⊥
+IsInTransaction (seated s) = ⊥
+IsInTransaction (pending s writes) = Unit {0}
+
+-- the number of the session, where one is open
+abbrev pub session_of : Seat → ℕ
+session_of away = 0
+session_of (seated s) = s
+session_of (pending s writes) = s
+
+-- what the pending transaction wrote, in order
+abbrev pub writes_of : Seat → List (Cell × Value)
+writes_of away = []
+writes_of (seated s) = []
+writes_of (pending s writes) = writes
+
+-- the pending transaction has not written the cell
+abbrev pub IsUnwritten : Cell → Seat → Type 0
+IsUnwritten cell seat = All (λ write. write.0 ≢ cell) (writes_of seat)
+
+-- the table of the cell is defined, as the book has seen it
+abbrev pub HasTable : Past → ℕ → Type 0
+HasTable past table = table < length past.seen.tables
+
+-- neither unset nor wide
+abbrev pub IsStorable : Value → Type 0
+IsStorable value = (value ≢ Unset) × ((wide : ℤ) → value ≢ Wide wide)
+
+-- the history goes on with the events of others
+pub record GoesOn (old new : Past) : Type 0 where
+  pub level : new.seen.level ≡ old.seen.level
+  pub others : List Event
+  pub seen : new.seen.events ≡ old.seen.events ++ others
+  pub foreign : All (λ e. session_in e ≢ session_of old.seat) others
+  pub more : List Table
+  pub tables : new.seen.tables ≡ old.seen.tables ++ more
+  pub own : new.own ≡ old.own
+  pub seat : new.seat ≡ old.seat
+
+-- others may go on, and then just this event is added
+pub record Adds (old : Past) (event : Event) (new : Past) : Type 0 where
+  pub level : new.seen.level ≡ old.seen.level
+  pub others : List Event
+  pub seen : new.seen.events ≡ old.seen.events ++ others ++ event ∷ []
+  pub foreign : All (λ e. session_in e ≢ session_in event) others
+  pub more : List Table
+  pub tables : new.seen.tables ≡ old.seen.tables ++ more
+  pub own : new.own ≡ old.own ++ event ∷ []
+
+-- a read of the cell is added, with some source and count, which hold what the history's level permits
+pub record AddsRead (old : Past) (cell : Cell) (word : ℕ) (value : Value) (new : Past) : Type 0 where
+  pub source : ℕ
+  pub count : ℕ
+  pub adds : Adds old (Read (session_of old.seat) cell source count word value) new
+
+-- the tables from a number on, as they are then, and their number
+pub record AnswersTables (old : Past) (known : ℕ) (tables : List Table) (new : Past) : Type 0 where
+  pub before : List Table
+  pub whole : new.seen.tables ≡ before ++ tables
+  pub known_is : length before ≡ known
+  pub adds : Adds old (Look (session_of old.seat) (length new.seen.tables)) new
+
+-- a definition, or a look where the name is taken
+abbrev pub AnswersDefine : Past → Table → DefineAnswer → Past → Type 0
+AnswersDefine old table (Defined n) new =
+    (before : List Table) × (new.seen.tables ≡ before ++ table ∷ []) × (length before ≡ n) × Adds old (Define (session_of old.seat) table.name) new
+AnswersDefine old table (Taken n) new =
+    (n ≡ length new.seen.tables) × Contains (names new.seen.events) table.name × Adds old (Look (session_of old.seat) n) new

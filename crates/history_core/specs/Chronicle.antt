@@ -1,0 +1,42 @@
+-- A history as its readers see it: the level, the events, and one table for each definition.
+use Rattle.std.specs.Prelude.{◌≡◌, ◌≤◌, ◌==◌, ℕ, sum_by, List, [], ◌∷◌, ◌++◌, length, map, filter, All}
+use Rattle.cell_base.specs.declared.level.Level.{Level}
+use Rattle.sql_tree.specs.declared.table.Table.{Table}
+use Rattle.sql_tree.specs.Sound.{IsSound}
+use Rattle.history_core.specs.declared.event.Event.{Event}
+use Rattle.history_core.specs.declared.event.Event.TheVariants.{Define, Scan}
+use Rattle.history_core.specs.Events.{key_bytes, names, session_in}
+use Rattle.history_core.specs.Legal.{IsFormed, IsLegal}
+
+pub record Chronicle : Type 0 where
+  pub level : Level
+  pub events : List Event
+  pub tables : List Table
+
+-- the tables are those that the events define, in order, and each is sound
+pub record KeepsTables (history : Chronicle) : Type 0 where
+  pub named : map (λ t. t.name) history.tables ≡ names history.events
+  pub sound : All IsSound history.tables
+
+-- a history in which each event fits what came before
+pub record IsFormedChronicle (history : Chronicle) : Type 0 where
+  pub formed : IsFormed history.events
+  pub tables : KeepsTables history
+
+-- a history whose reads were also offered exactly what the level permits
+pub record IsLegalChronicle (history : Chronicle) : Type 0 where
+  pub legal : IsLegal history.level history.events
+  pub tables : KeepsTables history
+
+-- the history followed by the event
+abbrev pub followed_by : Chronicle → Event → Chronicle
+followed_by history event = record history { events = history.events ++ event ∷ [] }
+
+-- the history followed by the definition of the table
+abbrev pub with_table : Chronicle → ℕ → Table → Chronicle
+with_table history session table =
+    record history { events = history.events ++ Define session table.name ∷ []; tables = history.tables ++ table ∷ [] }
+
+-- the events of one session, in order
+abbrev pub own_events : List Event → ℕ → List Event
+own_events events session = filter (λ e. session_in e == session) events

@@ -1,0 +1,6 @@
+pub mod Events
+pub mod Transactions
+pub mod Relations
+pub mod Legal
+pub mod Chronicle
+pub mod Book

@@ -1,0 +1,116 @@
+// A book: one session's way to a history.
+use crate::{BookFault, DefineAnswer};
+use cell_base::{Cell, Items, Value};
+use sql_tree::Table;
+
+/// One session's way to a history, which others may add to as well. Each call adds just the event of its name behind
+/// what others added, and a call that is refused adds none; a definition of a name that is taken adds a look.
+/// A call answers `Full` exactly where the history is full for it, tested in the order load, name, count, memory.
+pub trait Book {
+    ghost use Rattle.std.specs.Prelude.{◌≡◌, ◌≢◌, ◌≤◌, ◌<◌, [], ◌∷◌, ◌++◌, ℕ, length, Some, IfOk, OnOk, OnErr, Contains};
+    ghost use Rattle.sql_tree.specs.Sound.{IsSound};
+    ghost use Rattle.history_core.specs.declared.event.Event.TheVariants as events;
+    ghost use Rattle.history_core.specs.declared.fault.Limit.{Limit};
+    ghost use Rattle.history_core.specs.declared.fault.Limit.TheVariants as limits;
+    ghost use Rattle.history_core.specs.Events.{table_of, begun, names};
+    ghost use Rattle.history_core.specs.Legal.{full_for, full_load};
+    ghost use Rattle.history_core.specs.Chronicle.{IsLegalChronicle};
+    ghost use Rattle.history_core.specs.Book.{Past, Seat, away, seated, pending, IsSeated, IsIdle, IsInTransaction, IsUnwritten, IsStorable, HasTable, session_of, writes_of, GoesOn, Adds, AddsRead, AnswersTables, AnswersDefine};
+
+    /// The history seen, the own events, and where the session stands.
+    ghost past: { Self → Past };
+
+    /// What no call changes, as the lock and the way to it.
+    ghost stays: { Self → Self → Type 0 };
+
+    /// Starts a session and answers its number.
+    fn open(&mut self) -> Result<u32, BookFault>
+        requires { (past self.old).seat ≡ away }
+        ensures ok { IfOk result (λ s. Adds (past self.old) (events.Open s) (past self.new)) }
+        ensures seat { IfOk result (λ s. (past self.new).seat ≡ seated s) }
+        ensures err { OnErr result (GoesOn (past self.old) (past self.new)) }
+        ensures full { (limit : Limit) → result ≡ Err (BookFault.Full limit) → full_for (past self.new).seen.events (events.Open 0) ≡ Some limit }
+        ensures stays { stays self.old self.new };
+
+    /// Ends the session. Takes no memory.
+    fn close(&mut self)
+        requires { IsIdle (past self.old).seat }
+        ensures adds { Adds (past self.old) (events.Close (session_of (past self.old).seat)) (past self.new) }
+        ensures seat { (past self.new).seat ≡ away }
+        ensures stays { stays self.old self.new };
+
+    /// Looks at the tables, and answers those from the number `known` on.
+    fn look(&mut self, known: u32) -> Result<Items<Table>, BookFault>
+        requires open { IsSeated (past self.old).seat }
+        requires known { known ≤ length (past self.old).seen.tables }
+        ensures ok { IfOk result (λ tables. AnswersTables (past self.old) known tables (past self.new)) }
+        ensures seat { (past self.new).seat ≡ (past self.old).seat }
+        ensures err { OnErr result (GoesOn (past self.old) (past self.new)) }
+        ensures full { (limit : Limit) → result ≡ Err (BookFault.Full limit) → full_load (past self.new).seen.events ≡ Some limit }
+        ensures stays { stays self.old self.new };
+
+    /// Defines a table, or looks where its name is taken.
+    fn define(&mut self, table: &Table) -> Result<DefineAnswer, BookFault>
+        requires open { IsSeated (past self.old).seat }
+        requires sound { IsSound table.now }
+        ensures ok { IfOk result (λ answer. AnswersDefine (past self.old) table.now answer (past self.new)) }
+        ensures seat { (past self.new).seat ≡ (past self.old).seat }
+        ensures err { OnErr result (GoesOn (past self.old) (past self.new)) }
+        ensures full { (limit : Limit) → result ≡ Err (BookFault.Full limit) → full_for (past self.new).seen.events (events.Define 0 table.now.name) ≡ Some limit }
+        ensures load_first { (limit : Limit) → limit ≢ limits.Load → result ≡ Err (BookFault.Full limit) → ¬ (Contains (names (past self.new).seen.events) table.now.name) }
+        ensures stays { stays self.old self.new };
+
+    /// Starts a transaction and answers its number.
+    fn begin(&mut self) -> Result<u32, BookFault>
+        requires { IsIdle (past self.old).seat }
+        ensures ok { IfOk result (λ n. Adds (past self.old) (events.Begin (session_of (past self.old).seat)) (past self.new)) }
+        ensures number { IfOk result (λ n. n ≡ begun (past self.new).seen.events) }
+        ensures seat { OnOk result ((past self.new).seat ≡ pending (session_of (past self.old).seat) []) }
+        ensures err { OnErr result (GoesOn (past self.old) (past self.new)) }
+        ensures full { (limit : Limit) → result ≡ Err (BookFault.Full limit) → full_for (past self.new).seen.events (events.Begin 0) ≡ Some limit }
+        ensures stays { stays self.old self.new };
+
+    /// Reads a cell that the pending transaction hasn't written: the committed write that the word picks of those that the
+    /// level permits.
+    fn read(&mut self, cell: &Cell, word: u32) -> Result<Value, BookFault>
+        requires pending { IsInTransaction (past self.old).seat }
+        requires unwritten { IsUnwritten cell.now (past self.old).seat }
+        requires defined { HasTable (past self.old) (table_of cell.now) }
+        ensures ok { IfOk result (λ value. AddsRead (past self.old) cell.now word value (past self.new)) }
+        ensures seat { (past self.new).seat ≡ (past self.old).seat }
+        ensures err { OnErr result (GoesOn (past self.old) (past self.new)) }
+        ensures full { (limit : Limit) → result ≡ Err (BookFault.Full limit) → full_load (past self.new).seen.events ≡ Some limit }
+        ensures stays { stays self.old self.new };
+
+    /// Writes a cell. The write is seen by others once the transaction has committed.
+    fn write(&mut self, cell: Cell, value: Value) -> Result<(), BookFault>
+        requires pending { IsInTransaction (past self.old).seat }
+        requires storable { IsStorable value }
+        requires defined { HasTable (past self.old) (table_of cell) }
+        ensures ok { OnOk result (Adds (past self.old) (events.Write (session_of (past self.old).seat) cell value) (past self.new)) }
+        ensures seat { OnOk result ((past self.new).seat ≡ pending (session_of (past self.old).seat) (writes_of (past self.old).seat ++ (cell, value) ∷ [])) }
+        ensures err { OnErr result (GoesOn (past self.old) (past self.new)) }
+        ensures full { (limit : Limit) → result ≡ Err (BookFault.Full limit) → full_load (past self.new).seen.events ≡ Some limit }
+        ensures stays { stays self.old self.new };
+
+    /// Commits the pending transaction. Takes no memory and always succeeds.
+    fn commit(&mut self)
+        requires { IsInTransaction (past self.old).seat }
+        ensures adds { Adds (past self.old) (events.Commit (session_of (past self.old).seat)) (past self.new) }
+        ensures seat { (past self.new).seat ≡ seated (session_of (past self.old).seat) }
+        ensures stays { stays self.old self.new };
+
+    /// Rolls the pending transaction back. Takes no memory and always succeeds.
+    fn rollback(&mut self)
+        requires { IsInTransaction (past self.old).seat }
+        ensures adds { Adds (past self.old) (events.Rollback (session_of (past self.old).seat)) (past self.new) }
+        ensures seat { (past self.new).seat ≡ seated (session_of (past self.old).seat) }
+        ensures stays { stays self.old self.new };
+
+    /// The history seen is legal: each read was offered exactly what the level permits.
+    ghost legal: { (book : Self) → IsLegalChronicle (past book).seen };
+
+    ghost stays_same: { (book : Self) → stays book book };
+
+    ghost stays_trans: { (a b c : Self) → stays a b → stays b c → stays a c };
+}
