@@ -1,0 +1,3 @@
+pub mod Faults
+pub mod Traffic
+pub mod Host
