@@ -85,9 +85,8 @@ impl<K: Logged> TurnLock<K> {
         ensures new { result ≡ split_off pass.old }
         ensures whole { IsWholeIn K.key pass.new.seen pass.new }
     {
-        Pass {
-            seat: self.table.shared.split_seat::<SplitOff>(&mut pass.seat),
-        }
+        let seat = self.table.shared.split_seat::<SplitOff>(&mut pass.seat);
+        Pass { seat }
     }
 
     /// Takes in what the other pass has seen, its own list, the lists that it keeps, and its parts. It doesn't
