@@ -1,0 +1,114 @@
+//! Threads that take turns at a turn lock.
+ghost use Rattle.std.specs.Prelude.{◌≡◌, ◌≤◌};
+ghost use Rattle.turn_lock.specs.Passes.{PassValue};
+
+use crate::crowd::Crowd;
+use std::alloc::Global;
+use std::sync::Wait;
+use std::thread::{Threads, join};
+use turn_lock::{Logged, Pass, Turn, TurnLock};
+
+// A number that threads count up. It stands for no entries.
+#[derive(Drop)]
+struct Tally {
+    count: u64,
+}
+
+impl Logged for Tally {
+    type Entry = ();
+
+    ghost use Rattle.std.specs.Prelude.{[]};
+
+    ghost entries = { λ _. [] };
+
+    ghost key = { λ _. 0 };
+}
+
+// The call that is measured: it counts one.
+struct Tick;
+
+impl Turn<Tally> for Tick {
+    type Answer = ();
+
+    ghost use Rattle.std.specs.Prelude.{◌≡◌, ◌+◌, ◌%◌, ◌^◌};
+
+    ghost needs = { λ _ _. Unit {0} };
+
+    ghost does = { λ _ x _ y. y.count ≡ (x.count + 1) % 2 ^ 64 };
+
+    fn run(self, state: &mut Tally) {
+        let Tick = self;
+        state.count = state.count.wrapping_add(1);
+    }
+}
+
+fn in_one<R: Wait>(rt: &R, lock: &TurnLock<Tally>, mut pass: Pass<Tally>, turns: u32) -> Pass<Tally>
+    requires { pass.lock ≡ lock.now.table }
+    ensures { (result.lock ≡ pass.lock) × (result.parts ≡ pass.parts) }
+{
+    for _ in 0..turns {
+        lock.with_turn(rt, &mut pass, Tick);
+    }
+    pass
+}
+
+fn in_two<R: Threads + Wait + Sync>(
+    rt: &R,
+    lock: &TurnLock<Tally>,
+    mut pass: Pass<Tally>,
+    turns: u32,
+) -> Pass<Tally>
+    requires { (pass.lock ≡ lock.now.table) × (2 ≤ pass.parts) }
+    ensures { (result.lock ≡ pass.lock) × (result.parts ≡ pass.parts) }
+{
+    let other = lock.split(&mut pass);
+    let (mut pass, other) = join(
+        rt,
+        || in_one(rt, lock, pass, turns),
+        || in_one(rt, lock, other, turns),
+    );
+    lock.join(&mut pass, other);
+    pass
+}
+
+fn in_four<R: Threads + Wait + Sync>(
+    rt: &R,
+    lock: &TurnLock<Tally>,
+    mut pass: Pass<Tally>,
+    turns: u32,
+) -> Pass<Tally>
+    requires { (pass.lock ≡ lock.now.table) × (4 ≤ pass.parts) }
+    ensures { (result.lock ≡ pass.lock) × (result.parts ≡ pass.parts) }
+{
+    let mut other = lock.split(&mut pass);
+    // A second part, since the other pass will be split too.
+    let part = lock.split(&mut pass);
+    lock.join(&mut other, part);
+    let (mut pass, other) = join(
+        rt,
+        ||
+            requires { (pass.lock ≡ lock.now.table) × (2 ≤ pass.parts) }
+        { in_two(rt, lock, pass, turns) },
+        ||
+            requires { (other.lock ≡ lock.now.table) × (2 ≤ other.parts) }
+        { in_two(rt, lock, other, turns) },
+    );
+    lock.join(&mut pass, other);
+    pass
+}
+
+/// Each thread takes that many turns, and the answer is how many were counted. `None` where memory is wanting.
+pub fn count_turns<R: Threads + Wait + Sync>(
+    rt: &R,
+    alloc: Global,
+    crowd: Crowd,
+    turns: u32,
+) -> Option<u64> {
+    let (lock, pass) = TurnLock::new(alloc, Tally { count: 0 }).ok()?;
+    let pass = match crowd {
+        Crowd::One => in_one(rt, &lock, pass, turns),
+        Crowd::Two => in_two(rt, &lock, pass, turns),
+        Crowd::Four => in_four(rt, &lock, pass, turns),
+    };
+    Some(lock.close(pass).count)
+}

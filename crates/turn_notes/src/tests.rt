@@ -1,0 +1,124 @@
+// What no clause says: that all turns come, and that no note is added besides.
+ghost use Rattle.std.specs.Prelude.{◌≡◌, ◌+◌, ◌<◌, ◌≤◌, []};
+
+use super::*;
+use std::alloc::Global;
+use std::process::Abort;
+use std::sync::Wait;
+use std::test::Fail;
+use std::thread::{Threads, join};
+use turn_lock::{Pass, TurnLock};
+
+// Of each number, the notes have the values from 0 to `count` - 1 in order, and there are no others.
+fn check_notes<R: Abort>(rt: &R, notes: &[Note], numbers: &[u64], count: u64) {
+    let mut others = notes.len();
+    for by in numbers {
+        let mut next = 0u64;
+        for note in notes {
+            if note.by == *by {
+                assert_eq!(rt; note.value, next);
+                next = next.wrapping_add(1);
+                others = others.wrapping_sub(1);
+            }
+        }
+        assert_eq!(rt; next, count);
+    }
+    assert_eq!(rt; others, 0);
+}
+
+#[test]
+fn two_threads_add_a_hundred_each(rt: HostRuntime) -> Result<(), Fail> {
+    let (notes, a, b) = two_writers(&rt, rt.alloc(), 100).ok_or("memory")?;
+    assert_eq!(rt; notes.as_slice().len(), 200);
+    check_notes(&rt, notes.as_slice(), &[a, b], 100);
+    Ok(())
+}
+
+// So many that the threads meet, and one has to wake the other.
+#[test]
+fn a_waiting_thread_is_woken(rt: HostRuntime) -> Result<(), Fail> {
+    let (notes, a, b) = two_writers(&rt, rt.alloc(), 20_000).ok_or("memory")?;
+    assert_eq!(rt; notes.as_slice().len(), 40_000);
+    check_notes(&rt, notes.as_slice(), &[a, b], 20_000);
+    Ok(())
+}
+
+// Writes in two threads. The second pass takes in the first.
+fn write_in_two<R: Threads + Wait + Sync>(
+    rt: &R,
+    lock: &TurnLock<Notes>,
+    first: Pass<Notes>,
+    second: Pass<Notes>,
+    count: u64,
+) -> (Pass<Notes>, Option<(u64, u64)>)
+    requires lock { (first.lock ≡ lock.now.table) × (second.lock ≡ lock.now.table) }
+    requires fresh { (first.own ≡ []) × (second.own ≡ []) × (0 < count) }
+    ensures lock { result.0.lock ≡ lock.now.table }
+    ensures parts { result.0.parts ≡ first.parts + second.parts }
+{
+    let ((first, a), (mut second, b)) = join(
+        rt,
+        || write(rt, lock, first, count),
+        || write(rt, lock, second, count),
+    );
+    lock.join(&mut second, first);
+    (second, a.zip(b))
+}
+
+// Splits the pass twice, and writes in three threads. The first pass takes in the others again.
+fn write_in_three<R: Threads + Wait + Sync>(
+    rt: &R,
+    lock: &TurnLock<Notes>,
+    mut first: Pass<Notes>,
+    count: u64,
+) -> (Pass<Notes>, Option<(u64, (u64, u64))>)
+    requires lock { first.lock ≡ lock.now.table }
+    requires parts { 3 ≤ first.parts }
+    requires fresh { (first.own ≡ []) × (0 < count) }
+    ensures lock { result.0.lock ≡ lock.now.table }
+    ensures parts { result.0.parts ≡ first.parts }
+{
+    let second = lock.split(&mut first);
+    let third = lock.split(&mut first);
+    let ((mut first, a), (third, b)) = join(
+        rt,
+        || write(rt, lock, first, count),
+        ||
+            requires { (second.lock ≡ lock.now.table) × (third.lock ≡ lock.now.table)
+                × (second.own ≡ []) × (third.own ≡ []) × (0 < count) }
+        { write_in_two(rt, lock, second, third, count) },
+    );
+    lock.join(&mut first, third);
+    (first, a.zip(b))
+}
+
+// Four threads, of which one splits its pass for two more. The pass that was split off first takes in the others.
+fn four_writers<R: Threads + Wait + Sync>(
+    rt: &R,
+    alloc: Global,
+    count: u64,
+) -> Option<(Notes, [u64; 4])>
+    requires { 0 < count }
+{
+    let (lock, mut first) = TurnLock::new(alloc, Notes::new(alloc)).ok()?;
+    let second = lock.split(&mut first);
+    let ((first, three), (mut second, last)) = join(
+        rt,
+        ||
+            requires { (first.lock ≡ lock.table) × (3 ≤ first.parts) × (first.own ≡ []) × (0 < count) }
+        { write_in_three(rt, &lock, first, count) },
+        || write(rt, &lock, second, count),
+    );
+    lock.join(&mut second, first);
+    let notes = lock.close(second);
+    let (a, (b, c)) = three?;
+    Some((notes, [a, b, c, last?]))
+}
+
+#[test]
+fn four_threads_split_inside_and_join_in_another_order(rt: HostRuntime) -> Result<(), Fail> {
+    let (notes, numbers) = four_writers(&rt, rt.alloc(), 5_000).ok_or("memory")?;
+    assert_eq!(rt; notes.as_slice().len(), 20_000);
+    check_notes(&rt, notes.as_slice(), &numbers, 5_000);
+    Ok(())
+}
