@@ -1,10 +1,10 @@
 -- Lists with one closure; the closure as least transitive relation and as chain.
-use Rattle.std.proofs.Common.{◌≡◌, ℕ, List, [], ◌∷◌, ◌++◌, Bool, refl, subst, inl, inr, ◌↔◌}
+use Rattle.std.proofs.Common.{◌≡◌, ℕ, ◌<◌, List, [], ◌∷◌, ◌++◌, Bool, refl, subst, inl, inr, ◌↔◌}
 use Rattle.std.specs.Prelude.{IsTrue}
 use Rattle.std.specs.List.{Contains}
-use Rattle.std.proofs.lemmas.List.Elements.{Contains-append_cases, Contains-append_right}
+use Rattle.std.proofs.lemmas.List.Elements.{Contains-append_cases, Contains-append_right, All-contains}
 use Rattle.graph_base.specs.declared.Edge.{Edge}
-use Rattle.graph_base.specs.Walk.{IsWalk, HasCycle, Leads, Reaches}
+use Rattle.graph_base.specs.Walk.{IsInRange, IsWalk, HasCycle, Leads, Reaches}
 use Rattle.graph_base.specs.Closure.{IsChain, Chained, HasEdge, SameClosure, HoldsOfEdges, IsTransitive}
 use Rattle.graph_base.proofs.Walks.{leads_on, leads_from_reaches, reaches_edge, reaches_on, reaches_kept, reaches_from_cycle, cycle_from_reaches}
 
@@ -100,3 +100,28 @@ reaches_from_chain edges a (middle ∷ middles) b (member, rest) =
 pub reaches_is_chain : (edges : List Edge) (a b : ℕ) → Reaches edges a b ↔ Chained (HasEdge edges) a b
 reaches_is_chain edges a b =
     (λ on. chain_from_walk edges a on.first on.walk b on.is, λ chain. reaches_from_chain edges a chain.middles b chain.is)
+
+-- ---- numbers below a size
+
+pub walk_in_range :
+    (size : ℕ) (edges : List Edge) → IsInRange size edges → (a : ℕ) (walk : List Edge) (b : ℕ) → a < size →
+    IsWalk edges a walk b → b < size
+walk_in_range size edges in_range a [] b small same = subst (λ (n : ℕ). n < size) same small
+walk_in_range size edges in_range a (e ∷ walk) b small (begins, member, rest) =
+    let ends = All-contains (λ e. (e.before < size) × (e.after < size)) edges e in_range member in
+    walk_in_range size edges in_range e.after walk b ends.1 rest
+
+-- what reaches and what is reached stands in some edge
+pub reaches_in_range :
+    (size : ℕ) (edges : List Edge) → IsInRange size edges → (a b : ℕ) → Reaches edges a b → (a < size) × (b < size)
+reaches_in_range size edges in_range a b on =
+    let is = on.is in
+    let ends = All-contains (λ e. (e.before < size) × (e.after < size)) edges on.first in_range is.1 in
+    ( subst (λ (n : ℕ). n < size) is.0 ends.0
+    , walk_in_range size edges in_range on.first.after on.walk b ends.1 is.2)
+
+-- lists with the same edges
+pub same_members : (xs ys : List Edge) → ((e : Edge) → Contains xs e ↔ Contains ys e) → SameClosure xs ys
+same_members xs ys same a b =
+    ( reaches_mapped xs ys (λ e member. reaches_edge ys e ((same e).0 member)) a b
+    , reaches_mapped ys xs (λ e member. reaches_edge xs e ((same e).1 member)) a b)
