@@ -20,49 +20,52 @@ use Rattle.reach_rows.proofs.Closing.{AreRowsOf, closed_rows_of, closed_from, sa
 pub carries_union :
     (owner before : ℕ) (gained old new : List ℕ) → (owner ≡ before) ⊎ Contains old before → IsUnion old gained new →
     Carries owner before gained old new
-carries_union owner before gained old new leads union n =
-    ( λ member. elim ((union n).0 member) [ | inl is ↦ inl is | inr more ↦ inr (leads, more) ]
-    , λ either. elim either [ | inl is ↦ (union n).1 (inl is) | inr over ↦ (union n).1 (inr over.1) ])
+carries_union owner before gained old new leads union n = (
+  λ member. elim ((union n).0 member) [ inl is ↦ inl is | inr more ↦ inr (leads, more) ],
+  λ either. elim either [ inl is ↦ (union n).1 (inl is) | inr over ↦ (union n).1 (inr over.1) ],
+)
 
 pub carries_none :
     (owner before : ℕ) (gained old : List ℕ) → ((owner ≡ before) ⊎ Contains old before → ⊥) → Carries owner before gained old old
 carries_none owner before gained old apart n =
-    (λ member. inl member, λ either. elim either [ | inl is ↦ is | inr over ↦ absurd (apart over.0) ])
+    (λ member. inl member, λ either. elim either [ inl is ↦ is | inr over ↦ absurd (apart over.0) ])
 
 -- a row of what the owner reaches, carried over an edge
 pub carried_row :
     (edges : List Edge) (e : Edge) (owner : ℕ) (gained old new : List ℕ) →
     ((n : ℕ) → Contains old n ↔ Reaches edges owner n) → ((n : ℕ) → Contains gained n ↔ Leads edges e.after n) →
     Carries owner e.before gained old new → (n : ℕ) → Contains new n ↔ Reaches (edges ++ e ∷ []) owner n
-carried_row edges e owner gained old new old_is gained_is carries n =
-    ( λ member. elim ((carries n).0 member) [
-        | inl is ↦ reaches_kept edges (e ∷ []) owner n ((old_is n).0 is)
-        | inr over ↦
-            let to : (owner ≡ e.before) ⊎ Reaches edges owner e.before =
-              elim over.0 [ | inl same ↦ inl same | inr leads ↦ inr ((old_is e.before).0 leads) ] in
-            reaches_pushed edges e owner n (inr (leads_from_cases edges owner e.before to, (gained_is n).0 over.1))
-      ]
-    , λ on. elim (reaches_push edges e owner n on) [
-        | inl is ↦ (carries n).1 (inl ((old_is n).1 is))
-        | inr over ↦
-            let to : (owner ≡ e.before) ⊎ Contains old e.before =
-              elim (leads_cases edges owner e.before over.0) [ | inl same ↦ inl same | inr leads ↦ inr ((old_is e.before).1 leads) ] in
-            (carries n).1 (inr (to, (gained_is n).1 over.1))
-      ])
+carried_row edges e owner gained old new old_is gained_is carries n = (
+  λ member. elim ((carries n).0 member) [
+    | inl is ↦ reaches_kept edges (e ∷ []) owner n ((old_is n).0 is)
+    | inr over ↦
+        let to : (owner ≡ e.before) ⊎ Reaches edges owner e.before =
+        elim over.0 [ inl same ↦ inl same | inr leads ↦ inr ((old_is e.before).0 leads) ] in
+        reaches_pushed edges e owner n (inr (leads_from_cases edges owner e.before to, (gained_is n).0 over.1))
+  ],
+  λ on. elim (reaches_push edges e owner n on) [
+    | inl is ↦ (carries n).1 (inl ((old_is n).1 is))
+    | inr over ↦
+        let to : (owner ≡ e.before) ⊎ Contains old e.before =
+        elim (leads_cases edges owner e.before over.0) [ inl same ↦ inl same | inr leads ↦ inr ((old_is e.before).1 leads) ] in
+        (carries n).1 (inr (to, (gained_is n).1 over.1))
+  ],
+)
 
 -- what an edge adds: its end and all that the end reaches
 pub gained_row :
     (edges : List Edge) (end : ℕ) (row gained : List ℕ) → ((n : ℕ) → Contains row n ↔ Reaches edges end n) →
     Gains row gained end → (n : ℕ) → Contains gained n ↔ Leads edges end n
-gained_row edges end row gained row_is gains n =
-    ( λ member. elim ((gains n).0 member) [
-        | inl is ↦ leads_from_reaches edges end n ((row_is n).0 is)
-        | inr same ↦ leads_from_cases edges end n (inl (sym same))
-      ]
-    , λ on. elim (leads_cases edges end n on) [
-        | inl same ↦ (gains n).1 (inr (sym same))
-        | inr leads ↦ (gains n).1 (inl ((row_is n).1 leads))
-      ])
+gained_row edges end row gained row_is gains n = (
+  λ member. elim ((gains n).0 member) [
+    | inl is ↦ leads_from_reaches edges end n ((row_is n).0 is)
+    | inr same ↦ leads_from_cases edges end n (inl (sym same))
+  ],
+  λ on. elim (leads_cases edges end n on) [
+    | inl same ↦ (gains n).1 (inr (sym same))
+    | inr leads ↦ (gains n).1 (inl ((row_is n).1 leads))
+  ],
+)
 
 -- ---- the loop over rows
 
@@ -81,18 +84,18 @@ carries_more k owner before gained old rows row within so_far here =
       carried = λ j small. elim (cases_eq j k) [
         | inl same ↦
             let now : row_at (set rows k row) j ≡ row =
-              ap (row_at (set rows k row)) same ∙ get_or-set_same rows k row [] (omega arith) in
+            ap (row_at (set rows k row)) same ∙ get_or-set_same rows k row [] (omega arith) in
             let was : row_at rows k ≡ row_at old j = so_far.others k (omega arith) ∙ ap (row_at old) (sym same) in
             subst (λ (r : List ℕ). Carries (owner j) before gained (row_at old j) r) (sym now)
             (subst (λ (r : List ℕ). Carries (owner j) before gained r row) was
-              (subst (λ (m : ℕ). Carries (owner m) before gained (row_at rows k) row) (sym same) here))
+            (subst (λ (m : ℕ). Carries (owner m) before gained (row_at rows k) row) (sym same) here))
         | inr other ↦
             let now : row_at (set rows k row) j ≡ row_at rows j = get_or-set_other rows k j row [] other in
             subst (λ (r : List ℕ). Carries (owner j) before gained (row_at old j) r) (sym now) (so_far.carried j (omega arith))
       ];
       others = λ j past.
-        let other : j ≡ k → ⊥ = λ e. absurd (omega arith) in
-        get_or-set_other rows k j row [] other ∙ so_far.others j (omega arith)
+          let other : j ≡ k → ⊥ = λ e. absurd (omega arith) in
+          get_or-set_other rows k j row [] other ∙ so_far.others j (omega arith);
     }
 
 -- ---- an edge more
@@ -110,13 +113,14 @@ rows_after rows new e gained closed before after gains carries a b =
       | inr past ↦
           let none : row_at new a ≡ [] = carries.others a past ∙ get_or_past rows a [] past in
           let in_range : IsInRange (length rows) (pairs_of rows ++ e ∷ []) =
-            All-push (λ f. (f.before < length rows) × (f.after < length rows)) (pairs_of rows) e (pairs_in_range rows closed) (before, after) in
-          ( λ member.
-              let small = (subst (λ (r : List ℕ). Contains r b) none member).1 in
-              absurd (omega arith)
-          , λ on.
-              let small : a < length rows = (reaches_in_range (length rows) (pairs_of rows ++ e ∷ []) in_range a b on).0 in
-              absurd (omega arith))
+          All-push (λ f. (f.before < length rows) × (f.after < length rows)) (pairs_of rows) e (pairs_in_range rows closed) (before, after) in (
+            λ member.
+                let small = (subst (λ (r : List ℕ). Contains r b) none member).1 in
+                absurd (omega arith),
+            λ on.
+                let small : a < length rows = (reaches_in_range (length rows) (pairs_of rows ++ e ∷ []) in_range a b on).0 in
+                absurd (omega arith),
+          )
     ]
 
 pub record IsAdded (rows new : List (List ℕ)) (e : Edge) : Type 0 where
@@ -135,8 +139,8 @@ added rows new e gained closed before after acyclic gains carries =
     let few = closed.few in
     let are : AreRowsOf edges new = rows_after rows new e gained closed before after gains carries in
     let in_range : IsInRange (length new) edges =
-      subst (λ (n : ℕ). IsInRange n edges) (sym size)
-      (All-push (λ f. (f.before < length rows) × (f.after < length rows)) (pairs_of rows) e (pairs_in_range rows closed) (before, after)) in
+    subst (λ (n : ℕ). IsInRange n edges) (sym size)
+    (All-push (λ f. (f.before < length rows) × (f.after < length rows)) (pairs_of rows) e (pairs_in_range rows closed) (before, after)) in
     let closed_new : IsClosed new = closed_from edges new (omega arith) (omega arith) in_range acyclic are in
     record { size = size; closed = closed_new; closure = same_closure_from edges new closed_new are }
 
@@ -157,10 +161,10 @@ added_to rows new now e row copied gained view closed before after acyclic read 
     let within : e.after < length rows = omega arith in
     let is : copied ≡ row_at rows e.after = copy ∙ read ∙ get_or_default rows e.after row [] within in
     let step : IsAdded rows new e = added rows new e gained closed (omega arith) within
-      (subst (λ (ps : List Edge). HasCycle (ps ++ e ∷ []) → ⊥) (sym pairs) acyclic)
-      (subst (λ (r : List ℕ). Gains r gained e.after) is gains) carries in
+    (subst (λ (ps : List Edge). HasCycle (ps ++ e ∷ []) → ⊥) (sym pairs) acyclic)
+    (subst (λ (r : List ℕ). Gains r gained e.after) is gains) carries in
     record {
       size = step.size ∙ size;
       closed = step.closed;
-      closure = subst (λ (ps : List Edge). SameClosure (pairs_of new) (ps ++ e ∷ [])) pairs step.closure
+      closure = subst (λ (ps : List Edge). SameClosure (pairs_of new) (ps ++ e ∷ [])) pairs step.closure;
     }

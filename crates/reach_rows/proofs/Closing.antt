@@ -27,8 +27,8 @@ closed_from edges rows some few in_range acyclic are = record {
   few = few;
   below = λ a b member. (reaches_in_range (length rows) edges in_range a b ((are a b).0 member)).1;
   transitive = λ a b c first second.
-    (are a c).1 (reaches_on edges a b c ((are a b).0 first) (leads_from_reaches edges b c ((are b c).0 second)));
-  irreflexive = λ a member. acyclic (cycle_from_reaches edges a ((are a a).0 member))
+      (are a c).1 (reaches_on edges a b c ((are a b).0 first) (leads_from_reaches edges b c ((are b c).0 second)));
+  irreflexive = λ a member. acyclic (cycle_from_reaches edges a ((are a a).0 member));
 }
 
 pub same_closure_from : (edges : List Edge) (rows : List (List ℕ)) → IsClosed rows → AreRowsOf edges rows → SameClosure (pairs_of rows) edges
@@ -43,15 +43,15 @@ closed_push rows row none room closed =
     let long : length (rows ++ row ∷ []) ≡ length rows + 1 = length_push rows row in
     let some = closed.some in
     let old : (a b : ℕ) → Contains (row_at (rows ++ row ∷ []) a) b → Contains (row_at rows a) b =
-      λ a b member. subst (λ (r : List ℕ). Contains r b) (row_push_same rows row a none) member in
+    λ a b member. subst (λ (r : List ℕ). Contains r b) (row_push_same rows row a none) member in
     let new : (a b : ℕ) → Contains (row_at rows a) b → Contains (row_at (rows ++ row ∷ []) a) b =
-      λ a b member. subst (λ (r : List ℕ). Contains r b) (sym (row_push_same rows row a none)) member in
+    λ a b member. subst (λ (r : List ℕ). Contains r b) (sym (row_push_same rows row a none)) member in
     record {
       some = omega arith;
       few = omega arith;
       below = λ a b member. let small : b < length rows = closed.below a b (old a b member) in omega arith;
       transitive = λ a b c first second. new a c (closed.transitive a b c (old a b first) (old b c second));
-      irreflexive = λ a member. closed.irreflexive a (old a a member)
+      irreflexive = λ a member. closed.irreflexive a (old a a member);
     }
 
 pub nil_without : (xs : List ℕ) → ((x : ℕ) → Contains xs x → ⊥) → xs ≡ []
@@ -63,13 +63,13 @@ pub last_row_empty :
     (rows : List (List ℕ)) (row : List ℕ) → IsInRange (length rows) (pairs_of (rows ++ row ∷ [])) → row ≡ []
 last_row_empty rows row unnamed =
     nil_without row (λ x member.
-      let at : Contains (row_at (rows ++ row ∷ []) (length rows)) x =
-        subst (λ (r : List ℕ). Contains r x) (sym (get_or_push rows row [] (length rows) refl)) member in
-      let pair = pair_from_member (rows ++ row ∷ []) (length rows) x at in
-      let ends = All-contains (λ e. (e.before < length rows) × (e.after < length rows))
-        (pairs_of (rows ++ row ∷ [])) (edge_of (length rows) x) unnamed pair in
-      let small : length rows < length rows = ends.0 in
-      absurd (omega arith))
+    let at : Contains (row_at (rows ++ row ∷ []) (length rows)) x =
+    subst (λ (r : List ℕ). Contains r x) (sym (get_or_push rows row [] (length rows) refl)) member in
+    let pair = pair_from_member (rows ++ row ∷ []) (length rows) x at in
+    let ends = All-contains (λ e. (e.before < length rows) × (e.after < length rows))
+    (pairs_of (rows ++ row ∷ [])) (edge_of (length rows) x) unnamed pair in
+    let small : length rows < length rows = ends.0 in
+    absurd (omega arith))
 
 pub closed_pop :
     (rows : List (List ℕ)) (row : List ℕ) → IsClosed (rows ++ row ∷ []) → 2 ≤ length (rows ++ row ∷ []) →
@@ -79,17 +79,17 @@ closed_pop rows row closed many unnamed =
     let long : length (rows ++ row ∷ []) ≡ length rows + 1 = length_push rows row in
     let few = closed.few in
     let new : (a b : ℕ) → Contains (row_at rows a) b → Contains (row_at (rows ++ row ∷ []) a) b =
-      λ a b member. subst (λ (r : List ℕ). Contains r b) (sym (row_push_same rows row a none)) member in
+    λ a b member. subst (λ (r : List ℕ). Contains r b) (sym (row_push_same rows row a none)) member in
     let old : (a b : ℕ) → Contains (row_at (rows ++ row ∷ []) a) b → Contains (row_at rows a) b =
-      λ a b member. subst (λ (r : List ℕ). Contains r b) (row_push_same rows row a none) member in
+    λ a b member. subst (λ (r : List ℕ). Contains r b) (row_push_same rows row a none) member in
     record {
       some = omega arith;
       few = omega arith;
       below = λ a b member.
-        (All-contains (λ e. (e.before < length rows) × (e.after < length rows)) (pairs_of (rows ++ row ∷ [])) (edge_of a b) unnamed
+          (All-contains (λ e. (e.before < length rows) × (e.after < length rows)) (pairs_of (rows ++ row ∷ [])) (edge_of a b) unnamed
           (pair_from_member (rows ++ row ∷ []) a b (new a b member))).1;
       transitive = λ a b c first second. old a c (closed.transitive a b c (new a b first) (new b c second));
-      irreflexive = λ a member. closed.irreflexive a (new a a member)
+      irreflexive = λ a member. closed.irreflexive a (new a a member);
     }
 
 -- ---- what a Reach shows
@@ -102,9 +102,9 @@ pub same_reached :
     reached_of rows ≡ record { size = size; pairs = pairs }
 same_reached rows size pairs long same =
     let first : reached_of rows ≡ record { size = size; pairs = pairs_of rows } =
-      ap (λ (n : ℕ). let r : Reached = record { size = n; pairs = pairs_of rows } in r) long in
+    ap (λ (n : ℕ). let r : Reached = record { size = n; pairs = pairs_of rows } in r) long in
     let second : record { size = size; pairs = pairs_of rows } ≡ record { size = size; pairs = pairs } =
-      ap (λ (ps : List Edge). let r : Reached = record { size = size; pairs = ps } in r) same in
+    ap (λ (ps : List Edge). let r : Reached = record { size = size; pairs = ps } in r) same in
     first ∙ second
 
 pub size_of : (rows : List (List ℕ)) (now : Reached) → reached_of rows ≡ now → length rows ≡ now.size
@@ -138,9 +138,9 @@ taken_back rows new row now view closed is many unnamed =
     let less : now.size - 1 ≡ length new = omega arith in
     let pairs : now.pairs ≡ pairs_of (new ++ row ∷ []) = sym (pairs_of_view rows now view) ∙ ap pairs_of is in
     let named : IsInRange (length new) (pairs_of (new ++ row ∷ [])) =
-      subst (λ (ps : List Edge). IsInRange (length new) ps) pairs (subst (λ (n : ℕ). IsInRange n now.pairs) less unnamed) in
+    subst (λ (ps : List Edge). IsInRange (length new) ps) pairs (subst (λ (n : ℕ). IsInRange n now.pairs) less unnamed) in
     let none : row ≡ [] = last_row_empty new row named in
     record {
       closed = closed_pop new row (subst (λ (rs : List (List ℕ)). IsClosed rs) is closed) (omega arith) named;
-      shows = same_reached new (now.size - 1) now.pairs (sym less) (sym (pairs_of-push new row none) ∙ sym pairs)
+      shows = same_reached new (now.size - 1) now.pairs (sym less) (sym (pairs_of-push new row none) ∙ sym pairs);
     }

@@ -103,7 +103,7 @@ pub member_along :
 member_along rows closed a m [] b so_far same = subst (λ (n : ℕ). Contains (row_at rows a) n) same so_far
 member_along rows closed a m (e ∷ walk) b so_far (begins, member, rest) =
     let next : Contains (row_at rows m) e.after =
-      subst (λ (n : ℕ). Contains (row_at rows n) e.after) begins (member_from_pair rows e member) in
+    subst (λ (n : ℕ). Contains (row_at rows n) e.after) begins (member_from_pair rows e member) in
     member_along rows closed a e.after walk b (closed.transitive a m e.after so_far next) rest
 
 pub member_from_reaches : (rows : List (List ℕ)) → IsClosed rows → (a b : ℕ) → Reaches (pairs_of rows) a b → Contains (row_at rows a) b

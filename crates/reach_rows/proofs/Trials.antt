@@ -34,7 +34,7 @@ pub trial_more :
     edges ++ take (k + 1) trial ≡ (edges ++ take k trial) ++ e ∷ []
 trial_more edges trial k e within is =
     let last : take (k + 1) trial ≡ take k trial ++ e ∷ [] =
-      take_more trial k (edge_of 0 0) within ∙ ap (λ (f : Edge). take k trial ++ f ∷ []) (sym is) in
+    take_more trial k (edge_of 0 0) within ∙ ap (λ (f : Edge). take k trial ++ f ∷ []) (sym is) in
     ap (λ (es : List Edge). edges ++ es) last ∙ sym (append_assoc edges (take k trial) (e ∷ []))
 
 pub trial_rest : (edges trial : List Edge) (n : ℕ) → (edges ++ take n trial) ++ drop n trial ≡ edges ++ trial
@@ -51,7 +51,7 @@ pub trying_start : (trial : List Edge) (start : List (List ℕ)) → length star
 trying_start trial start size = record {
   size = size;
   rows = λ edges are acyclic. subst (λ (es : List Edge). AreEndsOf es trial start) (sym (append-nil edges)) are;
-  acyclic = λ edges are acyclic. subst (λ (es : List Edge). HasCycle es → ⊥) (sym (append-nil edges)) acyclic
+  acyclic = λ edges are acyclic. subst (λ (es : List Edge). HasCycle es → ⊥) (sym (append-nil edges)) acyclic;
 }
 
 -- the edge at k leads back to its begin over the edges so far
@@ -59,15 +59,16 @@ pub back_from_row :
     (edges trial : List Edge) (ends : List (List ℕ)) (k : ℕ) (e : Edge) → k < length trial → e ≡ get_or trial k (edge_of 0 0) →
     AreEndsOf edges trial ends → ((e.after ≡ e.before) ⊎ Contains (row_at ends k) e.before) ↔ Leads edges e.after e.before
 back_from_row edges trial ends k e within is are =
-    let end : e.after ≡ end_at trial k = ap (λ (f : Edge). f.after) is in
-    ( λ test. leads_from_cases edges e.after e.before (elim test [
+    let end : e.after ≡ end_at trial k = ap (λ (f : Edge). f.after) is in (
+      λ test. leads_from_cases edges e.after e.before (elim test [
         | inl same ↦ inl same
         | inr has ↦ inr (subst (λ (n : ℕ). Reaches edges n e.before) (sym end) ((are k within e.before).0 has))
-      ])
-    , λ on. elim (leads_cases edges e.after e.before on) [
+      ]),
+      λ on. elim (leads_cases edges e.after e.before on) [
         | inl same ↦ inl same
         | inr leads ↦ inr ((are k within e.before).1 (subst (λ (n : ℕ). Reaches edges n e.before) end leads))
-      ])
+      ],
+    )
 
 pub trying_more :
     (trial : List Edge) (start ends new : List (List ℕ)) (k : ℕ) (e : Edge) (gained : List ℕ) → k < length trial →
@@ -77,22 +78,22 @@ pub trying_more :
 trying_more trial start ends new k e gained within is apart gains carries trying = record {
   size = carries.size ∙ trying.size;
   rows = λ edges are acyclic.
-    let so_far : List Edge = edges ++ take k trial in
-    let ends_are : AreEndsOf so_far trial ends = trying.rows edges are acyclic in
-    let end : e.after ≡ end_at trial k = ap (λ (f : Edge). f.after) is in
-    let more : AreEndsOf (so_far ++ e ∷ []) trial new = λ j small n.
+      let so_far : List Edge = edges ++ take k trial in
+      let ends_are : AreEndsOf so_far trial ends = trying.rows edges are acyclic in
+      let end : e.after ≡ end_at trial k = ap (λ (f : Edge). f.after) is in
+      let more : AreEndsOf (so_far ++ e ∷ []) trial new = λ j small n.
       carried_row so_far e (end_at trial j) gained (row_at ends j) (row_at new j) (ends_are j small)
       (gained_row so_far e.after (row_at ends k) gained
-        (subst (λ (m : ℕ). (n : ℕ) → Contains (row_at ends k) n ↔ Reaches so_far m n) (sym end) (ends_are k within)) gains)
+      (subst (λ (m : ℕ). (n : ℕ) → Contains (row_at ends k) n ↔ Reaches so_far m n) (sym end) (ends_are k within)) gains)
       (carries.carried j small) n in
-    subst (λ (es : List Edge). AreEndsOf es trial new) (sym (trial_more edges trial k e within is)) more;
+      subst (λ (es : List Edge). AreEndsOf es trial new) (sym (trial_more edges trial k e within is)) more;
   acyclic = λ edges are acyclic cycle.
-    let so_far : List Edge = edges ++ take k trial in
-    let ends_are : AreEndsOf so_far trial ends = trying.rows edges are acyclic in
-    elim (cycle_push so_far e (subst (λ (es : List Edge). HasCycle es) (trial_more edges trial k e within is) cycle)) [
-      | inl old ↦ trying.acyclic edges are acyclic old
-      | inr back ↦ apart ((back_from_row so_far trial ends k e within is ends_are).1 back)
-    ]
+      let so_far : List Edge = edges ++ take k trial in
+      let ends_are : AreEndsOf so_far trial ends = trying.rows edges are acyclic in
+      elim (cycle_push so_far e (subst (λ (es : List Edge). HasCycle es) (trial_more edges trial k e within is) cycle)) [
+        | inl old ↦ trying.acyclic edges are acyclic old
+        | inr back ↦ apart ((back_from_row so_far trial ends k e within is ends_are).1 back)
+      ];
 }
 
 -- an edge that leads back closes a cycle with the whole trial
@@ -104,10 +105,10 @@ trying_found trial start ends k e within is back trying edges are acyclic =
     let so_far : List Edge = edges ++ take k trial in
     let ends_are : AreEndsOf so_far trial ends = trying.rows edges are acyclic in
     let closed : HasCycle (so_far ++ e ∷ []) =
-      cycle_pushed so_far e (inr ((back_from_row so_far trial ends k e within is ends_are).0 back)) in
+    cycle_pushed so_far e (inr ((back_from_row so_far trial ends k e within is ends_are).0 back)) in
     subst (λ (es : List Edge). HasCycle es) (trial_rest edges trial (k + 1))
     (cycle_kept (edges ++ take (k + 1) trial) (drop (k + 1) trial)
-      (subst (λ (es : List Edge). HasCycle es) (sym (trial_more edges trial k e within is)) closed))
+    (subst (λ (es : List Edge). HasCycle es) (sym (trial_more edges trial k e within is)) closed))
 
 -- where no edge leads back, the whole trial closes none
 pub trying_none :
@@ -123,6 +124,7 @@ pub ends_of_rows :
     AreEndsOf edges trial ends
 ends_of_rows edges trial rows ends are is k within n =
     let row : row_at ends k ≡ row_at rows (end_at trial k) =
-      ap (λ (rs : List (List ℕ)). row_at rs k) is ∙ get_or-map (λ e. row_at rows e.after) trial k (edge_of 0 0) [] within in
-    ( λ member. (are (end_at trial k) n).0 (subst (λ (r : List ℕ). Contains r n) row member)
-    , λ on. subst (λ (r : List ℕ). Contains r n) (sym row) ((are (end_at trial k) n).1 on))
+    ap (λ (rs : List (List ℕ)). row_at rs k) is ∙ get_or-map (λ e. row_at rows e.after) trial k (edge_of 0 0) [] within in (
+      λ member. (are (end_at trial k) n).0 (subst (λ (r : List ℕ). Contains r n) row member),
+      λ on. subst (λ (r : List ℕ). Contains r n) (sym row) ((are (end_at trial k) n).1 on),
+    )

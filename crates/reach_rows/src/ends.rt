@@ -13,7 +13,11 @@ use graph_base::Edge;
 use std::alloc::{AllocError, Global};
 
 /// For each edge of the trial, the row of its end.
-pub(crate) fn rows_of_ends(alloc: Global, rows: &[Row], trial: &[Edge]) -> Result<Vec<Row>, AllocError>
+pub(crate) fn rows_of_ends(
+    alloc: Global,
+    rows: &[Row],
+    trial: &[Edge],
+) -> Result<Vec<Row>, AllocError>
     requires { IsInRange (length rows.now) trial.now }
     ensures { IfOk result (λ ends. ends.items ≡ map (λ e. row_at rows.now e.after) trial.now) }
 {

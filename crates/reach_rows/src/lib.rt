@@ -11,6 +11,8 @@
 mod carry;
 mod ends;
 mod reach;
+#[cfg(test)]
+mod tests;
 mod trial;
 
 pub use reach::Reach;

@@ -9,7 +9,7 @@ use crate::Reach;
 use graph_base::Edge;
 
 /// Whether each edge of the trial begins or ends at the hub.
-fn all_touch(hub: u32, trial: &[Edge]) -> bool
+pub(crate) fn all_touch(hub: u32, trial: &[Edge]) -> bool
     ensures { IsTrue result ↔ AllTouch hub trial.now }
 {
     trial

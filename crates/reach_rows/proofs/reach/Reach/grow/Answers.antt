@@ -7,7 +7,7 @@ pub invariant_of-self-2 : goal.invariant_of-self-2
 invariant_of-self-2 c =
     let items : c.push.new.self.items ≡ c.self.inside.rows.items ++ c.in_ok-row.row ∷ [] = c.in_ok-push.ensures.items in
     let size : length c.self.inside.rows.items ≡ c.args.self.now.size =
-      size_of c.self.inside.rows.items c.args.self.now c.self.view_is in
+    size_of c.self.inside.rows.items c.args.self.now c.self.view_is in
     let room = c.requires in
     subst (λ (rows : List (List ℕ)). IsClosed rows) (sym items)
     (closed_push c.self.inside.rows.items c.in_ok-row.row c.in_ok-row.ensures (omega arith) c.self.invariant)

@@ -11,9 +11,9 @@ invariant_of-self c =
     let count : c.self.inside.rows.len ≡ length rows = c.self.inside.rows.ok.0 in
     let last : List ℕ = get_or rows (c.self.inside.rows.len - 1) [] in
     let items : rows ≡ c.pop.new.self.items ++ last ∷ [] =
-      c.pop.ensures.items ∙ ap (λ r. c.pop.new.self.items ++ option_to_list r) (c.pop.ensures.value [] (omega arith)) in
+    c.pop.ensures.items ∙ ap (λ r. c.pop.new.self.items ++ option_to_list r) (c.pop.ensures.value [] (omega arith)) in
     (taken_back rows c.pop.new.self.items last c.args.self.now c.self.view_is c.self.invariant items
-      c.requires.many c.requires.unnamed).closed
+    c.requires.many c.requires.unnamed).closed
 
 pub returns : goal.returns
 returns c =
@@ -23,6 +23,6 @@ returns c =
     let count : c.self.inside.rows.len ≡ length rows = c.self.inside.rows.ok.0 in
     let last : List ℕ = get_or rows (c.self.inside.rows.len - 1) [] in
     let items : rows ≡ c.pop.new.self.items ++ last ∷ [] =
-      c.pop.ensures.items ∙ ap (λ r. c.pop.new.self.items ++ option_to_list r) (c.pop.ensures.value [] (omega arith)) in
+    c.pop.ensures.items ∙ ap (λ r. c.pop.new.self.items ++ option_to_list r) (c.pop.ensures.value [] (omega arith)) in
     (taken_back rows c.pop.new.self.items last c.args.self.now c.self.view_is c.self.invariant items
-      c.requires.many c.requires.unnamed).shows
+    c.requires.many c.requires.unnamed).shows

@@ -8,6 +8,6 @@ use Rattle.reach_rows.proofs.reach.Reach.would_cycle.Goals as goal
 pub returns-in-Some : goal.returns-in-Some
 returns-in-Some c =
     let closes : HasCycle (c.args.self.now.pairs ++ c.args.trial.now)
-        ↔ ClosesAt c.args.self.now.pairs c.args.trial.now c.hub_of.result =
-      trial_cycle c.args.self.now.pairs c.args.trial.now c.hub_of.result c.hub_of.ensures.touch c.size-size.ensures.acyclic in
+    ↔ ClosesAt c.args.self.now.pairs c.args.trial.now c.hub_of.result =
+    trial_cycle c.args.self.now.pairs c.args.trial.now c.hub_of.result c.hub_of.ensures.touch c.size-size.ensures.acyclic in
     (λ is. closes.1 (c.closes_at.ensures.0 is), λ cycle. c.closes_at.ensures.1 (closes.0 cycle))
