@@ -49,7 +49,7 @@ fn words_of(alloc: Global, row: &Row) -> Result<Vec<u64>, AllocError> {
     Ok(words)
 }
 
-fn pool(alloc: Global) -> Result<Pool, AllocError> {
+fn filled_pool(alloc: Global) -> Result<Pool, AllocError> {
     let mut rows = Vec::new(alloc);
     let mut words = Vec::new(alloc);
     for _ in 0..POOL {
@@ -178,7 +178,7 @@ fn measure_count(rt: &(impl CpuClock + Print), pool: &Pool, rounds: u32) -> Resu
 
 /// Times each kernel, over the pool so many times.
 pub(crate) fn measure(rt: &(impl CpuClock + Print + AllocGlobal), rounds: u32) -> Result<()> {
-    let pool = pool(rt.alloc())?;
+    let pool = filled_pool(rt.alloc())?;
     measure_join(rt, &pool, rounds)?;
     measure_meet(rt, &pool, rounds)?;
     measure_meet_three(rt, &pool, rounds)?;
