@@ -1,6 +1,6 @@
 -- Rows that take over what an edge adds.
-use Rattle.std.proofs.Common.{◌≡◌, ◌↔◌, ◌⊎◌, ℕ, ◌+◌, ◌<◌, ◌≤◌, List, [], ◌∷◌, ◌++◌, length, get_or, set, get_or-set_same, get_or-set_other, refl, ap, sym, ◌∙◌, subst, inl, inr, arith}
-use Rattle.std.specs.List.{All, Contains}
+use Rattle.std.proofs.Common.{◌≡◌, ◌↔◌, ◌⊎◌, ℕ, ◌+◌, ◌<◌, List, [], ◌∷◌, ◌++◌, length, get_or, set, get_or-set_same, get_or-set_other, ap, sym, ◌∙◌, subst, inl, inr, arith}
+use Rattle.std.specs.List.{Contains}
 use Rattle.std.proofs.lemmas.Bool.{cases_eq, cases_lt}
 use Rattle.std.proofs.lemmas.List.{length-set, get_or_past, get_or_default}
 use Rattle.std.proofs.lemmas.List.Elements.{All-push}
@@ -12,7 +12,7 @@ use Rattle.graph_base.proofs.Closures.{reaches_in_range}
 use Rattle.bit_rows.specs.Members.{Gains, IsUnion}
 use Rattle.reach_rows.specs.Reached.{Reached}
 use Rattle.reach_rows.specs.Rows.{row_at, pairs_of, IsClosed, Carries, CarriesUpTo}
-use Rattle.reach_rows.proofs.Pairs.{pairs_in_range, owner_below}
+use Rattle.reach_rows.proofs.Pairs.{pairs_in_range}
 use Rattle.reach_rows.proofs.Closing.{AreRowsOf, closed_rows_of, closed_from, same_closure_from, reached_of, size_of, pairs_of_view}
 
 -- ---- one row
@@ -24,11 +24,6 @@ carries_union owner before gained old new leads union n = (
   λ member. elim ((union n).0 member) [ inl is ↦ inl is | inr more ↦ inr (leads, more) ],
   λ either. elim either [ inl is ↦ (union n).1 (inl is) | inr over ↦ (union n).1 (inr over.1) ],
 )
-
-pub carries_none :
-    (owner before : ℕ) (gained old : List ℕ) → ((owner ≡ before) ⊎ Contains old before → ⊥) → Carries owner before gained old old
-carries_none owner before gained old apart n =
-    (λ member. inl member, λ either. elim either [ inl is ↦ is | inr over ↦ absurd (apart over.0) ])
 
 -- a row of what the owner reaches, carried over an edge
 pub carried_row :
@@ -68,10 +63,6 @@ gained_row edges end row gained row_is gains n = (
 )
 
 -- ---- the loop over rows
-
-pub carries_start :
-    (owner : ℕ → ℕ) (before : ℕ) (gained : List ℕ) (rows : List (List ℕ)) → CarriesUpTo 0 owner before gained rows rows
-carries_start owner before gained rows = record { size = refl; carried = λ k small. absurd (omega arith); others = λ k past. refl }
 
 pub carries_more :
     (k : ℕ) (owner : ℕ → ℕ) (before : ℕ) (gained : List ℕ) (old rows : List (List ℕ)) (row : List ℕ) → k < length old →

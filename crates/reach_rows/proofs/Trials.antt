@@ -1,30 +1,15 @@
--- Trials: the number that all edges touch, and the rows of the ends of edges of any shape.
-use Rattle.std.proofs.Common.{◌≡◌, ◌↔◌, ◌⊎◌, ℕ, ◌+◌, ◌<◌, ◌≤◌, List, [], ◌∷◌, ◌++◌, Bool, true, false, length, get_or, take, drop, refl, ap, sym, ◌∙◌, subst, inl, inr, arith, append_assoc}
-use Rattle.std.specs.Prelude.{IsTrue, map}
-use Rattle.std.specs.List.{All, Contains}
-use Rattle.std.proofs.lemmas.Bool.{false≢true}
+-- Trials of any shape: the rows of the ends of their edges.
+use Rattle.std.proofs.Common.{◌≡◌, ◌↔◌, ◌⊎◌, ℕ, ◌+◌, ◌<◌, ◌≤◌, List, [], ◌∷◌, ◌++◌, length, get_or, take, drop, ap, sym, ◌∙◌, subst, inl, inr, append_assoc}
+use Rattle.std.specs.Prelude.{map}
+use Rattle.std.specs.List.{Contains}
 use Rattle.std.proofs.lemmas.List.{append-nil, take_more, take_all, take-append-drop, get_or-map}
-use Rattle.std.proofs.lemmas.List.Elements.{All-contains}
 use Rattle.graph_base.specs.declared.Edge.{Edge}
 use Rattle.graph_base.specs.Walk.{HasCycle, Leads, Reaches}
-use Rattle.graph_base.specs.Trial.{AllTouch}
 use Rattle.graph_base.proofs.Walks.{leads_cases, leads_from_cases, cycle_push, cycle_pushed, cycle_kept}
 use Rattle.bit_rows.specs.Members.{Gains}
-use Rattle.reach_rows.specs.Reached.{ShareNumber}
-use Rattle.reach_rows.specs.Rows.{row_at, edge_of, pairs_of, end_at, AreEndsOf, CarriesUpTo}
+use Rattle.reach_rows.specs.Rows.{row_at, edge_of, end_at, AreEndsOf, CarriesUpTo}
 use Rattle.reach_rows.proofs.Closing.{AreRowsOf}
 use Rattle.reach_rows.proofs.Carrying.{carried_row, gained_row}
-
--- ---- the number that all edges touch
-
-pub touch_other :
-    (trial : List Edge) (first : Edge) → Contains trial first → ShareNumber trial → (AllTouch first.before trial → ⊥) →
-    AllTouch first.after trial
-touch_other trial first member (hub, touch) apart =
-    elim (All-contains (λ e. (e.before ≡ hub) ⊎ (e.after ≡ hub)) trial first touch member) [
-      | inl begins ↦ absurd (apart (subst (λ (n : ℕ). AllTouch n trial) (sym begins) touch))
-      | inr ends ↦ subst (λ (n : ℕ). AllTouch n trial) (sym ends) touch
-    ]
 
 -- ---- the rows of the ends
 

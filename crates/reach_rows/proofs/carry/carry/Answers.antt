@@ -1,6 +1,4 @@
-use Rattle.std.proofs.Common.{sym, ◌∙◌}
-use Rattle.std.proofs.lemmas.Bool.{false≢true}
-use Rattle.reach_rows.proofs.Carrying.{carries_union, carries_none}
+use Rattle.reach_rows.proofs.Carrying.{carries_union}
 use Rattle.reach_rows.proofs.carry.carry.Goals as goal
 
 pub returns-then-row_leads : goal.returns-then-row_leads

@@ -1,4 +1,3 @@
-use Rattle.std.proofs.Common.{ℕ}
 use Rattle.reach_rows.specs.Rows.{CarriesUpTo, end_at}
 use Rattle.reach_rows.proofs.carry.carry_to_ends.Given as goal
 

@@ -1,4 +1,3 @@
-use Rattle.std.proofs.Common.{ℕ}
 use Rattle.reach_rows.specs.Rows.{CarriesUpTo}
 use Rattle.reach_rows.proofs.carry.carry_to_numbers.Given as goal
 

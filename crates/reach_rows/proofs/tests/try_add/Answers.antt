@@ -1,4 +1,4 @@
-use Rattle.std.proofs.Common.{◌≡◌, List, sym, ◌∙◌, inl, inr, arith}
+use Rattle.std.proofs.Common.{List, sym, ◌∙◌, inl, inr, arith}
 use Rattle.std.proofs.lemmas.Bool.{false≢true}
 use Rattle.graph_base.specs.declared.Edge.{Edge}
 use Rattle.graph_base.proofs.Walks.{cycle_push, leads_cases}

@@ -1,4 +1,4 @@
-use Rattle.std.proofs.Common.{◌≡◌, ◌<◌, ℕ, List, [], ◌∷◌, ◌++◌, length, arith, sym, subst}
+use Rattle.std.proofs.Common.{◌≡◌, ℕ, List, [], ◌∷◌, ◌++◌, length, arith, sym, subst}
 use Rattle.reach_rows.specs.Rows.{IsClosed}
 use Rattle.reach_rows.proofs.Closing.{closed_push, size_of, grown}
 use Rattle.reach_rows.proofs.reach.Reach.grow.Goals as goal

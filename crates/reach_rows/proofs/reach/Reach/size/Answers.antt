@@ -1,4 +1,3 @@
-use Rattle.std.proofs.Common.{◌≡◌, ap, sym, subst, ℕ, List}
 use Rattle.reach_rows.proofs.Pairs.{pairs_in_range, pairs_acyclic}
 use Rattle.reach_rows.proofs.reach.Reach.size.Goals as goal
 

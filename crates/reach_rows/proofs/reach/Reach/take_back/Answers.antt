@@ -1,6 +1,6 @@
-use Rattle.std.proofs.Common.{◌≡◌, ◌<◌, ◌-◌, ℕ, List, [], ◌∷◌, ◌++◌, Some, length, get_or, arith, ap, ◌∙◌}
+use Rattle.std.proofs.Common.{◌≡◌, ◌-◌, ℕ, List, [], ◌∷◌, ◌++◌, length, get_or, arith, ap, ◌∙◌}
 use Rattle.std.specs.Option.{option_to_list}
-use Rattle.reach_rows.proofs.Closing.{size_of, taken_back, IsTakenBack}
+use Rattle.reach_rows.proofs.Closing.{size_of, taken_back}
 use Rattle.reach_rows.proofs.reach.Reach.take_back.Goals as goal
 
 pub invariant_of-self : goal.invariant_of-self
