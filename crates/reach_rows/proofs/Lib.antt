@@ -1,0 +1,4 @@
+pub mod Pairs
+pub mod Closing
+pub mod Carrying
+pub mod Trials

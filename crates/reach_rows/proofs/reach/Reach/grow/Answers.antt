@@ -1,0 +1,18 @@
+use Rattle.std.proofs.Common.{◌≡◌, ℕ, List, [], ◌∷◌, ◌++◌, length, arith, sym, subst}
+use Rattle.reach_rows.specs.Rows.{IsClosed}
+use Rattle.reach_rows.proofs.Closing.{closed_push, size_of, grown}
+use Rattle.reach_rows.proofs.reach.Reach.grow.Goals as goal
+
+pub invariant_of-self-2 : goal.invariant_of-self-2
+invariant_of-self-2 c =
+    let items : c.push.new.self.items ≡ c.self.inside.rows.items ++ c.in_ok-row.row ∷ [] = c.in_ok-push.ensures.items in
+    let size : length c.self.inside.rows.items ≡ c.args.self.now.size =
+    size_of c.self.inside.rows.items c.args.self.now c.self.view_is in
+    let room = c.requires in
+    subst (λ (rows : List (List ℕ)). IsClosed rows) (sym items)
+    (closed_push c.self.inside.rows.items c.in_ok-row.row c.in_ok-row.ensures (omega arith) c.self.invariant)
+
+pub returns-clause-ok : goal.returns-clause-ok
+returns-clause-ok c =
+    grown c.self.inside.rows.items c.push.new.self.items c.in_ok-row.row c.args.self.now c.self.view_is
+    c.in_ok-push.ensures.items c.in_ok-row.ensures
