@@ -1,6 +1,7 @@
 -- What bytes can go on to be pairs and their end.
-use Rattle.std.proofs.Common.{◌≡◌, ◌≢◌, ℕ, ◌+◌, ◌-◌, ◌≤◌, ◌<◌, List, [], ◌∷◌, ◌++◌, length, refl, sym, ◌∙◌, ap, arith, append_assoc, append-nil, length-append}
-use Rattle.std.specs.Prelude.{◌⊎◌}
+use Rattle.std.proofs.Common.{◌≡◌, ◌≢◌, ℕ, ◌+◌, ◌-◌, ◌≤◌, ◌<◌, List, [], ◌∷◌, ◌++◌, length, refl, sym, ◌∙◌, ap, arith, append_assoc, append-nil, length-append, inl, inr, eqb, leb, true}
+use Rattle.std.specs.Prelude.{◌⊎◌, ◌↔◌, IsTrue}
+use Rattle.std.proofs.lemmas.Bool.{eq-eqb, eqb-true, leb-true, le-leb}
 use Rattle.std.specs.List.{AllByRecursion}
 use Rattle.pg_framing.specs.Spelling.{Pair, pair_bytes, pairs_bytes, IsPair, HasNoZero}
 use Rattle.pg_framing.specs.Fronts.{CanBePairs}
@@ -90,7 +91,7 @@ value_can room rest name after is some no_zero none fits =
     let fill = ones (room - (length rest + 2)) in
     let size : length fill ≡ room - (length rest + 2) = length-ones (room - (length rest + 2)) in
     let value = after ++ fill in
-    let long : length rest ≡ length name + (1 + length after) = ap length is ∙ length-append name (0 ∷ after) in
+    let long : length rest ≡ length name + (1 + length after) = omega (arith, ap length is, length-append name (0 ∷ after)) in
     record {
       pairs = (name, value) ∷ [];
       more = fill ++ (0 ∷ 0 ∷ []);
@@ -109,7 +110,7 @@ value_needs room rest name after is some no_zero none can = go can.pairs can.eac
     flat = sym (ap (λ (x : List ℕ). x ++ can.more) is ∙ append_assoc name (0 ∷ after) can.more)
 
     long : length rest ≡ length name + (1 + length after)
-    long = ap length is ∙ length-append name (0 ∷ after)
+    long = omega (arith, ap length is, length-append name (0 ∷ after))
 
     go : (ps : List Pair) → AllByRecursion IsPair ps → length (pairs_bytes ps) ≡ room → rest ++ can.more ≡ pairs_bytes ps → length rest + 2 ≤ room
     go [] h e w = absurd (starts name (0 ∷ (after ++ can.more)) [] some (no_zero_from name no_zero) (flat ∙ w))
@@ -169,3 +170,53 @@ full_pairs room held can full = record {
 
     nothing : can.more ≡ []
     nothing = empty can.more (omega (arith, can.fills, ap length can.whole, length-append held can.more))
+
+empty : (xs : List ℕ) → length xs ≡ 0 → xs ≡ []
+empty [] e = refl
+empty (x ∷ xs) e = absurd (omega arith)
+
+pub empty_tells : (xs : List ℕ) → true ≡ eqb (length xs) 0 → xs ≡ []
+empty_tells xs e = empty xs (eqb-true (length xs) 0 (sym e))
+
+pub behind_same : {A B C : Type 0} → (A ↔ B) → (B ↔ C) → A ↔ C
+behind_same f g = (λ a. g.0 (f.0 a), λ c. f.1 (g.1 c))
+
+-- what the code's tests tell
+pub name_tells : (room : ℕ) (rest : List ℕ) → rest ≢ [] → HasNoZero rest → length rest ≤ room → IsTrue (leb 3 (room - length rest)) ↔ CanBePairs room rest
+name_tells room rest some no_zero fits =
+    (λ t. let a = leb-true 3 (room - length rest) t in name_can room rest some no_zero (omega arith), λ can. let b = name_needs room rest some no_zero can in le-leb 3 (room - length rest) (omega arith))
+
+pub value_tells : (room : ℕ) (rest name after : List ℕ) → rest ≡ name ++ (0 ∷ after) → name ≢ [] → HasNoZero name → HasNoZero after → length rest ≤ room
+    → IsTrue (leb 2 (room - length rest)) ↔ CanBePairs room rest
+value_tells room rest name after is some no_zero none fits =
+    (λ t. let a = leb-true 2 (room - length rest) t in value_can room rest name after is some no_zero none (omega arith), λ can.
+    let b = value_needs room rest name after is some no_zero none can in le-leb 2 (room - length rest) (omega arith))
+
+pub end_tells : (room : ℕ) (rest name after : List ℕ) → rest ≡ name ++ (0 ∷ after) → name ≡ [] → length rest ≤ room → IsTrue (eqb room 1) ↔ CanBePairs room rest
+end_tells room rest name after is none fits = rw same (λ t. end_can room after (omega (arith, ap length same)) (eqb-true room 1 t), λ can. eq-eqb room 1 (end_needs room after can))
+  where
+    same : rest ≡ 0 ∷ after
+    same = is ∙ ap (λ (x : List ℕ). x ++ (0 ∷ after)) none
+
+pub nothing_tells : (room : ℕ) (rest : List ℕ) (b : Type 0) → rest ≡ [] → (b ↔ ((room ≡ 1) ⊎ (4 ≤ room))) → b ↔ CanBePairs room rest
+nothing_tells room rest b none tells = rw none (λ t. nothing_can room (tells.0 t), λ can. tells.1 (nothing_needs room can))
+
+-- a pair is read over
+pub record ReadsPair (room : ℕ) (rest behind : List ℕ) : Type 0 where
+  pub shorter : length behind < length rest
+  pub fits : length behind ≤ room - (length rest - length behind)
+  pub same : CanBePairs (room - (length rest - length behind)) behind ↔ CanBePairs room rest
+
+pub reads_pair : (room : ℕ) (rest name value after behind : List ℕ) → rest ≡ name ++ (0 ∷ after) → after ≡ value ++ (0 ∷ behind) → name ≢ [] → HasNoZero name → HasNoZero value → length rest ≤ room
+    → ReadsPair room rest behind
+reads_pair room rest name value after behind e f some no_zero none fits =
+    let is : rest ≡ pair_bytes (name, value) ++ behind = e ∙ (ap (λ (x : List ℕ). name ++ (0 ∷ x)) f ∙ sym (flat_pair name value behind)) in
+    let long : length rest ≡ length (pair_bytes (name, value)) + length behind = ap length is ∙ length-append (pair_bytes (name, value)) behind in
+    let left = room - (length rest - length behind) in
+    let some_bytes : length (pair_bytes (name, value)) ≡ length name + length value + 2 = length-pair name value in
+    let size : room ≡ length (pair_bytes (name, value)) + left = omega arith in
+    record {
+      shorter = omega arith;
+      fits = omega arith;
+      same = (pair_can room left rest behind (name, value) (some, no_zero, none) is size, pair_needs room left rest behind (name, value) (some, no_zero, none) is size);
+    }

@@ -5,3 +5,4 @@ pub mod Bodies
 pub mod Openings
 pub mod Messages
 pub mod Streams
+pub mod Splits

@@ -1,5 +1,5 @@
 -- A message of a started session, in its bytes.
-use Rattle.std.proofs.Common.{◌≡◌, ◌≢◌, ℕ, ◌+◌, ◌-◌, ◌<◌, ◌≤◌, ◌^◌, List, [], ◌∷◌, ◌++◌, length, take, drop, refl, sym, ◌∙◌, ap, subst, arith, append_assoc, true, false, lit<, lit≤}
+use Rattle.std.proofs.Common.{◌≡◌, ◌≢◌, ℕ, ◌+◌, ◌-◌, ◌<◌, ◌≤◌, ◌^◌, List, [], ◌∷◌, ◌++◌, length, take, drop, refl, sym, ◌∙◌, ap, subst, arith, append_assoc, true, false, lit<, lit≤, inl, inr}
 use Rattle.std.specs.Prelude.{slice_index, ◌⊎◌, codes, ◌==◌, Bool}
 use Rattle.std.specs.List.{list_any}
 use Rattle.std.proofs.lemmas.List.{take-append-drop, length-append, drop-drop, take_at}
@@ -108,10 +108,10 @@ pub query_partial : (bytes : List ℕ) → slice_index bytes 0 ≡ 81 → (5 ≤
 query_partial bytes kind good = record { no_front = no_message bytes (λ h. (good h).2); no_fault = faults }
   where
     faults : (fault : FrameFault) → HasFault true bytes fault → ⊥
-    faults (BadLength n) h = elim h [
-      inl a ↦ (let k : 5 ≤ number_at 1 bytes = (good a.0.held).0 in omega (arith, a.0.length_is, a.1))
-    | inr a ↦ omega (arith, kind, a.0.kind_is)
-    ]
+    faults (BadLength n) h = elim h [ inl a ↦ low a | inr a ↦ omega (arith, kind, a.0.kind_is) ]
+      where
+        low : HasLength bytes 81 n × (n < 5) → ⊥
+        low a = let k : 5 ≤ number_at 1 bytes = (good a.0.held).0 in omega (arith, a.0.length_is, a.1)
     faults (TooLong n) h = let k : number_at 1 bytes ≤ 1048576 = (good h.0.held).1 in omega (arith, h.0.length_is, h.1)
     faults NotBuilt h = later_no_query _ h.1 kind
     faults BadStartup h = h

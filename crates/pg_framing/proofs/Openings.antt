@@ -2,7 +2,6 @@
 use Rattle.std.proofs.Common.{◌≡◌, ◌≢◌, ℕ, ◌+◌, ◌-◌, ◌<◌, ◌≤◌, ◌^◌, List, [], ◌∷◌, ◌++◌, length, take, drop, refl, sym, ◌∙◌, ap, subst, arith, append_assoc, append-nil, false, lit<}
 use Rattle.std.specs.List.{AllByRecursion}
 use Rattle.std.proofs.lemmas.List.{take-append-drop, length-append, drop-drop, take_at, take-append-le, drop-append-le, length-drop, length-take-le}
-use Rattle.std.proofs.Math.ListN.{take_of_length-le}
 use Rattle.pg_framing.specs.declared.front.Front.TheVariants.{Startup, Version, Query, Terminate}
 use Rattle.pg_framing.specs.declared.front.FrameFault.{FrameFault}
 use Rattle.pg_framing.specs.declared.front.FrameFault.TheVariants.{BadLength, BadStartup, TooLong, UnknownType, NoTerminator, NotBuilt, Memory}
@@ -40,22 +39,20 @@ opens bytes code body more small short e =
     lengths n = omega (arith, length-append (four_bytes n) ((four_bytes code ++ body) ++ more), length-four_bytes n, length-append (four_bytes code ++ body) more, length-coded code body)
 
 -- what the bytes say is an opening message
-pub opening_whole : (bytes : List ℕ) (code : ℕ) → HasCode bytes code → IsSpelled 0 bytes → IsSpelled 4 bytes → number_at 0 bytes ≤ length bytes
-    → bytes ≡ sized (four_bytes code ++ take (number_at 0 bytes - 8) (drop 8 bytes)) ++ drop (number_at 0 bytes) bytes
-opening_whole bytes code has first second fits =
-    let n = number_at 0 bytes in
-    let low : 8 ≤ n = has.low in
-    let body = take (n - 8) (drop 8 bytes) in
-    let size : length body ≡ n - 8 = length-part bytes 8 (n - 8) (omega arith) in
-    let is : 4 + length (four_bytes code ++ body) ≡ n = omega (arith, length-coded code body) in
+opening_whole : (bytes : List ℕ) (len code : ℕ) → HasCode bytes code → len ≡ number_at 0 bytes → IsSpelled 0 bytes → IsSpelled 4 bytes → len ≤ length bytes
+    → bytes ≡ sized (four_bytes code ++ take (len - 8) (drop 8 bytes)) ++ drop len bytes
+opening_whole bytes len code has e first second fits =
+    let low : 8 ≤ number_at 0 bytes = has.low in
+    let body = take (len - 8) (drop 8 bytes) in
+    let size : length body ≡ len - 8 = length-part bytes 8 (len - 8) (omega arith) in
+    let is : 4 + length (four_bytes code ++ body) ≡ number_at 0 bytes = omega (arith, length-coded code body) in
     let a : bytes ≡ take 4 bytes ++ drop 4 bytes = sym (take-append-drop 4 bytes) in
     let b : drop 4 bytes ≡ take 4 (drop 4 bytes) ++ drop 8 bytes = two_parts bytes 4 4 in
-    let k : 8 + (n - 8) ≡ n = omega arith in
-    let c : drop 8 bytes ≡ body ++ drop (8 + (n - 8)) bytes = two_parts bytes 8 (n - 8) in
-    let d : drop 8 bytes ≡ body ++ drop n bytes = c ∙ ap (λ (i : ℕ). body ++ drop i bytes) k in
+    let k : 8 + (len - 8) ≡ len = omega arith in
+    let d : drop 8 bytes ≡ body ++ drop len bytes = two_parts bytes 8 (len - 8) ∙ ap (λ (i : ℕ). body ++ drop i bytes) k in
     let s : four_bytes code ≡ take 4 (drop 4 bytes) = ap four_bytes (sym has.code_is) ∙ second in
     let t : four_bytes (4 + length (four_bytes code ++ body)) ≡ take 4 bytes = ap four_bytes is ∙ first in
-    a ∙ (join (take 4 bytes) (four_bytes (4 + length (four_bytes code ++ body))) (drop 4 bytes) (take 4 (drop 4 bytes)) (four_bytes code) (drop 8 bytes) body (drop n bytes) t b s d)
+    a ∙ join (take 4 bytes) (four_bytes (4 + length (four_bytes code ++ body))) (drop 4 bytes) (take 4 (drop 4 bytes)) (four_bytes code) (drop 8 bytes) body (drop len bytes) t b s d
   where
     join : (p p' q r r' s body rest : List ℕ) → p' ≡ p → q ≡ r ++ s → r' ≡ r → s ≡ body ++ rest → p ++ q ≡ (p' ++ (r' ++ body)) ++ rest
     join p p' q r r' s body rest e f g h = rw (e, f, g, h) (sym (simp append_assoc))
@@ -107,7 +104,7 @@ no_code_yet bytes few low high = opening_partial bytes good (λ h. absurd (omega
     good : IsGood bytes
     good = record { len = λ _. (low, high); code = λ h. absurd (omega arith); startup = λ h. absurd (omega (arith, h.held)) }
 
-not_request : (code : ℕ) → code ≡ 196608 → IsRequest code → ⊥
+pub not_request : (code : ℕ) → code ≡ 196608 → IsRequest code → ⊥
 not_request code e r = omega (arith, r.0)
 
 pub startup_partial : (bytes : List ℕ) → HasCode bytes 196608 → CanBePairs (number_at 0 bytes - 8) (held_pairs bytes) → length bytes < number_at 0 bytes → IsPartial false bytes
@@ -115,6 +112,12 @@ startup_partial bytes has can short = opening_partial bytes good (λ _. short)
   where
     good : IsGood bytes
     good = record { len = λ _. (has.low, has.high); code = λ _ r. not_request _ has.code_is r; startup = λ _. can }
+
+-- the same, of what the code holds
+pub startup_short : (bytes held : List ℕ) (len : ℕ) → HasCode bytes 196608 → len ≡ number_at 0 bytes → held ≡ take (len - 8) (drop 8 bytes) → CanBePairs (len - 8) held → length bytes < len → IsPartial false bytes
+startup_short bytes held len has e h can short =
+    startup_partial bytes has
+    (subst (λ (n : ℕ). CanBePairs (n - 8) (take (n - 8) (drop 8 bytes))) e (subst (λ (x : List ℕ). CanBePairs (len - 8) x) h can)) (omega arith)
 
 pub version_partial : (bytes : List ℕ) (code : ℕ) → HasCode bytes code → IsOtherVersion code → length bytes < number_at 0 bytes → IsPartial false bytes
 version_partial bytes code has other short = opening_partial bytes good (λ _. short)
@@ -126,26 +129,24 @@ version_partial bytes code has other short = opening_partial bytes good (λ _. s
       startup = λ h. absurd (other.1 (sym has.code_is ∙ h.code_is));
     }
 
-pub startup_found : (bytes : List ℕ) (pairs : List Pair) → HasCode bytes 196608 → IsSpelled 0 bytes → IsSpelled 4 bytes → number_at 0 bytes ≤ length bytes
-    → held_pairs bytes ≡ pairs_bytes pairs → AllByRecursion IsPair pairs → TakesFront false bytes (Startup pairs) (drop (number_at 0 bytes) bytes)
-startup_found bytes pairs has first second fits is each =
-    let n = number_at 0 bytes in
-    let low : 8 ≤ n = has.low in
-    let high : n ≤ 10000 = has.high in
-    let size : length (held_pairs bytes) ≡ n - 8 = length-part bytes 8 (n - 8) (omega arith) in
+pub startup_found : (bytes : List ℕ) (len : ℕ) (pairs : List Pair) → HasCode bytes 196608 → len ≡ number_at 0 bytes → IsSpelled 0 bytes → IsSpelled 4 bytes → len ≤ length bytes
+    → take (len - 8) (drop 8 bytes) ≡ pairs_bytes pairs → AllByRecursion IsPair pairs → TakesFront false bytes (Startup pairs) (drop len bytes)
+startup_found bytes len pairs has e first second fits is each =
+    let low : 8 ≤ number_at 0 bytes = has.low in
+    let high : number_at 0 bytes ≤ 10000 = has.high in
+    let size : length (take (len - 8) (drop 8 bytes)) ≡ len - 8 = length-part bytes 8 (len - 8) (omega arith) in
     record {
       fits = (each, omega (arith, ap length is));
-      whole = opening_whole bytes 196608 has first second fits ∙ ap (λ (x : List ℕ). sized (four_bytes 196608 ++ x) ++ drop n bytes) is;
+      whole = opening_whole bytes len 196608 has e first second fits ∙ ap (λ (x : List ℕ). sized (four_bytes 196608 ++ x) ++ drop len bytes) is;
     }
 
-pub version_found : (bytes : List ℕ) (code : ℕ) (rest : List ℕ) → HasCode bytes code → IsOtherVersion code → IsSpelled 0 bytes → IsSpelled 4 bytes → number_at 0 bytes ≤ length bytes
-    → held_pairs bytes ≡ rest → TakesFront false bytes (Version code rest) (drop (number_at 0 bytes) bytes)
-version_found bytes code rest has other first second fits is =
-    let n = number_at 0 bytes in
-    let low : 8 ≤ n = has.low in
-    let high : n ≤ 10000 = has.high in
-    let size : length (held_pairs bytes) ≡ n - 8 = length-part bytes 8 (n - 8) (omega arith) in
+pub version_found : (bytes : List ℕ) (len code : ℕ) (rest : List ℕ) → HasCode bytes code → IsOtherVersion code → len ≡ number_at 0 bytes → IsSpelled 0 bytes → IsSpelled 4 bytes → len ≤ length bytes
+    → take (len - 8) (drop 8 bytes) ≡ rest → TakesFront false bytes (Version code rest) (drop len bytes)
+version_found bytes len code rest has other e first second fits is =
+    let low : 8 ≤ number_at 0 bytes = has.low in
+    let high : number_at 0 bytes ≤ 10000 = has.high in
+    let size : length (take (len - 8) (drop 8 bytes)) ≡ len - 8 = length-part bytes 8 (len - 8) (omega arith) in
     record {
       fits = (other, omega (arith, ap length is));
-      whole = opening_whole bytes code has first second fits ∙ ap (λ (x : List ℕ). sized (four_bytes code ++ x) ++ drop n bytes) is;
+      whole = opening_whole bytes len code has e first second fits ∙ ap (λ (x : List ℕ). sized (four_bytes code ++ x) ++ drop len bytes) is;
     }

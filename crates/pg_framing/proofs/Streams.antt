@@ -1,6 +1,6 @@
 -- A stream is read in one way, and what stands in it stays as more bytes come.
-use Rattle.std.proofs.Common.{◌≡◌, ◌≢◌, ℕ, zero, suc, ◌+◌, ◌-◌, ◌<◌, ◌≤◌, List, [], ◌∷◌, ◌++◌, length, take, drop, refl, sym, ◌∙◌, ap, subst, arith, append_assoc, append-nil, Bool, true, false, lit<}
-use Rattle.std.specs.Prelude.{flat_map, slice_index, ◌⊎◌}
+use Rattle.std.proofs.Common.{◌≡◌, ◌≢◌, ℕ, zero, suc, ◌+◌, ◌-◌, ◌<◌, ◌≤◌, List, [], ◌∷◌, ◌++◌, length, take, drop, refl, sym, ◌∙◌, ap, subst, arith, append_assoc, append-nil, Bool, true, false, lit<, inl, inr}
+use Rattle.std.specs.Prelude.{flat_map, slice_index, ◌⊎◌, Option, None, Some, IfSome}
 use Rattle.std.specs.List.{AllByRecursion}
 use Rattle.std.proofs.lemmas.List.{append_cancel_left, length-append, length-drop, drop-append-le, take-append-le}
 use Rattle.pg_framing.specs.declared.front.Front.{Front}
@@ -125,10 +125,7 @@ front_no_fault true (Query t) fault bytes more fits e = go fault
     s = query_says bytes t more fits.1 e
 
     go : (fault : FrameFault) → HasFault true bytes fault → ⊥
-    go (BadLength n) h = elim h [
-      inl a ↦ omega (arith, a.0.length_is, a.1, s.number, length-text t)
-    | inr a ↦ kinds_differ _ a.0.kind_is s.kind_is
-    ]
+    go (BadLength n) h = elim h [ inl a ↦ omega (arith, a.0.length_is, a.1, s.number, length-text t) | inr a ↦ kinds_differ _ a.0.kind_is s.kind_is ]
     go (TooLong n) h = omega (arith, h.0.length_is, h.1, s.number, length-text t, fits.1)
     go NotBuilt h = later_no_query _ h.1 s.kind_is
     go BadStartup h = h
@@ -366,3 +363,9 @@ fault_stays true bytes more NoTerminator h =
     (h.0, length_stays bytes more 81 h.0 h.1, h.2, h.3, omega (arith, length-append bytes more), λ text no_zero e. h.5 text no_zero (sym same ∙ e))
 fault_stays true bytes more BadStartup h = h
 fault_stays true bytes more Memory h = h
+
+-- so does one that is kept
+pub kept_stays : (started : Bool) (items piece : List ℕ) (start : ℕ) (fault : Option FrameFault) → start ≤ length items → IfSome fault (λ f. HasFault started (drop start items) f)
+    → IfSome fault (λ f. HasFault started (drop start (items ++ piece)) f)
+kept_stays started items piece start None fits h = tt
+kept_stays started items piece start (Some f) fits h = rw (drop-append-le start items piece fits) (fault_stays started (drop start items) piece f h)

@@ -15,8 +15,15 @@ mod main_phase;
 mod opening;
 mod pairs;
 mod parts;
+mod replies;
+mod rows;
 mod split;
 
 pub use frames::Frames;
 pub use front::{FrameFault, Front};
+pub use replies::{
+    TransactionState, append_auth_ok, append_complete, append_empty, append_error, append_key,
+    append_notice, append_parameter, append_ready,
+};
+pub use rows::{append_fields, append_row};
 pub use split::{Split, split_stream};

@@ -1,5 +1,5 @@
 // Reads a message of a started session from the front of what is held.
-ghost use Rattle.std.specs.Prelude.{◌≡◌, ◌≢◌, ◌≤◌, ◌<◌, ◌-◌, ◌+◌, ◌∷◌, ◌++◌, [], length, take, drop, true, false, IfOk, IfErr, IfSome, IsNone, IsTrue, ◌↔◌, slice_index};
+ghost use Rattle.std.specs.Prelude.{List, ℕ, ◌≡◌, ◌≢◌, ◌≤◌, ◌<◌, ◌-◌, ◌+◌, ◌∷◌, ◌++◌, [], length, take, drop, true, false, IfOk, IfErr, IfSome, IsNone, IsTrue, ◌↔◌, slice_index};
 ghost use Rattle.pg_framing.specs.Spelling.{HasNoZero};
 ghost use Rattle.pg_framing.specs.Fronts.{TakesFront, IsPartial, HasFault, IsLater, IsNoText};
 

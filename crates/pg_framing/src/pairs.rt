@@ -1,5 +1,5 @@
 // The names and values of a startup message.
-ghost use Rattle.std.specs.Prelude.{◌≡◌, ◌≤◌, ◌↔◌, ◌++◌, length, IfOk, IfErr, IfSome, IsNone, IsTrue};
+ghost use Rattle.std.specs.Prelude.{◌≡◌, ◌≤◌, ◌↔◌, ◌⊎◌, ◌++◌, length, IfOk, IfErr, IfSome, IsNone, IsTrue};
 ghost use Rattle.std.specs.List.{AllByRecursion};
 ghost use Rattle.pg_framing.specs.Spelling.{pair_bytes, pairs_bytes, IsPair};
 ghost use Rattle.pg_framing.specs.Fronts.{CanBePairs};
@@ -21,16 +21,22 @@ pub fn can_be_pairs(held: &[u8], size: usize) -> bool
             return room == 1;
         }
         let Some((_, behind)) = text_of(after) else {
-            return rest.len() + 2 <= room;
+            return room - rest.len() >= 2;
         };
         room -= rest.len() - behind.len();
         rest = behind;
     }
     if rest.is_empty() {
-        room == 1 || room >= 4
-    } else {
-        rest.len() + 3 <= room
+        return has_room_for_end(room);
     }
+    room - rest.len() >= 3
+}
+
+// Whether the end alone fits, or the shortest pair and the end.
+fn has_room_for_end(room: usize) -> bool
+    ensures { IsTrue result ↔ ((room ≡ 1) ⊎ (4 ≤ room)) }
+{
+    room == 1 || room >= 4
 }
 
 // The first pair, as its name and its value, and what stands behind it.
