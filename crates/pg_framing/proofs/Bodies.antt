@@ -188,9 +188,11 @@ name_tells room rest some no_zero fits =
 
 pub value_tells : (room : ℕ) (rest name after : List ℕ) → rest ≡ name ++ (0 ∷ after) → name ≢ [] → HasNoZero name → HasNoZero after → length rest ≤ room
     → IsTrue (leb 2 (room - length rest)) ↔ CanBePairs room rest
-value_tells room rest name after is some no_zero none fits =
-    (λ t. let a = leb-true 2 (room - length rest) t in value_can room rest name after is some no_zero none (omega arith), λ can.
-    let b = value_needs room rest name after is some no_zero none can in le-leb 2 (room - length rest) (omega arith))
+value_tells room rest name after is some no_zero none fits = (
+  λ t. let a = leb-true 2 (room - length rest) t in value_can room rest name after is some no_zero none (omega arith),
+  λ can.
+      let b = value_needs room rest name after is some no_zero none can in le-leb 2 (room - length rest) (omega arith),
+)
 
 pub end_tells : (room : ℕ) (rest name after : List ℕ) → rest ≡ name ++ (0 ∷ after) → name ≡ [] → length rest ≤ room → IsTrue (eqb room 1) ↔ CanBePairs room rest
 end_tells room rest name after is none fits = rw same (λ t. end_can room after (omega (arith, ap length same)) (eqb-true room 1 t), λ can. eq-eqb room 1 (end_needs room after can))

@@ -15,6 +15,7 @@ const VERSION_3_0: u32 = 196_608;
 
 // The codes of requests that open no session: a cancel, SSL and GSS encryption.
 const FIRST_REQUEST: u32 = 80_877_102;
+
 const LAST_REQUEST: u32 = 80_877_104;
 
 // The greatest length of an opening message.
@@ -64,11 +65,7 @@ fn held_behind_code(bytes: &[u8], len: usize) -> &[u8]
 }
 
 // A startup message of protocol 3.0, of which the length and the code are held.
-fn startup_of(
-    alloc: Global,
-    bytes: &[u8],
-    len: usize,
-) -> Result<Option<(Front, usize)>, FrameFault>
+fn startup_of(alloc: Global, bytes: &[u8], len: usize) -> Result<Option<(Front, usize)>, FrameFault>
     requires code { HasCode bytes.now 196608 }
     requires len { len ≡ number_at 0 bytes.now }
     requires spelled_length { IsSpelled 0 bytes.now }

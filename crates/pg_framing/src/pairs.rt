@@ -53,11 +53,7 @@ fn pair_at(bytes: &[u8]) -> Option<(&[u8], &[u8], &[u8])>
     Some((name, value, after))
 }
 
-fn owned_pair(
-    alloc: Global,
-    name: &[u8],
-    value: &[u8],
-) -> Result<(Items<u8>, Items<u8>), Memory>
+fn owned_pair(alloc: Global, name: &[u8], value: &[u8]) -> Result<(Items<u8>, Items<u8>), Memory>
     ensures { IfOk result (λ pair. pair ≡ (name.now, value.now)) }
 {
     Ok((

@@ -2,8 +2,8 @@
 #![tactic(auto, unfolding(crate::specs::Spelling::four_bytes, crate::specs::Replies::two_bytes, crate::specs::Replies::framed, crate::specs::Replies::auth_ok, crate::specs::Replies::parameter, crate::specs::Replies::key_data, crate::specs::Replies::ready, crate::specs::Replies::command_complete, crate::specs::Replies::empty_query, crate::specs::Replies::error_response, crate::specs::Replies::notice_response))]
 
 ghost use Rattle.std.specs.Prelude.{◌≡◌, ◌+◌, ◌∷◌, ◌++◌, [], length, codes, IfOk, OnOk, OnErr};
-ghost use Rattle.pg_framing.specs.Spelling.{HasNoZero};
-ghost use Rattle.pg_framing.specs.Replies.{framed, IsShortBody, ended, auth_ok, parameter, key_data, ready, state_byte, command_complete, empty_query, report, error_response, notice_response};
+ghost use Rattle.pg_framing.specs.Spelling.{HasNoZero, four_bytes};
+ghost use Rattle.pg_framing.specs.Replies.{two_bytes, framed, IsShortBody, ended, auth_ok, parameter, key_data, ready, state_byte, command_complete, empty_query, report, error_response, notice_response};
 
 use cell_base::{Memory, SqlState};
 use std::alloc::Global;
@@ -35,6 +35,22 @@ pub(crate) fn append_framed(
     message.extend_from_slice(&((4 + body.len()) as u32).to_be_bytes())?;
     message.extend_from_slice(body)?;
     out.extend_from_slice(&message)?;
+    Ok(())
+}
+
+// A number in four bytes, the greatest first.
+pub(crate) fn append_four(out: &mut Vec<u8>, number: u32) -> Result<(), Memory>
+    ensures { OnOk result (out.new.items ≡ out.old.items ++ four_bytes number) }
+{
+    out.extend_from_slice(&number.to_be_bytes())?;
+    Ok(())
+}
+
+// A number in two bytes, the greater first.
+pub(crate) fn append_two(out: &mut Vec<u8>, number: u16) -> Result<(), Memory>
+    ensures { OnOk result (out.new.items ≡ out.old.items ++ two_bytes number) }
+{
+    out.extend_from_slice(&number.to_be_bytes())?;
     Ok(())
 }
 
@@ -80,17 +96,13 @@ pub fn append_key(alloc: Global, out: &mut Vec<u8>, pid: u32, secret: u32) -> Re
     ensures err { OnErr result (out.new.items ≡ out.old.items) }
 {
     let mut body = Vec::new(alloc);
-    body.extend_from_slice(&pid.to_be_bytes())?;
-    body.extend_from_slice(&secret.to_be_bytes())?;
+    append_four(&mut body, pid)?;
+    append_four(&mut body, secret)?;
     append_framed(alloc, out, b'K', &body)
 }
 
 /// ReadyForQuery: the next query may come. On want of memory `out` stays as it was.
-pub fn append_ready(
-    alloc: Global,
-    out: &mut Vec<u8>,
-    state: TransactionState,
-) -> Result<(), Memory>
+pub fn append_ready(alloc: Global, out: &mut Vec<u8>, state: TransactionState) -> Result<(), Memory>
     ensures ok { OnOk result (out.new.items ≡ out.old.items ++ ready state) }
     ensures err { OnErr result (out.new.items ≡ out.old.items) }
 {

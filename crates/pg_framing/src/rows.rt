@@ -1,17 +1,18 @@
 // Writes the rows of a result and their columns.
-#![tactic(auto, unfolding(crate::specs::Spelling::four_bytes, crate::specs::Replies::two_bytes, crate::specs::Replies::framed, crate::specs::Replies::field_bytes, crate::specs::Replies::row_description, crate::specs::Replies::value_bytes, crate::specs::Replies::data_row))]
+#![tactic(auto)]
 
 ghost use Rattle.std.specs.Prelude.{◌≡◌, ◌≤◌, ◌<◌, ◌+◌, ◌^◌, ◌∷◌, ◌++◌, [], length, flat_map, OnOk, OnErr};
 ghost use Rattle.std.specs.List.{All};
 ghost use Rattle.pg_framing.specs.Replies.{two_bytes, type_oid, type_length, type_modifier, field_bytes, row_description, text_bytes, value_bytes, data_row, IsField, IsShortType, IsShortBody};
 
-use crate::replies::{append_ended, append_framed};
+use crate::replies::{append_ended, append_four, append_framed, append_two};
 use cell_base::{Memory, SqlType, Value};
 use itoa::Buffer;
 use sql_tree::OutField;
 use std::alloc::Global;
 
 /// RowDescription: the columns of the rows that follow, at most 1,664. On want of memory `out` stays as it was.
+#[tactic(auto, unfolding(crate::specs::Replies::row_description))]
 pub fn append_fields(alloc: Global, out: &mut Vec<u8>, fields: &[OutField]) -> Result<(), Memory>
     requires number { length fields.now ≤ 1664 }
     requires each { All IsField fields.now }
@@ -20,7 +21,7 @@ pub fn append_fields(alloc: Global, out: &mut Vec<u8>, fields: &[OutField]) -> R
     ensures err { OnErr result (out.new.items ≡ out.old.items) }
 {
     let mut body = Vec::new(alloc);
-    body.extend_from_slice(&(fields.len() as u16).to_be_bytes())?;
+    append_two(&mut body, fields.len() as u16)?;
     for field in fields {
         append_field(&mut body, field)?;
     }
@@ -28,16 +29,18 @@ pub fn append_fields(alloc: Global, out: &mut Vec<u8>, fields: &[OutField]) -> R
 }
 
 // One column: its name, no table and no column of one, its type, and the format of texts.
+#[tactic(auto, unfolding(crate::specs::Replies::field_bytes))]
 fn append_field(body: &mut Vec<u8>, field: &OutField) -> Result<(), Memory>
     requires { IsField field.now }
     ensures { OnOk result (body.new.items ≡ body.old.items ++ field_bytes field.now) }
 {
     append_ended(body, field.name.bytes())?;
-    body.extend_from_slice(&[0; 6])?;
-    body.extend_from_slice(&oid_of(field.kind).to_be_bytes())?;
-    body.extend_from_slice(&length_of(field.kind).to_be_bytes())?;
-    body.extend_from_slice(&modifier_of(field.kind).to_be_bytes())?;
-    body.extend_from_slice(&[0; 2])?;
+    append_four(body, 0)?;
+    append_two(body, 0)?;
+    append_four(body, oid_of(field.kind))?;
+    append_two(body, length_of(field.kind))?;
+    append_four(body, modifier_of(field.kind))?;
+    append_two(body, 0)?;
     Ok(())
 }
 
@@ -80,6 +83,7 @@ fn modifier_of(kind: SqlType) -> u32
 }
 
 /// DataRow: the values of one row, at most 1,664, as texts. On want of memory `out` stays as it was.
+#[tactic(auto, unfolding(crate::specs::Replies::data_row))]
 pub fn append_row(alloc: Global, out: &mut Vec<u8>, values: &[Value]) -> Result<(), Memory>
     requires number { length values.now ≤ 1664 }
     requires short { IsShortBody (two_bytes (length values.now) ++ flat_map value_bytes values.now) }
@@ -87,7 +91,7 @@ pub fn append_row(alloc: Global, out: &mut Vec<u8>, values: &[Value]) -> Result<
     ensures err { OnErr result (out.new.items ≡ out.old.items) }
 {
     let mut body = Vec::new(alloc);
-    body.extend_from_slice(&(values.len() as u16).to_be_bytes())?;
+    append_two(&mut body, values.len() as u16)?;
     for value in values {
         append_value(&mut body, value)?;
     }
@@ -95,16 +99,14 @@ pub fn append_row(alloc: Global, out: &mut Vec<u8>, values: &[Value]) -> Result<
 }
 
 // One value: the length of its text and the text, or minus one for null.
+#[tactic(auto, unfolding(crate::specs::Replies::value_bytes))]
 fn append_value(body: &mut Vec<u8>, value: &Value) -> Result<(), Memory>
     requires { length (value_bytes value.now) < 2 ^ 31 }
     ensures { OnOk result (body.new.items ≡ body.old.items ++ value_bytes value.now) }
 {
     let mut buffer = Buffer::new();
     match value {
-        Value::Unset | Value::Null => {
-            body.extend_from_slice(&[255; 4])?;
-            Ok(())
-        }
+        Value::Unset | Value::Null => append_four(body, u32::MAX),
         Value::Flag(true) => append_sized(body, b"t"),
         Value::Flag(false) => append_sized(body, b"f"),
         Value::Int(n) => append_sized(body, buffer.format(*n).as_bytes()),
@@ -118,7 +120,7 @@ fn append_sized(body: &mut Vec<u8>, text: &[u8]) -> Result<(), Memory>
     requires { length text.now < 2 ^ 31 }
     ensures { OnOk result (body.new.items ≡ body.old.items ++ text_bytes (Some text.now)) }
 {
-    body.extend_from_slice(&(text.len() as u32).to_be_bytes())?;
+    append_four(body, text.len() as u32)?;
     body.extend_from_slice(text)?;
     Ok(())
 }

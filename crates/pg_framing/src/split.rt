@@ -38,10 +38,7 @@ pub fn split_stream(alloc: Global, pieces: &[Items<u8>]) -> Result<Split, Memory
 }
 
 // Takes each whole message, and answers the fault behind them.
-fn take_fronts(
-    frames: &mut Frames,
-    fronts: &mut Items<Front>,
-) -> Result<Option<FrameFault>, Memory>
+fn take_fronts(frames: &mut Frames, fronts: &mut Items<Front>) -> Result<Option<FrameFault>, Memory>
     ensures splits { (stream : List ℕ) → SplitsInto stream fronts.old frames.old → OnOk result (SplitsInto stream fronts.new frames.new) }
     ensures ends { IfOk result (λ fault. EndsWith frames.new fault) }
 {

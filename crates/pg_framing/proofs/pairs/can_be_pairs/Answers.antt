@@ -22,7 +22,7 @@ pub loop-name-preserved : goal.loop-name-preserved
 loop-name-preserved c =
     let at = c.loop-name.invariant in
     let r = reads_pair c.loop-name.room c.loop-name.rest.now c.in-Some.name.now c.in-Some-text_of.field-0-0.now c.in-Some.after.now c.in-Some-text_of.behind.now c.in-Some.ensures.some
-      c.in-Some-text_of.ensures.some (is_some c.in-Some.name.now c.if-is_empty.ensures) c.in-Some.ensures.no_zero c.in-Some-text_of.ensures.no_zero at.fits in
+    c.in-Some-text_of.ensures.some (is_some c.in-Some.name.now c.if-is_empty.ensures) c.in-Some.ensures.no_zero c.in-Some-text_of.ensures.no_zero at.fits in
     record { fits = r.fits; same = behind_same r.same at.same }
 
 pub returns-then-is_empty-2 : goal.returns-then-is_empty-2
