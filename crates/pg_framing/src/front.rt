@@ -1,6 +1,5 @@
 // The messages of a client, and what can be wrong with a stream of them.
 use cell_base::{Items, Memory};
-use std::alloc::{AllocError, AllocFailed};
 
 /// A message of a client (PostgreSQL's protocol chapter, "Message Formats").
 #[derive(Debug, Drop)]
@@ -34,20 +33,6 @@ pub enum FrameFault {
     Memory,
 }
 
-impl FrameFault {
-    ghost use Rattle.std.specs.Prelude.{◌≡◌, ◌↔◌, IsTrue};
-
-    /// Whether memory was wanting, and the stream is as it was.
-    pub fn is_memory(self) -> bool
-        ensures { IsTrue result ↔ (self ≡ FrameFault.Memory) }
-    {
-        match self {
-            FrameFault::Memory => true,
-            _ => false,
-        }
-    }
-}
-
 impl From<Memory> for FrameFault {
     ghost use Rattle.std.specs.Prelude.{◌≡◌};
     ghost use Rattle.pg_framing.specs.declared.front.FrameFault.TheVariants as faults;
@@ -55,28 +40,6 @@ impl From<Memory> for FrameFault {
     ghost from_gives = { λ _ e. e ≡ faults.Memory };
 
     fn from(_: Memory) -> Self {
-        FrameFault::Memory
-    }
-}
-
-impl From<AllocError> for FrameFault {
-    ghost use Rattle.std.specs.Prelude.{◌≡◌};
-    ghost use Rattle.pg_framing.specs.declared.front.FrameFault.TheVariants as faults;
-
-    ghost from_gives = { λ _ e. e ≡ faults.Memory };
-
-    fn from(_: AllocError) -> Self {
-        FrameFault::Memory
-    }
-}
-
-impl<T: Drop> From<AllocFailed<T>> for FrameFault {
-    ghost use Rattle.std.specs.Prelude.{◌≡◌};
-    ghost use Rattle.pg_framing.specs.declared.front.FrameFault.TheVariants as faults;
-
-    ghost from_gives = { λ _ e. e ≡ faults.Memory };
-
-    fn from(_: AllocFailed<T>) -> Self {
         FrameFault::Memory
     }
 }

@@ -18,6 +18,8 @@ mod parts;
 mod replies;
 mod rows;
 mod split;
+#[cfg(test)]
+mod tests;
 
 pub use frames::Frames;
 pub use front::{FrameFault, Front};
