@@ -1,4 +1,5 @@
 pub mod Numbers
+pub mod Lengths
 pub mod Zeros
 pub mod PairLists
 pub mod Bodies

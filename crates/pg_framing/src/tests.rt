@@ -78,8 +78,7 @@ type Case = (&'static [u8], &'static [u8], (usize, Option<FrameFault>));
 
 // Before the startup, in pieces of one byte.
 fn openings_are_read(alloc: Global) -> Result<bool, Memory> {
-    let cases: [Case; 19] = [
-        (b"\x00\x00\x00", b"", (3, None)),
+    let cases: [Case; 16] = [
         (
             b"\x00\x00\x00\x07",
             b"",
@@ -103,11 +102,6 @@ fn openings_are_read(alloc: Global) -> Result<bool, Memory> {
         ),
         (
             b"\x00\x00\x00\x0a\x00\x03\x00\x00",
-            b"",
-            (8, Some(FrameFault::BadStartup)),
-        ),
-        (
-            b"\x00\x00\x00\x0b\x00\x03\x00\x00",
             b"",
             (8, Some(FrameFault::BadStartup)),
         ),
@@ -143,11 +137,6 @@ fn openings_are_read(alloc: Global) -> Result<bool, Memory> {
             b"",
             (8, Some(FrameFault::NotBuilt)),
         ),
-        (
-            b"\x00\x00\x00\x10\x04\xd2\x16\x2e",
-            b"",
-            (8, Some(FrameFault::NotBuilt)),
-        ),
         (b"\x00\x00\x00\x09\x00\x02\x00\x00", b"", (8, None)),
         (
             b"\x00\x00\x00\x09\x00\x02\x00\x00A",
@@ -165,58 +154,35 @@ fn openings_are_read(alloc: Global) -> Result<bool, Memory> {
 
 // After the startup of user `a`.
 fn messages_are_read(alloc: Global) -> Result<bool, Memory> {
-    let cases: [Case; 14] = [
-        (
-            b"Q\x00\x00\x00\x03",
-            b"startup a=;",
-            (5, Some(FrameFault::BadLength(3))),
-        ),
-        (
-            b"Q\x00\x00\x00\x04",
-            b"startup a=;",
-            (5, Some(FrameFault::BadLength(4))),
-        ),
-        (b"Q\x00\x10\x00\x00", b"startup a=;", (5, None)),
+    let cases: [(&[u8], (usize, Option<FrameFault>)); 14] = [
+        (b"Q\x00\x00\x00\x03", (5, Some(FrameFault::BadLength(3)))),
+        (b"Q\x00\x00\x00\x04", (5, Some(FrameFault::BadLength(4)))),
+        (b"Q\x00\x10\x00\x00", (5, None)),
         (
             b"Q\x00\x10\x00\x01",
-            b"startup a=;",
             (5, Some(FrameFault::TooLong(1_048_577))),
         ),
-        (
-            b"Q\x00\x00\x00\x06SEL",
-            b"startup a=;",
-            (8, Some(FrameFault::NoTerminator)),
-        ),
+        (b"Q\x00\x00\x00\x06SEL", (8, Some(FrameFault::NoTerminator))),
         (
             b"Q\x00\x00\x00\x07S\x00\x00",
-            b"startup a=;",
             (8, Some(FrameFault::NoTerminator)),
         ),
-        (b"Q\x00\x00\x00\x20SE", b"startup a=;", (7, None)),
-        (
-            b"X\x00\x00\x00\x05",
-            b"startup a=;",
-            (5, Some(FrameFault::BadLength(5))),
-        ),
+        (b"Q\x00\x00\x00\x20SE", (7, None)),
+        (b"X\x00\x00\x00\x05", (5, Some(FrameFault::BadLength(5)))),
         (
             b"X\x00\x1e\x84\x80",
-            b"startup a=;",
             (5, Some(FrameFault::BadLength(2_000_000))),
         ),
-        (b"X\x00\x00\x00", b"startup a=;", (4, None)),
-        (b"S", b"startup a=;", (1, Some(FrameFault::NotBuilt))),
-        (b"d", b"startup a=;", (1, Some(FrameFault::NotBuilt))),
-        (b"A", b"startup a=;", (1, Some(FrameFault::UnknownType(65)))),
-        (
-            b"\x00",
-            b"startup a=;",
-            (1, Some(FrameFault::UnknownType(0))),
-        ),
+        (b"X\x00\x00\x00", (4, None)),
+        (b"S", (1, Some(FrameFault::NotBuilt))),
+        (b"d", (1, Some(FrameFault::NotBuilt))),
+        (b"A", (1, Some(FrameFault::UnknownType(65)))),
+        (b"\x00", (1, Some(FrameFault::UnknownType(0)))),
     ];
-    for (bytes, words, end) in cases {
+    for (bytes, end) in cases {
         let mut stream = Vec::from_slice(alloc, b"\x00\x00\x00\x0c\x00\x03\x00\x00a\x00\x00\x00")?;
         stream.extend_from_slice(bytes)?;
-        if !is_read_so(alloc, 1, &stream, words, end)? {
+        if !is_read_so(alloc, 1, &stream, b"startup a=;", end)? {
             return Ok(false);
         }
     }
