@@ -1,8 +1,7 @@
 -- How long the parts of the server's messages are.
-use Rattle.std.proofs.Common.{◌≡◌, ℕ, ◌+◌, ◌<◌, List, [], ◌∷◌, ◌++◌, length, refl, arith, length-append}
+use Rattle.std.proofs.Common.{◌≡◌, ℕ, ◌+◌, List, [], ◌++◌, length, refl, arith, length-append}
 use Rattle.sql_tree.specs.declared.table.OutField.{OutField}
-use Rattle.pg_framing.specs.Spelling.{four_bytes}
-use Rattle.pg_framing.specs.Replies.{two_bytes, ended, type_oid, type_length, type_modifier, field_bytes}
+use Rattle.pg_framing.specs.Replies.{two_bytes, field_bytes}
 use Rattle.pg_framing.proofs.Numbers.{length-four_bytes}
 
 pub length-two_bytes : (n : ℕ) → length (two_bytes n) ≡ 2

@@ -1,13 +1,13 @@
 -- A message of a started session, in its bytes.
-use Rattle.std.proofs.Common.{◌≡◌, ◌≢◌, ℕ, ◌+◌, ◌-◌, ◌<◌, ◌≤◌, ◌^◌, List, [], ◌∷◌, ◌++◌, length, take, drop, refl, sym, ◌∙◌, ap, subst, arith, append_assoc, true, false, lit<, lit≤, inl, inr}
-use Rattle.std.specs.Prelude.{slice_index, ◌⊎◌, codes, ◌==◌, Bool}
+use Rattle.std.proofs.Common.{◌≡◌, ℕ, ◌+◌, ◌-◌, ◌<◌, ◌≤◌, List, [], ◌∷◌, ◌++◌, length, take, drop, refl, sym, ◌∙◌, ap, subst, arith, append_assoc, true, false, lit≤, inl, inr}
+use Rattle.std.specs.Prelude.{slice_index, codes, ◌==◌, Bool}
 use Rattle.std.specs.List.{list_any}
-use Rattle.std.proofs.lemmas.List.{take-append-drop, length-append, drop-drop, take_at}
+use Rattle.std.proofs.lemmas.List.{length-append, drop-drop, take_at}
 use Rattle.pg_framing.specs.declared.front.Front.TheVariants.{Startup, Version, Query, Terminate}
 use Rattle.pg_framing.specs.declared.front.FrameFault.{FrameFault}
 use Rattle.pg_framing.specs.declared.front.FrameFault.TheVariants.{BadLength, BadStartup, TooLong, UnknownType, NoTerminator, NotBuilt, Memory}
 use Rattle.pg_framing.specs.Spelling.{four_bytes, sized, spelling, HasNoZero}
-use Rattle.pg_framing.specs.Fronts.{TakesFront, HasNoFront, HasFault, HasLength, IsLater, IsNoText, IsPartial, number_at}
+use Rattle.pg_framing.specs.Fronts.{TakesFront, HasNoFront, HasFault, HasLength, IsLater, IsPartial, number_at}
 use Rattle.pg_framing.specs.Reading.{IsSpelled}
 use Rattle.pg_framing.proofs.Numbers.{length-four_bytes, drop-four_bytes, number_at-spelled, two_parts, length-part}
 

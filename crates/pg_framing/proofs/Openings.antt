@@ -1,14 +1,14 @@
 -- The message that opens a session, in its bytes.
-use Rattle.std.proofs.Common.{◌≡◌, ◌≢◌, ℕ, ◌+◌, ◌-◌, ◌<◌, ◌≤◌, ◌^◌, List, [], ◌∷◌, ◌++◌, length, take, drop, refl, sym, ◌∙◌, ap, subst, arith, append_assoc, append-nil, false, lit<}
+use Rattle.std.proofs.Common.{◌≡◌, ℕ, ◌+◌, ◌-◌, ◌<◌, ◌≤◌, ◌^◌, List, ◌++◌, length, take, drop, refl, sym, ◌∙◌, ap, subst, arith, append_assoc, false, lit<}
 use Rattle.std.specs.List.{AllByRecursion}
-use Rattle.std.proofs.lemmas.List.{take-append-drop, length-append, drop-drop, take_at, take-append-le, drop-append-le, length-drop, length-take-le}
+use Rattle.std.proofs.lemmas.List.{take-append-drop, length-append, drop-drop, take_at}
 use Rattle.pg_framing.specs.declared.front.Front.TheVariants.{Startup, Version, Query, Terminate}
 use Rattle.pg_framing.specs.declared.front.FrameFault.{FrameFault}
 use Rattle.pg_framing.specs.declared.front.FrameFault.TheVariants.{BadLength, BadStartup, TooLong, UnknownType, NoTerminator, NotBuilt, Memory}
-use Rattle.pg_framing.specs.Spelling.{Pair, four_bytes, sized, pairs_bytes, spelling, IsPair, IsRequest, IsOtherVersion}
+use Rattle.pg_framing.specs.Spelling.{Pair, four_bytes, sized, pairs_bytes, IsPair, IsRequest, IsOtherVersion}
 use Rattle.pg_framing.specs.Fronts.{TakesFront, HasNoFront, HasFault, HasCode, IsPartial, CanBePairs, held_pairs, number_at}
-use Rattle.pg_framing.specs.Reading.{IsSpelled, ArePairs}
-use Rattle.pg_framing.proofs.Numbers.{length-four_bytes, drop-four_bytes, number_at-spelled, number_at-append, two_parts, length-part}
+use Rattle.pg_framing.specs.Reading.{IsSpelled}
+use Rattle.pg_framing.proofs.Numbers.{length-four_bytes, drop-four_bytes, number_at-spelled, two_parts, length-part}
 
 -- what the bytes of an opening message say
 pub record Opens (bytes : List ℕ) (code : ℕ) (body : List ℕ) : Type 0 where

@@ -1,12 +1,12 @@
 -- The messages taken from a stream piece by piece are those of the stream.
-use Rattle.std.proofs.Common.{◌≡◌, ℕ, ◌+◌, ◌<◌, ◌≤◌, List, [], ◌∷◌, ◌++◌, length, take, drop, refl, sym, ◌∙◌, ap, subst, arith, append_assoc, append-nil, length-append, get_or, Bool, true, false}
-use Rattle.std.specs.Prelude.{flat_map, Option, None, Some, MatchOption}
+use Rattle.std.proofs.Common.{◌≡◌, ℕ, ◌+◌, ◌<◌, ◌≤◌, List, [], ◌∷◌, ◌++◌, length, take, refl, sym, ◌∙◌, ap, arith, append_assoc, append-nil, length-append, get_or, Bool, false}
+use Rattle.std.specs.Prelude.{flat_map, Option, None, Some}
 use Rattle.std.proofs.lemmas.List.{take_more}
 use Rattle.std.proofs.lemmas.List.Concat.{flat_map-append}
 use Rattle.pg_framing.specs.declared.front.Front.{Front}
 use Rattle.pg_framing.specs.declared.front.FrameFault.{FrameFault}
-use Rattle.pg_framing.specs.Spelling.{sized, body_of, type_of, spelling, IsFront, phase_after}
-use Rattle.pg_framing.specs.Fronts.{Held, TakesFront, IsPartial, HasFault, Stream, IsStream, IsRead, grafted, end_of, AreFronts, phase_behind}
+use Rattle.pg_framing.specs.Spelling.{spelling, IsFront, phase_after}
+use Rattle.pg_framing.specs.Fronts.{Held, TakesFront, Stream, IsStream, IsRead, grafted, end_of, AreFronts, phase_behind}
 use Rattle.pg_framing.specs.Reading.{SplitsInto, EndsWith}
 use Rattle.pg_framing.proofs.Numbers.{length-four_bytes}
 use Rattle.pg_framing.proofs.Openings.{no_length_yet}

@@ -1,6 +1,6 @@
 -- A stream is read in one way, and what stands in it stays as more bytes come.
-use Rattle.std.proofs.Common.{◌≡◌, ◌≢◌, ℕ, zero, suc, ◌+◌, ◌-◌, ◌<◌, ◌≤◌, List, [], ◌∷◌, ◌++◌, length, take, drop, refl, sym, ◌∙◌, ap, subst, arith, append_assoc, append-nil, Bool, true, false, lit<, inl, inr}
-use Rattle.std.specs.Prelude.{flat_map, slice_index, ◌⊎◌, Option, None, Some, IfSome}
+use Rattle.std.proofs.Common.{◌≡◌, ℕ, zero, suc, ◌+◌, ◌-◌, ◌<◌, ◌≤◌, List, [], ◌∷◌, ◌++◌, length, take, drop, refl, sym, ◌∙◌, ap, subst, arith, append_assoc, append-nil, Bool, true, false, lit<, inl, inr}
+use Rattle.std.specs.Prelude.{flat_map, slice_index, Option, None, Some, IfSome}
 use Rattle.std.specs.List.{AllByRecursion}
 use Rattle.std.proofs.lemmas.List.{append_cancel_left, length-append, length-drop, drop-append-le, take-append-le}
 use Rattle.pg_framing.specs.declared.front.Front.{Front}

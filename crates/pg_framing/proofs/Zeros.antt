@@ -1,5 +1,5 @@
 -- Texts that a zero byte ends.
-use Rattle.std.proofs.Common.{◌≡◌, ◌≢◌, ℕ, zero, suc, ◌+◌, ◌≤◌, List, [], ◌∷◌, ◌++◌, length, refl, sym, ◌∙◌, arith, subst, get_or}
+use Rattle.std.proofs.Common.{◌≡◌, ◌≢◌, ℕ, zero, suc, ◌≤◌, List, [], ◌∷◌, ◌++◌, length, refl, sym, ◌∙◌, arith, subst, get_or}
 use Rattle.pg_framing.specs.Spelling.{HasNoZero}
 use Rattle.pg_framing.specs.Fronts.{IsNoText}
 

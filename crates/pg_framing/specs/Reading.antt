@@ -1,5 +1,5 @@
 -- What the parts of a reader of messages say of each other. The page of definitions is `Fronts`.
-use Rattle.std.specs.Prelude.{◌≡◌, ℕ, List, ◌++◌, take, drop, flat_map, Bool, true, false, Option, MatchOption}
+use Rattle.std.specs.Prelude.{◌≡◌, ℕ, List, ◌++◌, take, drop, flat_map, false, Option, MatchOption}
 use Rattle.pg_framing.specs.declared.front.Front.{Front}
 use Rattle.pg_framing.specs.declared.front.FrameFault.{FrameFault}
 use Rattle.std.specs.List.{AllByRecursion}

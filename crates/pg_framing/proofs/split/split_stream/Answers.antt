@@ -1,7 +1,6 @@
-use Rattle.std.proofs.Common.{◌≡◌, ℕ, ◌+◌, ◌<◌, List, ◌++◌, length, take, sym, ◌∙◌, ap, refl, arith}
+use Rattle.std.proofs.Common.{◌≡◌, ℕ, ◌+◌, ◌<◌, List, ◌++◌, length, take, sym, ◌∙◌, ap, arith}
 use Rattle.std.specs.Prelude.{flat_map}
 use Rattle.std.proofs.lemmas.List.{take_all}
-use Rattle.pg_framing.specs.Reading.{SplitsInto}
 use Rattle.pg_framing.proofs.Splits.{splits_nothing, splits_fed, pieces_more, is_read_so, is_read_only}
 use Rattle.pg_framing.proofs.split.split_stream.Goals as goal
 
