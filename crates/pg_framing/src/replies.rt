@@ -1,0 +1,186 @@
+// Writes the messages of the server, but for the rows and their columns.
+#![tactic(auto, unfolding(crate::specs::Spelling::four_bytes, crate::specs::Replies::two_bytes, crate::specs::Replies::framed, crate::specs::Replies::auth_ok, crate::specs::Replies::parameter, crate::specs::Replies::key_data, crate::specs::Replies::ready, crate::specs::Replies::command_complete, crate::specs::Replies::empty_query, crate::specs::Replies::error_response, crate::specs::Replies::notice_response))]
+
+ghost use Rattle.std.specs.Prelude.{◌≡◌, ◌+◌, ◌∷◌, ◌++◌, [], length, codes, IfOk, OnOk, OnErr};
+ghost use Rattle.pg_framing.specs.Spelling.{HasNoZero, four_bytes};
+ghost use Rattle.pg_framing.specs.Replies.{two_bytes, framed, IsShortBody, ended, auth_ok, parameter, key_data, ready, state_byte, command_complete, empty_query, report, error_response, notice_response};
+
+use cell_base::{Memory, SqlState};
+use std::alloc::Global;
+
+/// What ReadyForQuery says of the session's transaction block.
+#[derive(Clone, Copy, Debug, PartialEq, Eq)]
+pub enum TransactionState {
+    /// No block is open.
+    Idle,
+    /// A block is open.
+    Block,
+    /// A block is open, and a statement in it has failed.
+    Failed,
+}
+
+// A whole message, behind what stands in `out`.
+pub(crate) fn append_framed(
+    alloc: Global,
+    out: &mut Vec<u8>,
+    kind: u8,
+    body: &[u8],
+) -> Result<(), Memory>
+    requires { IsShortBody body.now }
+    ensures ok { OnOk result (out.new.items ≡ out.old.items ++ framed kind body.now) }
+    ensures err { OnErr result (out.new.items ≡ out.old.items) }
+{
+    let mut message = Vec::new(alloc);
+    message.push(kind)?;
+    message.extend_from_slice(&((4 + body.len()) as u32).to_be_bytes())?;
+    message.extend_from_slice(body)?;
+    out.extend_from_slice(&message)?;
+    Ok(())
+}
+
+// A number in four bytes, the greatest first.
+pub(crate) fn append_four(out: &mut Vec<u8>, number: u32) -> Result<(), Memory>
+    ensures { OnOk result (out.new.items ≡ out.old.items ++ four_bytes number) }
+{
+    out.extend_from_slice(&number.to_be_bytes())?;
+    Ok(())
+}
+
+// A number in two bytes, the greater first.
+pub(crate) fn append_two(out: &mut Vec<u8>, number: u16) -> Result<(), Memory>
+    ensures { OnOk result (out.new.items ≡ out.old.items ++ two_bytes number) }
+{
+    out.extend_from_slice(&number.to_be_bytes())?;
+    Ok(())
+}
+
+// A text and the zero byte that ends it.
+pub(crate) fn append_ended(out: &mut Vec<u8>, text: &[u8]) -> Result<(), Memory>
+    ensures { OnOk result (out.new.items ≡ out.old.items ++ ended text.now) }
+{
+    out.extend_from_slice(text)?;
+    out.push(0)?;
+    Ok(())
+}
+
+/// AuthenticationOk: the user is accepted without a password. On want of memory `out` stays as it was.
+pub fn append_auth_ok(alloc: Global, out: &mut Vec<u8>) -> Result<(), Memory>
+    ensures ok { OnOk result (out.new.items ≡ out.old.items ++ auth_ok) }
+    ensures err { OnErr result (out.new.items ≡ out.old.items) }
+{
+    append_framed(alloc, out, b'R', &0u32.to_be_bytes())
+}
+
+/// ParameterStatus: the name of a setting and its value. On want of memory `out` stays as it was.
+pub fn append_parameter(
+    alloc: Global,
+    out: &mut Vec<u8>,
+    name: &[u8],
+    value: &[u8],
+) -> Result<(), Memory>
+    requires name { HasNoZero name.now }
+    requires value { HasNoZero value.now }
+    requires short { IsShortBody (ended name.now ++ ended value.now) }
+    ensures ok { OnOk result (out.new.items ≡ out.old.items ++ parameter name.now value.now) }
+    ensures err { OnErr result (out.new.items ≡ out.old.items) }
+{
+    let mut body = Vec::new(alloc);
+    append_ended(&mut body, name)?;
+    append_ended(&mut body, value)?;
+    append_framed(alloc, out, b'S', &body)
+}
+
+/// BackendKeyData: the session's number, and a secret word. On want of memory `out` stays as it was.
+pub fn append_key(alloc: Global, out: &mut Vec<u8>, pid: u32, secret: u32) -> Result<(), Memory>
+    ensures ok { OnOk result (out.new.items ≡ out.old.items ++ key_data pid secret) }
+    ensures err { OnErr result (out.new.items ≡ out.old.items) }
+{
+    let mut body = Vec::new(alloc);
+    append_four(&mut body, pid)?;
+    append_four(&mut body, secret)?;
+    append_framed(alloc, out, b'K', &body)
+}
+
+/// ReadyForQuery: the next query may come. On want of memory `out` stays as it was.
+pub fn append_ready(alloc: Global, out: &mut Vec<u8>, state: TransactionState) -> Result<(), Memory>
+    ensures ok { OnOk result (out.new.items ≡ out.old.items ++ ready state) }
+    ensures err { OnErr result (out.new.items ≡ out.old.items) }
+{
+    append_framed(alloc, out, b'Z', &[byte_of(state)])
+}
+
+fn byte_of(state: TransactionState) -> u8
+    ensures { result ≡ state_byte state }
+{
+    match state {
+        TransactionState::Idle => b'I',
+        TransactionState::Block => b'T',
+        TransactionState::Failed => b'E',
+    }
+}
+
+/// CommandComplete: a statement is done, by its tag. On want of memory `out` stays as it was.
+pub fn append_complete(alloc: Global, out: &mut Vec<u8>, tag: &[u8]) -> Result<(), Memory>
+    requires tag { HasNoZero tag.now }
+    requires short { IsShortBody (ended tag.now) }
+    ensures ok { OnOk result (out.new.items ≡ out.old.items ++ command_complete tag.now) }
+    ensures err { OnErr result (out.new.items ≡ out.old.items) }
+{
+    let mut body = Vec::new(alloc);
+    append_ended(&mut body, tag)?;
+    append_framed(alloc, out, b'C', &body)
+}
+
+/// EmptyQueryResponse: a query without a statement is done. On want of memory `out` stays as it was.
+pub fn append_empty(alloc: Global, out: &mut Vec<u8>) -> Result<(), Memory>
+    ensures ok { OnOk result (out.new.items ≡ out.old.items ++ empty_query) }
+    ensures err { OnErr result (out.new.items ≡ out.old.items) }
+{
+    append_framed(alloc, out, b'I', &[])
+}
+
+/// ErrorResponse: a statement is refused with this code; a fatal one ends the session. On want of memory `out` stays as it
+/// was.
+pub fn append_error(
+    alloc: Global,
+    out: &mut Vec<u8>,
+    fatal: bool,
+    state: SqlState,
+) -> Result<(), Memory>
+    ensures ok { OnOk result (out.new.items ≡ out.old.items ++ error_response fatal state) }
+    ensures err { OnErr result (out.new.items ≡ out.old.items) }
+{
+    let severity = if fatal { "FATAL" } else { "ERROR" };
+    let body = report_of(alloc, severity.as_bytes(), state)?;
+    append_framed(alloc, out, b'E', &body)
+}
+
+/// NoticeResponse: a warning with this code. On want of memory `out` stays as it was.
+pub fn append_notice(alloc: Global, out: &mut Vec<u8>, state: SqlState) -> Result<(), Memory>
+    ensures ok { OnOk result (out.new.items ≡ out.old.items ++ notice_response state) }
+    ensures err { OnErr result (out.new.items ≡ out.old.items) }
+{
+    let body = report_of(alloc, b"WARNING", state)?;
+    append_framed(alloc, out, b'N', &body)
+}
+
+// The fields of an error or a notice.
+fn report_of(alloc: Global, severity: &[u8], state: SqlState) -> Result<Vec<u8>, Memory>
+    ensures { IfOk result (λ body. body.items ≡ report severity.now state) }
+{
+    let mut body = Vec::new(alloc);
+    append_tagged(&mut body, b'S', severity)?;
+    append_tagged(&mut body, b'V', severity)?;
+    append_tagged(&mut body, b'C', &state.code())?;
+    append_tagged(&mut body, b'M', state.message().as_bytes())?;
+    body.push(0)?;
+    Ok(body)
+}
+
+// A field of an error: its type byte and its text.
+fn append_tagged(body: &mut Vec<u8>, kind: u8, text: &[u8]) -> Result<(), Memory>
+    ensures { OnOk result (body.new.items ≡ body.old.items ++ kind ∷ ended text.now) }
+{
+    body.push(kind)?;
+    append_ended(body, text)
+}
