@@ -1,3 +1,4 @@
 pub mod Faults
 pub mod Traffic
 pub mod Host
+pub mod Memory

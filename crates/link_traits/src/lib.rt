@@ -6,8 +6,21 @@
 //! bytes, or on `Failed` has written a prefix. The adapters tell no bytes and are the trusted edge.
 #![tactic(auto)]
 
-pub mod host;
-pub mod sides;
+mod faults;
+mod host;
+mod input;
+mod mem_link;
+mod mem_sink;
+mod mem_source;
+mod output;
+mod plan;
+mod sides;
+mod std_link;
 
 pub use host::{Host, HostFault};
+pub use mem_link::MemLink;
+pub use mem_sink::MemSink;
+pub use mem_source::MemSource;
+pub use plan::MemPlan;
 pub use sides::{Failed, Link, Sides, Sink, Source, Words, send_all};
+pub use std_link::{StdLink, StdOut};
