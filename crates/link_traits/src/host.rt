@@ -5,6 +5,8 @@ ghost use Rattle.link_traits.specs.Traffic.{Sight, sight_of};
 ghost use Rattle.link_traits.specs.Host.{HostCall, standard_link_called};
 
 use crate::sides::{Link, Sink};
+use cell_base::Memory;
+use std::alloc::AllocError;
 
 /// Why a host hands no object out.
 #[derive(Clone, Copy, Debug, PartialEq, Eq)]
@@ -13,6 +15,28 @@ pub enum HostFault {
     Failed,
     /// Want of memory.
     Memory,
+}
+
+impl From<Memory> for HostFault {
+    ghost use Rattle.link_traits.specs.declared.host.HostFault.{HostFault};
+    ghost use Rattle.link_traits.specs.declared.host.HostFault.TheVariants as faults;
+
+    ghost from_gives = { λ _ e. e ≡ faults.Memory };
+
+    fn from(_: Memory) -> Self {
+        HostFault::Memory
+    }
+}
+
+impl From<AllocError> for HostFault {
+    ghost use Rattle.link_traits.specs.declared.host.HostFault.{HostFault};
+    ghost use Rattle.link_traits.specs.declared.host.HostFault.TheVariants as faults;
+
+    ghost from_gives = { λ _ e. e ≡ faults.Memory };
+
+    fn from(_: AllocError) -> Self {
+        HostFault::Memory
+    }
 }
 
 /// What the program runs in: it hands out the objects outside, and is handed them back.
