@@ -1,36 +1,27 @@
 -- A transaction or a session ends.
-use Rattle.std.proofs.Common.{◌≡◌, ℕ, ◌+◌, ◌-◌, ◌<◌, ◌≤◌, List, [], ◌∷◌, ◌++◌, Option, Some, None, All, Bool, true, false, length, set, get_or, arith, refl, ap, sym, ◌∙◌, subst, vec_capacity, cond, add-zero, ◌↔◌}
-use Rattle.std.specs.Prelude.{map}
-use Rattle.std.proofs.lemmas.List.{length_push, map-append}
-use Rattle.std.proofs.lemmas.List.Elements.{filter_map-append, All-push}
-use Rattle.std.specs.List.{cons_option}
-use Rattle.std.proofs.lemmas.Option.{slice_get_within, get_or_from_slice_get, slice_get-get_or}
-use Rattle.std.proofs.lemmas.List.Sums.{sum_by-set, sum_by_push, get_or-le-sum_by}
+use Rattle.std.proofs.Common.{◌≡◌, ℕ, ◌+◌, ◌-◌, ◌<◌, ◌≤◌, [], ◌∷◌, ◌++◌, Option, Some, None, Bool, true, false, length, get_or, arith, refl, ap, sym, ◌∙◌, subst, vec_capacity, cond, ◌↔◌}
+use Rattle.std.proofs.lemmas.List.{length_push}
+use Rattle.std.proofs.lemmas.Option.{slice_get-get_or}
 use Rattle.std.specs.Option.{is_some}
-use Rattle.std.specs.List.{sum_by, slice_get, Contains}
+use Rattle.std.specs.List.{sum_by, slice_get}
 use Rattle.history_core.specs.declared.event.Event.{Event}
 use Rattle.history_core.specs.declared.event.Event.TheVariants.{Open, Close, Define, Look, Begin, Scan, Read, Own, Write, Commit, Rollback, Show}
 use Rattle.cell_base.specs.declared.cell.Cell.{Cell}
 use Rattle.cell_base.specs.declared.value.Value.{Value}
-use Rattle.history_core.specs.Events.{names, load_of, weight_of, defined_name, session_in, is_begin, is_end, is_open_event, begun}
-use Rattle.history_core.specs.Transactions.{IsPending, HasPending}
-use Rattle.history_core.specs.Legal.{IsFormed, MayCome, IsOpen}
-use Rattle.history_core.proofs.Prefixes.{formed_push, sound_of}
-use Rattle.history_core.proofs.Offers.{pending_unique}
-use Rattle.sql_tree.specs.declared.table.Table.{Table}
+use Rattle.history_core.specs.Events.{load_of, weight_of, defined_name, session_in, is_begin, is_end, is_open_event}
+use Rattle.history_core.specs.Transactions.{IsPending}
+use Rattle.history_core.specs.Legal.{MayCome, IsOpen}
 use Rattle.history_core.specs.declared.kept.Kept.{Kept}
-use Rattle.history_core.specs.declared.txn.Seen.{Seen}
 use Rattle.history_core.specs.declared.txn.Txn.{Txn}
 use Rattle.history_core.specs.declared.txn.TxnState.{TxnState}
 use Rattle.history_core.specs.declared.txn.TxnState.TheVariants.{Pending, Committed, RolledBack}
 use Rattle.history_core.specs.declared.kept.SessionRecord.{SessionRecord}
-use Rattle.history_core.specs.Records.{IsRecordOf, is_any_end, seen_of, Saw}
-use Rattle.history_core.specs.Kept.{StandsForTxns, StandsForSessions, IsSmall, IsKept, owed_by, ChangesOne, AddsSeen, AddsWrite, TakesState, TakesPending, Closes, IsEndOf, IsUnnoted, IsSessionOf}
-use Rattle.sql_tree.specs.Sound.{IsSound}
-use Rattle.history_core.proofs.TxnLemmas.{IsQuiet, record_goes, record_ends, seen_same, seen_more, writes_same, writes_more, txns_quiet, txns_change, txns_begin}
-use Rattle.history_core.proofs.SessionLemmas.{IsPlain, sessions_plain, sessions_change, session_begins, session_ends, session_closes, sessions_open}
-use Rattle.history_core.proofs.SmallLemmas.{small_more, small_last, fits_begin, fits_open, load-push}
-use Rattle.history_core.proofs.KeptLemmas.{AreTables, are_tables, tables_still, kept_grows, unique, is_middle, IsMiddle, middle, shows_middle, names-push, kept_middle}
+use Rattle.history_core.specs.Records.{IsRecordOf, is_any_end, seen_of}
+use Rattle.history_core.specs.Kept.{IsSmall, IsKept, owed_by, ChangesOne, TakesState, TakesPending, Closes, IsEndOf, IsSessionOf}
+use Rattle.history_core.proofs.TxnLemmas.{record_ends, txns_quiet, txns_change}
+use Rattle.history_core.proofs.SessionLemmas.{sessions_change, session_ends, session_closes}
+use Rattle.history_core.proofs.SmallLemmas.{small_last, load-push}
+use Rattle.history_core.proofs.KeptLemmas.{are_tables, tables_still, kept_grows, unique}
 use Rattle.history_core.proofs.KeptStarts.{owed_set, owed_part, owed_pending, owed_open}
 
 pub record IsEnding (e : Event) (s : ℕ) (state : TxnState) : Type 0 where

@@ -1,35 +1,24 @@
 -- How what is kept goes on standing for the events: what all events have in common.
-use Rattle.std.proofs.Common.{◌≡◌, ℕ, ◌+◌, ◌-◌, ◌<◌, ◌≤◌, List, [], ◌∷◌, ◌++◌, Option, Some, None, All, Bool, true, false, length, set, get_or, arith, refl, ap, sym, ◌∙◌, subst, vec_capacity, cond, add-zero, ◌↔◌}
+use Rattle.std.proofs.Common.{◌≡◌, ℕ, ◌+◌, ◌≤◌, List, [], ◌∷◌, ◌++◌, Some, None, All, Bool, true, false, length, arith, refl, ap, sym, ◌∙◌, subst, vec_capacity, cond, add-zero}
 use Rattle.std.specs.Prelude.{map}
-use Rattle.std.proofs.lemmas.List.{length_push, map-append}
-use Rattle.std.proofs.lemmas.List.Elements.{filter_map-append, All-push}
+use Rattle.std.proofs.lemmas.List.{length_push}
 use Rattle.std.specs.List.{cons_option}
-use Rattle.std.proofs.lemmas.Option.{slice_get_within, get_or_from_slice_get, slice_get-get_or}
-use Rattle.std.proofs.lemmas.List.Sums.{sum_by-set, sum_by_push, get_or-le-sum_by}
-use Rattle.std.specs.Option.{is_some}
-use Rattle.std.specs.List.{sum_by, slice_get, Contains}
+use Rattle.std.specs.List.{sum_by}
 use Rattle.history_core.specs.declared.event.Event.{Event}
 use Rattle.history_core.specs.declared.event.Event.TheVariants.{Open, Close, Define, Look, Begin, Scan, Read, Own, Write, Commit, Rollback, Show}
-use Rattle.cell_base.specs.declared.cell.Cell.{Cell}
-use Rattle.cell_base.specs.declared.value.Value.{Value}
-use Rattle.history_core.specs.Events.{names, load_of, weight_of, defined_name, session_in, is_begin, is_end, is_open_event, begun}
-use Rattle.history_core.specs.Transactions.{IsPending, HasPending}
-use Rattle.history_core.specs.Legal.{IsFormed, MayCome, IsOpen}
+use Rattle.history_core.specs.Events.{names, load_of, weight_of, defined_name}
+use Rattle.history_core.specs.Transactions.{IsPending}
+use Rattle.history_core.specs.Legal.{IsFormed, MayCome}
 use Rattle.history_core.proofs.Prefixes.{formed_push, sound_of}
 use Rattle.history_core.proofs.Offers.{pending_unique}
 use Rattle.sql_tree.specs.declared.table.Table.{Table}
 use Rattle.history_core.specs.declared.kept.Kept.{Kept}
 use Rattle.history_core.specs.declared.txn.Seen.{Seen}
-use Rattle.history_core.specs.declared.txn.Txn.{Txn}
-use Rattle.history_core.specs.declared.txn.TxnState.{TxnState}
-use Rattle.history_core.specs.declared.txn.TxnState.TheVariants.{Pending, Committed, RolledBack}
-use Rattle.history_core.specs.declared.kept.SessionRecord.{SessionRecord}
-use Rattle.history_core.specs.Records.{IsRecordOf, is_any_end, seen_of, Saw}
-use Rattle.history_core.specs.Kept.{StandsForTxns, StandsForSessions, IsSmall, IsKept, owed_by, ChangesOne, AddsSeen, AddsWrite, TakesState, TakesPending, Closes, IsEndOf, IsUnnoted, IsSessionOf}
+use Rattle.history_core.specs.Records.{is_any_end, seen_of}
+use Rattle.history_core.specs.Kept.{StandsForTxns, StandsForSessions, IsSmall, IsKept, owed_by}
 use Rattle.sql_tree.specs.Sound.{IsSound}
-use Rattle.history_core.proofs.TxnLemmas.{IsQuiet, record_goes, record_ends, seen_same, seen_more, writes_same, writes_more, txns_quiet, txns_change, txns_begin}
-use Rattle.history_core.proofs.SessionLemmas.{IsPlain, sessions_plain, sessions_change, session_begins, session_ends, session_closes, sessions_open}
-use Rattle.history_core.proofs.SmallLemmas.{small_more, small_last, fits_begin, fits_open, load-push}
+use Rattle.history_core.proofs.SessionLemmas.{IsPlain, sessions_plain}
+use Rattle.history_core.proofs.SmallLemmas.{small_more, load-push}
 
 -- the tables are those that the events define, and sound
 abbrev pub AreTables : List Event → List Table → Type 0
@@ -37,24 +26,6 @@ AreTables events tables = (map (λ (t : Table). t.name) tables ≡ names events)
 
 pub are_tables : (kept : Kept) → IsKept kept → AreTables kept.events.items kept.tables.items
 are_tables kept is = (is.formed.tables.named, is.formed.tables.sound)
-
-pub kept_same :
-    (old new : Kept) → IsKept old → new.events.items ≡ old.events.items → new.tables.items ≡ old.tables.items → new.txns.items ≡ old.txns.items →
-    new.sessions.items ≡ old.sessions.items → new.load ≡ old.load → new.owed ≡ old.owed → vec_capacity old.events ≤ vec_capacity new.events →
-    IsKept new
-kept_same old new is events tables txns sessions load owed capacity =
-    record {
-      formed = record {
-        formed = rw events is.formed.formed;
-        tables = record { named = rw (events, tables) is.formed.tables.named; sound = rw tables is.formed.tables.sound };
-      };
-      txns = rw (events, txns) is.txns;
-      sessions = rw (events, sessions) is.sessions;
-      load = rw (events, load) is.load;
-      owed = rw (sessions, owed) is.owed;
-      small = rw (events, owed) is.small;
-      room = let h = is.room in let long : length new.events.items ≡ length old.events.items = ap length events in omega arith;
-    }
 
 pub kept_grows :
     (old new : Kept) (e : Event) → IsKept old → MayCome old.events.items e → new.events.items ≡ old.events.items ++ e ∷ [] →

@@ -1,36 +1,24 @@
 -- A transaction begins, or a session opens.
-use Rattle.std.proofs.Common.{◌≡◌, ℕ, ◌+◌, ◌-◌, ◌<◌, ◌≤◌, List, [], ◌∷◌, ◌++◌, Option, Some, None, All, Bool, true, false, length, set, get_or, arith, refl, ap, sym, ◌∙◌, subst, vec_capacity, cond, add-zero, ◌↔◌}
-use Rattle.std.specs.Prelude.{map}
-use Rattle.std.proofs.lemmas.List.{length_push, map-append}
-use Rattle.std.proofs.lemmas.List.Elements.{filter_map-append, All-push}
-use Rattle.std.specs.List.{cons_option}
-use Rattle.std.proofs.lemmas.Option.{slice_get_within, get_or_from_slice_get, slice_get-get_or}
+use Rattle.std.proofs.Common.{◌≡◌, ℕ, ◌+◌, ◌<◌, ◌≤◌, List, [], ◌∷◌, ◌++◌, Option, Some, None, Bool, true, length, set, get_or, arith, refl, ap, sym, ◌∙◌, subst, vec_capacity, cond}
+use Rattle.std.proofs.lemmas.List.{length_push}
+use Rattle.std.proofs.lemmas.Option.{slice_get_within, get_or_from_slice_get}
 use Rattle.std.proofs.lemmas.List.Sums.{sum_by-set, sum_by_push, get_or-le-sum_by}
 use Rattle.std.specs.Option.{is_some}
-use Rattle.std.specs.List.{sum_by, slice_get, Contains}
+use Rattle.std.specs.List.{sum_by, slice_get}
 use Rattle.history_core.specs.declared.event.Event.{Event}
-use Rattle.history_core.specs.declared.event.Event.TheVariants.{Open, Close, Define, Look, Begin, Scan, Read, Own, Write, Commit, Rollback, Show}
-use Rattle.cell_base.specs.declared.cell.Cell.{Cell}
-use Rattle.cell_base.specs.declared.value.Value.{Value}
-use Rattle.history_core.specs.Events.{names, load_of, weight_of, defined_name, session_in, is_begin, is_end, is_open_event, begun}
-use Rattle.history_core.specs.Transactions.{IsPending, HasPending}
-use Rattle.history_core.specs.Legal.{IsFormed, MayCome, IsOpen}
-use Rattle.history_core.proofs.Prefixes.{formed_push, sound_of}
-use Rattle.history_core.proofs.Offers.{pending_unique}
-use Rattle.sql_tree.specs.declared.table.Table.{Table}
+use Rattle.history_core.specs.declared.event.Event.TheVariants.{Open, Begin}
+use Rattle.history_core.specs.Events.{begun}
+use Rattle.history_core.specs.Transactions.{HasPending}
+use Rattle.history_core.specs.Legal.{MayCome}
 use Rattle.history_core.specs.declared.kept.Kept.{Kept}
-use Rattle.history_core.specs.declared.txn.Seen.{Seen}
 use Rattle.history_core.specs.declared.txn.Txn.{Txn}
-use Rattle.history_core.specs.declared.txn.TxnState.{TxnState}
-use Rattle.history_core.specs.declared.txn.TxnState.TheVariants.{Pending, Committed, RolledBack}
+use Rattle.history_core.specs.declared.txn.TxnState.TheVariants.{Pending}
 use Rattle.history_core.specs.declared.kept.SessionRecord.{SessionRecord}
-use Rattle.history_core.specs.Records.{IsRecordOf, is_any_end, seen_of, Saw}
-use Rattle.history_core.specs.Kept.{StandsForTxns, StandsForSessions, IsSmall, IsKept, owed_by, ChangesOne, AddsSeen, AddsWrite, TakesState, TakesPending, Closes, IsEndOf, IsUnnoted, IsSessionOf}
-use Rattle.sql_tree.specs.Sound.{IsSound}
-use Rattle.history_core.proofs.TxnLemmas.{IsQuiet, record_goes, record_ends, seen_same, seen_more, writes_same, writes_more, txns_quiet, txns_change, txns_begin}
-use Rattle.history_core.proofs.SessionLemmas.{IsPlain, sessions_plain, sessions_change, session_begins, session_ends, session_closes, sessions_open}
-use Rattle.history_core.proofs.SmallLemmas.{small_more, small_last, fits_begin, fits_open, load-push}
-use Rattle.history_core.proofs.KeptLemmas.{AreTables, are_tables, tables_still, kept_grows, unique, is_middle, IsMiddle, middle, shows_middle, names-push, kept_middle}
+use Rattle.history_core.specs.Kept.{IsSmall, IsKept, owed_by, ChangesOne, TakesPending, IsSessionOf}
+use Rattle.history_core.proofs.TxnLemmas.{txns_quiet, txns_begin}
+use Rattle.history_core.proofs.SessionLemmas.{sessions_change, session_begins, sessions_open}
+use Rattle.history_core.proofs.SmallLemmas.{small_more, fits_begin, fits_open, load-push}
+use Rattle.history_core.proofs.KeptLemmas.{are_tables, tables_still, kept_grows}
 
 none_pending : (events : List Event) (s : ℕ) (r : SessionRecord) → IsSessionOf events s r → (HasPending events s → ⊥) → r.pending ≡ None
 none_pending events s r is none = option_none r.pending (λ k h. none (k, (is.pending k).0 h))

@@ -10,11 +10,10 @@ use Rattle.history_core.specs.declared.event.Event.TheVariants.{Open, Close, Beg
 use Rattle.history_core.specs.Events.{begun, opened, session_in, is_begin, is_end, is_open_event}
 use Rattle.history_core.specs.Transactions.{IsPending, HasPending}
 use Rattle.history_core.specs.Legal.{IsOpen, IsFormed}
-use Rattle.history_core.proofs.Places.{slice_get_push_cases}
+use Rattle.txn_buffer.proofs.Lists.{slice_get_push_cases, slice_get-set_cases}
 use Rattle.history_core.proofs.Next.{pending_kept, pending_back, pending_begin}
 use Rattle.history_core.specs.declared.kept.SessionRecord.{SessionRecord}
 use Rattle.history_core.specs.Kept.{IsSessionOf, StandsForSessions}
-use Rattle.txn_buffer.proofs.Lists.{slice_get-set_cases}
 use Rattle.history_core.proofs.Numbers.{opened_bounds, pending_opened, closed_opened}
 
 -- the event neither opens nor closes the session

@@ -1,6 +1,5 @@
 -- The prefixes of a legal history.
-use Rattle.std.proofs.Common.{◌≡◌, ℕ, ◌<◌, List, Some, length, min, take, arith, sym, ◌∙◌, subst}
-use Rattle.std.specs.List.{slice_get}
+use Rattle.std.proofs.Common.{◌≡◌, ℕ, ◌<◌, List, length, min, take, arith, sym, ◌∙◌, subst}
 use Rattle.std.proofs.lemmas.List.{length-take, take-take}
 use Rattle.std.proofs.lemmas.Option.{slice_get_within}
 use Rattle.cell_base.specs.declared.level.Level.{Level}

@@ -11,7 +11,8 @@ use Rattle.history_core.specs.declared.event.Event.TheVariants.{Begin, Write, Co
 use Rattle.history_core.specs.Events.{begun, session_in, is_begin, is_end}
 use Rattle.history_core.specs.Transactions.{IsStart, IsOf, IsCommitted, IsPending, HasPending}
 use Rattle.history_core.specs.Relations.{LastWrites}
-use Rattle.history_core.proofs.Places.{slice_get_push_cases, start_session}
+use Rattle.history_core.proofs.Places.{start_session}
+use Rattle.txn_buffer.proofs.Lists.{slice_get_push_cases, slice_get-set_cases}
 use Rattle.history_core.proofs.Grown.{start_kept, of_back, pending_not_committed, committed_back}
 use Rattle.history_core.proofs.Prefixes.{of_kept, committed_kept, begun-push_other, begun-push_start, start_bounded}
 use Rattle.history_core.proofs.Next.{of_new, pending_kept, pending_back, pending_begin, of_none, committed_new, last_kept, last_back, last_new}
@@ -21,7 +22,6 @@ use Rattle.history_core.specs.declared.txn.Txn.{Txn}
 use Rattle.txn_buffer.specs.Buffer.{Puts}
 use Rattle.history_core.specs.Records.{seen_of, Saw, IsRecordOf}
 use Rattle.history_core.specs.Kept.{StandsForTxns}
-use Rattle.txn_buffer.proofs.Lists.{slice_get-set_cases}
 
 -- what was seen before stays
 pub saw_kept : (events : List Event) (e : Event) (k : ℕ) (x : Seen) → Saw events k x → Saw (events ++ e ∷ []) k x

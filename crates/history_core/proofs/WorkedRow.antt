@@ -1,6 +1,6 @@
 -- One session that writes a row and reads it back, event by event: each event fits what came before. The test runs it.
-use Rattle.std.proofs.Common.{◌≡◌, ◌≢◌, ℕ, ℤ, ◌+◌, ◌<◌, zero, suc, List, [], ◌∷◌, ◌++◌, Some, None, true, false, arith, refl, ap, sym, ◌∙◌, subst, inl, inr}
-use Rattle.std.specs.List.{slice_get, Contains}
+use Rattle.std.proofs.Common.{◌≡◌, ◌≢◌, ℕ, ℤ, ◌+◌, ◌<◌, zero, suc, List, [], ◌∷◌, ◌++◌, Some, true, false, arith, refl, ap, sym, subst, inl, inr}
+use Rattle.std.specs.List.{slice_get}
 use Rattle.std.proofs.lemmas.Bool.{false≢true}
 use Rattle.std.proofs.lemmas.Option.{slice_get_within}
 use Rattle.txn_buffer.proofs.Lists.{contains_at, at_contains}

@@ -6,3 +6,4 @@ pub mod Chronicle
 pub mod Book
 pub mod Records
 pub mod Kept
+pub mod WorkedRow

@@ -22,7 +22,12 @@ pub fn end_event(kept: &mut Kept, event: Event)
             end_txn(kept, Event::Commit(session), session, TxnState::Committed);
         }
         Event::Rollback(session) => {
-            end_txn(kept, Event::Rollback(session), session, TxnState::RolledBack);
+            end_txn(
+                kept,
+                Event::Rollback(session),
+                session,
+                TxnState::RolledBack,
+            );
         }
         Event::Close(session) => end_session(kept, session),
         _ => unreachable!(),

@@ -28,7 +28,6 @@ pub struct History {
 
 impl Model for History {
     ghost use Rattle.history_core.specs.Chronicle.{Chronicle};
-
     ghost use Rattle.std.specs.Coded.{codes};
     ghost use Rattle.sql_tree.specs.contracts.typed_expr.TypedNode as typed_node;
 

@@ -42,7 +42,12 @@ pub fn push_event(kept: &mut Kept, event: Event) -> Result<(), Memory>
             Ok(())
         }
         Event::Rollback(session) => {
-            end_txn(kept, Event::Rollback(session), session, TxnState::RolledBack);
+            end_txn(
+                kept,
+                Event::Rollback(session),
+                session,
+                TxnState::RolledBack,
+            );
             Ok(())
         }
         Event::Close(session) => {

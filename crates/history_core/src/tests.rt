@@ -1,7 +1,7 @@
 // What no clause says: that the calls succeed with ample memory, and values found by hand.
-ghost use Rattle.std.specs.Prelude.{◌≡◌, [], codes, IfOk, OnOk};
+ghost use Rattle.std.specs.Prelude.{◌≡◌, pos, [], codes, IfOk, OnOk};
 ghost use Rattle.sql_tree.specs.Sound.{IsSound};
-ghost use Rattle.history_core.proofs.WorkedRow.{h9, h16};
+ghost use Rattle.history_core.specs.WorkedRow.{row_written, row_read};
 
 use crate::{BookFault, Event, History, TxnState};
 use cell_base::{Cell, Items, Key, Level, Memory, SqlType, Text, Value};
@@ -37,7 +37,7 @@ fn a_row_is_written_and_read_back(rt: HostRuntime) -> Result<(), BookFault> {
 /// The first transaction, with the session and the table before it: nine events.
 fn write_row(alloc: Global, history: &mut History) -> Result<(), BookFault>
     requires { history.old.events ≡ [] }
-    ensures { OnOk result (history.new.events ≡ h9 (codes "t") (Key.Int 1) (Value.Int 10)) }
+    ensures { OnOk result (history.new.events ≡ row_written (codes "t") (Key.Int (pos 1)) (Value.Int (pos 10))) }
 {
     history.push(Event::Open(1))?;
     history.push_define(1, table(alloc)?)?;
@@ -53,8 +53,8 @@ fn write_row(alloc: Global, history: &mut History) -> Result<(), BookFault>
 
 /// The second transaction, and the end of the session: seven events.
 fn read_row(alloc: Global, history: &mut History) -> Result<(), BookFault>
-    requires { history.old.events ≡ h9 (codes "t") (Key.Int 1) (Value.Int 10) }
-    ensures { OnOk result (history.new.events ≡ h16 (codes "t") (Key.Int 1) (Value.Int 10)) }
+    requires { history.old.events ≡ row_written (codes "t") (Key.Int (pos 1)) (Value.Int (pos 10)) }
+    ensures { OnOk result (history.new.events ≡ row_read (codes "t") (Key.Int (pos 1)) (Value.Int (pos 10))) }
 {
     let mut keys = Items::new(alloc);
     keys.push(Key::Int(1))?;
@@ -70,14 +70,14 @@ fn read_row(alloc: Global, history: &mut History) -> Result<(), BookFault>
 
 /// Whether the row of key 1 is there.
 fn presence() -> Cell
-    ensures { result ≡ Cell.Presence 0 (Key.Int 1) }
+    ensures { result ≡ Cell.Presence 0 (Key.Int (pos 1)) }
 {
     Cell::Presence(0, Key::Int(1))
 }
 
 /// The field v of the row of key 1.
 fn field() -> Cell
-    ensures { result ≡ Cell.Field 0 (Key.Int 1) 1 }
+    ensures { result ≡ Cell.Field 0 (Key.Int (pos 1)) 1 }
 {
     Cell::Field(0, Key::Int(1), 1)
 }

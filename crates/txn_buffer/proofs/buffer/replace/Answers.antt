@@ -1,4 +1,4 @@
-use Rattle.txn_buffer.proofs.BufferLemmas.{map_set, puts_set, order_set}
+use Rattle.txn_buffer.proofs.BufferLemmas.{puts_set, order_set}
 use Rattle.txn_buffer.proofs.buffer.replace.Goals as goal
 
 pub returns-clause-value : goal.returns-clause-value
