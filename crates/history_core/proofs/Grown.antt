@@ -9,7 +9,8 @@ use Rattle.history_core.specs.declared.event.Event.TheVariants.{Begin, Write, Co
 use Rattle.history_core.specs.Transactions.{IsStart, IsOf, IsCommitted, IsPending, IsRunning}
 use Rattle.history_core.specs.Events.{begun, session_in, is_begin}
 use Rattle.history_core.specs.Relations.{Writes, Gives, Reads, Precedes}
-use Rattle.history_core.proofs.Places.{slice_get-append_left, slice_get_push_cases, start_unique, start_session}
+use Rattle.history_core.proofs.Places.{slice_get-append_left, start_unique, start_session}
+use Rattle.txn_buffer.proofs.Lists.{slice_get_push_cases}
 
 pub start_back :
     (events : List Event) (e : Event) (k s p : ℕ) → IsStart (events ++ e ∷ []) k s p →

@@ -9,7 +9,8 @@ use Rattle.history_core.specs.declared.event.Event.TheVariants.{Begin, Write, Co
 use Rattle.history_core.specs.Events.{begun, session_in, is_end}
 use Rattle.history_core.specs.Transactions.{IsOf, IsCommitted, IsPending}
 use Rattle.history_core.specs.Relations.{LastWrites}
-use Rattle.history_core.proofs.Places.{slice_get-append_left, slice_get_push_cases}
+use Rattle.history_core.proofs.Places.{slice_get-append_left}
+use Rattle.txn_buffer.proofs.Lists.{slice_get_push_cases}
 use Rattle.history_core.proofs.Grown.{start_back, start_kept, of_back}
 use Rattle.history_core.proofs.Prefixes.{slice_get-at_end, of_kept, start_bounded}
 

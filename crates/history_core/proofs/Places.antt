@@ -1,5 +1,5 @@
 -- Places of a list that grows at its end, and the numbers of starts.
-use Rattle.std.proofs.Common.{◌≡◌, ℕ, ◌+◌, ◌<◌, ◌≤◌, zero, suc, List, [], ◌∷◌, ◌++◌, Some, true, cond, length, get_or, take, arith, refl, ap, sym, ◌∙◌, inl, inr, ◌⊎◌}
+use Rattle.std.proofs.Common.{◌≡◌, ℕ, ◌+◌, ◌<◌, ◌≤◌, zero, suc, List, [], ◌∷◌, ◌++◌, Some, true, cond, length, get_or, take, arith, refl, ap, sym, ◌∙◌, inl, inr}
 use Rattle.std.specs.List.{slice_get}
 use Rattle.std.proofs.lemmas.List.{take-take}
 use Rattle.std.proofs.lemmas.List.Sums.{count_by_more_yes, sum_by-take-le}
@@ -14,18 +14,6 @@ pub slice_get-append_left : {X : Type 0} (xs ys : List X) (k : ℕ) → k < leng
 slice_get-append_left [] ys k h = absurd (omega arith)
 slice_get-append_left (x ∷ xs) ys zero h = refl
 slice_get-append_left (x ∷ xs) ys (suc k) h = slice_get-append_left xs ys k (omega arith)
-
-pub slice_get_push_cases :
-    {X : Type 0} (xs : List X) (x : X) (k : ℕ) (y : X) → slice_get (xs ++ x ∷ []) k ≡ Some y →
-    ((k < length xs) × (slice_get xs k ≡ Some y)) ⊎ ((k ≡ length xs) × (x ≡ y))
-slice_get_push_cases [] x zero y is = inr (refl, cc)
-slice_get_push_cases [] x (suc k) y is = cc
-slice_get_push_cases (z ∷ xs) x zero y is = inl (omega arith, is)
-slice_get_push_cases (z ∷ xs) x (suc k) y is =
-    elim (slice_get_push_cases xs x k y is) [
-      | inl old ↦ inl (let h = old.0 in omega arith, old.1)
-      | inr new ↦ inr (let h = new.0 in omega arith, new.1)
-    ]
 
 pub slice_get-take :
     {X : Type 0} (xs : List X) (n k : ℕ) → k < n → slice_get (take n xs) k ≡ slice_get xs k

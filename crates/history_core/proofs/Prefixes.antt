@@ -19,7 +19,8 @@ use Rattle.history_core.specs.Transactions.{IsStart, IsOf, IsCommitted, IsPendin
 use Rattle.history_core.specs.Events.{begun, session_in, is_begin}
 use Rattle.history_core.specs.Relations.{Writes, Gives, Reads, IsSessionOrdered, Precedes, IsChain, IsVisible, Meets, IsConsistent}
 use Rattle.history_core.specs.Legal.{MayCome, Follows, IsFormed, IsLegal, IsOffered, ListsKeys}
-use Rattle.history_core.proofs.Places.{slice_get-append_left, slice_get_push_cases, start_unique, start_session, begun-take_past}
+use Rattle.history_core.proofs.Places.{slice_get-append_left, start_unique, start_session, begun-take_past}
+use Rattle.txn_buffer.proofs.Lists.{slice_get_push_cases}
 use Rattle.history_core.proofs.Grown.{start_back, start_kept, pending_not_committed, reads_back, writes_back, precedes_back}
 
 -- an induction from the front to the end

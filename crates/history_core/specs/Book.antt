@@ -1,5 +1,5 @@
 -- A book: one session's way to a history that others may add to as well.
-use Rattle.std.specs.Prelude.{◌≡◌, ◌≢◌, ◌<◌, ℕ, ℤ, List, [], ◌∷◌, ◌++◌, length, All, Contains, Option}
+use Rattle.std.specs.Prelude.{◌≡◌, ◌≢◌, ◌<◌, ℕ, ℤ, List, [], ◌∷◌, ◌++◌, length, All, Contains}
 use Rattle.cell_base.specs.declared.cell.Cell.{Cell}
 use Rattle.cell_base.specs.declared.value.Value.{Value}
 use Rattle.cell_base.specs.declared.value.Value.TheVariants.{Unset, Wide}
@@ -8,7 +8,7 @@ use Rattle.history_core.specs.declared.event.Event.{Event}
 use Rattle.history_core.specs.declared.event.Event.TheVariants.{Define, Look, Read}
 use Rattle.history_core.specs.declared.fault.DefineAnswer.{DefineAnswer}
 use Rattle.history_core.specs.declared.fault.DefineAnswer.TheVariants.{Defined, Taken}
-use Rattle.history_core.specs.Events.{session_in, names, table_of}
+use Rattle.history_core.specs.Events.{session_in, names}
 use Rattle.history_core.specs.Chronicle.{Chronicle}
 
 -- where the session of a book stands: none is open; one is open with nothing pending; its transaction is pending, with these writes so far

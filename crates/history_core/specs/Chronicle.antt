@@ -1,11 +1,11 @@
 -- A history as its readers see it: the level, the events, and one table for each definition.
-use Rattle.std.specs.Prelude.{◌≡◌, ◌≤◌, ◌==◌, ℕ, sum_by, List, [], ◌∷◌, ◌++◌, length, map, filter, All}
+use Rattle.std.specs.Prelude.{◌≡◌, ◌==◌, ℕ, List, [], ◌∷◌, ◌++◌, map, filter, All}
 use Rattle.cell_base.specs.declared.level.Level.{Level}
 use Rattle.sql_tree.specs.declared.table.Table.{Table}
 use Rattle.sql_tree.specs.Sound.{IsSound}
 use Rattle.history_core.specs.declared.event.Event.{Event}
-use Rattle.history_core.specs.declared.event.Event.TheVariants.{Define, Scan}
-use Rattle.history_core.specs.Events.{key_bytes, names, session_in}
+use Rattle.history_core.specs.declared.event.Event.TheVariants.{Define}
+use Rattle.history_core.specs.Events.{names, session_in}
 use Rattle.history_core.specs.Legal.{IsFormed, IsLegal}
 
 pub record Chronicle : Type 0 where
