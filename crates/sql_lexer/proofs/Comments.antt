@@ -1,6 +1,6 @@
 -- The end of a comment: what ends it is found, and what is found ends it.
-use Rattle.std.proofs.Common.{◌≡◌, ℕ, zero, suc, ◌+◌, ◌-◌, ◌<◌, ◌≤◌, Bool, true, false, ◌&&◌, cond, List, [], ◌∷◌, ◌++◌, length, Option, Some, None, refl, ap, sym, ◌∙◌, subst, add-one, arith}
-use Rattle.std.specs.Prelude.{◌==◌, slice_index}
+use Rattle.std.proofs.Common.{◌≡◌, ℕ, zero, suc, ◌+◌, ◌-◌, true, false, ◌&&◌, cond, List, [], ◌∷◌, ◌++◌, length, Option, Some, None, refl, ap, ◌∙◌, subst, add-one, arith}
+use Rattle.std.specs.Prelude.{◌==◌}
 use Rattle.std.proofs.lemmas.Bool.{eqb-true, ne_eqb, and_parts, cond_both}
 use Rattle.sql_lexer.specs.Scan.{comment_from}
 use Rattle.sql_lexer.specs.Lexemes.{EndsComments, is_comment_end, is_comment_start}
@@ -14,7 +14,7 @@ one_less n = omega arith
 pub comment_found : {n : ℕ} {bytes : List ℕ} → EndsComments n bytes → (at : ℕ) (after : List ℕ) → comment_from n false at (bytes ++ after) ≡ Some (at + length bytes)
 comment_found EndsComments.ended at after = refl
 comment_found (EndsComments.inner_ended n z e) at after = rw (inside n, one_less n) (comment_found e (at + 1 + 1) after ∙ ap Some (omega arith))
-comment_found (EndsComments.inner_begun n z e) at after = rw add-one (comment_found e (at + 1 + 1) after ∙ ap Some (omega arith))
+comment_found (EndsComments.inner_begun n z e) at after = rw (add-one n) (comment_found e (at + 1 + 1) after ∙ ap Some (omega arith))
 comment_found (EndsComments.other n b c z ends starts e) at after = rw (ends, starts) (comment_found e (at + 1) after ∙ ap Some (omega arith))
 
 -- ---- what is found ends it
@@ -61,7 +61,7 @@ ended_at (suc n) at b c z end again x y e =
 begun_at : (n at b c : ℕ) (z : List ℕ) (end : ℕ) → ((m k : ℕ) → comment_from m false k z ≡ Some end → CommentEnd m k z end) → b ≡ 47 → c ≡ 42
     → comment_from (n + 1) false (at + 1 + 1) z ≡ Some end → CommentEnd n at (b ∷ c ∷ z) end
 begun_at n at b c z end again x y e =
-    let r = again (suc n) (at + 1 + 1) (rw add-one at e) in
+    let r = again (suc n) (at + 1 + 1) (rw (add-one n) at e) in
     record {
       bytes = b ∷ c ∷ r.bytes;
       after = r.after;
@@ -83,20 +83,20 @@ step : (n at b c : ℕ) (z : List ℕ) (end : ℕ) → ((m k : ℕ) → comment_
 step n at b c z end past next e =
     let P : Option ℕ → Type 0 = λ o. o ≡ Some end → CommentEnd n at (b ∷ c ∷ z) end in
     cond_both (b == 42 && c == 47) (cond (n == 0) (Some (at + 2)) (comment_from (n - 1) false (at + 1 + 1) z))
-      (cond (b == 47 && c == 42) (comment_from (n + 1) false (at + 1 + 1) z) (comment_from n false (at + 1) (c ∷ z))) P
-      (λ x. let p = pair_is b c 42 47 x in ended_at n at b c z end past p.0 p.1)
-      (λ x. cond_both (b == 47 && c == 42) (comment_from (n + 1) false (at + 1 + 1) z) (comment_from n false (at + 1) (c ∷ z)) P
-        (λ y. let p = pair_is b c 47 42 y in begun_at n at b c z end past p.0 p.1)
-        (λ y f. other_at n at b c z end x y (next f)))
-      e
+    (cond (b == 47 && c == 42) (comment_from (n + 1) false (at + 1 + 1) z) (comment_from n false (at + 1) (c ∷ z))) P
+    (λ x. let p = pair_is b c 42 47 x in ended_at n at b c z end past p.0 p.1)
+    (λ x. cond_both (b == 47 && c == 42) (comment_from (n + 1) false (at + 1 + 1) z) (comment_from n false (at + 1) (c ∷ z)) P
+    (λ y. let p = pair_is b c 47 42 y in begun_at n at b c z end past p.0 p.1)
+    (λ y f. other_at n at b c z end x y (next f)))
+    e
 
 last : (n at b end : ℕ) → comment_from n false at (b ∷ []) ≡ Some end → ⊥
 last n at b end e =
     let P : Option ℕ → Type 0 = λ o. o ≡ Some end → ⊥ in
     cond_both (b == 42 && false) (cond (n == 0) (Some (at + 2)) None) (cond (b == 47 && false) None None) P
-      (λ x. let p = and_parts (b == 42) false x in λ f. cc)
-      (λ x. cond_both (b == 47 && false) None None P (λ y f. cc) (λ y f. cc))
-      e
+    (λ x. let p = and_parts (b == 42) false x in λ f. cc)
+    (λ x. cond_both (b == 47 && false) None None P (λ y f. cc) (λ y f. cc))
+    e
 
 pub comment_ends : (n at : ℕ) (z : List ℕ) (end : ℕ) → comment_from n false at z ≡ Some end → CommentEnd n at z end
 comment_ends n at [] end e = absurd (cc)

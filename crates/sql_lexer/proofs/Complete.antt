@@ -1,27 +1,25 @@
 -- What stands at the front of a text is found there.
-use Rattle.std.proofs.Common.{◌≡◌, ℕ, zero, suc, ◌+◌, ◌-◌, ◌<◌, ◌≤◌, Bool, true, false, not, ◌&&◌, ◌||◌, cond, List, [], ◌∷◌, ◌++◌, length, take, drop, Option, Some, None, Result, Ok, Err, pos, refl, ap, sym, ◌∙◌, subst, append_assoc, length-append, length-drop, ◌⊎◌, inl, inr, arith}
-use Rattle.std.specs.Prelude.{◌==◌, nat_lt, nat_le, slice_index, is_some}
-use Rattle.std.specs.Char.{is_ascii_digit, is_ascii_alphabetic, is_ascii_alphanumeric}
+use Rattle.std.proofs.Common.{◌≡◌, ℕ, zero, suc, ◌+◌, ◌-◌, ◌<◌, ◌≤◌, Bool, true, false, not, ◌&&◌, ◌||◌, List, [], ◌∷◌, ◌++◌, length, take, Option, Some, None, Ok, Err, pos, refl, ap, sym, ◌∙◌, append_assoc, ◌⊎◌, inl, inr, arith}
+use Rattle.std.specs.Prelude.{◌==◌, nat_le, slice_index, is_some}
+use Rattle.std.specs.Char.{is_ascii_alphabetic}
 use Rattle.std.specs.List.{prefix_len}
-use Rattle.std.proofs.lemmas.Bool.{eqb-true, eqb-false, eq-eqb, ne_eqb, ltb-true, lt-ltb, le-ltb, leb-false, and_parts, and_left, and_right, or_parts, or_cases, not_from_true, not_from_false, not-true, false_from_ne_true, cond-true, cond-false}
+use Rattle.std.proofs.lemmas.Bool.{eqb-true, ne_eqb, lt-ltb, le-ltb, leb-false, and_left, and_right, or_parts, or_cases, not-true, false_from_ne_true, cond-true, cond-false}
 use Rattle.std.proofs.Math.Seq.{take-append_seam, take-append-add}
 use Rattle.sql_tree.specs.declared.token.Sign.{Sign}
-use Rattle.sql_tree.specs.declared.token.Sign.TheVariants as s
 use Rattle.sql_tree.specs.declared.token.TokenKind.{TokenKind}
 use Rattle.sql_tree.specs.declared.token.TokenKind.TheVariants as k
 use Rattle.sql_lexer.specs.declared.fault.LexFault.{LexFault}
-use Rattle.sql_lexer.specs.declared.fault.LexFault.TheVariants.{UnclosedString, UnclosedComment, UnclosedName, EmptyName, BadCharacter, Junk, TooWide, NameTooLong, Unsupported}
-use Rattle.sql_lexer.specs.declared.piece.Piece.{Piece}
+use Rattle.sql_lexer.specs.declared.fault.LexFault.TheVariants.{UnclosedString, UnclosedComment, UnclosedName, BadCharacter, Unsupported}
 use Rattle.sql_lexer.specs.declared.piece.Piece.TheVariants.{Gap, Kind}
 use Rattle.sql_lexer.specs.declared.scan.Class.TheVariants as class
 use Rattle.sql_lexer.specs.Bytes.{is_space, is_in_line, is_digit, begins_word, is_in_word, is_prefix, AllAre, begins, begins_fraction, folded, decimal}
 use Rattle.sql_lexer.specs.Lexemes.{IsGap, IsToken, IsFaultAt, Unclosed, UnclosedComment as NoEnd, doubled, to_quote, sign_of, sign_of_two, is_pair, begins_nothing, most}
 use Rattle.sql_lexer.specs.Scan.{past, closing, comment_from}
-use Rattle.sql_lexer.specs.Front.{Front, comment_piece, gap_or, word, string, string_or, quoted, name_or, number, param, point, sign, piece, chosen}
+use Rattle.sql_lexer.specs.Front.{comment_piece, gap_or, word, string, string_or, quoted, name_or, number, param, point, sign, piece}
 use Rattle.sql_lexer.proofs.Runs.{run_len, begins_first}
 use Rattle.sql_lexer.proofs.Comments.{comment_found, comment_ends}
-use Rattle.sql_lexer.proofs.Quotes.{Lacks, closing_sound}
-use Rattle.sql_lexer.proofs.Forms.{word_form, word_is, name_form, name_is, string_form, string_is, number_form, number_is, single_is, none_is, double_is}
+use Rattle.sql_lexer.proofs.Quotes.{closing_sound}
+use Rattle.sql_lexer.proofs.Forms.{word_is, name_is, string_is, number_is, single_is, none_is, double_is}
 use Rattle.sql_lexer.proofs.Plain.{Plain, sign_plain, sign_plain_two, plain, chosen_space, chosen_word, chosen_number, chosen_sign}
 
 -- ---- what the first byte chooses
@@ -199,8 +197,10 @@ prefix_begins b e = letter b (known b e)
     letter b (inr (inr (inr (inr (inr (inl e)))))) = rw e refl
     letter b (inr (inr (inr (inr (inr (inr (inl e))))))) = rw e refl
     letter b (inr (inr (inr (inr (inr (inr (inr e))))))) = rw e refl
+
     last_of : (x : Bool) (b k : ℕ) {A : Type 0} → (x || b == k) ≡ true → (x ≡ true → A) → (b ≡ k → A) → A
     last_of x b k e f g = elim (or_cases x (b == k) e) [ inl h ↦ f h | inr h ↦ g (eqb-true b k h) ]
+
     known : (b : ℕ) → is_prefix b ≡ true → (b ≡ 101) ⊎ ((b ≡ 69) ⊎ ((b ≡ 98) ⊎ ((b ≡ 66) ⊎ ((b ≡ 120) ⊎ ((b ≡ 88) ⊎ ((b ≡ 110) ⊎ (b ≡ 78)))))))
     known b e =
         last_of _ b 78 e (λ e. last_of _ b 110 e (λ e. last_of _ b 88 e (λ e. last_of _ b 120 e (λ e. last_of _ b 66 e (λ e. last_of _ b 98 e (λ e. last_of (b == 101) b 69 e (λ e. inl (eqb-true b 101 e)) (λ h. inr (inl h)))
@@ -227,6 +227,7 @@ nothing_plain b e =
   where
     low : (b : ℕ) → begins_word b ≡ false → b < 128
     low b e = leb-false 128 b (or_parts (is_ascii_alphabetic b || b == 95) (nat_le 128 b) e).1
+
     none : (o : Option Sign) → is_some o ≡ false → o ≡ None
     none None e = refl
     none (Some x) e = absurd (cc)

@@ -1,5 +1,5 @@
 -- A text that is cut piece by piece.
-use Rattle.std.proofs.Common.{◌≡◌, ℕ, zero, suc, ◌+◌, ◌<◌, ◌≤◌, Bool, true, false, List, [], ◌∷◌, ◌++◌, length, take, drop, Result, Ok, Err, refl, ap, sym, ◌∙◌, subst, append_assoc, length-append, ◌⊎◌, inl, inr, arith}
+use Rattle.std.proofs.Common.{◌≡◌, ℕ, ◌+◌, ◌≤◌, Bool, false, List, [], ◌∷◌, ◌++◌, length, drop, Ok, Err, ap, sym, ◌∙◌, subst, append_assoc, arith}
 use Rattle.std.specs.Str.{IsUtf8}
 use Rattle.std.proofs.lemmas.List.{drop-drop, drop_all, append-nil}
 use Rattle.std.proofs.Math.Seq.{drop-append_seam}
@@ -7,10 +7,9 @@ use Rattle.sql_tree.specs.declared.token.Token.{Token}
 use Rattle.sql_tree.specs.declared.token.TokenKind.{TokenKind}
 use Rattle.sql_lexer.specs.declared.fault.LexFault.{LexFault}
 use Rattle.sql_lexer.specs.declared.fault.LexFault.TheVariants as fault
-use Rattle.sql_lexer.specs.declared.piece.Piece.{Piece}
 use Rattle.sql_lexer.specs.declared.piece.Piece.TheVariants.{Gap, Kind}
 use Rattle.sql_lexer.specs.Front.{Front, piece, Gives}
-use Rattle.sql_lexer.specs.Lexemes.{IsFaultAt, joins}
+use Rattle.sql_lexer.specs.Lexemes.{joins}
 use Rattle.sql_lexer.specs.Tokens.{StandsFor, FirstFault, IsFaultOf, token}
 use Rattle.sql_lexer.proofs.Sound.{GapFront, TokenFront, IsSound, piece_sound}
 use Rattle.sql_lexer.proofs.Utf8.{gap_behind, token_behind}
@@ -23,14 +22,14 @@ sound joined at (b ∷ z) r some e = let P : Front → Type 0 = λ f. IsSound jo
 rest_is : (z bytes after : List ℕ) (len : ℕ) → z ≡ bytes ++ after → len ≡ length bytes → drop len z ≡ after
 rest_is z bytes after len e f = ap (λ y. drop len y) e ∙ ap (λ n. drop n (bytes ++ after)) f ∙ drop-append_seam bytes after
 
-gap_stands : (joined : Bool) (at len : ℕ) (z : List ℕ) (ts : List Token) → GapFront z len → StandsFor false (at + len) (drop len z) ts → StandsFor joined at z ts
+pub gap_stands : (joined : Bool) (at len : ℕ) (z : List ℕ) (ts : List Token) → GapFront z len → StandsFor false (at + len) (drop len z) ts → StandsFor joined at z ts
 gap_stands joined at len z ts g st =
     let P : List ℕ → Type 0 = λ y. StandsFor joined at y ts in
     let Q : List ℕ → Type 0 = λ y. StandsFor false (at + len) y ts in
     let R : ℕ → Type 0 = λ n. StandsFor false (at + n) g.after ts in
     subst P (sym g.splits) (StandsFor.gap joined at g.bytes g.after ts g.is (subst R g.size (subst Q (rest_is z g.bytes g.after len g.splits g.size) st)))
 
-kind_stands : (joined : Bool) (at len : ℕ) (z : List ℕ) (k : TokenKind) (ts : List Token) → TokenFront joined z len k → StandsFor (joins k) (at + len) (drop len z) ts → StandsFor joined at z (token k at (at + len) ∷ ts)
+pub kind_stands : (joined : Bool) (at len : ℕ) (z : List ℕ) (k : TokenKind) (ts : List Token) → TokenFront joined z len k → StandsFor (joins k) (at + len) (drop len z) ts → StandsFor joined at z (token k at (at + len) ∷ ts)
 kind_stands joined at len z k ts g st =
     let P : List ℕ → Type 0 = λ y. StandsFor joined at y (token k at (at + len) ∷ ts) in
     let Q : List ℕ → Type 0 = λ y. StandsFor (joins k) (at + len) y ts in
@@ -38,14 +37,14 @@ kind_stands joined at len z k ts g st =
     let S : ℕ → Type 0 = λ n. StandsFor joined at (g.bytes ++ g.after) (token k at (at + n) ∷ ts) in
     subst P (sym g.splits) (subst S (sym g.size) (StandsFor.kind joined at g.bytes g.after k ts g.is (subst R g.size (subst Q (rest_is z g.bytes g.after len g.splits g.size) st))))
 
-gap_fault : (joined : Bool) (at len : ℕ) (z : List ℕ) (f : LexFault) → GapFront z len → FirstFault false (at + len) (drop len z) f → FirstFault joined at z f
+pub gap_fault : (joined : Bool) (at len : ℕ) (z : List ℕ) (f : LexFault) → GapFront z len → FirstFault false (at + len) (drop len z) f → FirstFault joined at z f
 gap_fault joined at len z f g st =
     let P : List ℕ → Type 0 = λ y. FirstFault joined at y f in
     let Q : List ℕ → Type 0 = λ y. FirstFault false (at + len) y f in
     let R : ℕ → Type 0 = λ n. FirstFault false (at + n) g.after f in
     subst P (sym g.splits) (FirstFault.gap joined at g.bytes g.after f g.is (subst R g.size (subst Q (rest_is z g.bytes g.after len g.splits g.size) st)))
 
-kind_fault : (joined : Bool) (at len : ℕ) (z : List ℕ) (k : TokenKind) (f : LexFault) → TokenFront joined z len k → FirstFault (joins k) (at + len) (drop len z) f → FirstFault joined at z f
+pub kind_fault : (joined : Bool) (at len : ℕ) (z : List ℕ) (k : TokenKind) (f : LexFault) → TokenFront joined z len k → FirstFault (joins k) (at + len) (drop len z) f → FirstFault joined at z f
 kind_fault joined at len z k f g st =
     let P : List ℕ → Type 0 = λ y. FirstFault joined at y f in
     let Q : List ℕ → Type 0 = λ y. FirstFault (joins k) (at + len) y f in

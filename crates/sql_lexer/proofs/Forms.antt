@@ -1,20 +1,17 @@
 -- What each private function gives for a text that is written as a lexeme and what comes after.
-use Rattle.std.proofs.Common.{◌≡◌, ℕ, zero, suc, ◌+◌, ◌-◌, ◌<◌, ◌≤◌, Bool, true, false, not, ◌&&◌, ◌||◌, cond, List, [], ◌∷◌, ◌++◌, length, take, drop, Option, Some, None, Ok, Err, pos, refl, ap, sym, ◌∙◌, subst, append_assoc, length-append, arith}
-use Rattle.std.specs.Prelude.{◌==◌, nat_lt, nat_le, slice_index, is_some}
-use Rattle.std.specs.Char.{is_ascii_digit}
-use Rattle.std.specs.List.{prefix_len}
-use Rattle.std.proofs.lemmas.Bool.{and_parts, or_parts, cond_both}
-use Rattle.std.proofs.lemmas.List.{take_all, drop_all, get_or-append-add}
-use Rattle.std.proofs.Math.Seq.{take-append_seam, drop-append_seam}
+use Rattle.std.proofs.Common.{◌≡◌, ℕ, suc, ◌+◌, ◌-◌, ◌≤◌, Bool, true, false, not, ◌&&◌, ◌||◌, cond, List, [], ◌∷◌, ◌++◌, length, take, Option, Some, None, Ok, Err, pos, refl, ap, sym, ◌∙◌, append_assoc, length-append, arith}
+use Rattle.std.specs.Prelude.{◌==◌, nat_lt, slice_index, is_some}
+use Rattle.std.proofs.lemmas.Bool.{or_parts}
+use Rattle.std.proofs.lemmas.List.{get_or-append-add}
+use Rattle.std.proofs.Math.Seq.{take-append_seam}
 use Rattle.sql_tree.specs.declared.token.Sign.{Sign}
-use Rattle.sql_tree.specs.declared.token.Sign.TheVariants as s
 use Rattle.sql_tree.specs.declared.token.TokenKind.TheVariants as k
-use Rattle.sql_lexer.specs.declared.fault.LexFault.TheVariants.{UnclosedString, UnclosedComment, UnclosedName, EmptyName, BadCharacter, Junk, TooWide, NameTooLong, Unsupported}
-use Rattle.sql_lexer.specs.declared.piece.Piece.TheVariants.{Gap, Kind}
+use Rattle.sql_lexer.specs.declared.fault.LexFault.TheVariants.{EmptyName, BadCharacter, Junk, TooWide, NameTooLong, Unsupported}
+use Rattle.sql_lexer.specs.declared.piece.Piece.TheVariants.{Kind}
 use Rattle.sql_lexer.specs.Bytes.{is_digit, is_in_word, is_prefix, AllAre, begins, begins_fraction, folded, decimal}
 use Rattle.sql_lexer.specs.Lexemes.{doubled, to_quote, sign_of, sign_of_two, is_pair, most}
 use Rattle.sql_lexer.specs.Scan.{closing, content}
-use Rattle.sql_lexer.specs.Front.{Front, word, string, quoted, number, param, sign, is_fraction, string_or, name_or, between}
+use Rattle.sql_lexer.specs.Front.{Front, word, string, quoted, number, sign, is_fraction, string_or, name_or, between}
 use Rattle.sql_lexer.proofs.Runs.{run_len, begins_first}
 use Rattle.sql_lexer.proofs.Quotes.{Lacks, closes, content_doubled}
 

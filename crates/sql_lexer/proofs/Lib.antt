@@ -9,3 +9,4 @@ pub mod Sound
 pub mod Complete
 pub mod Once
 pub mod Cuts
+pub mod Some

@@ -1,5 +1,5 @@
 -- No text has two readings.
-use Rattle.std.proofs.Common.{◌≡◌, ℕ, zero, suc, ◌+◌, ◌<◌, ◌≤◌, Bool, true, false, List, [], ◌∷◌, ◌++◌, length, take, drop, Result, Ok, Err, refl, ap, sym, ◌∙◌, subst, length-append, length-drop, arith}
+use Rattle.std.proofs.Common.{◌≡◌, ℕ, zero, suc, ◌+◌, ◌≤◌, Bool, false, List, [], ◌∷◌, ◌++◌, length, drop, Result, Ok, Err, refl, ap, sym, ◌∙◌, subst, length-append, length-drop, arith}
 use Rattle.std.proofs.Math.Seq.{drop-append_seam}
 use Rattle.sql_tree.specs.declared.token.Token.{Token}
 use Rattle.sql_tree.specs.declared.token.TokenKind.{TokenKind}
@@ -32,12 +32,12 @@ fits : (bytes after : List ℕ) → length bytes ≤ length (bytes ++ after)
 fits bytes after = omega (arith, length-append bytes after)
 
 -- what stands in front has bytes
-gap_some : {bytes after : List ℕ} → IsGap bytes after → 1 ≤ length bytes
+pub gap_some : {bytes after : List ℕ} → IsGap bytes after → 1 ≤ length bytes
 gap_some (IsGap.space b bytes after start all stops) = omega arith
 gap_some (IsGap.line bytes after all stops) = omega arith
 gap_some (IsGap.comment bytes after ends) = omega arith
 
-token_some : {joined : Bool} {bytes after : List ℕ} {k : TokenKind} → IsToken joined bytes after k → 1 ≤ length bytes
+pub token_some : {joined : Bool} {bytes after : List ℕ} {k : TokenKind} → IsToken joined bytes after k → 1 ≤ length bytes
 token_some (IsToken.word joined b bytes after start all stops short free) = omega arith
 token_some (IsToken.quoted joined name after lacks some short) = omega arith
 token_some (IsToken.string joined text after lacks) = omega arith
@@ -165,7 +165,6 @@ no_fault_within (suc n) joined at text ts f h a b = clash n (no_fault_within n) 
 -- a text that tokens stand for has no fault
 pub no_fault : (joined : Bool) (at : ℕ) (text : List ℕ) (ts : List Token) (f : LexFault) → StandsFor joined at text ts → FirstFault joined at text f → ⊥
 no_fault joined at text ts f a b = no_fault_within (length text) joined at text ts f (omega arith) a b
-
 
 abbrev OneFault : ℕ → Type 0
 OneFault n = (joined : Bool) (at : ℕ) (text : List ℕ) (f g : LexFault) → length text ≤ n → FirstFault joined at text f → FirstFault joined at text g → f ≡ g

@@ -1,12 +1,12 @@
 -- Which lexeme begins with which byte.
-use Rattle.std.proofs.Common.{◌≡◌, ℕ, zero, suc, ◌+◌, ◌<◌, ◌≤◌, Bool, true, false, not, ◌&&◌, ◌||◌, cond, List, [], ◌∷◌, Option, Some, None, refl, ap, sym, ◌∙◌, subst, ◌⊎◌, inl, inr, lit<, arith}
-use Rattle.std.specs.Prelude.{◌==◌, nat_lt, nat_le, is_some}
+use Rattle.std.proofs.Common.{◌≡◌, ℕ, ◌<◌, ◌≤◌, true, false, ◌&&◌, ◌||◌, cond, Option, Some, None, refl, sym, ◌∙◌, subst, ◌⊎◌, inl, inr, lit<, arith}
+use Rattle.std.specs.Prelude.{◌==◌, nat_le}
 use Rattle.std.specs.Char.{is_ascii_alphabetic}
-use Rattle.std.proofs.lemmas.Bool.{and_parts, or_parts, or_cases, or_from, not-true, leb-true, leb-false, lt-leb, le-leb, eqb-true, ne_eqb, and_left, and_right, cond-true, cond-false, cond_both}
+use Rattle.std.proofs.lemmas.Bool.{and_parts, or_cases, or_from, leb-true, lt-leb, eqb-true, ne_eqb, and_left, and_right, cond-true, cond-false, cond_both}
 use Rattle.sql_tree.specs.declared.token.Sign.{Sign}
 use Rattle.sql_tree.specs.declared.token.Sign.TheVariants as g
-use Rattle.sql_lexer.specs.Bytes.{is_space, is_digit, begins_word, is_prefix}
-use Rattle.sql_lexer.specs.Lexemes.{sign_of, sign_of_two, begins_nothing}
+use Rattle.sql_lexer.specs.Bytes.{is_space, is_digit, begins_word}
+use Rattle.sql_lexer.specs.Lexemes.{sign_of, sign_of_two}
 use Rattle.sql_lexer.specs.Front.{chosen}
 
 -- the byte begins none of the lexemes before the signs
@@ -60,6 +60,7 @@ row_either b c j k m n x s o here there again =
   where
     at : (b c j k : ℕ) → PlainTwo j k → (b == j && c == k) ≡ true → PlainTwo b c
     at b c j k here e = let e' = and_parts (b == j) (c == k) e in let p : b ≡ j = eqb-true b j e'.0 in let q : c ≡ k = eqb-true c k e'.1 in rw (p, q) here
+
     either : (b c j k m n : ℕ) → PlainTwo j k → PlainTwo m n → ((b == j && c == k) ≡ true) ⊎ ((b == m && c == n) ≡ true) → PlainTwo b c
     either b c j k m n here there (inl e) = at b c j k here e
     either b c j k m n here there (inr e) = at b c m n there e
@@ -114,8 +115,8 @@ digit_no_word : (b : ℕ) → b ≤ 57 → begins_word b ≡ false
 digit_no_word b h =
     or_from (is_ascii_alphabetic b || b == 95) (nat_le 128 b)
     (or_from (is_ascii_alphabetic b) (b == 95)
-      (or_from (nat_le 65 b && nat_le b 90) (nat_le 97 b && nat_le b 122) (and_left (nat_le 65 b) (nat_le b 90) (lt-leb 65 b (omega arith))) (and_left (nat_le 97 b) (nat_le b 122) (lt-leb 97 b (omega arith))))
-      (below b 95 (omega arith)))
+    (or_from (nat_le 65 b && nat_le b 90) (nat_le 97 b && nat_le b 122) (and_left (nat_le 65 b) (nat_le b 90) (lt-leb 65 b (omega arith))) (and_left (nat_le 97 b) (nat_le b 122) (lt-leb 97 b (omega arith))))
+    (below b 95 (omega arith)))
     (lt-leb 128 b (omega arith))
 
 -- ---- what is chosen
@@ -149,7 +150,7 @@ chosen_sign b n x0 x1 x2 x3 x4 x5 x6 x7 x8 x9 p line comment =
 pub chosen_all : {X : Type 0} (P : X → Type 0) (b n : ℕ) (x0 x1 x2 x3 x4 x5 x6 x7 x8 x9 : X) → (is_space b ≡ true → P x0) → ((b == 45 && n == 45) ≡ true → P x1) → ((b == 47 && n == 42) ≡ true → P x2)
     → (begins_word b ≡ true → P x3) → (b ≡ 34 → P x4) → (b ≡ 39 → P x5) → (is_digit b ≡ true → P x6) → (b ≡ 36 → P x7) → (b ≡ 46 → P x8)
     → (is_space b ≡ false → begins_word b ≡ false → (b == 34) ≡ false → (b == 39) ≡ false → is_digit b ≡ false → (b == 36) ≡ false → (b == 46) ≡ false
-      → (b == 45 && n == 45) ≡ false → (b == 47 && n == 42) ≡ false → P x9)
+    → (b == 45 && n == 45) ≡ false → (b == 47 && n == 42) ≡ false → P x9)
     → P (chosen b n x0 x1 x2 x3 x4 x5 x6 x7 x8 x9)
 chosen_all P b n x0 x1 x2 x3 x4 x5 x6 x7 x8 x9 h0 h1 h2 h3 h4 h5 h6 h7 h8 h9 =
     cond_both (is_space b) x0 _ P h0 (λ e0. cond_both (b == 45 && n == 45) x1 _ P h1 (λ e1. cond_both (b == 47 && n == 42) x2 _ P h2 (λ e2. cond_both (begins_word b) x3 _ P h3

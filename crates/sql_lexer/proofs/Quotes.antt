@@ -1,11 +1,11 @@
 -- A quoted part: what is cut is spelled so, and what is spelled so is cut.
-use Rattle.std.proofs.Common.{◌≡◌, ℕ, zero, suc, ◌+◌, ◌-◌, ◌<◌, ◌≤◌, Bool, true, false, not, ◌&&◌, cond, List, [], ◌∷◌, ◌++◌, length, take, drop, Option, Some, None, Result, Ok, Err, refl, ap, sym, ◌∙◌, subst, append_assoc, length-append, add-one, arith}
+use Rattle.std.proofs.Common.{◌≡◌, ℕ, zero, suc, ◌+◌, ◌≤◌, Bool, true, false, not, ◌&&◌, cond, List, [], ◌∷◌, ◌++◌, length, Some, None, refl, ap, sym, ◌∙◌, subst, append_assoc, length-append, arith}
 use Rattle.std.specs.Prelude.{◌==◌, slice_index}
-use Rattle.std.proofs.lemmas.Bool.{eqb-true, eq-eqb, eqb-false}
+use Rattle.std.proofs.lemmas.Bool.{eqb-true, eq-eqb}
 use Rattle.std.proofs.Math.Dec.{eqb-zero-suc}
 use Rattle.sql_lexer.specs.Scan.{closing, content}
 use Rattle.sql_lexer.specs.Bytes.{begins}
-use Rattle.sql_lexer.specs.Lexemes.{doubled, to_quote}
+use Rattle.sql_lexer.specs.Lexemes.{doubled}
 
 -- no quote stands next
 abbrev pub Lacks : ℕ → List ℕ → Type 0

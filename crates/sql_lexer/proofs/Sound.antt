@@ -1,29 +1,25 @@
 -- What is found at the front of a text stands there.
-use Rattle.std.proofs.Common.{◌≡◌, ℕ, zero, suc, ◌+◌, ◌-◌, ◌<◌, ◌≤◌, Bool, true, false, not, ◌&&◌, ◌||◌, cond, List, [], ◌∷◌, ◌++◌, length, take, drop, Option, Some, None, Ok, Err, pos, refl, ap, sym, ◌∙◌, subst, append_assoc, length-append, length-drop, ◌⊎◌, inl, inr, arith}
-use Rattle.std.specs.Prelude.{◌==◌, nat_lt, nat_le, slice_index, is_some}
+use Rattle.std.proofs.Common.{◌≡◌, ℕ, ◌+◌, ◌-◌, ◌<◌, ◌≤◌, Bool, true, false, not, ◌&&◌, ◌||◌, List, [], ◌∷◌, ◌++◌, length, take, drop, Option, Some, None, Ok, Err, refl, ap, sym, ◌∙◌, subst, append_assoc, length-append, length-drop, arith}
+use Rattle.std.specs.Prelude.{◌==◌, nat_lt, slice_index, is_some}
 use Rattle.std.specs.List.{prefix_len}
-use Rattle.std.proofs.lemmas.Bool.{eqb-true, eqb-false, eq-eqb, ltb-true, ltb-false, and_parts, and_from, and_cases, or_from, not_from_true, not_from_false, not-true, false_from_ne_true, cases_Bool, cond_both}
+use Rattle.std.proofs.lemmas.Bool.{eqb-true, eqb-false, ltb-true, ltb-false, and_parts, or_from, not_from_false, not-true, false_from_ne_true, cond_both}
 use Rattle.std.proofs.lemmas.List.{take-append-drop, length-take}
 use Rattle.std.proofs.Math.Seq.{take-append_seam}
-use Rattle.std.proofs.lemmas.List.Folds.{length-prefix_len}
-use Rattle.std.proofs.lemmas.List.Sums.{prefix_len-le-length}
 use Rattle.sql_tree.specs.declared.token.Sign.{Sign}
-use Rattle.sql_tree.specs.declared.token.Sign.TheVariants as s
 use Rattle.sql_tree.specs.declared.token.TokenKind.{TokenKind}
 use Rattle.sql_tree.specs.declared.token.TokenKind.TheVariants as k
-use Rattle.sql_lexer.specs.declared.fault.LexFault.{LexFault}
-use Rattle.sql_lexer.specs.declared.fault.LexFault.TheVariants.{UnclosedString, UnclosedComment, UnclosedName, EmptyName, BadCharacter, Junk, TooWide, NameTooLong, Unsupported}
+use Rattle.sql_lexer.specs.declared.fault.LexFault.TheVariants.{UnclosedComment, EmptyName, Unsupported}
 use Rattle.sql_lexer.specs.declared.piece.Piece.{Piece}
 use Rattle.sql_lexer.specs.declared.piece.Piece.TheVariants.{Gap, Kind}
 use Rattle.sql_lexer.specs.declared.scan.Class.TheVariants as class
-use Rattle.sql_lexer.specs.Bytes.{is_space, is_in_line, is_digit, begins_word, is_in_word, is_prefix, AllAre, begins, begins_fraction, folded, decimal}
-use Rattle.sql_lexer.specs.Lexemes.{IsGap, IsToken, IsFaultAt, Unclosed, UnclosedComment as NoEnd, doubled, to_quote, sign_of, sign_of_two, is_pair, begins_nothing, most}
+use Rattle.sql_lexer.specs.Bytes.{is_space, is_in_line, is_digit, begins_word, is_in_word, is_prefix, AllAre, begins, begins_fraction, decimal}
+use Rattle.sql_lexer.specs.Lexemes.{IsGap, IsToken, IsFaultAt, Unclosed, doubled, to_quote, sign_of, sign_of_two, is_pair, begins_nothing, most}
 use Rattle.sql_lexer.specs.Scan.{past, closing, comment_from}
-use Rattle.sql_lexer.specs.Front.{Front, comment_piece, gap_or, word, string, string_or, quoted, name_or, number, param, point, sign, piece, chosen}
-use Rattle.sql_lexer.proofs.Runs.{Run, run_of, begins_first, front_all, rest_stops}
+use Rattle.sql_lexer.specs.Front.{Front, comment_piece, gap_or, word, string, string_or, quoted, name_or, number, param, point, sign, piece}
+use Rattle.sql_lexer.proofs.Runs.{run_of, begins_first}
 use Rattle.sql_lexer.proofs.Comments.{comment_found, comment_ends}
-use Rattle.sql_lexer.proofs.Quotes.{Lacks, Closed, closing_sound}
-use Rattle.sql_lexer.proofs.Forms.{word_form, word_is, name_form, name_is, string_form, string_is, quote_closes, number_form, number_is, single_is, none_is, double_is}
+use Rattle.sql_lexer.proofs.Quotes.{Lacks, closing_sound}
+use Rattle.sql_lexer.proofs.Forms.{word_form, word_is, name_form, name_is, string_is, quote_closes, number_form, number_is, single_is, none_is, double_is}
 use Rattle.sql_lexer.proofs.Plain.{chosen_all}
 
 -- white space or a comment of this length stands in front
@@ -126,9 +122,9 @@ word_at joined at b bytes after start all stops =
     let test = 1 + length bytes == 1 && is_prefix b && slice_index (bytes ++ after) 0 == 39 in
     cond_both test _ _ P (prefixed joined at b bytes after)
     (λ e. cond_both (nat_lt 63 (1 + length bytes)) _ _ P
-      (λ h. let long : 63 < 1 + length bytes = ltb-true 63 (1 + length bytes) h in IsFaultAt.long_word joined at b bytes after start all stops (omega arith))
-      (λ h. let short : 1 + length bytes ≤ 63 = ltb-false 63 (1 + length bytes) h in
-        record { bytes = b ∷ bytes; after = after; splits = refl; size = omega arith; is = IsToken.word joined b bytes after start all stops (omega arith) (unprefixed b bytes after e) }))
+    (λ h. let long : 63 < 1 + length bytes = ltb-true 63 (1 + length bytes) h in IsFaultAt.long_word joined at b bytes after start all stops (omega arith))
+    (λ h. let short : 1 + length bytes ≤ 63 = ltb-false 63 (1 + length bytes) h in
+    record { bytes = b ∷ bytes; after = after; splits = refl; size = omega arith; is = IsToken.word joined b bytes after start all stops (omega arith) (unprefixed b bytes after e) }))
 
 sound_word : (joined : Bool) (at b : ℕ) (z : List ℕ) → begins_word b ≡ true → IsSound joined at (b ∷ z) (word at (b ∷ z))
 sound_word joined at b z start =
@@ -163,12 +159,13 @@ name_at joined at t after lacks =
     let P : Front → Type 0 = λ f. IsSound joined at (34 ∷ to_quote 34 t ++ after) f in
     cond_both (length t == 0) _ _ P (λ e. empty t (eqb-true (length t) 0 e))
     (λ e. cond_both (nat_lt 63 (length t)) _ _ P
-      (λ h. IsFaultAt.long_name joined at t after lacks (ltb-true 63 (length t) h))
-      (λ h. record { bytes = 34 ∷ to_quote 34 t; after = after; splits = refl; size = refl; is = IsToken.quoted joined t after lacks (some t (eqb-false (length t) 0 e)) (ltb-false 63 (length t) h) }))
+    (λ h. IsFaultAt.long_name joined at t after lacks (ltb-true 63 (length t) h))
+    (λ h. record { bytes = 34 ∷ to_quote 34 t; after = after; splits = refl; size = refl; is = IsToken.quoted joined t after lacks (some t (eqb-false (length t) 0 e)) (ltb-false 63 (length t) h) }))
   where
     empty : (t : List ℕ) → length t ≡ 0 → IsFaultAt joined at (34 ∷ to_quote 34 t ++ after) (EmptyName at)
     empty [] e = IsFaultAt.empty_name joined at after lacks
     empty (b ∷ t) e = absurd (omega arith)
+
     some : (t : List ℕ) → (length t ≡ 0 → ⊥) → 1 ≤ length t
     some [] e = absurd (e refl)
     some (b ∷ t) e = omega arith
@@ -193,14 +190,15 @@ number_at joined at b bytes after start all stops =
     cond_both (not (begins_fraction after) && begins is_in_word after) _ _ P
     (λ e. let p = and_parts (not (begins_fraction after)) (begins is_in_word after) e in IsFaultAt.junk joined at b bytes after start all stops (not-true (begins_fraction after) p.0) p.1)
     (λ e. cond_both (nat_lt most n) _ _ P
-      (λ h. IsFaultAt.too_wide joined at b bytes after start all stops (goes_on (begins_fraction after) (begins is_in_word after) e) (ltb-true most n h))
-      (λ h. cond_both (begins_fraction after) _ _ P
-        (λ f. IsFaultAt.fraction joined at b bytes after start all stops f (ltb-false most n h))
-        (λ f. record { bytes = b ∷ bytes; after = after; splits = refl; size = omega arith; is = IsToken.number joined b bytes after start all (no_junk (begins_fraction after) (begins is_in_word after) e f) f (ltb-false most n h) })))
+    (λ h. IsFaultAt.too_wide joined at b bytes after start all stops (goes_on (begins_fraction after) (begins is_in_word after) e) (ltb-true most n h))
+    (λ h. cond_both (begins_fraction after) _ _ P
+    (λ f. IsFaultAt.fraction joined at b bytes after start all stops f (ltb-false most n h))
+    (λ f. record { bytes = b ∷ bytes; after = after; splits = refl; size = omega arith; is = IsToken.number joined b bytes after start all (no_junk (begins_fraction after) (begins is_in_word after) e f) f (ltb-false most n h) })))
   where
     goes_on : (x y : Bool) → (not x && y) ≡ false → y ≡ true → x ≡ true
     goes_on true y e f = refl
     goes_on false y e f = absurd (cc)
+
     no_junk : (x y : Bool) → (not x && y) ≡ false → x ≡ false → y ≡ false
     no_junk true y e f = absurd (cc)
     no_junk false y e f = e
@@ -243,21 +241,21 @@ sound_param joined at z =
     cond_both (1 + n == 1) _ _ P
     (λ e. let one = eqb-true (1 + n) 1 e in let none : n ≡ 0 = omega arith in IsFaultAt.dollar joined at z (no_digit z none))
     (λ e.
-      let some : 1 ≤ n = positive n e in
-      let long : n ≡ length r.front = r.long in
-      let short : length r.front ≤ 5 = omega (arith, ap length r.splits, length-append r.front r.after, length-take 5 z) in
-      let less : 1 + n - 1 ≡ length r.front = omega arith in
-      let inner : take (1 + n - 1) d ≡ r.front = ap (λ m. take m d) less ∙ ap (λ y. take (length r.front) y) r.splits ∙ take-append_seam r.front r.after in
-      let regroup : (r.front ++ r.after) ++ drop 5 z ≡ r.front ++ (r.after ++ drop 5 z) = simp append_assoc in
-      let whole : z ≡ r.front ++ (r.after ++ drop 5 z) = sym (take-append-drop 5 z) ∙ ap (λ y. y ++ drop 5 z) r.splits ∙ regroup in
-      let Q : ℕ → Type 0 = λ m. IsToken joined (36 ∷ r.front) (r.after ++ drop 5 z) (k.Param m) in
-      record {
-        bytes = 36 ∷ r.front;
-        after = r.after ++ drop 5 z;
-        splits = ap (λ y. 36 ∷ y) whole;
-        size = omega arith;
-        is = subst Q (sym (ap decimal inner)) (param_token joined r.front (r.after ++ drop 5 z) r.all (omega arith) short (full_or_last z r.front r.after r.splits r.stops));
-      })
+    let some : 1 ≤ n = positive n e in
+    let long : n ≡ length r.front = r.long in
+    let short : length r.front ≤ 5 = omega (arith, ap length r.splits, length-append r.front r.after, length-take 5 z) in
+    let less : 1 + n - 1 ≡ length r.front = omega arith in
+    let inner : take (1 + n - 1) d ≡ r.front = ap (λ m. take m d) less ∙ ap (λ y. take (length r.front) y) r.splits ∙ take-append_seam r.front r.after in
+    let regroup : (r.front ++ r.after) ++ drop 5 z ≡ r.front ++ (r.after ++ drop 5 z) = simp append_assoc in
+    let whole : z ≡ r.front ++ (r.after ++ drop 5 z) = sym (take-append-drop 5 z) ∙ ap (λ y. y ++ drop 5 z) r.splits ∙ regroup in
+    let Q : ℕ → Type 0 = λ m. IsToken joined (36 ∷ r.front) (r.after ++ drop 5 z) (k.Param m) in
+    record {
+      bytes = 36 ∷ r.front;
+      after = r.after ++ drop 5 z;
+      splits = ap (λ y. 36 ∷ y) whole;
+      size = omega arith;
+      is = subst Q (sym (ap decimal inner)) (param_token joined r.front (r.after ++ drop 5 z) r.all (omega arith) short (full_or_last z r.front r.after r.splits r.stops));
+    })
   where
     positive : (n : ℕ) → (1 + n == 1) ≡ false → 1 ≤ n
     positive n e = let h = eqb-false (1 + n) 1 e in omega arith
@@ -302,6 +300,7 @@ sound_sign joined at b z e0 e1 e2 e3 e4 e5 e6 line comment = by_next z line comm
     nothing e =
         not_from_false (is_space b || begins_word b || is_digit b || b == 34 || b == 39 || b == 36 || b == 46 || is_some (sign_of b))
         (or_from _ (is_some (sign_of b)) (or_from _ (b == 46) (or_from _ (b == 36) (or_from _ (b == 39) (or_from _ (b == 34) (or_from _ (is_digit b) (or_from (is_space b) (begins_word b) e0 e1) e4) e2) e3) e5) e6) e)
+
     by_next : (z : List ℕ) → (b == 45 && slice_index z 0 == 45) ≡ false → (b == 47 && slice_index z 0 == 42) ≡ false → IsSound joined at (b ∷ z) (sign at (b ∷ z))
     by_next [] x y = sign_last joined at b [] refl nothing (sign_of b) refl
     by_next (c ∷ z) x y = sign_next joined at b c z x y nothing (sign_of_two b c) refl

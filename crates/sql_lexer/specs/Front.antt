@@ -1,5 +1,5 @@
 -- The piece at the front of a text, as the private functions find it. No public clause speaks of it.
-use Rattle.std.specs.Prelude.{◌≡◌, ℕ, ◌+◌, ◌-◌, Bool, true, false, not, ◌&&◌, ◌||◌, if◌then◌else◌, ◌==◌, nat_lt, List, [], ◌∷◌, length, take, drop, slice_index, Option, Some, None, Result, Ok, Err, pos}
+use Rattle.std.specs.Prelude.{◌≡◌, ℕ, ◌+◌, ◌-◌, Bool, false, not, ◌&&◌, ◌||◌, if◌then◌else◌, ◌==◌, nat_lt, List, length, take, drop, slice_index, Option, Some, None, Result, Ok, Err, pos}
 use Rattle.sql_tree.specs.declared.token.Sign.{Sign}
 use Rattle.sql_tree.specs.declared.token.Sign.TheVariants as s
 use Rattle.sql_tree.specs.declared.token.TokenKind.TheVariants as k

@@ -1,5 +1,5 @@
 // All tokens of a text.
-ghost use Rattle.std.specs.Prelude.{◌≡◌, ◌<◌, ◌≤◌, ◌+◌, ◌^◌, drop, length, IfOk, IfErr, MatchResult, List, ℕ};
+ghost use Rattle.std.specs.Prelude.{◌≡◌, ◌<◌, ◌≤◌, ◌+◌, ◌^◌, ◌⊎◌, drop, length, IfOk, IfErr, MatchResult, List, ℕ};
 ghost use Rattle.std.specs.Str.{IsUtf8};
 ghost use Rattle.sql_tree.specs.declared.token.Token.{Token};
 ghost use Rattle.sql_lexer.specs.declared.fault.LexFault.{LexFault};
@@ -56,19 +56,23 @@ pub fn tokens(alloc: Global, text: &Text) -> Result<Vec<Token>, LexFault>
     requires { length text.now < 2 ^ 32 }
     ensures found { IfOk result (λ found. AreTokensOf text.now found.items) }
     // What stands for the text is found, unless memory runs out.
-    ensures only { (ts : List Token) → AreTokensOf text.now ts → MatchResult result (λ found. found.items ≡ ts) (λ f. f ≡ LexFault.Memory) }
+    ensures only { (ts : List Token) → AreTokensOf text.now ts
+        → MatchResult result (λ found. found.items ≡ ts) (λ f. f ≡ LexFault.Memory) }
     ensures fault { IfErr result (λ f. IsFaultOf text.now f) }
     // The first fault of the text is answered, unless memory runs out.
-    ensures refused { (f : LexFault) → IsFirstFaultOf text.now f → MatchResult result (λ found. ⊥) (λ g. IsFaultOrMemory g f) }
+    ensures refused { (f : LexFault) → IsFirstFaultOf text.now f
+        → MatchResult result (λ found. ⊥) (λ g. IsFaultOrMemory g f) }
 {
     cut(alloc, text.bytes())
 }
 
-/// The law that a text has one reading: no two lists of tokens stand for it, no two faults are its first, and where tokens
-/// stand for it there is no fault.
+/// The law that a text has one reading: tokens stand for it or a fault is its first, not both, and no two lists of tokens
+/// or two faults.
 pub fn one_reading()
+    ensures some_reading { (text : List ℕ)
+        → ((ts : List Token) × AreTokensOf text ts) ⊎ ((f : LexFault) × IsFirstFaultOf text f) }
     ensures one_list { (text : List ℕ) (ts us : List Token) → AreTokensOf text ts → AreTokensOf text us → ts ≡ us }
     ensures one_fault { (text : List ℕ) (f g : LexFault) → IsFirstFaultOf text f → IsFirstFaultOf text g → f ≡ g }
-    ensures not_both { (text : List ℕ) (ts : List Token) (f : LexFault) → AreTokensOf text ts → ¬ (IsFirstFaultOf text f) }
-{
-}
+    ensures not_both { (text : List ℕ) (ts : List Token) (f : LexFault)
+        → AreTokensOf text ts → ¬ (IsFirstFaultOf text f) }
+{}

@@ -5,7 +5,8 @@ ghost use Rattle.sql_lexer.specs.declared.fault.LexFault.TheVariants.{Memory as 
 use cell_base::{Memory, SqlState};
 use std::alloc::{AllocError, AllocFailed};
 
-/// Why a text isn't a list of tokens. The number is the place at fault: the offset in bytes of the token or comment that begins there.
+/// Why a text isn't a list of tokens. The number is the place at fault: the offset in bytes of the token or comment that
+/// begins there.
 #[derive(Clone, Copy, Debug, PartialEq, Eq)]
 pub enum LexFault {
     /// A string without its closing quote.
@@ -24,7 +25,8 @@ pub enum LexFault {
     TooWide(u32),
     /// A word or a quoted name of more than 63 bytes.
     NameTooLong(u32),
-    /// A number with a point or an exponent, or a string with a prefix, as `e'a'`: PostgreSQL reads them, this server doesn't.
+    /// A number with a point or an exponent, or a string with a prefix, as `e'a'`: PostgreSQL reads them, this server
+    /// doesn't.
     Unsupported(u32),
     /// Want of memory.
     Memory,

@@ -1,4 +1,4 @@
-use Rattle.std.proofs.Common.{◌≡◌, ℕ, ◌≤◌, Result, Ok, Err, sym, ap, ◌∙◌, length, drop, length-drop, arith}
+use Rattle.std.proofs.Common.{◌≤◌, Ok, ap, ◌∙◌, length, drop, length-drop, arith}
 use Rattle.sql_lexer.proofs.Cuts.{begun, after_gap, after_kind, failed_ahead, complete}
 use Rattle.sql_lexer.proofs.cut.cut.Goals as goal
 use Rattle.sql_lexer.proofs.cut.cut.Goals.{in-Gap, in-Kind+in_ok-push-in-Kind}
