@@ -4,3 +4,5 @@ pub mod Relations
 pub mod Legal
 pub mod Chronicle
 pub mod Book
+pub mod Records
+pub mod Kept

@@ -1,12 +1,26 @@
 //! The history: one list of events, what its transactions read and wrote, and which event may come next.
+//!
+//! `History` keeps the events, with a record of each transaction that says what the events say of it, and takes each event
+//! that fits, or names the limit that keeps it out. `Book` is one session's way to a history, and `legal_laws` says what
+//! holds of each legal one.
 #![tactic(auto)]
 
 mod book;
+mod ends;
 mod event;
 mod fault;
+mod history;
+mod kept;
 mod laws;
+mod limits;
+mod notes;
+mod pushes;
+mod txn;
+mod weight;
 
 pub use book::Book;
 pub use event::Event;
 pub use fault::{BookFault, DefineAnswer, Limit};
+pub use history::History;
 pub use laws::legal_laws;
+pub use txn::{Seen, Txn, TxnState};

@@ -1,0 +1,3 @@
+-- Lemmas for the answers.
+pub mod Lists
+pub mod BufferLemmas
