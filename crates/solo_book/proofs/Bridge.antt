@@ -46,13 +46,13 @@ none_written events k x none written =
 
 -- the buffer of a record holds what was written
 pub written_from_buffer :
-    (events : List Event) (k : ℕ) (txn : Txn) (x : Cell) → IsRecordOf events k txn → WritesCell txn.buffer x → HasWritten events k x
+    (events : List Event) (k : ℕ) (txn : Txn) (x : Cell) → IsRecordOf events k txn → WritesCell txn.buffer.writes x → HasWritten events k x
 written_from_buffer events k txn x is (v, member) =
     let last = (is.writes x v).0 member in
     record { place = last.place; session = last.session; value = v; write = last.write }
 
 pub none_from_buffer :
-    (events : List Event) (k : ℕ) (txn : Txn) (x : Cell) → IsRecordOf events k txn → (WritesCell txn.buffer x → ⊥) → HasWritten events k x → ⊥
+    (events : List Event) (k : ℕ) (txn : Txn) (x : Cell) → IsRecordOf events k txn → (WritesCell txn.buffer.writes x → ⊥) → HasWritten events k x → ⊥
 none_from_buffer events k txn x is none = none_written events k x (λ v last. none (v, (is.writes x v).1 last))
 
 -- a committed transaction but the initial one
@@ -63,7 +63,7 @@ writes_own events k txn x positive is (inl initial) = absurd (omega arith)
 writes_own events k txn x positive is (inr own) = (is.committed.1 own.0, own.1)
 
 pub Writes-from_record :
-    (events : List Event) (k : ℕ) (txn : Txn) (x : Cell) → IsRecordOf events k txn → txn.state ≡ Committed → WritesCell txn.buffer x → Writes events k x
+    (events : List Event) (k : ℕ) (txn : Txn) (x : Cell) → IsRecordOf events k txn → txn.state ≡ Committed → WritesCell txn.buffer.writes x → Writes events k x
 Writes-from_record events k txn x is state written = inr (is.committed.0 state, written_from_buffer events k txn x is written)
 
 -- what a seen read gives, and what gives it
@@ -188,12 +188,12 @@ record_reads_from events k source txn positive is from =
 
 pub demanded_from_records :
     (events : List Event) (k first second : ℕ) (reader writer : Txn) → IsRecordOf events k reader → IsRecordOf events first writer →
-    writer.state ≡ Committed → IsDemandedBy writer.buffer first second reader → DemandedBy events k first second
+    writer.state ≡ Committed → IsDemandedBy writer.buffer.writes first second reader → DemandedBy events k first second
 demanded_from_records events k first second reader writer is writes state by =
     let some = by.some in
     let seen = some.1 in
     let saw = (is.seen seen).0 (some.0, some.2, some.3) in
-    let read = seen_read saw.event (saw.place + 1) seen writer.buffer second saw.shows some.4.0 in
+    let read = seen_read saw.event (saw.place + 1) seen writer.buffer.writes second saw.shows some.4.0 in
     let before = some.4.1 in
     let earlier = before.1 in
     let saw_earlier = (is.seen earlier).0 (before.0, before.2, before.3) in
@@ -217,7 +217,7 @@ demanded_from_records events k first second reader writer is writes state by =
 -- not to be demanded by the records is not to be demanded
 pub none_demanded :
     (events : List Event) (k first second : ℕ) (reader writer : Txn) → 0 < first → IsRecordOf events k reader → IsRecordOf events first writer →
-    (IsDemandedBy writer.buffer first second reader → ⊥) → DemandedBy events k first second → ⊥
+    (IsDemandedBy writer.buffer.writes first second reader → ⊥) → DemandedBy events k first second → ⊥
 none_demanded events k first second reader writer positive is writes none d =
     let some = read_seen d.reads.event (d.place + 1) d.cell second d.reads.gives in
     let member : Contains reader.seen some.0 =
@@ -233,8 +233,8 @@ none_demanded events k first second reader writer positive is writes none d =
     let own = writes_own events first writer d.cell positive writes d.writes in
     none_from_buffer events first writer d.cell writes
     (λ written. none record {
-      some = Any-from_contains (DemandedAt reader.seen writer.buffer first second) reader.seen some.0 member (
-        some.1.2 writer.buffer written,
+      some = Any-from_contains (DemandedAt reader.seen writer.buffer.writes first second) reader.seen some.0 member (
+        some.1.2 writer.buffer.writes written,
         Any-from_contains (λ s. (place_in s < place_in some.0) × IsReadFrom s first) reader.seen from.0 member_earlier (under, from.1.3 positive),
       );
     })
@@ -306,7 +306,7 @@ forced_initial events a b initial bounded (inr d) =
     initial_ordered events a b initial (omega arith) bounded
 
 pub value_written :
-    (events : List Event) (k : ℕ) (txn : Txn) (x : Cell) (v : Value) → 0 < k → IsRecordOf events k txn → Writes events k x → Contains txn.buffer (x, v) →
+    (events : List Event) (k : ℕ) (txn : Txn) (x : Cell) (v : Value) → 0 < k → IsRecordOf events k txn → Writes events k x → Contains txn.buffer.writes (x, v) →
     WritesValue events k x v
 value_written events k txn x v positive is writes member =
     let own = writes_own events k txn x positive is writes in

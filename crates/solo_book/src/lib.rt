@@ -1,6 +1,13 @@
 //! A book of one session after another at Read Committed, whose reads are offered exactly what the level permits.
 #![tactic(auto)]
 
+mod append;
+mod calls;
+mod desk;
 mod laws;
+mod offering;
+mod pairs;
+mod single;
+mod tests_of_records;
 
 pub use laws::one_session_permits;

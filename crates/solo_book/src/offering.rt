@@ -1,18 +1,18 @@
-// Which writes a read may see, and the read itself.
-
+// Which writes a read may see, of any number of sessions: each writer is tried against all forced pairs.
 ghost use Rattle.std.specs.Prelude.{◌≡◌, false, ◌<◌, ◌≤◌, ◌+◌, ◌↔◌, ℕ, List, IsTrue, IfOk, length};
 ghost use Rattle.cell_base.specs.declared.level.Level.TheVariants.{Rc};
-ghost use Rattle.history_core.specs.Events.{begun};
+ghost use Rattle.history_core.specs.Events.{begun, opened};
 ghost use Rattle.history_core.specs.Transactions.{IsPending, HasPending};
 ghost use Rattle.history_core.specs.Relations.{Writes};
-ghost use Rattle.history_core.specs.Legal.{IsLegal, IsPermitted, IsOffer};
+ghost use Rattle.history_core.specs.Legal.{IsFormed, IsLegal, IsPermitted, IsOffer};
 ghost use Rattle.solo_book.specs.Pairs.{IsForced, IsPairList, HasOrder};
 ghost use Rattle.graph_base.specs.Walk.{IsInRange, HasCycle};
 
 use crate::pairs::{add_trial, forced_pairs, is_writer};
+use crate::single::single_offer;
+use cell_base::{Cell, Memory};
 use graph_base::{Edge, Graph};
-use history_base::Cell;
-use history_core::{History, Memory};
+use history_core::History;
 use order_witness::{Verdict, order_or_cycle};
 use std::alloc::Global;
 
@@ -39,6 +39,7 @@ fn is_permitted(
     cell: &Cell,
     source: u32,
 ) -> Result<bool, Memory>
+    requires formed { IsFormed history.now.events }
     requires pending { IsPending history.now.events reader session }
     requires writes { Writes history.now.events source cell.now }
     requires forced { IsPairList (IsForced Rc history.now.events) (begun history.now.events + 1) forced.now }
@@ -61,6 +62,7 @@ fn may_read(
     cell: &Cell,
     source: u32,
 ) -> Result<bool, Memory>
+    requires formed { IsFormed history.now.events }
     requires pending { IsPending history.now.events reader session }
     requires source { source ≤ begun history.now.events }
     requires forced { IsPairList (IsForced Rc history.now.events) (begun history.now.events + 1) forced.now }
@@ -73,7 +75,7 @@ fn may_read(
 }
 
 /// The writes that the pending transaction of the session may read next, ascending.
-pub fn offer(
+fn tried_offer(
     alloc: Global,
     history: &History,
     session: u32,
@@ -98,4 +100,26 @@ pub fn offer(
         }
     }
     Ok(offer)
+}
+
+/// The writes that the pending transaction of the last session may read next, ascending. So many sessions were opened.
+pub fn permitted_list(
+    alloc: Global,
+    history: &History,
+    sessions: u32,
+    cell: &Cell,
+) -> Result<Vec<u32>, Memory>
+    requires level { history.now.level ≡ Rc }
+    requires legal { IsLegal history.now.level history.now.events }
+    requires sessions { sessions ≡ opened history.now.events }
+    requires pending { HasPending history.now.events sessions }
+    ensures exact { IfOk result (λ offer. IsOffer history.now.level history.now.events sessions cell.now offer.items) }
+    ensures some { IfOk result (λ offer. 0 < length offer.items) }
+    ensures short { IfOk result (λ offer. length offer.items ≤ 16384) }
+{
+    if sessions <= 1 {
+        single_offer(alloc, history, sessions, cell)
+    } else {
+        tried_offer(alloc, history, sessions, cell)
+    }
 }

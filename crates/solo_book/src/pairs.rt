@@ -3,6 +3,7 @@
 ghost use Rattle.std.specs.Prelude.{◌≡◌, ◌≢◌, ◌<◌, ◌≤◌, ◌+◌, ◌⊎◌, ◌↔◌, ◌^◌, ℕ, IsTrue, IfOk, OnOk, OnErr};
 ghost use Rattle.cell_base.specs.declared.level.Level.TheVariants.{Rc};
 ghost use Rattle.history_core.specs.Events.{begun};
+ghost use Rattle.history_core.specs.Legal.{IsFormed};
 ghost use Rattle.history_core.specs.Relations.{Writes, IsSessionOrdered, ReadsFrom, Demands};
 ghost use Rattle.history_core.specs.declared.txn.TxnState.TheVariants.{Committed};
 ghost use Rattle.history_core.specs.Records.{IsRecordOf};
@@ -10,9 +11,9 @@ ghost use Rattle.solo_book.specs.Tests.{DemandedBy};
 ghost use Rattle.solo_book.specs.Pairs.{IsForced, IsTrial, IsPairList};
 
 use crate::tests_of_records::{is_committed, is_demanded_by, reads_from, writes_cell};
+use cell_base::{Cell, Memory};
 use graph_base::Edge;
-use history_base::Cell;
-use history_core::{History, Memory, Txn};
+use history_core::{History, Txn};
 use std::alloc::Global;
 
 /// Whether the transaction is the initial one or a committed writer of the cell.
@@ -104,6 +105,7 @@ fn is_forced(history: &History, first: u32, second: u32) -> bool
 
 /// All pairs that Read Committed forces.
 pub fn forced_pairs(alloc: Global, history: &History) -> Result<Vec<Edge>, Memory>
+    requires { IsFormed history.now.events }
     ensures { IfOk result (λ edges. IsPairList (IsForced Rc history.now.events) (begun history.now.events + 1) edges.items) }
 {
     let size = history.begun() + 1;

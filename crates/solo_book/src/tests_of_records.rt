@@ -3,8 +3,9 @@
 ghost use Rattle.std.specs.Prelude.{◌≡◌, ◌<◌, ◌≤◌, ◌↔◌, ℕ, Contains, Any, IsTrue};
 ghost use Rattle.solo_book.specs.Tests.{IsUnlisted, WritesCell, ReadsOneOf, IsReadFrom, IsDemandedBy, place_in};
 
-use history_base::{Cell, Items, Key, Value};
-use history_core::{Seen, Txn, TxnBuffer, TxnState};
+use cell_base::{Cell, Items, Key, Value};
+use history_core::{Seen, Txn, TxnState};
+use txn_buffer::TxnBuffer;
 
 /// Whether the key is listed.
 fn contains_key(keys: &[Key], key: &Key) -> bool
@@ -34,14 +35,14 @@ fn contains_unlisted(table: u32, keys: &[Key], entries: &[(Cell, Value)]) -> boo
 
 /// Whether the scan overlooks a write of the buffer.
 fn overlooks(table: u32, keys: &Items<Key>, buffer: &TxnBuffer) -> bool
-    ensures { IsTrue result ↔ Any (λ e. IsUnlisted table keys.now e.0) buffer.now }
+    ensures { IsTrue result ↔ Any (λ e. IsUnlisted table keys.now e.0) buffer.now.writes }
 {
     contains_unlisted(table, keys.as_slice(), buffer.writes())
 }
 
 /// Whether the buffer holds the cell.
 pub fn writes_cell(buffer: &TxnBuffer, cell: &Cell) -> bool
-    ensures { IsTrue result ↔ WritesCell buffer.now cell.now }
+    ensures { IsTrue result ↔ WritesCell buffer.now.writes cell.now }
 {
     match buffer.get(cell) {
         Some(_) => true,
@@ -51,7 +52,7 @@ pub fn writes_cell(buffer: &TxnBuffer, cell: &Cell) -> bool
 
 /// Whether what was seen is the value of the source at one of the cells.
 fn reads_one_of(seen: &Seen, buffer: &TxnBuffer, source: u32) -> bool
-    ensures { IsTrue result ↔ ReadsOneOf seen.now buffer.now source }
+    ensures { IsTrue result ↔ ReadsOneOf seen.now buffer.now.writes source }
 {
     match seen {
         Seen::Read(_, cell, from) => *from == source && writes_cell(buffer, cell),
@@ -88,7 +89,7 @@ fn has_read_before(all: &[Seen], before: u32, source: u32) -> bool
 
 /// Whether the reader has a read from `second` of a cell in the buffer, after it read from `first`.
 pub fn is_demanded_by(reader: &Txn, buffer: &TxnBuffer, first: u32, second: u32) -> bool
-    ensures { IsTrue result ↔ IsDemandedBy buffer.now first second reader.now }
+    ensures { IsTrue result ↔ IsDemandedBy buffer.now.writes first second reader.now }
 {
     let all = reader.seen.as_slice();
     all.iter().any(|seen| {

@@ -23,13 +23,13 @@ loop-second-preserved c =
 pub loop-first-preserved : goal.loop-first-preserved
 loop-first-preserved c =
     part_row (IsForced Rc c.args.history.now.events) (c.begun-size.result + 1)
-    (λ a b f. let range = forced_range c.args.history.now.events (sound_of c.args.history.now.events c.begun-size.ensures.formed) a b f in (omega arith, omega arith))
+    (λ a b f. let range = forced_range c.args.history.now.events (sound_of c.args.history.now.events c.requires) a b f in (omega arith, omega arith))
     c.loop-second.edges.items c.loop-first.first c.loop-second.second c.loop-second-test.false c.loop-second.invariant
 
 pub returns : goal.returns
 returns c =
     let number = c.begun-size.ensures.number in
     let whole = part_whole (IsForced Rc c.args.history.now.events) (c.begun-size.result + 1)
-    (λ a b f. let range = forced_range c.args.history.now.events (sound_of c.args.history.now.events c.begun-size.ensures.formed) a b f in (omega arith, omega arith))
+    (λ a b f. let range = forced_range c.args.history.now.events (sound_of c.args.history.now.events c.requires) a b f in (omega arith, omega arith))
     c.loop-first.edges.items c.loop-first.first c.loop-first-test.false c.loop-first.invariant in
     subst (λ (n : ℕ). IsPairList (IsForced Rc c.args.history.now.events) (n + 1) c.loop-first.edges.items) number whole

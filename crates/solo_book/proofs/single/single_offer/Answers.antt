@@ -3,8 +3,8 @@ use Rattle.std.proofs.lemmas.Bool.{false≢true}
 use Rattle.cell_base.specs.declared.level.Level.{Level}
 use Rattle.history_core.specs.Legal.{IsOffer}
 use Rattle.solo_book.proofs.PairLemmas.{offer_push, offer_skip, offer_whole, offer_some}
-use Rattle.solo_book.proofs.offering.offer.Goals as goal
-use Rattle.solo_book.proofs.offering.offer.Goals.{then-yes+in_ok-push, else-yes}
+use Rattle.solo_book.proofs.single.single_offer.Goals as goal
+use Rattle.solo_book.proofs.single.single_offer.Goals.{then-is_open_to+in_ok-push, else-is_open_to}
 
 pub unreachable-requires : goal.unreachable-requires
 unreachable-requires c =
@@ -14,14 +14,14 @@ unreachable-requires c =
 
 pub loop-source-preserved : goal.loop-source-preserved
 loop-source-preserved c =
-    elim c.if-yes.branch [
-      | then-yes+in_ok-push w ↦
+    elim c.if-is_open_to.branch [
+      | then-is_open_to+in_ok-push w ↦
           rw w.offer-is (rw w.in_ok-push.ensures.items
           (offer_push c.args.history.now.events c.args.session c.args.cell.now c.loop-source.source c.loop-source.offer.items
-          (c.in_ok-yes.ensures.0 w.if-yes.true) c.loop-source.invariant))
-      | else-yes w ↦
+          (c.is_open_to.ensures.0 w.if-is_open_to.true) c.loop-source.invariant))
+      | else-is_open_to w ↦
           rw w.offer-is (offer_skip c.args.history.now.events c.args.session c.args.cell.now c.loop-source.source c.loop-source.offer.items
-          (λ permitted. false≢true (sym w.if-yes.false ∙ c.in_ok-yes.ensures.1 permitted)) c.loop-source.invariant)
+          (λ permitted. false≢true (sym w.if-is_open_to.false ∙ c.is_open_to.ensures.1 permitted)) c.loop-source.invariant)
     ]
 
 pub returns : goal.returns
