@@ -29,7 +29,12 @@ pub struct History {
 impl Model for History {
     ghost use Rattle.history_core.specs.Chronicle.{Chronicle};
 
+    ghost use Rattle.std.specs.Coded.{codes};
+    ghost use Rattle.sql_tree.specs.contracts.typed_expr.TypedNode as typed_node;
+
     ghost Value = { Chronicle };
+
+    ghost coded = { Prim.hlevel (codes, typed_node.the_row.coded) };
 
     ghost use Rattle.history_core.specs.Kept.{IsKept};
 

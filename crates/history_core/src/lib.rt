@@ -15,6 +15,8 @@ mod laws;
 mod limits;
 mod notes;
 mod pushes;
+#[cfg(test)]
+mod tests;
 mod txn;
 mod weight;
 

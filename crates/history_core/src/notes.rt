@@ -1,11 +1,13 @@
 // Changes of one part of what a history keeps: room for events, one event more, one record changed.
 ghost use Rattle.std.specs.Prelude.{◌≡◌, ◌≤◌, ◌<◌, ◌+◌, ◌^◌, [], ◌∷◌, ◌++◌, length, OnOk, OnErr, IfOk, vec_capacity};
+ghost use Rattle.txn_buffer.specs.Buffer.{Puts};
 ghost use Rattle.history_core.specs.Kept.{ChangesOne, AddsSeen, AddsWrite, TakesState, TakesPending, Closes};
 
 use crate::kept::SessionRecord;
 use crate::{Event, Seen, Txn, TxnState};
 use cell_base::{Cell, Items, Key, Memory, Value};
 use std::alloc::Global;
+use txn_buffer::TxnBuffer;
 
 /// Takes the room for one event and for the ends that are owed.
 pub fn make_room(events: &mut Vec<Event>, owed: usize) -> Result<(), Memory>
@@ -48,8 +50,17 @@ pub fn note_write(txns: &mut Vec<Txn>, at: usize, cell: Cell, value: Value) -> R
     ensures err { OnErr result (txns.new.items ≡ txns.old.items) }
 {
     let txn = &mut txns[at];
-    txn.buffer.reserve(1)?;
-    txn.buffer.put(cell, value);
+    keep_write(&mut txn.buffer, cell, value)?;
+    Ok(())
+}
+
+/// Takes the room for a write and puts it.
+fn keep_write(buffer: &mut TxnBuffer, cell: Cell, value: Value) -> Result<(), Memory>
+    ensures ok { OnOk result (Puts buffer.old.writes buffer.new.writes cell value) }
+    ensures err { OnErr result (buffer.new ≡ buffer.old) }
+{
+    buffer.reserve(1)?;
+    buffer.put(cell, value);
     Ok(())
 }
 

@@ -7,7 +7,6 @@ use Rattle.std.proofs.lemmas.List.{map-append}
 use Rattle.std.proofs.lemmas.Bool.{cases_lt}
 use Rattle.cell_base.specs.declared.cell.Cell.{Cell}
 use Rattle.cell_base.specs.declared.value.Value.{Value}
-
 use Rattle.txn_buffer.specs.Buffer.{IsMap, StandsAt, IsAbsent, Puts, KeepsOrder, cells_of}
 use Rattle.txn_buffer.proofs.Lists.{slice_get_push_cases, slice_get-set_same, slice_get-set_other, slice_get-set_cases, contains_at, at_contains}
 

@@ -5,5 +5,7 @@
 #![tactic(auto)]
 
 mod buffer;
+#[cfg(test)]
+mod tests;
 
 pub use buffer::TxnBuffer;

@@ -1,10 +1,12 @@
 use Rattle.history_core.proofs.Prefixes.{legal_consistent}
 use Rattle.history_core.proofs.Offers.{some_permitted}
+use Rattle.history_core.proofs.Taken.{legal_take}
 use Rattle.history_core.proofs.laws.legal_laws.Goals as goal
 
 pub returns : goal.returns
 returns c = record {
   formed = λ level events legal. legal.formed;
   consistent = legal_consistent;
+  prefixes = legal_take;
   permitted = λ level events session cell legal pending. some_permitted level events session cell legal pending;
 }
