@@ -15,7 +15,10 @@ use Rattle.history_core.specs.declared.fault.BookFault.{BookFault}
 use Rattle.history_core.specs.declared.fault.BookFault.TheVariants.{Full}
 use Rattle.history_core.specs.declared.event.Event.{Event}
 use Rattle.history_core.specs.declared.event.Event.TheVariants.{Open, Close, Define, Look, Begin, Scan, Read, Own, Write, Commit, Rollback, Show}
-use Rattle.history_core.specs.Events.{names, defined, defined_name, load_of}
+use Rattle.history_core.specs.Events.{names, defined, defined_name, load_of, opened, is_open_event}
+use Rattle.graph_base.proofs.Places.{count_by-push}
+use Rattle.history_core.proofs.SessionLemmas.{opened-push_other}
+use Rattle.history_core.proofs.SmallLemmas.{fits_open}
 use Rattle.history_core.specs.Relations.{Writes}
 use Rattle.history_core.specs.Legal.{IsFormed, IsLegal, IsOffered, IsOffer, MayCome, Follows, full_for, full_count, full_load}
 use Rattle.history_core.specs.Records.{IsNoDefinition, is_any_end}
@@ -156,3 +159,34 @@ pub picked_writes :
     slice_get offer k ≡ Some source → Writes events source cell
 picked_writes level events session cell offer k source is picked =
     ((is.exact source).0 (Contains-from_slice_get offer k source picked)).0
+
+-- at most 4,096 sessions are opened
+pub opened_few : (events : List Event) → IsFormed events → opened events ≤ 4096
+opened_few events =
+    along (λ (h : List Event). IsFormed h → opened h ≤ 4096)
+    (λ h e holds formed. let both = formed_back h e formed in few h e (holds both.0) both.1)
+    [] events (λ formed. omega arith)
+  where
+    same : (h : List Event) (e : Event) → is_open_event e ≡ false → opened h ≤ 4096 → opened (h ++ e ∷ []) ≤ 4096
+    same h e other few = let stays : opened (h ++ e ∷ []) ≡ opened h = opened-push_other h e other in omega arith
+
+    few : (h : List Event) (e : Event) → opened h ≤ 4096 → MayCome h e → opened (h ++ e ∷ []) ≤ 4096
+    few h (Open s) before may =
+        let room : opened h < 4096 = fits_open h s may.fits in
+        let more : opened (h ++ Open s ∷ []) ≡ opened h + 1 = count_by-push is_open_event h (Open s) in
+        omega arith
+    few h (Define s name) before may = same h (Define s name) refl before
+    few h (Close s) before may = same h (Close s) refl before
+    few h (Look s count) before may = same h (Look s count) refl before
+    few h (Begin s) before may = same h (Begin s) refl before
+    few h (Scan s table keys) before may = same h (Scan s table keys) refl before
+    few h (Read s cell source n u v) before may = same h (Read s cell source n u v) refl before
+    few h (Own s x v) before may = same h (Own s x v) refl before
+    few h (Write s x v) before may = same h (Write s x v) refl before
+    few h (Commit s) before may = same h (Commit s) refl before
+    few h (Rollback s) before may = same h (Rollback s) refl before
+    few h (Show s number) before may = same h (Show s number) refl before
+
+-- an event that only the load keeps out
+pub load_keeps_out : (events : List Event) → 1048576 ≤ load_of events → full_load events ≡ Some Load
+load_keeps_out events full = grind (arith, nat_tests, full)

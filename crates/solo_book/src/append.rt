@@ -17,7 +17,7 @@ pub fn append(history: &mut History, event: Event) -> Result<(), BookFault>
     requires offered { IsOffered history.old.level history.old.events event }
     ensures legal { IsLegalChronicle history.new }
     ensures ok { OnOk result (history.new ≡ followed_by history.old event) }
-    ensures full { (limit : Limit) → (result ≡ Err (BookFault.Full limit)) ↔ (full_for history.old.events event ≡ Some limit) }
+    ensures full { (limit : Limit) → result ≡ Err (BookFault.Full limit) → full_for history.new.events event ≡ Some limit }
     ensures err { OnErr result (history.new ≡ history.old) }
 {
     match history.push(event) {
@@ -33,7 +33,7 @@ pub fn append_define(history: &mut History, session: u32, table: Table) -> Resul
     requires sound { IsSound table }
     ensures legal { IsLegalChronicle history.new }
     ensures ok { OnOk result (history.new ≡ with_table history.old session table) }
-    ensures full { (limit : Limit) → (result ≡ Err (BookFault.Full limit)) ↔ (full_for history.old.events (Event.Define session table.name) ≡ Some limit) }
+    ensures full { (limit : Limit) → result ≡ Err (BookFault.Full limit) → full_for history.new.events (Event.Define session table.name) ≡ Some limit }
     ensures err { OnErr result (history.new ≡ history.old) }
 {
     match history.push_define(session, table) {

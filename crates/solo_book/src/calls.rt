@@ -23,7 +23,7 @@ pub fn open_session(desk: &mut Desk) -> Result<u32, BookFault>
     requires { IsDesk desk.old }
     ensures kept { IsDesk desk.new }
     ensures ok { IfOk result (λ s. GoesTo desk.old (Event.Open s) s stages.Seated desk.new) }
-    ensures full { (limit : Limit) → result ≡ Err (BookFault.Full limit) → full_for desk.old.history.events (Event.Open 0) ≡ Some limit }
+    ensures full { (limit : Limit) → result ≡ Err (BookFault.Full limit) → full_for desk.new.history.events (Event.Open 0) ≡ Some limit }
     ensures err { OnErr result (desk.new ≡ desk.old) }
 {
     let session = desk.sessions + 1;
@@ -55,7 +55,7 @@ pub fn begin_transaction(desk: &mut Desk) -> Result<u32, BookFault>
     ensures kept { IsDesk desk.new }
     ensures ok { OnOk result (GoesTo desk.old (Event.Begin desk.old.sessions) desk.old.sessions stages.Pending desk.new) }
     ensures number { IfOk result (λ n. n ≡ begun desk.new.history.events) }
-    ensures full { (limit : Limit) → result ≡ Err (BookFault.Full limit) → full_for desk.old.history.events (Event.Begin 0) ≡ Some limit }
+    ensures full { (limit : Limit) → result ≡ Err (BookFault.Full limit) → full_for desk.new.history.events (Event.Begin 0) ≡ Some limit }
     ensures err { OnErr result (desk.new ≡ desk.old) }
 {
     match append(&mut desk.history, Event::Begin(desk.sessions)) {
@@ -75,7 +75,7 @@ pub fn write_cell(desk: &mut Desk, cell: Cell, value: Value) -> Result<(), BookF
     requires defined { table_of cell < length desk.old.history.tables }
     ensures kept { IsDesk desk.new }
     ensures ok { OnOk result (GoesTo desk.old (Event.Write desk.old.sessions cell value) desk.old.sessions stages.Pending desk.new) }
-    ensures full { (limit : Limit) → result ≡ Err (BookFault.Full limit) → full_load desk.old.history.events ≡ Some limit }
+    ensures full { (limit : Limit) → result ≡ Err (BookFault.Full limit) → full_load desk.new.history.events ≡ Some limit }
     ensures err { OnErr result (desk.new ≡ desk.old) }
 {
     let session = desk.sessions;

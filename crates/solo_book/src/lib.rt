@@ -7,7 +7,9 @@ mod desk;
 mod laws;
 mod offering;
 mod pairs;
+mod reading;
 mod single;
+mod tables;
 mod tests_of_records;
 
 pub use laws::one_session_permits;

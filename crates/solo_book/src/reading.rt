@@ -73,7 +73,7 @@ pub fn read_cell(desk: &mut Desk, cell: &Cell, word: u32) -> Result<Value, BookF
     requires defined { table_of cell.now < length desk.old.history.tables }
     ensures kept { IsDesk desk.new }
     ensures ok { IfOk result (λ value. ReadsTo desk.old cell.now word value desk.new) }
-    ensures full { (limit : Limit) → result ≡ Err (BookFault.Full limit) → full_load desk.old.history.events ≡ Some limit }
+    ensures full { (limit : Limit) → result ≡ Err (BookFault.Full limit) → full_load desk.new.history.events ≡ Some limit }
     ensures err { OnErr result (desk.new ≡ desk.old) }
 {
     if desk.history.load() >= 1_048_576 {

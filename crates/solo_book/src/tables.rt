@@ -40,7 +40,7 @@ fn append_look(desk: &mut Desk) -> Result<u32, BookFault>
     ensures kept { IsDesk desk.new }
     ensures count { IfOk result (λ n. n ≡ length desk.old.history.tables) }
     ensures ok { IfOk result (λ n. GoesTo desk.old (Event.Look desk.old.sessions n) desk.old.sessions desk.old.stage desk.new) }
-    ensures full { (limit : Limit) → result ≡ Err (BookFault.Full limit) → full_load desk.old.history.events ≡ Some limit }
+    ensures full { (limit : Limit) → result ≡ Err (BookFault.Full limit) → full_load desk.new.history.events ≡ Some limit }
     ensures err { OnErr result (desk.new ≡ desk.old) }
 {
     let count = desk.history.tables().len() as u32;
@@ -58,7 +58,7 @@ pub fn look_at_tables(desk: &mut Desk, known: u32) -> Result<Items<Table>, BookF
     requires known { known ≤ length desk.old.history.tables }
     ensures kept { IsDesk desk.new }
     ensures ok { IfOk result (λ tables. LooksTo desk.old known tables desk.new) }
-    ensures full { (limit : Limit) → result ≡ Err (BookFault.Full limit) → full_load desk.old.history.events ≡ Some limit }
+    ensures full { (limit : Limit) → result ≡ Err (BookFault.Full limit) → full_load desk.new.history.events ≡ Some limit }
     ensures err { OnErr result (desk.new ≡ desk.old) }
 {
     if desk.history.load() >= 1_048_576 {
@@ -83,7 +83,7 @@ fn append_table(desk: &mut Desk, table: &Table) -> Result<u32, BookFault>
     ensures kept { IsDesk desk.new }
     ensures count { IfOk result (λ n. n ≡ length desk.old.history.tables) }
     ensures ok { IfOk result (λ n. DefinesTo desk.old table.now desk.new) }
-    ensures full { (limit : Limit) → result ≡ Err (BookFault.Full limit) → full_for desk.old.history.events (Event.Define 0 table.now.name) ≡ Some limit }
+    ensures full { (limit : Limit) → result ≡ Err (BookFault.Full limit) → full_for desk.new.history.events (Event.Define 0 table.now.name) ≡ Some limit }
     ensures err { OnErr result (desk.new ≡ desk.old) }
 {
     let count = desk.history.tables().len() as u32;
@@ -107,8 +107,8 @@ pub fn define_table(desk: &mut Desk, table: &Table) -> Result<DefineAnswer, Book
     requires sound { IsSound table.now }
     ensures kept { IsDesk desk.new }
     ensures ok { IfOk result (λ answer. AnswersTo desk.old table.now answer desk.new) }
-    ensures full { (limit : Limit) → result ≡ Err (BookFault.Full limit) → full_for desk.old.history.events (Event.Define 0 table.now.name) ≡ Some limit }
-    ensures load_first { (limit : Limit) → limit ≢ limits.Load → result ≡ Err (BookFault.Full limit) → ¬ Contains (names desk.old.history.events) table.now.name }
+    ensures full { (limit : Limit) → result ≡ Err (BookFault.Full limit) → full_for desk.new.history.events (Event.Define 0 table.now.name) ≡ Some limit }
+    ensures load_first { (limit : Limit) → limit ≢ limits.Load → result ≡ Err (BookFault.Full limit) → ¬ Contains (names desk.new.history.events) table.now.name }
     ensures err { OnErr result (desk.new ≡ desk.old) }
 {
     if desk.history.load() >= 1_048_576 {

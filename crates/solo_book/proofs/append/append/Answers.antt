@@ -1,3 +1,4 @@
+use Rattle.std.proofs.Common.{Err, sym, ◌∙◌}
 use Rattle.solo_book.proofs.Legality.{legal_with, fits_from_ok}
 use Rattle.solo_book.proofs.append.append.Goals as goal
 
