@@ -5,7 +5,8 @@ use sql_tree::Table;
 
 /// One session's way to a history, which others may add to as well. Each call adds just the event of its name behind
 /// what others added, and a call that is refused adds none; a definition of a name that is taken adds a look.
-/// A call answers `Full` exactly where the history is full for it, tested in the order load, name, count, memory.
+/// A call answers `Full` exactly where the history is full for it, tested in the order load, name, count, memory. The history
+/// seen after a call is legal: each read in it was offered exactly what the level permits.
 pub trait Book {
     ghost use Rattle.std.specs.Prelude.{◌≡◌, ◌≢◌, ◌≤◌, ◌<◌, [], ◌∷◌, ◌++◌, ℕ, length, Some, IfOk, OnOk, OnErr, Contains};
     ghost use Rattle.sql_tree.specs.Sound.{IsSound};
@@ -30,6 +31,7 @@ pub trait Book {
         ensures seat { IfOk result (λ s. (past self.new).seat ≡ seated s) }
         ensures err { OnErr result (GoesOn (past self.old) (past self.new)) }
         ensures full { (limit : Limit) → result ≡ Err (BookFault.Full limit) → full_for (past self.new).seen.events (events.Open 0) ≡ Some limit }
+        ensures legal { IsLegalChronicle (past self.new).seen }
         ensures stays { stays self.old self.new };
 
     /// Ends the session. Takes no memory.
@@ -37,6 +39,7 @@ pub trait Book {
         requires { IsIdle (past self.old).seat }
         ensures adds { Adds (past self.old) (events.Close (session_of (past self.old).seat)) (past self.new) }
         ensures seat { (past self.new).seat ≡ away }
+        ensures legal { IsLegalChronicle (past self.new).seen }
         ensures stays { stays self.old self.new };
 
     /// Looks at the tables, and answers those from the number `known` on.
@@ -47,6 +50,7 @@ pub trait Book {
         ensures seat { (past self.new).seat ≡ (past self.old).seat }
         ensures err { OnErr result (GoesOn (past self.old) (past self.new)) }
         ensures full { (limit : Limit) → result ≡ Err (BookFault.Full limit) → full_load (past self.new).seen.events ≡ Some limit }
+        ensures legal { IsLegalChronicle (past self.new).seen }
         ensures stays { stays self.old self.new };
 
     /// Defines a table, or looks where its name is taken.
@@ -58,6 +62,7 @@ pub trait Book {
         ensures err { OnErr result (GoesOn (past self.old) (past self.new)) }
         ensures full { (limit : Limit) → result ≡ Err (BookFault.Full limit) → full_for (past self.new).seen.events (events.Define 0 table.now.name) ≡ Some limit }
         ensures load_first { (limit : Limit) → limit ≢ limits.Load → result ≡ Err (BookFault.Full limit) → ¬ (Contains (names (past self.new).seen.events) table.now.name) }
+        ensures legal { IsLegalChronicle (past self.new).seen }
         ensures stays { stays self.old self.new };
 
     /// Starts a transaction and answers its number.
@@ -68,6 +73,7 @@ pub trait Book {
         ensures seat { OnOk result ((past self.new).seat ≡ pending (session_of (past self.old).seat) []) }
         ensures err { OnErr result (GoesOn (past self.old) (past self.new)) }
         ensures full { (limit : Limit) → result ≡ Err (BookFault.Full limit) → full_for (past self.new).seen.events (events.Begin 0) ≡ Some limit }
+        ensures legal { IsLegalChronicle (past self.new).seen }
         ensures stays { stays self.old self.new };
 
     /// Reads a cell that the pending transaction hasn't written: the committed write that the word picks of those that the
@@ -80,6 +86,7 @@ pub trait Book {
         ensures seat { (past self.new).seat ≡ (past self.old).seat }
         ensures err { OnErr result (GoesOn (past self.old) (past self.new)) }
         ensures full { (limit : Limit) → result ≡ Err (BookFault.Full limit) → full_load (past self.new).seen.events ≡ Some limit }
+        ensures legal { IsLegalChronicle (past self.new).seen }
         ensures stays { stays self.old self.new };
 
     /// Writes a cell. The write is seen by others once the transaction has committed.
@@ -91,6 +98,7 @@ pub trait Book {
         ensures seat { OnOk result ((past self.new).seat ≡ pending (session_of (past self.old).seat) (writes_of (past self.old).seat ++ (cell, value) ∷ [])) }
         ensures err { OnErr result (GoesOn (past self.old) (past self.new)) }
         ensures full { (limit : Limit) → result ≡ Err (BookFault.Full limit) → full_load (past self.new).seen.events ≡ Some limit }
+        ensures legal { IsLegalChronicle (past self.new).seen }
         ensures stays { stays self.old self.new };
 
     /// Commits the pending transaction. Takes no memory and always succeeds.
@@ -98,6 +106,7 @@ pub trait Book {
         requires { IsInTransaction (past self.old).seat }
         ensures adds { Adds (past self.old) (events.Commit (session_of (past self.old).seat)) (past self.new) }
         ensures seat { (past self.new).seat ≡ seated (session_of (past self.old).seat) }
+        ensures legal { IsLegalChronicle (past self.new).seen }
         ensures stays { stays self.old self.new };
 
     /// Rolls the pending transaction back. Takes no memory and always succeeds.
@@ -105,10 +114,8 @@ pub trait Book {
         requires { IsInTransaction (past self.old).seat }
         ensures adds { Adds (past self.old) (events.Rollback (session_of (past self.old).seat)) (past self.new) }
         ensures seat { (past self.new).seat ≡ seated (session_of (past self.old).seat) }
+        ensures legal { IsLegalChronicle (past self.new).seen }
         ensures stays { stays self.old self.new };
-
-    /// The history seen is legal: each read was offered exactly what the level permits.
-    ghost legal: { (book : Self) → IsLegalChronicle (past book).seen };
 
     ghost stays_same: { (book : Self) → stays book book };
 
