@@ -1,5 +1,6 @@
 -- How a desk goes on with each event.
-use Rattle.std.proofs.Common.{◌≡◌, ℕ, ◌+◌, ◌<◌, ◌≤◌, List, [], ◌∷◌, ◌++◌, Some, true, false, Bool, cond, length, arith, refl, ap, sym, ◌∙◌, subst, inl, inr, add-zero}
+use Rattle.std.proofs.Common.{◌≡◌, ℕ, ◌+◌, ◌<◌, ◌≤◌, List, [], ◌∷◌, ◌++◌, Some, true, false, Bool, cond, Ok, Err, Result, length, arith, refl, ap, sym, ◌∙◌, subst, inl, inr, add-zero}
+use Rattle.std.specs.Prelude.{OnOk, OnErr}
 use Rattle.std.specs.List.{Contains, All}
 use Rattle.std.proofs.lemmas.List.{append-nil}
 use Rattle.std.proofs.lemmas.List.Elements.{Contains-push_cases, Contains-append_left, Contains-push}
@@ -8,11 +9,15 @@ use Rattle.graph_base.proofs.Places.{count_by-push}
 use Rattle.cell_base.specs.declared.cell.Cell.{Cell}
 use Rattle.cell_base.specs.declared.value.Value.{Value}
 use Rattle.history_core.specs.declared.event.Event.{Event}
-use Rattle.history_core.specs.declared.event.Event.TheVariants.{Open, Close, Begin, Write}
-use Rattle.history_core.specs.Events.{begun, opened, session_in, is_begin, is_end, is_open_event}
+use Rattle.history_core.specs.declared.event.Event.TheVariants.{Open, Close, Define, Look, Begin, Read, Write}
+use Rattle.history_core.specs.Events.{begun, opened, session_in, is_begin, is_end, is_open_event, table_of}
 use Rattle.history_core.specs.Transactions.{IsPending, HasPending}
-use Rattle.history_core.specs.Legal.{IsOpen, IsFormed}
-use Rattle.history_core.specs.Chronicle.{Chronicle, IsLegalChronicle}
+use Rattle.history_core.specs.Legal.{IsOpen, IsFormed, Follows, WroteItself}
+use Rattle.history_core.specs.Relations.{WritesValue}
+use Rattle.solo_book.proofs.Legality.{tables_defined}
+use Rattle.history_core.specs.Chronicle.{Chronicle, IsLegalChronicle, followed_by, with_table}
+use Rattle.sql_tree.specs.declared.table.Table.{Table}
+use Rattle.history_core.specs.declared.fault.BookFault.{BookFault}
 use Rattle.history_core.proofs.Prefixes.{begun-push_start, begun-push_other}
 use Rattle.history_core.proofs.Next.{pending_kept, pending_back, pending_begin}
 use Rattle.history_core.proofs.Numbers.{opened_bounds, pending_opened, closed_opened}
@@ -22,7 +27,7 @@ use Rattle.solo_book.specs.declared.desk.Stage.TheVariants.{Away, Seated, Pendin
 use Rattle.solo_book.specs.Desk.{note, noted, last_writes, Stands, IsServed}
 
 -- the new history is the old one with the event, and is legal
-pub record Follows (old new : Chronicle) (e : Event) : Type 0 where
+pub record GoesWith (old new : Chronicle) (e : Event) : Type 0 where
   pub level : new.level ≡ old.level
   pub events : new.events ≡ old.events ++ e ∷ []
   pub legal : IsLegalChronicle new
@@ -84,7 +89,7 @@ stands_end events e s same ends no_open no_close no_begin (open_is, pending_is) 
 )
 
 pub served_opens :
-    (old new : Chronicle) (n : ℕ) (stage : Stage) → IsServed old n stage → Follows old new (Open (n + 1)) → IsServed new (n + 1) Seated
+    (old new : Chronicle) (n : ℕ) (stage : Stage) → IsServed old n stage → GoesWith old new (Open (n + 1)) → IsServed new (n + 1) Seated
 served_opens old new n stage is follows =
     let more : opened (old.events ++ Open (n + 1) ∷ []) ≡ opened old.events + 1 = count_by-push is_open_event old.events (Open (n + 1)) in
     let count = is.count in
@@ -96,7 +101,7 @@ served_opens old new n stage is follows =
     }
 
 pub served_plain :
-    (old new : Chronicle) (n : ℕ) (stage : Stage) (e : Event) → IsPlain e → IsServed old n stage → Follows old new e → IsServed new n stage
+    (old new : Chronicle) (n : ℕ) (stage : Stage) (e : Event) → IsPlain e → IsServed old n stage → GoesWith old new e → IsServed new n stage
 served_plain old new n stage e plain is follows = record {
   level = follows.level ∙ is.level;
   legal = follows.legal;
@@ -105,7 +110,7 @@ served_plain old new n stage e plain is follows = record {
 }
 
 pub served_begins :
-    (old new : Chronicle) (n : ℕ) → IsServed old n Seated → Follows old new (Begin n) → IsServed new n Pending
+    (old new : Chronicle) (n : ℕ) → IsServed old n Seated → GoesWith old new (Begin n) → IsServed new n Pending
 served_begins old new n is follows = record {
   level = follows.level ∙ is.level;
   legal = follows.legal;
@@ -115,7 +120,7 @@ served_begins old new n is follows = record {
 
 pub served_ends :
     (old new : Chronicle) (n : ℕ) (e : Event) → session_in e ≡ n → is_end e ≡ true → (e ≡ Open n → ⊥) → (e ≡ Close n → ⊥) → (e ≡ Begin n → ⊥) →
-    is_open_event e ≡ false → IsServed old n Pending → Follows old new e → IsServed new n Seated
+    is_open_event e ≡ false → IsServed old n Pending → GoesWith old new e → IsServed new n Seated
 served_ends old new n e same ends no_open no_close no_begin opens_none is follows = record {
   level = follows.level ∙ is.level;
   legal = follows.legal;
@@ -124,10 +129,55 @@ served_ends old new n e same ends no_open no_close no_begin opens_none is follow
 }
 
 pub served_closes :
-    (old new : Chronicle) (n : ℕ) → IsServed old n Seated → Follows old new (Close n) → IsServed new n Away
+    (old new : Chronicle) (n : ℕ) → IsServed old n Seated → GoesWith old new (Close n) → IsServed new n Away
 served_closes old new n is follows = record {
   level = follows.level ∙ is.level;
   legal = follows.legal;
   count = rw follows.events (is.count ∙ sym (opened-push_other old.events (Close n) refl));
   stands = tt;
 }
+
+pub goes_with : (old new : Chronicle) (e : Event) → new ≡ followed_by old e → IsLegalChronicle new → GoesWith old new e
+goes_with old new e is legal =
+    record { level = ap (λ (h : Chronicle). h.level) is; events = ap (λ (h : Chronicle). h.events) is; legal = legal }
+
+pub at_stage : (history : Chronicle) (n : ℕ) (stage there : Stage) → stage ≡ there → IsServed history n stage → IsServed history n there
+at_stage history n stage there is served = subst (λ (t : Stage). IsServed history n t) is served
+
+pub plain_look : (s count : ℕ) → IsPlain (Look s count)
+plain_look s count = record { no_open = λ t is. cc; no_close = λ t is. cc; no_begin = λ t is. cc; no_end = refl; opens_none = refl; begins_none = refl }
+
+pub plain_define : (s : ℕ) (name : List ℕ) → IsPlain (Define s name)
+plain_define s name = record { no_open = λ t is. cc; no_close = λ t is. cc; no_begin = λ t is. cc; no_end = refl; opens_none = refl; begins_none = refl }
+
+pub plain_read : (s : ℕ) (cell : Cell) (source count word : ℕ) (value : Value) → IsPlain (Read s cell source count word value)
+plain_read s cell source count word value =
+    record { no_open = λ t is. cc; no_close = λ t is. cc; no_begin = λ t is. cc; no_end = refl; opens_none = refl; begins_none = refl }
+
+pub plain_write : (s : ℕ) (cell : Cell) (value : Value) → IsPlain (Write s cell value)
+plain_write s cell value =
+    record { no_open = λ t is. cc; no_close = λ t is. cc; no_begin = λ t is. cc; no_end = refl; opens_none = refl; begins_none = refl }
+
+pub served_defines :
+    (old new : Chronicle) (n : ℕ) (stage : Stage) (table : Table) → IsServed old n stage → new ≡ with_table old n table → IsLegalChronicle new →
+    IsServed new n stage
+served_defines old new n stage table served is legal =
+    served_plain old new n stage (Define n table.name) (plain_define n table.name) served
+    (record { level = ap (λ (h : Chronicle). h.level) is; events = ap (λ (h : Chronicle). h.events) is; legal = legal })
+
+-- an event was added, or nothing changed
+pub served_either :
+    (old new : Chronicle) (n : ℕ) (stage : Stage) (e : Event) → IsPlain e → (r : Result (Unit {0}) BookFault) → OnOk r (new ≡ followed_by old e) →
+    OnErr r (new ≡ old) → IsLegalChronicle new → IsServed old n stage → IsServed new n stage
+served_either old new n stage e plain (Ok u) ok err legal served = served_plain old new n stage e plain served (goes_with old new e ok legal)
+served_either old new n stage e plain (Err fault) ok err legal served = subst (λ (h : Chronicle). IsServed h n stage) (sym err) served
+
+-- a read of the pending transaction follows
+pub read_follows :
+    (history : Chronicle) (n : ℕ) (stage : Stage) (cell : Cell) (source count word : ℕ) (value : Value) → IsServed history n stage → stage ≡ Pending →
+    (WroteItself history.events n cell → ⊥) → table_of cell < length history.tables → WritesValue history.events source cell value →
+    Follows history.events (Read n cell source count word value)
+read_follows history n stage cell source count word value served is unwritten inside written =
+    let defined_all = tables_defined history served.legal in
+    let stands = (at_stage history n stage Pending is served).stands in
+    ((begun history.events, stands.1), unwritten, omega arith, written)

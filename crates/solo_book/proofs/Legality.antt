@@ -1,7 +1,7 @@
 -- What keeps a history legal.
-use Rattle.std.proofs.Common.{◌≡◌, ◌≢◌, ℕ, ◌+◌, ◌<◌, ◌≤◌, List, [], ◌∷◌, ◌++◌, Option, Some, None, Ok, Err, Result, Bool, true, false, nat_le, length, map, arith, refl, ap, sym, ◌∙◌, subst, ◌↔◌}
+use Rattle.std.proofs.Common.{◌≡◌, ◌≢◌, ℕ, ◌+◌, ◌<◌, ◌≤◌, List, [], ◌∷◌, ◌++◌, Option, Some, None, Ok, Err, Result, Bool, true, false, zero, suc, nat_le, length, map, arith, refl, ap, sym, ◌∙◌, subst, ◌↔◌}
 use Rattle.std.specs.Bool.{if◌then◌else◌}
-use Rattle.std.specs.List.{slice_get, Contains, All}
+use Rattle.std.specs.List.{slice_get, Contains, All, Any}
 use Rattle.std.proofs.lemmas.List.{length-map, length_push, map-append}
 use Rattle.std.proofs.lemmas.List.Elements.{All-push}
 use Rattle.std.proofs.lemmas.Bool.Decides.{nat_tests}
@@ -190,3 +190,39 @@ opened_few events =
 -- an event that only the load keeps out
 pub load_keeps_out : (events : List Event) → 1048576 ≤ load_of events → full_load events ≡ Some Load
 load_keeps_out events full = grind (arith, nat_tests, full)
+
+pub tables_few : (history : Chronicle) → IsLegalChronicle history → length history.tables ≤ 64
+tables_few history is =
+    let count = tables_defined history is in
+    let few = defined_few history.events is.legal.formed in
+    omega arith
+
+name_there : (tables : List Table) (t : Table) → Contains tables t → Contains (map (λ (u : Table). u.name) tables) t.name
+name_there [] t (k, within, at) = absurd (omega arith)
+name_there (u ∷ us) t (zero, within, at) = (0, omega arith, ap (λ (v : Table). v.name) at)
+name_there (u ∷ us) t (suc k, within, at) =
+    let on = name_there us t (k, omega arith, at) in
+    let below = on.1 in
+    (suc on.0, omega arith, on.2)
+
+name_back : (tables : List Table) (name : List ℕ) → Contains (map (λ (u : Table). u.name) tables) name → Any (λ (t : Table). t.name ≡ name) tables
+name_back [] name (k, within, at) = absurd (omega arith)
+name_back (u ∷ us) name (zero, within, at) = (0, u, omega arith, refl, at)
+name_back (u ∷ us) name (suc k, within, at) =
+    let on = name_back us name (k, omega arith, at) in
+    let below = on.2 in
+    (suc on.0, on.1, omega arith, on.3, on.4)
+
+-- a table has the name exactly where a definition has it
+pub taken_name :
+    (history : Chronicle) (name : List ℕ) → IsLegalChronicle history → Any (λ (t : Table). t.name ≡ name) history.tables →
+    Contains (names history.events) name
+taken_name history name is (k, t, within, at, same) =
+    subst (λ (ns : List (List ℕ)). Contains ns name) is.tables.named
+    (subst (λ (n : List ℕ). Contains (map (λ (u : Table). u.name) history.tables) n) same (name_there history.tables t (k, within, at)))
+
+pub name_taken :
+    (history : Chronicle) (name : List ℕ) → IsLegalChronicle history → Contains (names history.events) name →
+    Any (λ (t : Table). t.name ≡ name) history.tables
+name_taken history name is member =
+    name_back history.tables name (subst (λ (ns : List (List ℕ)). Contains ns name) (sym is.tables.named) member)

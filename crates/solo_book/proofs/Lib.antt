@@ -5,3 +5,4 @@ pub mod Seens
 pub mod PairLemmas
 pub mod Legality
 pub mod Desks
+pub mod Books

@@ -1,5 +1,5 @@
 -- What the records say of the writers that later ones have passed.
-use Rattle.std.proofs.Common.{◌≡◌, ℕ, ◌<◌, ◌≤◌, List, Some, length, get_or, refl, subst, inl, inr, arith, ◌↔◌}
+use Rattle.std.proofs.Common.{◌≡◌, ℕ, ◌<◌, ◌≤◌, List, Some, Bool, true, false, not, length, get_or, refl, subst, inl, inr, arith, ◌↔◌}
 use Rattle.std.specs.List.{All, Any, Contains}
 use Rattle.std.proofs.lemmas.List.Elements.{Contains-get_or}
 use Rattle.cell_base.specs.declared.cell.Cell.{Cell}
@@ -53,3 +53,11 @@ seen_from_passed events k txn cell source is passed =
     let above = passed.above in
     let some = record_reads_from events k passed.later txn (omega arith) is passed.read in
     (some.0, some.1, some.2, some.3, read_passes events cell source passed.later some.1 passed.above passed.writes some.4)
+
+pub not_true : (b : Bool) → not b ≡ true → b ≡ false
+not_true true is = cc
+not_true false is = refl
+
+pub not_unless : (b : Bool) → (b ≡ true → ⊥) → not b ≡ true
+not_unless true h = absurd (h refl)
+not_unless false h = refl

@@ -2,6 +2,7 @@
 #![tactic(auto)]
 
 mod append;
+mod book;
 mod calls;
 mod desk;
 mod laws;
@@ -12,4 +13,5 @@ mod single;
 mod tables;
 mod tests_of_records;
 
+pub use book::SoloBook;
 pub use laws::one_session_permits;
