@@ -1,7 +1,7 @@
 -- What a desk says to a caller of the book.
-use Rattle.std.proofs.Common.{◌≡◌, ◌≢◌, ℕ, ◌+◌, ◌<◌, ◌≤◌, List, [], ◌∷◌, ◌++◌, Some, Ok, Err, Result, true, false, length, take, drop, ◌-◌, arith, refl, ap, sym, ◌∙◌, subst, inl, inr, ◌⊎◌}
+use Rattle.std.proofs.Common.{◌≡◌, ◌≢◌, ℕ, ◌+◌, ◌≤◌, List, [], ◌∷◌, ◌++◌, Ok, Err, Result, false, length, take, drop, ◌-◌, arith, refl, ap, sym, ◌∙◌, subst, inl, inr}
 use Rattle.std.specs.Prelude.{IfOk, OnOk, OnErr}
-use Rattle.std.specs.List.{Contains, All, Any}
+use Rattle.std.specs.List.{Contains, All}
 use Rattle.std.proofs.lemmas.List.{append-nil, take-append-drop, length-drop, take_all, length-take-le}
 use Rattle.std.proofs.lemmas.List.Elements.{Contains-append_left, Contains-push, All-contains}
 use Rattle.cell_base.specs.declared.cell.Cell.{Cell}
@@ -11,14 +11,13 @@ use Rattle.history_core.specs.declared.event.Event.{Event}
 use Rattle.history_core.specs.declared.event.Event.TheVariants.{Open, Close, Define, Look, Begin, Scan, Read, Own, Write, Commit, Rollback, Show}
 use Rattle.history_core.specs.declared.fault.DefineAnswer.{DefineAnswer}
 use Rattle.history_core.specs.declared.fault.DefineAnswer.TheVariants.{Defined, Taken}
-use Rattle.history_core.specs.Events.{begun, names, is_begin, session_in}
-use Rattle.history_core.specs.Transactions.{IsOf, IsPending}
-use Rattle.history_core.specs.Relations.{HasWritten}
+use Rattle.history_core.specs.Events.{begun, names, is_begin}
+use Rattle.history_core.specs.Transactions.{IsOf}
 use Rattle.history_core.specs.Legal.{WroteItself}
-use Rattle.history_core.specs.Chronicle.{Chronicle, followed_by}
-use Rattle.history_core.specs.Book.{Seat, away, seated, pending, IsSeated, IsIdle, IsInTransaction, IsUnwritten, session_of, writes_of, GoesOn, Adds, AddsRead, AnswersTables, AnswersDefine}
+use Rattle.history_core.specs.Chronicle.{Chronicle}
+use Rattle.history_core.specs.Book.{seated, pending, IsSeated, IsIdle, IsInTransaction, IsUnwritten, session_of, writes_of, GoesOn, Adds, AddsRead, AnswersTables, AnswersDefine}
 use Rattle.history_core.proofs.Grown.{of_back}
-use Rattle.history_core.proofs.Prefixes.{along, sound_of, start_bounded, begun-push_start, begun-push_other}
+use Rattle.history_core.proofs.Prefixes.{along, sound_of, begun-push_start, begun-push_other}
 use Rattle.history_core.proofs.Next.{of_none}
 use Rattle.history_core.proofs.Offers.{pending_unique}
 use Rattle.history_core.proofs.KeptLemmas.{names-push}
@@ -308,7 +307,7 @@ write_seat old new cell value is goes =
     ∙ ap (λ (w : List (Cell × Value)). pending old.sessions w) (last_writes-push old.history.events (Write old.sessions cell value))
     ∙ ap (λ (s : ℕ). pending s (last_writes old.history.events ++ (cell, value) ∷ [])) (sym (session_seated old.stage old.sessions old.history.events (pending_open old.stage is)))
     ∙ ap (λ (w : List (Cell × Value)). pending (session_of (seat_of old.stage old.sessions old.history.events)) (w ++ (cell, value) ∷ []))
-      (sym (writes_pending old.stage old.sessions old.history.events is))
+    (sym (writes_pending old.stage old.sessions old.history.events is))
 
 -- the seat after the session's or the transaction's end
 pub end_seat :

@@ -1,18 +1,17 @@
 -- How a desk goes on with each event.
-use Rattle.std.proofs.Common.{◌≡◌, ℕ, ◌+◌, ◌<◌, ◌≤◌, List, [], ◌∷◌, ◌++◌, Some, true, false, Bool, cond, Ok, Err, Result, length, arith, refl, ap, sym, ◌∙◌, subst, inl, inr, add-zero}
+use Rattle.std.proofs.Common.{◌≡◌, ℕ, ◌+◌, ◌<◌, List, [], ◌∷◌, ◌++◌, true, false, Ok, Err, Result, length, arith, refl, ap, sym, ◌∙◌, subst, inl, inr}
 use Rattle.std.specs.Prelude.{OnOk, OnErr}
-use Rattle.std.specs.List.{Contains, All}
-use Rattle.std.proofs.lemmas.List.{append-nil}
-use Rattle.std.proofs.lemmas.List.Elements.{Contains-push_cases, Contains-append_left, Contains-push}
+use Rattle.std.specs.List.{Contains}
+use Rattle.std.proofs.lemmas.List.Elements.{Contains-push_cases, Contains-push}
 use Rattle.std.proofs.lemmas.Bool.{false≢true}
 use Rattle.graph_base.proofs.Places.{count_by-push}
 use Rattle.cell_base.specs.declared.cell.Cell.{Cell}
 use Rattle.cell_base.specs.declared.value.Value.{Value}
 use Rattle.history_core.specs.declared.event.Event.{Event}
 use Rattle.history_core.specs.declared.event.Event.TheVariants.{Open, Close, Define, Look, Begin, Read, Write}
-use Rattle.history_core.specs.Events.{begun, opened, session_in, is_begin, is_end, is_open_event, table_of}
-use Rattle.history_core.specs.Transactions.{IsPending, HasPending}
-use Rattle.history_core.specs.Legal.{IsOpen, IsFormed, Follows, WroteItself}
+use Rattle.history_core.specs.Events.{begun, opened, session_in, is_end, is_open_event, table_of}
+use Rattle.history_core.specs.Transactions.{IsPending}
+use Rattle.history_core.specs.Legal.{IsFormed, Follows, WroteItself}
 use Rattle.history_core.specs.Relations.{WritesValue}
 use Rattle.solo_book.proofs.Legality.{tables_defined}
 use Rattle.history_core.specs.Chronicle.{Chronicle, IsLegalChronicle, followed_by, with_table}

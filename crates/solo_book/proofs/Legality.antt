@@ -1,7 +1,7 @@
 -- What keeps a history legal.
-use Rattle.std.proofs.Common.{◌≡◌, ◌≢◌, ℕ, ◌+◌, ◌<◌, ◌≤◌, List, [], ◌∷◌, ◌++◌, Option, Some, None, Ok, Err, Result, Bool, true, false, zero, suc, nat_le, length, map, arith, refl, ap, sym, ◌∙◌, subst, ◌↔◌}
+use Rattle.std.proofs.Common.{◌≡◌, ℕ, ◌+◌, ◌<◌, ◌≤◌, List, [], ◌∷◌, ◌++◌, Option, Some, None, Ok, Err, Result, true, false, zero, suc, nat_le, length, map, arith, refl, ap, sym, ◌∙◌, subst, ◌↔◌}
 use Rattle.std.specs.Bool.{if◌then◌else◌}
-use Rattle.std.specs.List.{slice_get, Contains, All, Any}
+use Rattle.std.specs.List.{slice_get, Contains, Any}
 use Rattle.std.proofs.lemmas.List.{length-map, length_push, map-append}
 use Rattle.std.proofs.lemmas.List.Elements.{All-push}
 use Rattle.std.proofs.lemmas.Bool.Decides.{nat_tests}
@@ -20,9 +20,9 @@ use Rattle.graph_base.proofs.Places.{count_by-push}
 use Rattle.history_core.proofs.SessionLemmas.{opened-push_other}
 use Rattle.history_core.proofs.SmallLemmas.{fits_open}
 use Rattle.history_core.specs.Relations.{Writes}
-use Rattle.history_core.specs.Legal.{IsFormed, IsLegal, IsOffered, IsOffer, MayCome, Follows, full_for, full_count, full_load}
+use Rattle.history_core.specs.Legal.{IsFormed, IsOffered, IsOffer, MayCome, Follows, full_for, full_count, full_load}
 use Rattle.history_core.specs.Records.{IsNoDefinition, is_any_end}
-use Rattle.history_core.specs.Chronicle.{Chronicle, KeepsTables, IsLegalChronicle, followed_by, with_table}
+use Rattle.history_core.specs.Chronicle.{Chronicle, IsLegalChronicle, followed_by, with_table}
 use Rattle.history_core.proofs.Prefixes.{Contains-from_slice_get, along, formed_back, legal_push}
 use Rattle.history_core.proofs.KeptLemmas.{names-push}
 use Rattle.history_core.proofs.KeptEvents.{names-push_define}

@@ -1,5 +1,5 @@
 -- What the records say of the writers that later ones have passed.
-use Rattle.std.proofs.Common.{◌≡◌, ℕ, ◌<◌, ◌≤◌, List, Some, Bool, true, false, not, length, get_or, refl, subst, inl, inr, arith, ◌↔◌}
+use Rattle.std.proofs.Common.{◌≡◌, ℕ, ◌<◌, List, Bool, true, false, not, get_or, refl, subst, inl, inr, arith}
 use Rattle.std.specs.List.{All, Any, Contains}
 use Rattle.std.proofs.lemmas.List.Elements.{Contains-get_or}
 use Rattle.cell_base.specs.declared.cell.Cell.{Cell}
@@ -7,7 +7,6 @@ use Rattle.history_core.specs.declared.event.Event.{Event}
 use Rattle.history_core.specs.declared.txn.Seen.{Seen}
 use Rattle.history_core.specs.declared.txn.Seen.TheVariants.{Read, Scan}
 use Rattle.history_core.specs.declared.txn.Txn.{Txn}
-use Rattle.history_core.specs.Events.{begun}
 use Rattle.history_core.specs.Relations.{Writes, ReadsFrom}
 use Rattle.history_core.specs.Legal.{IsFormed}
 use Rattle.history_core.specs.Records.{IsRecordOf}

@@ -1,5 +1,5 @@
 use Rattle.history_core.specs.declared.event.Event.TheVariants.{Begin}
-use Rattle.solo_book.specs.declared.desk.Stage.TheVariants.{Seated, Pending}
+use Rattle.solo_book.specs.declared.desk.Stage.TheVariants.{Seated}
 use Rattle.solo_book.proofs.Desks.{served_begins, at_stage, goes_with}
 use Rattle.solo_book.proofs.calls.begin_transaction.Goals as goal
 

@@ -1,6 +1,6 @@
 use Rattle.std.proofs.Common.{refl}
 use Rattle.history_core.specs.declared.event.Event.TheVariants.{Rollback}
-use Rattle.solo_book.specs.declared.desk.Stage.TheVariants.{Seated, Pending}
+use Rattle.solo_book.specs.declared.desk.Stage.TheVariants.{Pending}
 use Rattle.solo_book.proofs.Desks.{served_ends, at_stage, goes_with}
 use Rattle.solo_book.proofs.calls.roll_back_transaction.Goals as goal
 

@@ -1,5 +1,4 @@
-use Rattle.std.proofs.Common.{ap, arith, length}
-use Rattle.history_core.specs.declared.event.Event.TheVariants.{Look}
+use Rattle.std.proofs.Common.{arith}
 use Rattle.solo_book.proofs.Legality.{tables_few}
 use Rattle.solo_book.proofs.Desks.{served_plain, plain_look, goes_with}
 use Rattle.solo_book.proofs.tables.append_look.Goals as goal

@@ -1,5 +1,5 @@
 use Rattle.std.proofs.Common.{sym, subst}
-use Rattle.history_core.specs.Book.{Past, IsIdle, IsSeated, IsInTransaction}
+use Rattle.history_core.specs.Book.{Past, IsSeated}
 use Rattle.solo_book.proofs.Books.{if_ok, stage_open, defines_answers, defines_seat, err_goes}
 use Rattle.solo_book.proofs.book.SoloBookBook.define.Goals as goal
 

@@ -1,5 +1,5 @@
 use Rattle.history_core.specs.declared.event.Event.TheVariants.{Open}
-use Rattle.solo_book.specs.declared.desk.Stage.TheVariants.{Away, Seated, Pending}
+use Rattle.solo_book.specs.declared.desk.Stage.TheVariants.{Seated}
 use Rattle.solo_book.proofs.Books.{if_ok, adds_goes, err_goes}
 use Rattle.solo_book.proofs.book.SoloBookBook.open.Goals as goal
 

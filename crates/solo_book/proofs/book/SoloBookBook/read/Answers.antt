@@ -1,8 +1,6 @@
 use Rattle.std.proofs.Common.{sym, subst}
-use Rattle.history_core.specs.Book.{Past, IsIdle, IsSeated, IsInTransaction}
+use Rattle.history_core.specs.Book.{Past, IsInTransaction}
 use Rattle.history_core.specs.Book.{IsUnwritten}
-use Rattle.std.specs.List.{All}
-use Rattle.solo_book.specs.declared.desk.Stage.TheVariants.{Away, Seated, Pending}
 use Rattle.solo_book.proofs.Books.{if_ok, stage_pending, reads_adds, reads_seat, err_goes, unwritten_kept}
 use Rattle.solo_book.proofs.book.SoloBookBook.read.Goals as goal
 

@@ -1,7 +1,7 @@
 use Rattle.std.proofs.Common.{sym, subst}
-use Rattle.history_core.specs.Book.{Past, IsIdle, IsSeated, IsInTransaction}
+use Rattle.history_core.specs.Book.{Past, IsInTransaction}
 use Rattle.history_core.specs.declared.event.Event.TheVariants.{Write}
-use Rattle.solo_book.specs.declared.desk.Stage.TheVariants.{Away, Seated, Pending}
+use Rattle.solo_book.specs.declared.desk.Stage.TheVariants.{Pending}
 use Rattle.solo_book.proofs.Books.{on_ok, stage_pending, pending_open, adds_seated, write_seat, err_goes}
 use Rattle.solo_book.proofs.book.SoloBookBook.write.Goals as goal
 
