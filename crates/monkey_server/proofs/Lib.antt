@@ -1,0 +1,16 @@
+pub mod Passes
+pub mod Grows
+pub mod Stepping
+pub mod Lawfuls
+pub mod Carrying
+pub mod Serving
+pub mod Digits
+pub mod Commas
+pub mod Strips
+pub mod LastUser
+pub mod Texts
+pub mod Lengths
+pub mod Somes
+pub mod Holding
+pub mod Flags
+pub mod Playing

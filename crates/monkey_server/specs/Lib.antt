@@ -1,0 +1,10 @@
+pub mod Parts
+pub mod Requests
+pub mod Users
+pub mod Talk
+pub mod Replies
+pub mod Told
+pub mod Record
+pub mod Stands
+pub mod Sessions
+pub mod Serve

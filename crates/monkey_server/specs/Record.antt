@@ -1,0 +1,83 @@
+-- When a session's record is lawful: its calls were made of the book one after another, and each entry is what came of its call.
+use Rattle.std.specs.Prelude.{◌≡◌, ◌<◌, ℕ, List, [], ◌∷◌, ◌++◌, length, Option, Some}
+use Rattle.cell_base.specs.declared.value.Value.{Value}
+use Rattle.sql_tree.specs.Sound.{first_table}
+use Rattle.history_core.specs.declared.event.Event.{Event}
+use Rattle.history_core.specs.declared.event.Event.TheVariants.{Open, Close, Define, Look, Begin, Read, Write, Commit, Rollback}
+use Rattle.history_core.specs.declared.fault.Limit.{Limit}
+use Rattle.history_core.specs.declared.fault.BookFault.{BookFault}
+use Rattle.history_core.specs.declared.fault.BookFault.TheVariants as faults
+use Rattle.history_core.specs.declared.fault.DefineAnswer.TheVariants as defines
+use Rattle.history_core.specs.Events.{begun}
+use Rattle.history_core.specs.Legal.{full_for, full_load}
+use Rattle.history_core.specs.Book.{Past, session_of, Adds, GoesOn, AnswersTables, AnswersDefine}
+use Rattle.monkey_server.specs.declared.call.Call.{Call}
+use Rattle.monkey_server.specs.declared.call.Call.TheVariants as calls
+use Rattle.monkey_server.specs.declared.call.Answer.{Answer}
+use Rattle.monkey_server.specs.declared.call.Answer.TheVariants as answers
+use Rattle.monkey_server.specs.Told.{Entry, did, refused, short, unsent, stop}
+
+-- the limit that keeps a call out
+abbrev pub limit_for : Past → Call → Option Limit
+limit_for past calls.Open = full_for past.seen.events (Open 0)
+limit_for past calls.Define = full_for past.seen.events (Define 0 first_table.name)
+limit_for past calls.Begin = full_for past.seen.events (Begin 0)
+limit_for past _ = full_load past.seen.events
+
+abbrev pub may_be_refused : Call → Type 0
+may_be_refused calls.Close = ⊥
+may_be_refused calls.Commit = ⊥
+may_be_refused calls.Rollback = ⊥
+may_be_refused _ = Unit {0}
+
+-- A call is refused: no event is made, and where the answer is Full the history is full for it.
+abbrev pub Declines : Past → Call → BookFault → Past → Type 0
+Declines old c (faults.Full limit) new = may_be_refused c × GoesOn old new × (limit_for new c ≡ Some limit)
+Declines old c faults.Memory new = may_be_refused c × GoesOn old new
+
+-- A call is answered: its one event is made, and holds the answer.
+abbrev pub Happens : Past → Call → Answer → Event → Past → Type 0
+Happens old calls.Open (answers.Opened session) e new = (e ≡ Open session) × Adds old e new
+Happens old calls.Close answers.Closed e new = (e ≡ Close (session_of old.seat)) × Adds old e new
+Happens old (calls.Look known) (answers.Looked tables) e new = (e ≡ Look (session_of old.seat) (length new.seen.tables)) × AnswersTables old known tables new
+Happens old calls.Define (answers.Defined (defines.Defined n)) e new = (e ≡ Define (session_of old.seat) first_table.name) × AnswersDefine old first_table (defines.Defined n) new
+Happens old calls.Define (answers.Defined (defines.Taken n)) e new = (e ≡ Look (session_of old.seat) n) × AnswersDefine old first_table (defines.Taken n) new
+Happens old calls.Begin (answers.Begun n) e new = (e ≡ Begin (session_of old.seat)) × Adds old e new × (n ≡ begun new.seen.events)
+Happens old (calls.Touch cell) (answers.Found value) e new =
+    (source : ℕ) × (count : ℕ) × (word : ℕ) × (e ≡ Read (session_of old.seat) cell source count word value) × Adds old e new
+Happens old (calls.Write cell value) answers.Written e new = (e ≡ Write (session_of old.seat) cell value) × Adds old e new
+Happens old calls.Commit answers.Committed e new = (e ≡ Commit (session_of old.seat)) × Adds old e new
+Happens old calls.Rollback answers.RolledBack e new = (e ≡ Rollback (session_of old.seat)) × Adds old e new
+Happens old _ _ e new = ⊥
+
+-- the event is a read that holds the word
+abbrev pub HoldsWord : Event → ℕ → Type 0
+HoldsWord (Read session cell source count held value) word = held ≡ word
+HoldsWord _ word = ⊥
+
+-- one word is drawn for each read, refused or not, and the event holds it
+abbrev pub Draws : {W : Type 0} → (W → ℕ → W → Type 0) → W → Call → Entry → W → Type 0
+Draws gives before (calls.Touch cell) (did a e) after = (word : ℕ) × gives before word after × HoldsWord e word
+Draws gives before (calls.Touch cell) (refused why) after = (word : ℕ) × gives before word after
+Draws gives before _ _ after = after ≡ before
+
+-- The calls were answered by the entries in order, from one past and one value of the words on to others.
+abbrev pub Lawful : {W : Type 0} → (W → ℕ → W → Type 0) → Past → W → List Call → List Entry → Past → W → Type 0
+Lawful gives p v [] [] q w = (q ≡ p) × (w ≡ v)
+Lawful gives p v (c ∷ cs) [] q w = ⊥
+Lawful gives p v [] (did a e ∷ es) q w = ⊥
+Lawful {W} gives p v (c ∷ cs) (did a e ∷ es) q w = (m : Past) × (u : W) × Happens p c a e m × Draws gives v c (did a e) u × Lawful gives m u cs es q w
+Lawful gives p v [] (refused why ∷ es) q w = ⊥
+Lawful {W} gives p v (c ∷ cs) (refused why ∷ es) q w = (m : Past) × (u : W) × Declines p c why m × Draws gives v c (refused why) u × Lawful gives m u cs es q w
+Lawful gives p v cs (short final n ∷ es) q w = Lawful gives p v cs es q w
+Lawful gives p v cs (unsent n ∷ es) q w = Lawful gives p v cs es q w
+Lawful gives p v cs (stop cause ∷ es) q w = Lawful gives p v cs es q w
+
+-- the events of a record, in order
+abbrev pub events_of : List Entry → List Event
+events_of [] = []
+events_of (did a e ∷ es) = e ∷ events_of es
+events_of (refused why ∷ es) = events_of es
+events_of (short final n ∷ es) = events_of es
+events_of (unsent n ∷ es) = events_of es
+events_of (stop cause ∷ es) = events_of es

@@ -1,0 +1,306 @@
+-- What a session is told, and which calls it asks of its book, given what its client says and what became of it so far.
+use Rattle.std.specs.Prelude.{ℕ, ℤ, zero, suc, ◌==◌, ◌+◌, List, [], ◌∷◌, ◌++◌, length, if◌then◌else◌, Bool, true, false, ◌||◌}
+use Rattle.cell_base.specs.declared.cell.Cell.{Cell}
+use Rattle.cell_base.specs.declared.cell.Cell.TheVariants.{Presence, Field}
+use Rattle.cell_base.specs.declared.key.Key.TheVariants.{Int as IntKey}
+use Rattle.cell_base.specs.declared.sql_state.SqlState.{SqlState}
+use Rattle.cell_base.specs.declared.sql_state.SqlState.TheVariants as states
+use Rattle.cell_base.specs.declared.value.Value.{Value}
+use Rattle.cell_base.specs.declared.value.Value.TheVariants.{Flag, Int}
+use Rattle.history_core.specs.declared.event.Event.{Event}
+use Rattle.history_core.specs.declared.fault.BookFault.{BookFault}
+use Rattle.history_core.specs.declared.fault.BookFault.TheVariants as faults
+use Rattle.history_core.specs.declared.fault.DefineAnswer.{DefineAnswer}
+use Rattle.history_core.specs.declared.fault.DefineAnswer.TheVariants as defines
+use Rattle.pg_framing.specs.declared.front.FrameFault.{FrameFault}
+use Rattle.monkey_server.specs.declared.call.Call.{Call}
+use Rattle.monkey_server.specs.declared.call.Call.TheVariants as calls
+use Rattle.monkey_server.specs.declared.call.Answer.{Answer}
+use Rattle.monkey_server.specs.declared.call.Answer.TheVariants as answers
+use Rattle.monkey_server.specs.declared.end.End.{End}
+use Rattle.monkey_server.specs.declared.end.End.TheVariants as ends
+use Rattle.monkey_server.specs.declared.end.Stop.{Stop}
+use Rattle.monkey_server.specs.declared.end.Stop.TheVariants as stops
+use Rattle.monkey_server.specs.declared.request.Request.{Request}
+use Rattle.monkey_server.specs.declared.request.Request.TheVariants as requests
+use Rattle.monkey_server.specs.declared.stage.Access.{Access}
+use Rattle.monkey_server.specs.declared.stage.Access.TheVariants.{Get, Put}
+use Rattle.monkey_server.specs.declared.stage.Fault.{Fault}
+use Rattle.monkey_server.specs.declared.stage.Fault.TheVariants as fails
+use Rattle.monkey_server.specs.declared.stage.Owed.{Owed}
+use Rattle.monkey_server.specs.declared.stage.Owed.TheVariants as owes
+use Rattle.monkey_server.specs.Talk.{Ask, start, nameless, version, query, terminate, Talk, asks, partial, faulty, unread}
+use Rattle.monkey_server.specs.Replies.{startup_reply, ready_reply, created_reply, inserted_reply, no_row_reply, one_row_reply, error_reply, fatal_reply, fault_state, is_present}
+
+-- An entry of a session's record. A want of memory says whether it ends the session, and it and a failed write say how many
+-- bytes had been told, so that it is known where they stand.
+pub data Entry : Type 0 where
+  -- the answer to a call, and the event that it made
+  did : Answer → Event → Entry
+  -- a call that was refused
+  refused : BookFault → Entry
+  -- a want of memory of the session itself
+  short : Bool → ℕ → Entry
+  -- a write that failed
+  unsent : ℕ → Entry
+  -- why no more bytes come
+  stop : Stop → Entry
+
+-- a want of memory: of the session itself, or of its book
+abbrev pub is_short : Entry → Bool
+is_short (did a e) = false
+is_short (refused faults.Memory) = true
+is_short (refused (faults.Full limit)) = false
+is_short (short final n) = true
+is_short (unsent n) = false
+is_short (stop cause) = false
+
+abbrev pub has_short : List Entry → Bool
+has_short [] = false
+has_short (e ∷ es) = is_short e || has_short es
+
+-- what comes next: bytes are wanted, a call is asked, the session has ended; or the record has an entry that does not belong there
+pub data Next : Type 0 where
+  more : Next
+  call : Call → Next
+  ended : End → Next
+  astray : Next
+
+-- the bytes told so far, and the calls that were asked and answered
+pub record Said : Type 0 where
+  pub bytes : List ℕ
+  pub calls : List Call
+
+abbrev pub with_bytes : Said → List ℕ → Said
+with_bytes said bytes = record { bytes = said.bytes ++ bytes; calls = said.calls }
+
+abbrev pub with_call : Said → Call → Said
+with_call said c = record { bytes = said.bytes; calls = said.calls ++ c ∷ [] }
+
+-- A script takes what was said so far and the rest of the record, and gives all that is said and what comes next.
+abbrev pub Script : Type 0
+Script = Said → List Entry → Said × Next
+
+abbrev pub lost : Script
+lost said entries = (said, astray)
+
+-- each call takes one entry
+abbrev pub ask : Call → (Answer → Script) → Script
+ask c rest said [] = (said, call c)
+ask c rest said (did a e ∷ entries) = rest a (with_call said c) entries
+ask c rest said (refused fault ∷ entries) = rest (answers.Refused fault) (with_call said c) entries
+ask c rest said (short final n ∷ entries) = (said, astray)
+ask c rest said (unsent n ∷ entries) = (said, astray)
+ask c rest said (stop cause ∷ entries) = (said, astray)
+
+-- the answer that a call gets: the one of its name, or a refusal
+
+abbrev pub on_opened : Answer → (ℕ → Script) → (BookFault → Script) → Script
+on_opened (answers.Opened session) good bad = good session
+on_opened (answers.Refused fault) good bad = bad fault
+on_opened _ good bad = lost
+
+abbrev pub on_looked : Answer → (ℕ → Script) → (BookFault → Script) → Script
+on_looked (answers.Looked tables) good bad = good (length tables)
+on_looked (answers.Refused fault) good bad = bad fault
+on_looked _ good bad = lost
+
+abbrev pub on_defined : Answer → Script → Script → (BookFault → Script) → Script
+on_defined (answers.Defined (defines.Defined n)) good taken bad = good
+on_defined (answers.Defined (defines.Taken n)) good taken bad = taken
+on_defined (answers.Refused fault) good taken bad = bad fault
+on_defined _ good taken bad = lost
+
+abbrev pub on_begun : Answer → Script → (BookFault → Script) → Script
+on_begun (answers.Begun n) good bad = good
+on_begun (answers.Refused fault) good bad = bad fault
+on_begun _ good bad = lost
+
+abbrev pub on_found : Answer → (Value → Script) → (BookFault → Script) → Script
+on_found (answers.Found value) good bad = good value
+on_found (answers.Refused fault) good bad = bad fault
+on_found _ good bad = lost
+
+abbrev pub on_written : Answer → Script → (BookFault → Script) → Script
+on_written answers.Written good bad = good
+on_written (answers.Refused fault) good bad = bad fault
+on_written _ good bad = lost
+
+-- A failed write stands directly after bytes were told.
+abbrev pub unless_unsent : Script → Script → Script
+unless_unsent fault rest said [] = rest said []
+unless_unsent fault rest said (did a e ∷ entries) = rest said (did a e ∷ entries)
+unless_unsent fault rest said (refused why ∷ entries) = rest said (refused why ∷ entries)
+unless_unsent fault rest said (short final n ∷ entries) = rest said (short final n ∷ entries)
+unless_unsent fault rest said (unsent n ∷ entries) = if n == length said.bytes then fault said entries else rest said (unsent n ∷ entries)
+unless_unsent fault rest said (stop cause ∷ entries) = rest said (stop cause ∷ entries)
+
+abbrev pub tell : List ℕ → Script → Script → Script
+tell bytes fault rest said entries = unless_unsent fault rest (with_bytes said bytes) entries
+
+-- A want of memory of the session itself stands where as many bytes were told as its entry says: before a message or behind
+-- the start of the session, where it ends the session, or in a statement.
+abbrev pub unless_short : Bool → Script → Script → Script
+unless_short final short_of rest said [] = rest said []
+unless_short final short_of rest said (did a e ∷ entries) = rest said (did a e ∷ entries)
+unless_short final short_of rest said (refused why ∷ entries) = rest said (refused why ∷ entries)
+unless_short true short_of rest said (short true n ∷ entries) = if n == length said.bytes then short_of said entries else rest said (short true n ∷ entries)
+unless_short false short_of rest said (short false n ∷ entries) = if n == length said.bytes then short_of said entries else rest said (short false n ∷ entries)
+unless_short true short_of rest said (short false n ∷ entries) = rest said (short false n ∷ entries)
+unless_short false short_of rest said (short true n ∷ entries) = rest said (short true n ∷ entries)
+unless_short final short_of rest said (unsent n ∷ entries) = rest said (unsent n ∷ entries)
+unless_short final short_of rest said (stop cause ∷ entries) = rest said (stop cause ∷ entries)
+
+-- Ends: what is owed is asked for, and then the last reply is told.
+
+abbrev pub done : End → Script
+done end said [] = (said, ended end)
+done end said (e ∷ entries) = (said, astray)
+
+abbrev pub fatal : SqlState → End → Script
+fatal state end = tell (fatal_reply state) (done ends.WriteFault) (done end)
+
+abbrev pub closed : End → Script
+closed (ends.Protocol fault) = fatal states.S08P01 (ends.Protocol fault)
+closed (ends.Refused state) = fatal state (ends.Refused state)
+closed ends.Spent = fatal states.S54000 ends.Spent
+closed ends.Terminated = done ends.Terminated
+closed ends.Closed = done ends.Closed
+closed ends.Cut = done ends.Cut
+closed ends.ReadFault = done ends.ReadFault
+closed ends.WriteFault = done ends.WriteFault
+closed ends.Memory = done ends.Memory
+
+abbrev pub closing : End → Script
+closing end = ask calls.Close (λ _. closed end)
+
+abbrev pub ending : Owed → End → Script
+ending owes.Nothing end = closed end
+ending owes.Close end = closing end
+ending owes.Rollback end = ask calls.Rollback (λ _. closing end)
+
+-- Statements. A message has its own transaction, which is pending from its Begin on.
+
+-- why a statement fails whose call was refused
+abbrev pub refusal_fault : BookFault → Fault
+refusal_fault (faults.Full limit) = fails.Full
+refusal_fault faults.Memory = fails.Memory
+
+-- the end of a message
+abbrev pub readied : Script → Script
+readied rest = tell ready_reply (closing ends.WriteFault) rest
+
+-- a statement that fails with no transaction pending, and one that fails in its transaction: the rollback first, then the error
+abbrev pub failed : Fault → Script → Script
+failed why rest = tell (error_reply (fault_state why)) (closing ends.WriteFault) (readied rest)
+
+abbrev pub undone : Fault → Script → Script
+undone why rest = ask calls.Rollback (λ _. failed why rest)
+
+-- a statement that succeeds in its transaction, which the end of the message commits
+abbrev pub committed : Script → Script
+committed rest = ask calls.Commit (λ _. readied rest)
+
+abbrev pub succeeded : List ℕ → Script → Script
+succeeded reply rest = tell reply (ending owes.Rollback ends.WriteFault) (committed rest)
+
+-- the cells of a row of the table: whether it is there, and its second column
+abbrev pub presence_of : ℤ → Cell
+presence_of key = Presence 0 (IntKey key)
+
+abbrev pub field_of : ℤ → Cell
+field_of key = Field 0 (IntKey key) 1
+
+abbrev pub key_of : Access → ℤ
+key_of (Get key) = key
+key_of (Put key value) = key
+
+abbrev pub creates : Script → Script
+creates rest = ask calls.Define (λ a. on_defined a (tell created_reply (closing ends.WriteFault) (readied rest)) (failed fails.TableTaken rest) (λ why. failed (refusal_fault why) rest))
+
+abbrev pub fills : ℤ → ℤ → Script → Script
+fills key value rest = ask (calls.Write (field_of key) (Int value)) (λ a. on_written a (succeeded inserted_reply rest) (λ why. undone (refusal_fault why) rest))
+
+abbrev pub marks : ℤ → ℤ → Script → Script
+marks key value rest = ask (calls.Write (presence_of key) (Flag true)) (λ a. on_written a (fills key value rest) (λ why. undone (refusal_fault why) rest))
+
+abbrev pub selects : Value → Script → Script
+selects value rest = unless_short false (undone fails.Memory rest) (succeeded (one_row_reply value) rest)
+
+abbrev pub fetches : ℤ → Script → Script
+fetches key rest = ask (calls.Touch (field_of key)) (λ a. on_found a (λ value. selects value rest) (λ why. undone (refusal_fault why) rest))
+
+-- the row is there, or not
+abbrev pub checked : Access → Bool → Script → Script
+checked (Get key) true rest = fetches key rest
+checked (Get key) false rest = succeeded no_row_reply rest
+checked (Put key value) true rest = undone fails.DuplicateKey rest
+checked (Put key value) false rest = marks key value rest
+
+abbrev pub checks : Access → Script → Script
+checks access rest = ask (calls.Touch (presence_of (key_of access))) (λ a. on_found a (λ value. checked access (is_present value) rest) (λ why. undone (refusal_fault why) rest))
+
+abbrev pub begins : Access → Script → Script
+begins access rest = ask calls.Begin (λ a. on_begun a (checks access rest) (λ why. failed (refusal_fault why) rest))
+
+-- the table is the first that is defined; without one there is none. rest is what follows, given how many tables are known
+abbrev pub found : Access → ℕ → (ℕ → Script) → Script
+found access zero rest = failed fails.NoTable (rest zero)
+found access (suc n) rest = begins access (rest (suc n))
+
+abbrev pub looks : Access → ℕ → (ℕ → Script) → Script
+looks access known rest = ask (calls.Look known) (λ a. on_looked a (λ n. found access (known + n) rest) (λ why. failed (refusal_fault why) (rest known)))
+
+abbrev pub requested : Request → ℕ → (ℕ → Script) → Script
+requested requests.Create known rest = creates (rest known)
+requested (requests.Get key) known rest = looks (Get key) known rest
+requested (requests.Put key value) known rest = looks (Put key value) known rest
+requested requests.Other known rest = failed fails.Unsupported (rest known)
+
+-- Messages. Whether the session was opened says what it owes.
+
+abbrev pub owed_by : Bool → Owed
+owed_by true = owes.Close
+owed_by false = owes.Nothing
+
+abbrev pub refusal_end : BookFault → End
+refusal_end (faults.Full limit) = ends.Refused states.S54000
+refusal_end faults.Memory = ends.Memory
+
+abbrev pub greets : ℕ → Script → Script
+greets session rest = unless_short true (closing ends.Memory) (tell (startup_reply session) (closing ends.WriteFault) rest)
+
+abbrev pub opens : Script → Script
+opens rest = ask calls.Open (λ a. on_opened a (λ session. greets session rest) (λ why. closed (refusal_end why)))
+
+abbrev pub handled : Ask → ℕ → (ℕ → Script) → Script
+handled start known rest = opens (rest known)
+handled nameless known rest = closed (ends.Refused states.S28000)
+handled version known rest = closed (ends.Refused states.S0A000)
+handled (query request) known rest = requested request known rest
+handled terminate known rest = closing ends.Terminated
+
+abbrev pub stop_end : Stop → ℕ → End
+stop_end stops.EndOfInput held = if held == 0 then ends.Closed else ends.Cut
+stop_end stops.ReadFault held = ends.ReadFault
+stop_end stops.Spent held = ends.Spent
+
+-- bytes are wanted, and so many of a message are there
+abbrev pub waiting : Bool → ℕ → Script
+waiting opened held said [] = (said, more)
+waiting opened held said (stop cause ∷ entries) = ending (owed_by opened) (stop_end cause held) said entries
+waiting opened held said (did a e ∷ entries) = (said, astray)
+waiting opened held said (refused why ∷ entries) = (said, astray)
+waiting opened held said (short final n ∷ entries) = (said, astray)
+waiting opened held said (unsent n ∷ entries) = (said, astray)
+
+-- the messages one after another, given whether the session was opened and how many tables it knows
+abbrev pub session : Bool → ℕ → Talk → Script
+session opened known (asks ask talk) = unless_short true (ending (owed_by opened) ends.Memory) (handled ask known (λ k. session true k talk))
+session opened known (partial rest) = unless_short true (ending (owed_by opened) ends.Memory) (waiting opened (length rest))
+session opened known (faulty fault) = unless_short true (ending (owed_by opened) ends.Memory) (ending (owed_by opened) (ends.Protocol fault))
+session opened known unread = unless_short true (ending (owed_by opened) ends.Memory) lost
+
+-- what a session is told of all that its client says and of its whole record, the calls that it asked, and what comes next
+unfoldable pub told : Talk → List Entry → Said × Next
+told talk entries = session false 0 talk (record { bytes = []; calls = [] }) entries

@@ -1,0 +1,40 @@
+// The calls that a session makes of its book, and their answers.
+use cell_base::{Cell, Items, Value};
+use history_core::{BookFault, DefineAnswer};
+use sql_tree::Table;
+
+/// A call of a book.
+#[derive(Debug, Drop)]
+pub enum Call {
+    Open,
+    Close,
+    /// The number of tables that the session knows.
+    Look(u32),
+    /// Defines the table of the one CREATE TABLE that the server runs.
+    Define,
+    Begin,
+    /// Reads a cell.
+    Touch(Cell),
+    Write(Cell, Value),
+    Commit,
+    Rollback,
+}
+
+/// The answer to a call.
+#[derive(Debug, Drop)]
+pub enum Answer {
+    /// The session's number.
+    Opened(u32),
+    Closed,
+    /// The tables that the session didn't know.
+    Looked(Items<Table>),
+    Defined(DefineAnswer),
+    /// The transaction's number.
+    Begun(u32),
+    /// The cell's value.
+    Found(Value),
+    Written,
+    Committed,
+    RolledBack,
+    Refused(BookFault),
+}

@@ -1,0 +1,342 @@
+// Serves a session over a link.
+ghost use Rattle.std.specs.Prelude.{◌≡◌, ℕ, ◌+◌, ◌*◌, ◌<◌, ◌≤◌, List, [], ◌∷◌, ◌++◌, length, Option, Some, true, false, IfOk, codes};
+ghost use Rattle.history_core.specs.declared.event.Event.{Event};
+ghost use Rattle.history_core.specs.Book.{Past, away};
+ghost use Rattle.link_traits.specs.Traffic.{Sight, sight_of};
+ghost use Rattle.sql_tree.specs.Sound.{first_table};
+ghost use Rattle.monkey_server.specs.Talk.{Talk};
+ghost use Rattle.monkey_server.specs.Told.{Entry, has_short};
+ghost use Rattle.monkey_server.specs.declared.call.Call.{Call as Asked};
+ghost use Rattle.monkey_server.specs.declared.stage.Stage.TheVariants as stages;
+ghost use Rattle.monkey_server.specs.Sessions.{Stands, work_of};
+ghost use Rattle.monkey_server.specs.Stands.{Fits, wants, IsLast, IsResting, IsOver};
+ghost use Rattle.monkey_server.specs.Serve.{MayAsk, Plays, SeatAfter, Sits, Ran, Serves};
+
+use crate::call::{Answer, Call};
+use crate::end::{End, Stop};
+use crate::session::Session;
+use crate::want::Want;
+use history_core::Book;
+use cell_base::{Items, Memory, SqlType, Text, Value};
+use link_traits::{Link, Words, send_all};
+use sql_tree::{Column, Table};
+use std::alloc::Global;
+
+/// The greatest number of bytes that are read from a link.
+pub const MOST_READ: usize = 1_073_741_824;
+
+// How many bytes are read at once.
+const ROOM: usize = 8192;
+
+/// What became of a session.
+#[derive(Clone, Copy, Debug, PartialEq, Eq)]
+pub struct Served {
+    pub end: End,
+    /// Whether memory was wanting.
+    pub short: bool,
+}
+
+// Makes a call of the book. A word is drawn before a read.
+fn call<B: Book, W: Words>(book: &mut B, words: &mut W, table: &Table, c: Call) -> Answer
+    requires may { MayAsk c (B.past book.old) }
+    requires table { table.now ≡ first_table }
+    ensures fits { Fits c result }
+    ensures plays { (e : Event) × Plays W.gives (B.past book.old) words.old c result e (B.past book.new) words.new }
+    ensures seat { SeatAfter c result (B.past book.old).seat (B.past book.new).seat }
+    ensures stays { B.stays book.old book.new }
+{
+    match c {
+        Call::Open => match book.open() {
+            Ok(session) => Answer::Opened(session),
+            Err(why) => Answer::Refused(why),
+        },
+        Call::Close => {
+            book.close();
+            Answer::Closed
+        }
+        Call::Look(known) => match book.look(known) {
+            Ok(tables) => Answer::Looked(tables),
+            Err(why) => Answer::Refused(why),
+        },
+        Call::Define => match book.define(table) {
+            Ok(answer) => Answer::Defined(answer),
+            Err(why) => Answer::Refused(why),
+        },
+        Call::Begin => match book.begin() {
+            Ok(number) => Answer::Begun(number),
+            Err(why) => Answer::Refused(why),
+        },
+        Call::Touch(cell) => {
+            let word = words.next();
+            match book.read(&cell, word) {
+                Ok(value) => Answer::Found(value),
+                Err(why) => Answer::Refused(why),
+            }
+        }
+        Call::Write(cell, value) => match book.write(cell, value) {
+            Ok(()) => Answer::Written,
+            Err(why) => Answer::Refused(why),
+        },
+        Call::Commit => {
+            book.commit();
+            Answer::Committed
+        }
+        Call::Rollback => {
+            book.rollback();
+            Answer::RolledBack
+        }
+    }
+}
+
+// Makes the call that the session wants.
+fn answer_call<B: Book, W: Words>(
+    session: &mut Session,
+    book: &mut B,
+    words: &mut W,
+    table: &Table,
+    c: Call,
+)
+    requires wanted { wants session.old.stage session.old.known ≡ Want.Book c }
+    requires sits { Sits session.old.stage session.old.known (B.past book.old) }
+    requires table { table.now ≡ first_table }
+    ensures ran { (p : Past) (v : W) (f g : Sight) (many : ℕ) →
+        Ran W.gives p v f session.old (B.past book.old) words.old g many → Ran W.gives p v f session.new (B.past book.new) words.new g many }
+    ensures sits { Sits session.new.stage session.new.known (B.past book.new) }
+    ensures work { work_of session.new < work_of session.old }
+    ensures last { IsLast session.old.stage → IsLast session.new.stage }
+    ensures stays { B.stays book.old book.new }
+{
+    let answer = call(book, words, table, c);
+    session.answer(answer);
+}
+
+// One turn: a call is made or a reply sent. Answers whether the session wanted it.
+fn turn<B: Book, L: Link, W: Words>(
+    session: &mut Session,
+    book: &mut B,
+    link: &mut L,
+    words: &mut W,
+    table: &Table,
+) -> bool
+    requires sits { Sits session.old.stage session.old.known (B.past book.old) }
+    requires table { table.now ≡ first_table }
+    ensures ran { (p : Past) (v : W) (f : Sight) (many : ℕ) →
+        Ran W.gives p v f session.old (B.past book.old) words.old (sight_of L.traffic L.read_faults L.write_faults link.old) many →
+        Ran W.gives p v f session.new (B.past book.new) words.new (sight_of L.traffic L.read_faults L.write_faults link.new) many }
+    ensures sits { Sits session.new.stage session.new.known (B.past book.new) }
+    ensures work { result ≡ true → work_of session.new < work_of session.old }
+    ensures rests { result ≡ false → IsResting (wants session.new.stage session.new.known) }
+    ensures last { IsLast session.old.stage → IsLast session.new.stage }
+    ensures stays { B.stays book.old book.new }
+{
+    match session.demand() {
+        Want::Book(c) => {
+            answer_call(session, book, words, table, c);
+            true
+        }
+        Want::Send => {
+            match send_all(link, session.reply()) {
+                Ok(()) => session.sent(),
+                Err(_) => session.unsent(),
+            }
+            true
+        }
+        Want::Bytes | Want::Ended(_) => false,
+    }
+}
+
+// Serves until bytes are wanted or the end is there.
+fn drive<B: Book, L: Link, W: Words>(
+    session: &mut Session,
+    book: &mut B,
+    link: &mut L,
+    words: &mut W,
+    table: &Table,
+)
+    requires sits { Sits session.old.stage session.old.known (B.past book.old) }
+    requires table { table.now ≡ first_table }
+    ensures ran { (p : Past) (v : W) (f : Sight) (many : ℕ) →
+        Ran W.gives p v f session.old (B.past book.old) words.old (sight_of L.traffic L.read_faults L.write_faults link.old) many →
+        Ran W.gives p v f session.new (B.past book.new) words.new (sight_of L.traffic L.read_faults L.write_faults link.new) many }
+    ensures sits { Sits session.new.stage session.new.known (B.past book.new) }
+    ensures rests { IsResting (wants session.new.stage session.new.known) }
+    ensures last { IsLast session.old.stage → IsLast session.new.stage }
+    ensures stays { B.stays book.old book.new }
+{
+    while turn(session, book, link, words, table) {}
+}
+
+// Reads a piece of at most so many bytes into the session, or tells it to stop. Answers how many bytes were read.
+fn take_in<B: Book, L: Link, W: Words>(
+    session: &mut Session,
+    book: &B,
+    link: &mut L,
+    words: &W,
+    room: &mut [u8],
+    most: usize,
+) -> usize
+    requires wanted { wants session.old.stage session.old.known ≡ Want.Bytes }
+    requires room { 0 < length room.old }
+    ensures ran { (p : Past) (v : W) (f : Sight) (many : ℕ) → many + most ≡ 1073741824 →
+        Ran W.gives p v f session.old (B.past book.now) words.now (sight_of L.traffic L.read_faults L.write_faults link.old) many →
+        Ran W.gives p v f session.new (B.past book.now) words.now (sight_of L.traffic L.read_faults L.write_faults link.new) (many + result) }
+    ensures sits { Sits session.old.stage session.old.known (B.past book.now) → Sits session.new.stage session.new.known (B.past book.now) }
+    ensures within { result ≤ most }
+    ensures stopped { result ≡ 0 → IsLast session.new.stage }
+{
+    if most == 0 {
+        session.stop(Stop::Spent);
+        return 0;
+    }
+    let size = most.min(room.len());
+    let piece = &mut room[..size];
+    match link.read(piece) {
+        Ok(n) => {
+            if n == 0 {
+                session.stop(Stop::EndOfInput);
+            } else {
+                session.feed(&piece[..n]);
+            }
+            n
+        }
+        Err(_) => {
+            session.stop(Stop::ReadFault);
+            0
+        }
+    }
+}
+
+// What became of a session that has ended.
+fn finish(session: &Session) -> Served
+    requires { IsOver (wants session.now.stage session.now.known) }
+    ensures end { wants session.now.stage session.now.known ≡ Want.Ended result.end }
+    ensures short { (taken : List ℕ) (entries : List Entry) (asked : List Asked) (sent : List ℕ) → Stands session.now taken entries asked sent → result.short ≡ has_short entries }
+{
+    let short = session.is_short();
+    match session.demand() {
+        Want::Ended(end) => Served { end, short },
+        _ => unreachable!(),
+    }
+}
+
+
+// What a session is served with.
+struct Start {
+    session: Session,
+    table: Table,
+    room: Vec<u8>,
+}
+
+fn text(alloc: Global, bytes: &[u8]) -> Result<Text, Memory>
+    ensures { IfOk result (λ text. text ≡ bytes.now) }
+{
+    match Text::from_bytes(alloc, bytes) {
+        Ok(text) => Ok(text),
+        Err(_) => Err(Memory),
+    }
+}
+
+fn column(name: Text, not_null: bool) -> Column
+    ensures { result ≡ record { name = name; kind = SqlType.Bigint; not_null = not_null; default = Value.Null } }
+{
+    Column {
+        name,
+        kind: SqlType::Bigint,
+        not_null,
+        default: Value::Null,
+    }
+}
+
+// The table of `CREATE TABLE t (k bigint PRIMARY KEY, v bigint)`.
+fn table(alloc: Global) -> Result<Table, Memory>
+    ensures { IfOk result (λ table. table ≡ first_table) }
+{
+    let mut columns = Items::new(alloc);
+    columns.push(column(text(alloc, b"k")?, true))?;
+    columns.push(column(text(alloc, b"v")?, false))?;
+    Ok(Table {
+        name: text(alloc, b"t")?,
+        columns,
+        key: 0,
+        checks: Items::new(alloc),
+    })
+}
+
+fn begin(alloc: Global) -> Result<Start, Memory>
+    ensures empty { IfOk result (λ s. Stands s.session [] [] [] []) }
+    ensures stage { IfOk result (λ s. s.session.stage ≡ stages.Waiting false) }
+    ensures known { IfOk result (λ s. s.session.known ≡ 0) }
+    ensures table { IfOk result (λ s. s.table ≡ first_table) }
+    ensures room { IfOk result (λ s. 0 < length s.room.items) }
+{
+    Ok(Start {
+        session: Session::new(alloc)?,
+        table: table(alloc)?,
+        room: vec![in alloc; 0u8; ROOM]?,
+    })
+}
+
+// Serves a session from its beginning on.
+fn run<B: Book, L: Link, W: Words>(
+    mut session: Session,
+    table: &Table,
+    room: &mut [u8],
+    book: &mut B,
+    link: &mut L,
+    words: &mut W,
+) -> Served
+    requires empty { Stands session [] [] [] [] }
+    requires stage { session.stage ≡ stages.Waiting false }
+    requires known { session.known ≡ 0 }
+    requires table { table.now ≡ first_table }
+    requires room { 0 < length room.old }
+    requires away { (B.past book.old).seat ≡ away }
+    ensures served { (talk : Talk) × (taken : List ℕ) × (es : List Entry) × (asked : List Asked) × (sent : List ℕ) × (lost : List ℕ) ×
+        Serves W.gives (B.past book.old) words.old (sight_of L.traffic L.read_faults L.write_faults link.old) result.end result.short
+            (B.past book.new) words.new (sight_of L.traffic L.read_faults L.write_faults link.new) talk taken es asked sent lost }
+    ensures away { (B.past book.new).seat ≡ away }
+    ensures stays { B.stays book.old book.new }
+{
+    let mut left = MOST_READ;
+    loop {
+        drive(&mut session, book, link, words, table);
+        if let Want::Ended(_) = session.demand() {
+            return finish(&session);
+        }
+        let n = take_in(&mut session, book, link, words, room, left);
+        if n == 0 {
+            drive(&mut session, book, link, words, table);
+            return finish(&session);
+        }
+        left -= n;
+    }
+}
+
+/// Serves one session over a link, on a book that has none, with the words that choose what its reads find. What is sent, what
+/// is asked of the book and how the session ends are told of the bytes that were read and of a record, whose events are those
+/// that the book has made its own. `short` says whether the record has a want of memory.
+pub fn serve_link<B: Book, L: Link, W: Words>(
+    alloc: Global,
+    book: &mut B,
+    link: &mut L,
+    words: &mut W,
+) -> Served
+    requires { (B.past book.old).seat ≡ away }
+    ensures served { (talk : Talk) × (taken : List ℕ) × (es : List Entry) × (asked : List Asked) × (sent : List ℕ) × (lost : List ℕ) ×
+        Serves W.gives (B.past book.old) words.old (sight_of L.traffic L.read_faults L.write_faults link.old) result.end result.short
+            (B.past book.new) words.new (sight_of L.traffic L.read_faults L.write_faults link.new) talk taken es asked sent lost }
+    ensures away { (B.past book.new).seat ≡ away }
+    ensures stays { B.stays book.old book.new }
+{
+    match begin(alloc) {
+        Ok(Start {
+            session,
+            table,
+            mut room,
+        }) => run(session, &table, &mut room, book, link, words),
+        Err(Memory) => Served {
+            end: End::Memory,
+            short: true,
+        },
+    }
+}

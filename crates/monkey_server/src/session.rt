@@ -1,0 +1,327 @@
+// One session as a machine: bytes and answers come in, calls and replies go out. It keeps neither the bytes that it was fed
+// nor what it was answered.
+ghost use Rattle.std.specs.Prelude.{◌≡◌, ◌≢◌, ℕ, ℤ, ◌+◌, ◌*◌, ◌<◌, ◌≤◌, List, [], ◌∷◌, ◌++◌, length, IfOk, ◌||◌, Some, None, Bool, true, false, Option, IsTrue, ◌↔◌};
+ghost use Rattle.history_core.specs.declared.event.Event.{Event};
+ghost use Rattle.monkey_server.specs.declared.call.Call.{Call as Asked};
+ghost use Rattle.monkey_server.specs.Told.{Entry, unsent, stop as stopped, has_short, owed_by};
+ghost use Rattle.monkey_server.specs.Stands.{Steps, InPhase, IsHolding, NoBuilt, with_short, owed_at, outer, work_at, Lacks, NeedsTable, ComesFrom, wants_memory, Advances, reply_of};
+
+use crate::prepared::Prepared;
+use crate::call::Answer;
+use crate::end::{End, Stop};
+use crate::replies::{one_row, startup};
+use crate::stage::{Fatal, Fault, Finish, Owed, Reply, Stage};
+use crate::turns::{advance, break_off, enter, finish_of, leave, owed_between, resume, want_of};
+use crate::want::Want;
+use cell_base::{Memory, Value};
+use history_core::BookFault;
+use pg_framing::{FrameFault, Frames};
+use std::alloc::Global;
+
+/// One session, which was fed some bytes and answered some calls.
+#[derive(Debug, Drop)]
+pub struct Session {
+    alloc: Global,
+    frames: Frames,
+    prepared: Prepared,
+    built: Vec<u8>,
+    known: u32,
+    stage: Stage,
+    short: bool,
+    ghost phase: { InPhase stage frames.started },
+    ghost table: { NeedsTable stage → 0 < known },
+}
+
+// What comes of the bytes that are held: the stage, and a want of memory, where there was one, by whether it ends the session.
+#[derive(Clone, Copy)]
+struct Step {
+    stage: Stage,
+    wanting: Option<bool>,
+}
+
+// Begins with the next message that is whole, if there is one.
+fn take_step(frames: &mut Frames, opened: bool) -> Step
+    requires { frames.old.started ≡ opened }
+    ensures goes { (known : ℕ) → Steps opened known frames.old result.stage result.wanting frames.new }
+    ensures owed { owed_at result.stage ≡ owed_by opened }
+    ensures phase { InPhase result.stage frames.new.started }
+    ensures outer { outer result.stage ≡ None }
+    ensures lacks { Lacks result.stage [] }
+    ensures work { work_at result.stage + 16 * length frames.new.rest < 5 + 16 * length frames.old.rest }
+    ensures table { NeedsTable result.stage → ⊥ }
+    ensures constant { NoBuilt result.stage }
+{
+    match frames.next() {
+        Ok(None) => Step {
+            stage: Stage::Waiting(opened),
+            wanting: None,
+        },
+        Ok(Some(front)) => Step {
+            stage: enter(&front),
+            wanting: None,
+        },
+        Err(fault) => {
+            if is_memory(fault) {
+                Step {
+                    stage: leave(owed_between(opened), Finish::Memory),
+                    wanting: Some(true),
+                }
+            } else {
+                Step {
+                    stage: leave(owed_between(opened), Finish::Fatal(Fatal::Protocol(fault))),
+                    wanting: None,
+                }
+            }
+        }
+    }
+}
+
+fn is_memory(fault: FrameFault) -> bool
+    ensures { IsTrue result ↔ (fault ≡ FrameFault.Memory) }
+{
+    matches!(&fault, FrameFault::Memory)
+}
+
+// Greets the client of a session that was opened.
+fn greet(alloc: Global, session: u32, built: &mut Vec<u8>) -> Step
+    ensures goes { (known : ℕ) → Advances Stage.Opening known (Answer.Opened session) result.stage result.wanting built.new.items known }
+    ensures owed { owed_at result.stage ≡ Owed.Close }
+    ensures outer { outer result.stage ≡ None }
+    ensures lacks { Lacks result.stage [] }
+    ensures work { work_at result.stage < 6 }
+    ensures phase { InPhase result.stage true }
+    ensures reads { ComesFrom Stage.Opening result.stage }
+    ensures table { NeedsTable result.stage → ⊥ }
+    ensures some { IsHolding result.stage → 0 < length (reply_of built.new.items result.stage) }
+{
+    match startup(alloc, session) {
+        Ok(reply) => {
+            *built = reply;
+            Step {
+                stage: Stage::Settling(Reply::Built),
+                wanting: None,
+            }
+        }
+        Err(Memory) => Step {
+            stage: Stage::Closing(Finish::Memory),
+            wanting: Some(true),
+        },
+    }
+}
+
+// Shows the row that was found.
+fn select(alloc: Global, value: &Value, built: &mut Vec<u8>) -> Step
+    ensures goes { (key : ℤ) (known : ℕ) → Advances (Stage.Fetching key) known (Answer.Found value.now) result.stage result.wanting built.new.items known }
+    ensures owed { owed_at result.stage ≡ Owed.Rollback }
+    ensures outer { outer result.stage ≡ None }
+    ensures lacks { Lacks result.stage [] }
+    ensures work { work_at result.stage < 8 }
+    ensures phase { InPhase result.stage true }
+    ensures reads { (key : ℤ) → ComesFrom (Stage.Fetching key) result.stage }
+    ensures table { NeedsTable result.stage → ⊥ }
+    ensures some { IsHolding result.stage → 0 < length (reply_of built.new.items result.stage) }
+{
+    match one_row(alloc, value) {
+        Ok(reply) => {
+            *built = reply;
+            Step {
+                stage: Stage::Telling(true, Reply::Built),
+                wanting: None,
+            }
+        }
+        Err(Memory) => Step {
+            stage: Stage::Undoing(Fault::Memory),
+            wanting: Some(false),
+        },
+    }
+}
+
+// Whether an answer is a want of memory of the book.
+fn is_want(answer: &Answer) -> bool
+    ensures { result ≡ wants_memory answer.now }
+{
+    matches!(answer, Answer::Refused(BookFault::Memory))
+}
+
+// Either of the two, as `||`.
+fn either(a: bool, b: bool) -> bool
+    ensures { result ≡ (a || b) }
+{
+    a || b
+}
+
+impl Session {
+    ghost use Rattle.monkey_server.specs.Sessions.{Stands, StandsShort, work_of};
+    ghost use Rattle.monkey_server.specs.Stands.{Shows, wants, reply_of, entry_for, FitsWant, owed_after, known_after, IsLast, IsStopped};
+
+    /// A session that was fed nothing.
+    pub fn new(alloc: Global) -> Result<Session, Memory>
+        ensures empty { IfOk result (λ s. Stands s [] [] [] []) }
+        ensures stage { IfOk result (λ s. s.stage ≡ Stage.Waiting false) }
+        ensures known { IfOk result (λ s. s.known ≡ 0) }
+    {
+        Ok(Session {
+            alloc,
+            frames: Frames::new(alloc),
+            prepared: Prepared::new(alloc)?,
+            built: Vec::new(alloc),
+            known: 0,
+            stage: Stage::Waiting(false),
+            short: false,
+        })
+    }
+
+    /// What the session wants.
+    pub fn demand(&self) -> Want
+        ensures stage { result ≡ wants self.now.stage self.now.known }
+        ensures holding { result ≡ Want.Send → IsHolding self.now.stage }
+        // What was sent and what is wanted is told of all that came in.
+        ensures told { (taken : List ℕ) (entries : List Entry) (asked : List Asked) (sent : List ℕ) → Stands self.now taken entries asked sent → Shows result taken entries asked sent }
+    {
+        want_of(self.stage, self.known)
+    }
+
+    /// The reply that is to be sent.
+    pub fn reply(&self) -> &[u8]
+        requires { IsHolding self.now.stage }
+        ensures { result.now ≡ reply_of self.now.built.items self.now.stage }
+    {
+        match self.stage {
+            Stage::Telling(_, reply) | Stage::Settling(reply) => {
+                self.prepared.bytes(self.built.as_slice(), reply)
+            }
+            Stage::Parting(fatal) => self.prepared.last_bytes(fatal),
+            _ => unreachable!(),
+        }
+    }
+
+    /// Whether memory was wanting.
+    pub fn is_short(&self) -> bool
+        ensures { (taken : List ℕ) (entries : List Entry) (asked : List Asked) (sent : List ℕ) → Stands self.now taken entries asked sent → result ≡ has_short entries }
+    {
+        self.short
+    }
+
+    /// Takes a piece of the stream. A want of memory leads to the end by it.
+    pub fn feed(&mut self, piece: &[u8])
+        requires { wants self.old.stage self.old.known ≡ Want.Bytes }
+        ensures grown { (taken : List ℕ) (entries : List Entry) (asked : List Asked) (sent : List ℕ) → Stands self.old taken entries asked sent →
+            StandsShort self.new (taken ++ piece.now) entries asked sent }
+        ensures owed { owed_at self.new.stage ≡ owed_at self.old.stage }
+        ensures outer { outer self.new.stage ≡ None }
+        ensures lacks { Lacks self.new.stage [] }
+        ensures known { self.new.known ≡ self.old.known }
+        ensures table { NeedsTable self.new.stage → ⊥ }
+    {
+        let opened = match self.stage {
+            Stage::Waiting(opened) => opened,
+            _ => unreachable!(),
+        };
+        match self.frames.feed(piece) {
+            Ok(()) => {
+                let step = take_step(&mut self.frames, opened);
+                self.stage = step.stage;
+                self.short = either(self.short, step.wanting.is_some());
+            }
+            Err(_) => {
+                self.stage = leave(owed_between(opened), Finish::Memory);
+                self.short = true;
+            }
+        }
+    }
+
+    /// Takes the answer to the call that is wanted.
+    pub fn answer(&mut self, answer: Answer)
+        requires { FitsWant (wants self.old.stage self.old.known) answer }
+        ensures grown { (taken : List ℕ) (entries : List Entry) (asked : List Asked) (sent : List ℕ) (c : Asked) (e : Event) → Stands self.old taken entries asked sent →
+            wants self.old.stage self.old.known ≡ Want.Book c → StandsShort self.new taken (entries ++ entry_for answer e ∷ []) (asked ++ c ∷ []) sent }
+        ensures owed { (c : Asked) → wants self.old.stage self.old.known ≡ Want.Book c → owed_at self.new.stage ≡ owed_after c answer (owed_at self.old.stage) }
+        ensures outer { outer self.new.stage ≡ outer self.old.stage }
+        ensures lacks { (lost : List ℕ) → Lacks self.old.stage lost → Lacks self.new.stage lost }
+        ensures work { work_of self.new < work_of self.old }
+        ensures reads { ComesFrom self.old.stage self.new.stage }
+        ensures known { self.new.known ≡ known_after self.old.known answer }
+        ensures last { IsLast self.old.stage → IsLast self.new.stage }
+    {
+        match (self.stage, answer) {
+            (Stage::Opening, Answer::Opened(session)) => {
+                let step = greet(self.alloc, session, &mut self.built);
+                self.stage = step.stage;
+                self.short = either(self.short, step.wanting.is_some());
+            }
+            (Stage::Fetching(_), Answer::Found(value)) => {
+                let step = select(self.alloc, &value, &mut self.built);
+                self.stage = step.stage;
+                self.short = either(self.short, step.wanting.is_some());
+            }
+            (_, answer) => {
+                let turn = advance(self.stage, self.known, &answer);
+                self.stage = turn.stage;
+                self.known = turn.known;
+                self.short = either(self.short, is_want(&answer));
+            }
+        }
+    }
+
+
+    /// The reply was sent.
+    pub fn sent(&mut self)
+        requires { IsHolding self.old.stage }
+        ensures grown { (taken : List ℕ) (entries : List Entry) (asked : List Asked) (sent : List ℕ) → Stands self.old taken entries asked sent →
+            StandsShort self.new taken entries asked (sent ++ reply_of self.old.built.items self.old.stage) }
+        ensures owed { owed_at self.new.stage ≡ owed_at self.old.stage }
+        ensures outer { outer self.new.stage ≡ outer self.old.stage }
+        ensures lacks { Lacks self.new.stage [] }
+        ensures work { work_of self.new < work_of self.old }
+        ensures known { self.new.known ≡ self.old.known }
+        ensures table { NeedsTable self.new.stage → ⊥ }
+        ensures last { IsLast self.old.stage → IsLast self.new.stage }
+    {
+        match self.stage {
+            Stage::Telling(pending, reply) => self.stage = resume(pending, reply),
+            Stage::Settling(_) => {
+                let step = take_step(&mut self.frames, true);
+                self.stage = step.stage;
+                self.short = either(self.short, step.wanting.is_some());
+            }
+            Stage::Parting(fatal) => self.stage = Stage::Ended(Finish::Fatal(fatal)),
+            _ => unreachable!(),
+        }
+    }
+
+    /// The reply could not be sent whole.
+    pub fn unsent(&mut self)
+        requires { IsHolding self.old.stage }
+        ensures grown { (taken : List ℕ) (entries : List Entry) (asked : List Asked) (sent : List ℕ) → Stands self.old taken entries asked sent →
+            Stands self.new taken (entries ++ unsent (length (sent ++ reply_of self.old.built.items self.old.stage)) ∷ []) asked (sent ++ reply_of self.old.built.items self.old.stage) }
+        ensures owed { owed_at self.new.stage ≡ owed_at self.old.stage }
+        ensures outer { outer self.new.stage ≡ Some End.WriteFault }
+        ensures lacks { (lost : List ℕ) → Lacks self.new.stage lost }
+        ensures work { work_of self.new < work_of self.old }
+        ensures known { self.new.known ≡ self.old.known }
+        ensures table { NeedsTable self.new.stage → ⊥ }
+        ensures last { IsLast self.new.stage }
+    {
+        self.stage = break_off(self.stage);
+    }
+
+    /// No more bytes come.
+    pub fn stop(&mut self, cause: Stop)
+        requires { wants self.old.stage self.old.known ≡ Want.Bytes }
+        ensures grown { (taken : List ℕ) (entries : List Entry) (asked : List Asked) (sent : List ℕ) → Stands self.old taken entries asked sent →
+            Stands self.new taken (entries ++ stopped cause ∷ []) asked sent }
+        ensures owed { owed_at self.new.stage ≡ owed_at self.old.stage }
+        ensures outer { IsStopped cause (outer self.new.stage) }
+        ensures lacks { Lacks self.new.stage [] }
+        ensures known { self.new.known ≡ self.old.known }
+        ensures table { NeedsTable self.new.stage → ⊥ }
+        ensures last { IsLast self.new.stage }
+    {
+        let opened = match self.stage {
+            Stage::Waiting(opened) => opened,
+            _ => unreachable!(),
+        };
+        let finish = finish_of(cause, self.frames.rest() == 0);
+        self.stage = leave(owed_between(opened), finish);
+    }
+}

@@ -1,0 +1,16 @@
+// What a session wants.
+use crate::call::Call;
+use crate::end::End;
+
+/// What a session wants next.
+#[derive(Debug, Drop)]
+pub enum Want {
+    /// More bytes of its client.
+    Bytes,
+    /// A call of its book.
+    Book(Call),
+    /// Its reply sent.
+    Send,
+    /// Nothing: it has ended.
+    Ended(End),
+}

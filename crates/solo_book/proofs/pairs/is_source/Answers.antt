@@ -1,0 +1,16 @@
+use Rattle.std.proofs.Common.{arith}
+use Rattle.std.proofs.lemmas.Bool.{false≢true}
+use Rattle.solo_book.proofs.Bridge.{reads_from_record, record_reads_from, reader_positive}
+use Rattle.solo_book.proofs.pairs.is_source.Goals as goal
+
+pub returns-then-reader-eq0 : goal.returns-then-reader-eq0
+returns-then-reader-eq0 c = (
+  λ h. absurd (false≢true h),
+  λ from. let h = reader_positive c.args.history.now.events c.args.reader from.place from.cell c.args.source from.reads in absurd (omega arith),
+)
+
+pub returns : goal.returns
+returns c = (
+  λ h. reads_from_record c.args.history.now.events c.args.reader c.args.source c.txn.result.now c.txn.ensures (c.reads_from.ensures.0 h),
+  λ from. c.reads_from.ensures.1 (record_reads_from c.args.history.now.events c.args.reader c.args.source c.txn.result.now c.requires.some c.txn.ensures from),
+)

@@ -1,0 +1,4 @@
+pub mod Pairs
+pub mod Passed
+pub mod Tests
+pub mod Desk

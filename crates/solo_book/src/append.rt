@@ -1,0 +1,54 @@
+// Events that keep a history legal.
+ghost use Rattle.std.specs.Prelude.{◌≡◌, ◌↔◌, ◌<◌, ◌≤◌, Some, Err, OnOk, OnErr, IsTrue};
+ghost use Rattle.sql_tree.specs.Sound.{IsSound};
+ghost use Rattle.history_core.specs.declared.fault.Limit.{Limit};
+ghost use Rattle.history_core.specs.Legal.{Follows, IsOffered, full_for};
+ghost use Rattle.history_core.specs.Chronicle.{followed_by, with_table, IsLegalChronicle};
+ghost use Rattle.history_core.specs.Records.{IsNoDefinition, is_any_end};
+
+use history_core::{BookFault, Event, History};
+use sql_tree::Table;
+
+/// Appends an event that keeps the history legal, any but a definition. On an error nothing changes.
+pub fn append(history: &mut History, event: Event) -> Result<(), BookFault>
+    requires legal { IsLegalChronicle history.old }
+    requires follows { Follows history.old.events event }
+    requires pushed { IsNoDefinition event }
+    requires offered { IsOffered history.old.level history.old.events event }
+    ensures legal { IsLegalChronicle history.new }
+    ensures ok { OnOk result (history.new ≡ followed_by history.old event) }
+    ensures full { (limit : Limit) → result ≡ Err (BookFault.Full limit) → full_for history.new.events event ≡ Some limit }
+    ensures err { OnErr result (history.new ≡ history.old) }
+{
+    match history.push(event) {
+        Ok(()) => Ok(()),
+        Err(fault) => Err(fault),
+    }
+}
+
+/// Appends the definition of a table whose name isn't taken. On an error nothing changes.
+pub fn append_define(history: &mut History, session: u32, table: Table) -> Result<(), BookFault>
+    requires legal { IsLegalChronicle history.old }
+    requires follows { Follows history.old.events (Event.Define session table.name) }
+    requires sound { IsSound table }
+    ensures legal { IsLegalChronicle history.new }
+    ensures ok { OnOk result (history.new ≡ with_table history.old session table) }
+    ensures full { (limit : Limit) → result ≡ Err (BookFault.Full limit) → full_for history.new.events (Event.Define session table.name) ≡ Some limit }
+    ensures err { OnErr result (history.new ≡ history.old) }
+{
+    match history.push_define(session, table) {
+        Ok(()) => Ok(()),
+        Err(fault) => Err(fault),
+    }
+}
+
+/// Appends a Commit, a Rollback or a Close. Takes no memory and always succeeds.
+pub fn append_end(history: &mut History, event: Event)
+    requires legal { IsLegalChronicle history.old }
+    requires follows { Follows history.old.events event }
+    requires end { IsTrue (is_any_end event) }
+    ensures legal { IsLegalChronicle history.new }
+    ensures adds { history.new ≡ followed_by history.old event }
+{
+    history.end(event);
+}

@@ -1,0 +1,113 @@
+// The book of one session after another.
+use crate::calls::{
+    begin_transaction, close_session, commit_transaction, open_session, roll_back_transaction,
+    write_cell,
+};
+use crate::desk::{Desk, Stage};
+use crate::reading::read_cell;
+use crate::tables::{define_table, look_at_tables};
+use cell_base::{Cell, Items, Level, Value};
+use history_core::{Book, BookFault, DefineAnswer, History};
+use sql_tree::Table;
+use std::alloc::Global;
+use std::marker::Model;
+
+/// A book of one session after another, over a history of its own at Read Committed. All events of the history are its own.
+#[derive(Debug, Drop)]
+pub struct SoloBook {
+    desk: Desk,
+}
+
+impl Model for SoloBook {
+    ghost use Rattle.std.specs.Coded.{codes};
+    ghost use Rattle.sql_tree.specs.contracts.typed_expr.TypedNode as typed_node;
+    ghost use Rattle.history_core.specs.Book.{Past};
+
+    ghost Value = { Past };
+
+    ghost coded = { Prim.hlevel (codes, typed_node.the_row.coded) };
+
+    ghost use Rattle.solo_book.specs.Desk.{past_of, IsDesk};
+
+    ghost view = { λ b. past_of b.desk };
+
+    ghost invariant = { λ b. IsDesk b.desk };
+}
+
+impl SoloBook {
+    ghost use Rattle.std.specs.Prelude.{◌≡◌, ◌≤◌, [], length};
+    ghost use Rattle.cell_base.specs.declared.level.Level.TheVariants.{Rc};
+    ghost use Rattle.history_core.specs.Chronicle.{IsLegalChronicle};
+    ghost use Rattle.history_core.specs.Book.{away};
+
+    /// A book whose history has no events yet. Takes no memory.
+    pub fn new(alloc: Global) -> SoloBook
+        ensures { result ≡ record { seen = record { level = Rc; events = []; tables = [] }; own = []; seat = away } }
+    {
+        SoloBook {
+            desk: Desk {
+                alloc,
+                history: History::new(alloc, Level::Rc),
+                sessions: 0,
+                stage: Stage::Away,
+            },
+        }
+    }
+
+    /// The history, which is legal, of at most 64 tables, and whose events are all the book's own.
+    pub fn history(&self) -> &History
+        ensures seen { result.now ≡ self.now.seen }
+        ensures level { self.now.seen.level ≡ Rc }
+        ensures legal { IsLegalChronicle self.now.seen }
+        ensures own { self.now.own ≡ self.now.seen.events }
+        ensures tables { length self.now.seen.tables ≤ 64 }
+    {
+        &self.desk.history
+    }
+}
+
+impl Book for SoloBook {
+    ghost past = { λ book. book };
+
+    ghost stays = { λ _ _. Unit {0} };
+
+    fn open(&mut self) -> Result<u32, BookFault> {
+        open_session(&mut self.desk)
+    }
+
+    fn close(&mut self) {
+        close_session(&mut self.desk);
+    }
+
+    fn look(&mut self, known: u32) -> Result<Items<Table>, BookFault> {
+        look_at_tables(&mut self.desk, known)
+    }
+
+    fn define(&mut self, table: &Table) -> Result<DefineAnswer, BookFault> {
+        define_table(&mut self.desk, table)
+    }
+
+    fn begin(&mut self) -> Result<u32, BookFault> {
+        begin_transaction(&mut self.desk)
+    }
+
+    fn read(&mut self, cell: &Cell, word: u32) -> Result<Value, BookFault> {
+        read_cell(&mut self.desk, cell, word)
+    }
+
+    fn write(&mut self, cell: Cell, value: Value) -> Result<(), BookFault> {
+        write_cell(&mut self.desk, cell, value)
+    }
+
+    fn commit(&mut self) {
+        commit_transaction(&mut self.desk);
+    }
+
+    fn rollback(&mut self) {
+        roll_back_transaction(&mut self.desk);
+    }
+
+    ghost stays_same = { λ _. tt };
+
+    ghost stays_trans = { λ _ _ _ _ _. tt };
+}

@@ -1,0 +1,105 @@
+// The calls of a book, on what it keeps.
+ghost use Rattle.std.specs.Prelude.{◌≡◌, ◌≢◌, ◌≤◌, ◌<◌, ◌↔◌, [], ◌∷◌, ◌++◌, ℕ, length, Some, Err, IfOk, OnOk, OnErr, Contains, IsTrue, Any, map};
+ghost use Rattle.sql_tree.specs.declared.table.Table.{Table};
+ghost use Rattle.sql_tree.specs.Sound.{IsSound};
+ghost use Rattle.history_core.specs.declared.fault.Limit.{Limit};
+ghost use Rattle.history_core.specs.declared.fault.Limit.TheVariants as limits;
+ghost use Rattle.history_core.specs.Events.{table_of, begun, names};
+ghost use Rattle.history_core.specs.Legal.{IsDefined, WroteItself, full_for, full_load};
+ghost use Rattle.history_core.specs.Chronicle.{followed_by};
+ghost use Rattle.history_core.specs.Book.{IsStorable};
+ghost use Rattle.solo_book.specs.declared.desk.Stage.TheVariants as stages;
+ghost use Rattle.solo_book.specs.Desk.{IsDesk, GoesTo};
+
+use crate::append::{append, append_define, append_end};
+use crate::desk::{Desk, Stage};
+use cell_base::{Cell, Items, Memory, Value};
+use history_core::{BookFault, DefineAnswer, Event, Limit};
+use sql_tree::Table;
+use std::alloc::Global;
+
+/// Starts a session and answers its number.
+pub fn open_session(desk: &mut Desk) -> Result<u32, BookFault>
+    requires { IsDesk desk.old }
+    ensures kept { IsDesk desk.new }
+    ensures ok { IfOk result (λ s. GoesTo desk.old (Event.Open s) s stages.Seated desk.new) }
+    ensures full { (limit : Limit) → result ≡ Err (BookFault.Full limit) → full_for desk.new.history.events (Event.Open 0) ≡ Some limit }
+    ensures err { OnErr result (desk.new ≡ desk.old) }
+{
+    let session = desk.sessions + 1;
+    match append(&mut desk.history, Event::Open(session)) {
+        Ok(()) => {
+            desk.sessions = session;
+            desk.stage = Stage::Seated;
+            Ok(session)
+        }
+        Err(fault) => Err(fault),
+    }
+}
+
+/// Ends the session.
+pub fn close_session(desk: &mut Desk)
+    requires kept { IsDesk desk.old }
+    requires idle { desk.old.stage ≡ stages.Seated }
+    ensures kept { IsDesk desk.new }
+    ensures adds { GoesTo desk.old (Event.Close desk.old.sessions) desk.old.sessions stages.Away desk.new }
+{
+    append_end(&mut desk.history, Event::Close(desk.sessions));
+    desk.stage = Stage::Away;
+}
+
+/// Starts a transaction and answers its number.
+pub fn begin_transaction(desk: &mut Desk) -> Result<u32, BookFault>
+    requires kept { IsDesk desk.old }
+    requires idle { desk.old.stage ≡ stages.Seated }
+    ensures kept { IsDesk desk.new }
+    ensures ok { OnOk result (GoesTo desk.old (Event.Begin desk.old.sessions) desk.old.sessions stages.Pending desk.new) }
+    ensures number { IfOk result (λ n. n ≡ begun desk.new.history.events) }
+    ensures full { (limit : Limit) → result ≡ Err (BookFault.Full limit) → full_for desk.new.history.events (Event.Begin 0) ≡ Some limit }
+    ensures err { OnErr result (desk.new ≡ desk.old) }
+{
+    match append(&mut desk.history, Event::Begin(desk.sessions)) {
+        Ok(()) => {
+            desk.stage = Stage::Pending;
+            Ok(desk.history.begun())
+        }
+        Err(fault) => Err(fault),
+    }
+}
+
+/// Writes a cell.
+pub fn write_cell(desk: &mut Desk, cell: Cell, value: Value) -> Result<(), BookFault>
+    requires kept { IsDesk desk.old }
+    requires pending { desk.old.stage ≡ stages.Pending }
+    requires storable { IsStorable value }
+    requires defined { table_of cell < length desk.old.history.tables }
+    ensures kept { IsDesk desk.new }
+    ensures ok { OnOk result (GoesTo desk.old (Event.Write desk.old.sessions cell value) desk.old.sessions stages.Pending desk.new) }
+    ensures full { (limit : Limit) → result ≡ Err (BookFault.Full limit) → full_load desk.new.history.events ≡ Some limit }
+    ensures err { OnErr result (desk.new ≡ desk.old) }
+{
+    let session = desk.sessions;
+    append(&mut desk.history, Event::Write(session, cell, value))
+}
+
+/// Ends the pending transaction by a Commit.
+pub fn commit_transaction(desk: &mut Desk)
+    requires kept { IsDesk desk.old }
+    requires pending { desk.old.stage ≡ stages.Pending }
+    ensures kept { IsDesk desk.new }
+    ensures adds { GoesTo desk.old (Event.Commit desk.old.sessions) desk.old.sessions stages.Seated desk.new }
+{
+    append_end(&mut desk.history, Event::Commit(desk.sessions));
+    desk.stage = Stage::Seated;
+}
+
+/// Ends the pending transaction by a Rollback.
+pub fn roll_back_transaction(desk: &mut Desk)
+    requires kept { IsDesk desk.old }
+    requires pending { desk.old.stage ≡ stages.Pending }
+    ensures kept { IsDesk desk.new }
+    ensures adds { GoesTo desk.old (Event.Rollback desk.old.sessions) desk.old.sessions stages.Seated desk.new }
+{
+    append_end(&mut desk.history, Event::Rollback(desk.sessions));
+    desk.stage = Stage::Seated;
+}
