@@ -1,7 +1,6 @@
 -- What goes over a link goes on.
-use Rattle.std.proofs.Common.{◌≡◌, Bool, true, false, ℕ, ◌+◌, ◌-◌, ◌≤◌, List, [], ◌∷◌, ◌++◌, length, take, drop, refl, sym, ◌∙◌, ap, subst, append_assoc, arith, Option, Some, None, length-append}
+use Rattle.std.proofs.Common.{◌≡◌, false, ℕ, ◌+◌, ◌≤◌, List, [], ◌∷◌, ◌++◌, length, take, drop, sym, ◌∙◌, ap, subst, append_assoc, arith, Option, Some, None, length-append}
 use Rattle.std.proofs.lemmas.List.{append-nil, take-append-drop}
-use Rattle.link_traits.specs.Faults.{Rose}
 use Rattle.link_traits.specs.Traffic.{Traffic, Took, Wrote, WrotePart, Both, Sight}
 use Rattle.monkey_server.specs.declared.call.Call.{Call}
 use Rattle.monkey_server.specs.declared.end.End.{End}

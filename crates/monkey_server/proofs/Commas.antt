@@ -7,16 +7,16 @@ use Rattle.monkey_server.specs.Parts.{IsPair}
 use Rattle.monkey_server.proofs.Digits.{numeral_has_no_comma}
 
 -- no comma, by cases
-abbrev NoComma : List ℕ → Type 0
+abbrev pub NoComma : List ℕ → Type 0
 NoComma [] = Unit {0}
 NoComma (x ∷ xs) = (x ≢ 44) × NoComma xs
 
-no_comma_from : (xs : List ℕ) → ¬ (Contains xs 44) → NoComma xs
+pub no_comma_from : (xs : List ℕ) → ¬ (Contains xs 44) → NoComma xs
 no_comma_from [] h = tt
 no_comma_from (x ∷ xs) h = (λ e. h (0, omega arith, e), no_comma_from xs (λ k. h (suc k.0, omega (arith, k.1), k.2)))
 
 -- what stands before the first comma is determined
-cut_same : (a b c d : List ℕ) → NoComma a → NoComma c → a ++ (44 ∷ b) ≡ c ++ (44 ∷ d) → (a ≡ c) × (b ≡ d)
+pub cut_same : (a b c d : List ℕ) → NoComma a → NoComma c → a ++ (44 ∷ b) ≡ c ++ (44 ∷ d) → (a ≡ c) × (b ≡ d)
 cut_same [] b [] d na nc e = (refl, cc)
 cut_same [] b (y ∷ c) d na nc e = absurd (nc.0 (cc))
 cut_same (x ∷ a) b [] d na nc e = absurd (na.0 (cc))

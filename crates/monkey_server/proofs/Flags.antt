@@ -1,12 +1,12 @@
 -- The sign of a want of memory is that of the record.
-use Rattle.std.proofs.Common.{◌≡◌, Bool, true, false, ℕ, List, [], ◌∷◌, ◌++◌, length, refl, sym, ◌∙◌, ap, Option, Some, None}
+use Rattle.std.proofs.Common.{◌≡◌, Bool, true, false, ℕ, List, [], ◌∷◌, ◌++◌, refl, sym, ◌∙◌, ap, Option, Some, None}
 use Rattle.std.proofs.lemmas.List.{append-nil}
 use Rattle.std.specs.Prelude.{◌||◌, is_some}
 use Rattle.history_core.specs.declared.event.Event.{Event}
 use Rattle.history_core.specs.declared.fault.BookFault.TheVariants as faults
 use Rattle.monkey_server.specs.declared.call.Answer.{Answer}
 use Rattle.monkey_server.specs.declared.call.Answer.TheVariants as answers
-use Rattle.monkey_server.specs.Told.{Entry, did, refused, short, unsent, stop, is_short, has_short}
+use Rattle.monkey_server.specs.Told.{Entry, is_short, has_short}
 use Rattle.monkey_server.specs.Stands.{with_short, entry_for, wants_memory}
 
 or_assoc : (a b c : Bool) → ((a || b) || c) ≡ (a || (b || c))

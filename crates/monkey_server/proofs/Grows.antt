@@ -1,7 +1,7 @@
 -- What a session's calls leave stands for the lists grown by them.
-use Rattle.std.proofs.Common.{◌≡◌, ◌≢◌, Bool, true, false, ℕ, ◌<◌, ◌≤◌, List, [], ◌∷◌, ◌++◌, length, refl, sym, ◌∙◌, ap, subst, append_assoc, arith, Option, Some, None, length-append}
+use Rattle.std.proofs.Common.{◌≡◌, ◌≢◌, Bool, true, false, ℕ, ◌<◌, List, [], ◌∷◌, ◌++◌, length, refl, sym, ◌∙◌, ap, subst, append_assoc, arith, Option, None, length-append}
 use Rattle.std.proofs.lemmas.List.{append-nil}
-use Rattle.std.specs.Prelude.{◌||◌, ◌==◌}
+use Rattle.std.specs.Prelude.{◌==◌}
 use Rattle.history_core.specs.declared.event.Event.{Event}
 use Rattle.pg_framing.specs.declared.front.Front.{Front}
 use Rattle.pg_framing.specs.declared.front.FrameFault.{FrameFault}
@@ -19,16 +19,14 @@ use Rattle.monkey_server.specs.declared.end.Stop.{Stop}
 use Rattle.monkey_server.specs.declared.stage.Fatal.{Fatal}
 use Rattle.monkey_server.specs.declared.stage.Finish.TheVariants as finishes
 use Rattle.monkey_server.specs.declared.stage.Reply.{Reply}
-use Rattle.monkey_server.specs.declared.stage.Reply.TheVariants as replies
 use Rattle.monkey_server.specs.declared.stage.Stage.{Stage}
 use Rattle.monkey_server.specs.declared.stage.Stage.TheVariants as stages
-use Rattle.monkey_server.specs.declared.want.Want.{Want}
 use Rattle.monkey_server.specs.declared.want.Want.TheVariants as wanted
 use Rattle.monkey_server.specs.Replies.{fatal_reply, fatal_state, bytes_of}
 use Rattle.monkey_server.specs.Talk.{Talk, asks, partial, faulty, unread, IsTalk}
-use Rattle.monkey_server.specs.Told.{Entry, did, refused, short, unsent, stop, Said, Script, Next, more, call, ended, with_bytes, with_call, tell, done, lost, closing, ending, owed_by, committed, readied, session, stop_end, waiting, handled, told, is_short, has_short}
-use Rattle.monkey_server.specs.Stands.{goes_on, IsFed, least, IsFrom, IsWaiting, StandsFor, IsLast, IsBusy, LeadsTo, with_short, Steps, Advances, Shows, wants, reply_of, IsHolding, IsShort, broken, entry_for, owed_in, resumed, fatal_end, end_of}
-use Rattle.monkey_server.proofs.Passes.{eqb-ne, busy-last, least-busy, unless_short-takes, unless_unsent-passes, unless_unsent-takes, IsFrom-weaker, IsFrom-later, with_short-append, IsFrom-with_short, IsFrom-read, IsFed-last, IsFed-nothing, IsFed-back}
+use Rattle.monkey_server.specs.Told.{Entry, short, unsent, stop, Said, Next, more, call, ended, done, lost, closing, ending, owed_by, session, stop_end, waiting, handled, told}
+use Rattle.monkey_server.specs.Stands.{goes_on, least, IsFrom, IsWaiting, StandsFor, IsBusy, LeadsTo, with_short, Steps, Advances, Shows, wants, reply_of, IsHolding, broken, entry_for, owed_in, resumed, fatal_end, end_of}
+use Rattle.monkey_server.proofs.Passes.{eqb-ne, busy-last, least-busy, unless_short-takes, unless_unsent-passes, unless_unsent-takes, IsFrom-later, with_short-append, IsFrom-with_short, IsFrom-read, IsFed-last, IsFed-nothing, IsFed-back}
 
 -- with nothing more to come
 pub at_end : (stage : Stage) (built : List ℕ) (known : ℕ) (held : Held) (taken : List ℕ) (es : List Entry) (asked : List Call) (sent : List ℕ) (talk : Talk) →
@@ -76,7 +74,7 @@ pub StandsFor-turned : (opened : Bool) (built : List ℕ) (known : ℕ) (before 
     (whole : Talk → Talk) →
     ((bytes : List ℕ) (talk : Talk) → IsTalk before.started (before.rest ++ bytes) talk → IsTalk false (taken ++ bytes) (whole talk)) →
     ((talk : Talk) (more_es : List Entry) → IsFrom (least stage) (length sent) more_es →
-        told (whole talk) (es ++ with_short w sent more_es) ≡ session opened known talk (record { bytes = sent; calls = asked }) (with_short w sent more_es)) →
+    told (whole talk) (es ++ with_short w sent more_es) ≡ session opened known talk (record { bytes = sent; calls = asked }) (with_short w sent more_es)) →
     (IsHolding stage → 0 < length (reply_of built stage)) →
     Steps opened known before stage w after → StandsFor stage built known after taken (es ++ with_short w sent []) asked sent
 StandsFor-turned opened built known before after taken es asked sent stage w whole heard goes some steps = record {
@@ -97,9 +95,9 @@ pub StandsFor-fed : (opened : Bool) (built : List ℕ) (known : ℕ) (held befor
 StandsFor-fed opened built known held before after piece taken es asked sent stage w is s some steps =
     StandsFor-turned opened built known before after (taken ++ piece) es asked sent stage w s.whole
     (λ bytes talk h. subst (λ (x : List ℕ). IsTalk false x (s.whole talk)) (sym (append_assoc taken piece bytes))
-        (s.heard (piece ++ bytes) talk tt
-        (subst (λ (x : List ℕ). IsTalk held.started x talk) (append_assoc held.rest piece bytes)
-        (subst (λ (x : Held). IsTalk x.started (x.rest ++ bytes) talk) is h))))
+    (s.heard (piece ++ bytes) talk tt
+    (subst (λ (x : List ℕ). IsTalk held.started x talk) (append_assoc held.rest piece bytes)
+    (subst (λ (x : Held). IsTalk x.started (x.rest ++ bytes) talk) is h))))
     (λ talk more_es from. s.goes talk (with_short w sent more_es) (IsFrom-with_short w sent (least stage) more_es from))
     some steps
 
@@ -145,6 +143,7 @@ StandsFor-answered stage next built now_built known now_known held taken es aske
   waits = λ o is. absurd (subst IsBusy is adv.busy);
   some = some;
 }
+
 pub StandsFor-told : (p : Bool) (r : Reply) (built : List ℕ) (known : ℕ) (held : Held) (taken : List ℕ) (es : List Entry) (asked : List Call) (sent : List ℕ) (stage : Stage) →
     StandsFor (stages.Telling p r) built known held taken es asked sent → (IsHolding stage → 0 < length (reply_of built stage)) → IsBusy stage →
     ((talk : Talk) (said : Said) (more_es : List Entry) → resumed p (session true known talk) said more_es ≡ goes_on stage built known talk said more_es) →
@@ -168,8 +167,8 @@ StandsFor-settled r built known before after taken es asked sent stage w s some 
     StandsFor-turned true built known before after taken es asked now stage w s.whole
     (λ bytes talk h. s.heard bytes talk tt h)
     (λ talk more_es from.
-        s.goes talk (with_short w now more_es) (IsFrom-read w sent (bytes_of built r) (least stage) more_es (s.some tt) from)
-        ∙ unless_unsent-passes (closing ends.WriteFault) (session true known talk) (record { bytes = now; calls = asked }) 0 (with_short w now more_es) (IsFrom-with_short w now (least stage) more_es from))
+    s.goes talk (with_short w now more_es) (IsFrom-read w sent (bytes_of built r) (least stage) more_es (s.some tt) from)
+    ∙ unless_unsent-passes (closing ends.WriteFault) (session true known talk) (record { bytes = now; calls = asked }) 0 (with_short w now more_es) (IsFrom-with_short w now (least stage) more_es from))
     some steps
 
 pub StandsFor-parted : (fatal : Fatal) (built : List ℕ) (known : ℕ) (held : Held) (taken : List ℕ) (es : List Entry) (asked : List Call) (sent : List ℕ) →
@@ -233,7 +232,7 @@ StandsFor-stopped opened built known held taken es asked sent stage cause end s 
   heard = λ bytes talk fed h.
       let nothing : bytes ≡ [] = IsFed-last stage bytes leads.0 fed in
       subst (λ (x : List ℕ). IsTalk false (taken ++ x) (s.whole (partial held.rest))) (sym nothing)
-          (s.heard [] (partial held.rest) tt (subst (λ (x : List ℕ). IsTalk held.started x (partial held.rest)) (sym (append-nil held.rest)) (refl, (s.waits opened refl).0, (s.waits opened refl).1)));
+      (s.heard [] (partial held.rest) tt (subst (λ (x : List ℕ). IsTalk held.started x (partial held.rest)) (sym (append-nil held.rest)) (refl, (s.waits opened refl).0, (s.waits opened refl).1)));
   goes = λ talk more_es from.
       ap (told (s.whole (partial held.rest))) (append_assoc es (stop cause ∷ []) more_es)
       ∙ s.goes (partial held.rest) (stop cause ∷ more_es) tt

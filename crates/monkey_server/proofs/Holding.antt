@@ -1,12 +1,11 @@
 -- A reply that is held has bytes.
 use Rattle.std.proofs.Common.{◌≡◌, ◌<◌, ℕ, Bool, List, length}
-use Rattle.monkey_server.specs.declared.stage.Fatal.{Fatal}
 use Rattle.monkey_server.specs.declared.stage.Reply.{Reply}
 use Rattle.monkey_server.specs.declared.stage.Reply.TheVariants as replies
 use Rattle.monkey_server.specs.declared.stage.Stage.{Stage}
 use Rattle.monkey_server.specs.declared.stage.Stage.TheVariants as stages
-use Rattle.monkey_server.specs.Replies.{bytes_of, fatal_state}
-use Rattle.monkey_server.specs.Stands.{NoBuilt, IsHolding, reply_of, IsLast}
+use Rattle.monkey_server.specs.Replies.{fatal_state}
+use Rattle.monkey_server.specs.Stands.{NoBuilt, IsHolding, reply_of}
 use Rattle.monkey_server.proofs.Somes.{bytes_of-some, fatal-some}
 
 telling_not_built : (p : Bool) (r : Reply) → NoBuilt (stages.Telling p r) → r ≡ replies.Built → ⊥

@@ -14,3 +14,4 @@ pub mod Somes
 pub mod Holding
 pub mod Flags
 pub mod Playing
+pub mod Words

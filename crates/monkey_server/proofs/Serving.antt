@@ -1,9 +1,9 @@
 -- A run over a link goes on.
-use Rattle.std.proofs.Common.{◌≡◌, ◌↔◌, IfSome, Bool, true, false, ℕ, ◌+◌, ◌<◌, ◌≤◌, List, [], ◌∷◌, ◌++◌, length, take, refl, sym, ◌∙◌, ap, subst, append_assoc, arith, Option, Some, None, length-append}
+use Rattle.std.proofs.Common.{◌≡◌, ◌↔◌, IfSome, Bool, true, false, ℕ, ◌+◌, ◌≤◌, List, [], ◌∷◌, ◌++◌, length, take, refl, sym, ◌∙◌, ap, subst, arith, Option, Some, None, length-append}
 use Rattle.std.proofs.lemmas.List.{append-nil}
 use Rattle.std.proofs.lemmas.Grind.{common_steps}
 use Rattle.link_traits.specs.Faults.{Rose}
-use Rattle.link_traits.specs.Traffic.{Traffic, Took, Wrote, WrotePart, Both, Sight}
+use Rattle.link_traits.specs.Traffic.{Traffic, Took, Wrote, Both, Sight}
 use Rattle.history_core.specs.declared.event.Event.{Event}
 use Rattle.history_core.specs.Book.{Past, Seat, away, seated, pending, writes_of}
 use Rattle.monkey_server.specs.declared.call.Call.{Call}
@@ -21,10 +21,9 @@ use Rattle.monkey_server.specs.declared.want.Want.{Want}
 use Rattle.monkey_server.specs.declared.want.Want.TheVariants as wanted
 use Rattle.monkey_server.specs.Talk.{Talk, IsTalk, unread}
 use Rattle.monkey_server.specs.Told.{Entry, ended, short, unsent, stop, more, told, has_short}
-use Rattle.monkey_server.specs.Record.{Lawful}
 use Rattle.monkey_server.specs.Sessions.{Stands, StandsShort}
-use Rattle.monkey_server.specs.Stands.{Lacks, LacksBy, owed_at, outer_end, IsStopped, outer, end_of, wants, IsHolding, reply_of, entry_for, Shows, IsResting, IsLast, IsOver}
-use Rattle.monkey_server.specs.Serve.{Plays, Carries, IsAtEnd, Blames, Runs, Ran, Serves, Sits, owed_of, most_read}
+use Rattle.monkey_server.specs.Stands.{Lacks, LacksBy, owed_at, outer_end, IsStopped, outer, end_of, wants, IsHolding, entry_for, Shows, IsResting, IsLast, IsOver}
+use Rattle.monkey_server.specs.Serve.{Plays, Carries, IsAtEnd, Blames, Ran, Serves, Sits, owed_of, most_read}
 use Rattle.monkey_server.proofs.Grows.{Shows-stands}
 use Rattle.monkey_server.proofs.Lawfuls.{Lawful-plays, Lawful-short, Lawful-quiet, own_events}
 use Rattle.monkey_server.proofs.Carrying.{Carries-record, Carries-wrote, Carries-took, Both-then, Both-weaker, Blames-same, Blames-none, Blames-wrote}

@@ -1,17 +1,16 @@
 -- The steps of a session over the bytes that it holds.
-use Rattle.std.proofs.Common.{◌≡◌, ◌≢◌, Bool, true, false, ℕ, ◌+◌, ◌*◌, ◌<◌, ◌≤◌, List, [], ◌∷◌, ◌++◌, length, refl, sym, ◌∙◌, ap, subst, append_assoc, arith, Option, Some, None, length-append}
+use Rattle.std.proofs.Common.{◌≡◌, Bool, true, ℕ, List, [], ◌++◌, length, refl, sym, ◌∙◌, ap, subst, append_assoc, Some, None}
 use Rattle.std.proofs.lemmas.List.{append-nil}
 use Rattle.pg_framing.specs.declared.front.Front.{Front}
 use Rattle.pg_framing.specs.declared.front.FrameFault.{FrameFault}
-use Rattle.pg_framing.specs.Spelling.{IsFront, spelling, phase_after}
+use Rattle.pg_framing.specs.Spelling.{spelling, phase_after}
 use Rattle.pg_framing.specs.Fronts.{Held, TakesFront, IsPartial, HasFault}
-use Rattle.monkey_server.specs.declared.end.End.{End}
 use Rattle.monkey_server.specs.declared.end.End.TheVariants as ends
 use Rattle.monkey_server.specs.declared.stage.Stage.{Stage}
 use Rattle.monkey_server.specs.declared.stage.Stage.TheVariants as stages
-use Rattle.monkey_server.specs.Talk.{Talk, asks, faulty, IsTalk}
-use Rattle.monkey_server.specs.Told.{Entry, Said, ending, owed_by, handled, session}
-use Rattle.monkey_server.specs.Stands.{least, IsFrom, IsLast, IsBusy, LeadsTo, IsFed, Enters, Steps}
+use Rattle.monkey_server.specs.Talk.{asks, faulty, IsTalk}
+use Rattle.monkey_server.specs.Told.{Entry, ending, owed_by, handled, session}
+use Rattle.monkey_server.specs.Stands.{least, IsFrom, IsBusy, LeadsTo, Enters, Steps}
 use Rattle.monkey_server.proofs.Passes.{busy-last, least-busy, unless_short-passes, IsFed-last}
 use Rattle.monkey_server.proofs.Grows.{session-short}
 
@@ -33,13 +32,13 @@ pub Steps-front : (opened : Bool) (known : ℕ) (before after : Held) (front : F
 Steps-front opened known before after front stage takes started enters = record {
   turns = asks enters.ask;
   heard = λ bytes talk fed h. (
-      front,
-      after.rest ++ bytes,
-      takes.fits,
-      ap (λ x. x ++ bytes) takes.whole ∙ append_assoc (spelling front) after.rest bytes,
-      enters.says,
-      subst (λ (b : Bool). IsTalk b (after.rest ++ bytes) talk) started h,
-    );
+    front,
+    after.rest ++ bytes,
+    takes.fits,
+    ap (λ x. x ++ bytes) takes.whole ∙ append_assoc (spelling front) after.rest bytes,
+    enters.says,
+    subst (λ (b : Bool). IsTalk b (after.rest ++ bytes) talk) started h,
+  );
   goes = λ built talk said es from.
       unless_short-passes true (ending (owed_by opened) ends.Memory) (handled enters.ask known (λ k. session true k talk)) said es (at_one stage (length said.bytes) es enters.busy from)
       ∙ enters.goes built talk said es;
@@ -53,7 +52,7 @@ Steps-faulty opened known before after fault stage same_phase same_rest has lead
   heard = λ bytes talk fed h.
       let nothing : bytes ≡ [] = IsFed-last stage bytes leads.0 fed in
       subst (λ (x : List ℕ). HasFault before.started (before.rest ++ x) fault) (sym nothing)
-          (subst (λ (x : List ℕ). HasFault before.started x fault) (sym (append-nil before.rest)) has);
+      (subst (λ (x : List ℕ). HasFault before.started x fault) (sym (append-nil before.rest)) has);
   goes = λ built talk said es from.
       unless_short-passes true (ending (owed_by opened) ends.Memory) (ending (owed_by opened) (ends.Protocol fault)) said es (at_one stage (length said.bytes) es (busy-last stage leads.0) from)
       ∙ leads.1 built known talk said es;
@@ -68,4 +67,3 @@ Steps-memory opened known before after stage is leads = record {
   goes = λ built talk said es from. session-short opened known talk said es ∙ leads.1 built known talk said es;
   waits = λ o e. absurd (subst IsBusy e (busy-last stage leads.0));
 }
-

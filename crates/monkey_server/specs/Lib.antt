@@ -8,3 +8,6 @@ pub mod Record
 pub mod Stands
 pub mod Sessions
 pub mod Serve
+pub mod Choices
+pub mod Command
+pub mod Program

@@ -1,5 +1,5 @@
 -- What a run of a session over a book, a link and words comes to.
-use Rattle.std.specs.Prelude.{◌≡◌, ◌≢◌, ℕ, ◌+◌, ◌<◌, ◌≤◌, List, [], ◌∷◌, ◌++◌, length, Option, Some, None, Bool, false}
+use Rattle.std.specs.Prelude.{◌≡◌, ℕ, ◌+◌, ◌≤◌, List, [], ◌∷◌, ◌++◌, length, Option, Some, None, Bool, false}
 use Rattle.link_traits.specs.Faults.{Rose}
 use Rattle.link_traits.specs.Traffic.{Traffic, Both, Sight}
 use Rattle.history_core.specs.declared.event.Event.{Event}
@@ -16,7 +16,7 @@ use Rattle.monkey_server.specs.declared.stage.Owed.TheVariants as owes
 use Rattle.monkey_server.specs.declared.stage.Stage.{Stage}
 use Rattle.monkey_server.specs.declared.session.Session.{Session}
 use Rattle.monkey_server.specs.Talk.{Talk, IsTalk}
-use Rattle.monkey_server.specs.Told.{Entry, did, refused, Said, more, ended, told, has_short}
+use Rattle.monkey_server.specs.Told.{Entry, did, refused, more, ended, told, has_short}
 use Rattle.monkey_server.specs.Record.{Happens, Declines, Draws, Lawful, events_of}
 use Rattle.monkey_server.specs.Sessions.{Stands}
 use Rattle.monkey_server.specs.Stands.{Lacks, LacksBy, outer, outer_end, owed_at, IsReading}

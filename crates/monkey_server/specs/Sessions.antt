@@ -1,6 +1,6 @@
 -- When the state of a session stands for the bytes that it was fed, the record of what it was answered, the calls that it asked, and
 -- the bytes taken from it.
-use Rattle.std.specs.Prelude.{◌≡◌, ℕ, ◌+◌, ◌*◌, List, [], ◌∷◌, ◌++◌, length}
+use Rattle.std.specs.Prelude.{◌≡◌, ℕ, ◌+◌, ◌*◌, List, ◌++◌, length}
 use Rattle.monkey_server.specs.declared.call.Call.{Call}
 use Rattle.monkey_server.specs.declared.session.Session.{Session}
 use Rattle.monkey_server.specs.Told.{Entry, has_short}

@@ -1,13 +1,9 @@
 -- When a stage of a session stands for the bytes that it was fed, the record of what it was answered, the calls that it asked, and
 -- the bytes taken from it.
-use Rattle.std.specs.Prelude.{◌≡◌, ◌≢◌, ℕ, ◌+◌, ◌*◌, ◌<◌, ◌≤◌, List, [], ◌∷◌, ◌++◌, length, Option, Some, None, Bool, true, false, not, ◌||◌}
-use Rattle.cell_base.specs.declared.cell.Cell.{Cell}
-use Rattle.cell_base.specs.declared.sql_state.SqlState.{SqlState}
+use Rattle.std.specs.Prelude.{◌≡◌, ℕ, ◌+◌, ◌<◌, ◌≤◌, List, [], ◌∷◌, ◌++◌, length, Option, Some, None, Bool, true, false, not}
 use Rattle.cell_base.specs.declared.sql_state.SqlState.TheVariants as states
-use Rattle.cell_base.specs.declared.value.Value.{Value}
 use Rattle.cell_base.specs.declared.value.Value.TheVariants.{Flag, Int}
 use Rattle.history_core.specs.declared.event.Event.{Event}
-use Rattle.history_core.specs.declared.fault.BookFault.{BookFault}
 use Rattle.history_core.specs.declared.fault.BookFault.TheVariants as faults
 use Rattle.pg_framing.specs.declared.front.Front.{Front}
 use Rattle.pg_framing.specs.Fronts.{Held, HasNoFront, HasFault}
@@ -23,21 +19,18 @@ use Rattle.monkey_server.specs.declared.end.Stop.TheVariants as stops
 use Rattle.monkey_server.specs.declared.stage.Access.{Access}
 use Rattle.monkey_server.specs.declared.stage.Owed.{Owed}
 use Rattle.monkey_server.specs.declared.stage.Owed.TheVariants as owes
-use Rattle.monkey_server.specs.declared.stage.Fault.{Fault}
-use Rattle.monkey_server.specs.declared.stage.Fault.TheVariants as fails
 use Rattle.monkey_server.specs.declared.stage.Fatal.{Fatal}
 use Rattle.monkey_server.specs.declared.stage.Fatal.TheVariants as fatals
 use Rattle.monkey_server.specs.declared.stage.Finish.{Finish}
 use Rattle.monkey_server.specs.declared.stage.Finish.TheVariants as finishes
-use Rattle.monkey_server.specs.declared.stage.Reply.{Reply}
 use Rattle.monkey_server.specs.declared.stage.Reply.TheVariants as replies
 use Rattle.monkey_server.specs.declared.stage.Stage.{Stage}
 use Rattle.monkey_server.specs.declared.stage.Stage.TheVariants as stages
 use Rattle.monkey_server.specs.declared.want.Want.{Want}
 use Rattle.monkey_server.specs.declared.want.Want.TheVariants as wanted
-use Rattle.monkey_server.specs.Talk.{Ask, Says, Talk, asks, partial, faulty, unread, IsTalk}
-use Rattle.monkey_server.specs.Replies.{ready_reply, created_reply, inserted_reply, no_row_reply, error_reply, fatal_reply, fault_state, fatal_state, bytes_of}
-use Rattle.monkey_server.specs.Told.{Entry, did, refused, short, unsent, stop, Said, Script, more, call, ended, with_bytes, with_call, ask, tell, done, lost, closed, closing, ending, owed_by, readied, failed, undone, committed, creates, fills, marks, fetches, checks, begins, looks, opens, handled, session, told, has_short, key_of, presence_of, field_of}
+use Rattle.monkey_server.specs.Talk.{Ask, Says, Talk, IsTalk}
+use Rattle.monkey_server.specs.Replies.{fatal_reply, fatal_state, bytes_of}
+use Rattle.monkey_server.specs.Told.{Entry, did, refused, short, unsent, stop, Said, Script, more, call, ended, with_call, tell, done, lost, closing, ending, owed_by, readied, undone, committed, creates, fills, marks, fetches, checks, begins, looks, opens, handled, session, told, key_of, presence_of, field_of}
 
 -- what the parts of a stage stand for
 
@@ -363,7 +356,7 @@ work_at (stages.Ended finish) = 0
 
 -- what a failed write left unsent: a part of the last reply, and nothing elsewhere
 abbrev pub LacksBy : End → List ℕ → Type 0
-LacksBy ends.WriteFault lost = Unit {0}
+LacksBy ends.WriteFault gone = Unit {0}
 LacksBy _ lost = lost ≡ []
 
 abbrev pub Lacks : Stage → List ℕ → Type 0

@@ -1,5 +1,5 @@
 -- What a client says: its messages, each as what it asks for.
-use Rattle.std.specs.Prelude.{◌≡◌, ℕ, List, ◌++◌, Bool, true, false}
+use Rattle.std.specs.Prelude.{◌≡◌, ℕ, List, ◌++◌, Bool}
 use Rattle.pg_framing.specs.declared.front.Front.{Front}
 use Rattle.pg_framing.specs.declared.front.Front.TheVariants.{Startup, Version, Query, Terminate}
 use Rattle.pg_framing.specs.declared.front.FrameFault.{FrameFault}

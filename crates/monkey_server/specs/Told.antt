@@ -10,9 +10,7 @@ use Rattle.cell_base.specs.declared.value.Value.TheVariants.{Flag, Int}
 use Rattle.history_core.specs.declared.event.Event.{Event}
 use Rattle.history_core.specs.declared.fault.BookFault.{BookFault}
 use Rattle.history_core.specs.declared.fault.BookFault.TheVariants as faults
-use Rattle.history_core.specs.declared.fault.DefineAnswer.{DefineAnswer}
 use Rattle.history_core.specs.declared.fault.DefineAnswer.TheVariants as defines
-use Rattle.pg_framing.specs.declared.front.FrameFault.{FrameFault}
 use Rattle.monkey_server.specs.declared.call.Call.{Call}
 use Rattle.monkey_server.specs.declared.call.Call.TheVariants as calls
 use Rattle.monkey_server.specs.declared.call.Answer.{Answer}

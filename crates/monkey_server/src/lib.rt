@@ -2,13 +2,23 @@
 #![tactic(auto)]
 
 mod call;
+mod command;
 mod end;
+mod list_words;
 mod prepared;
 mod replies;
 mod request;
+mod run;
 mod serve;
 mod session;
 mod stage;
+#[cfg(test)]
+mod tests;
 mod turns;
 mod user;
 mod want;
+
+pub use end::End;
+pub use list_words::ListWords;
+pub use run::{Status, monkey_main};
+pub use serve::{Served, serve_link};

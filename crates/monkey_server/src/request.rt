@@ -84,8 +84,8 @@ fn numeral(text: &[u8]) -> Option<i64>
     }
 }
 
-// What stands before the first comma, and what behind it.
-fn at_comma(text: &[u8]) -> Option<(&[u8], &[u8])>
+/// What stands before the first comma, and what behind it.
+pub fn at_comma(text: &[u8]) -> Option<(&[u8], &[u8])>
     ensures some { IfSome result (λ x. text.now ≡ x.0.now ++ 44 ∷ x.1.now) }
     ensures no_comma { IfSome result (λ x. ¬ (Contains x.0.now 44)) }
     ensures none { IsNone result → ¬ (Contains text.now 44) }

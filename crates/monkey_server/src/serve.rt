@@ -16,8 +16,8 @@ use crate::call::{Answer, Call};
 use crate::end::{End, Stop};
 use crate::session::Session;
 use crate::want::Want;
-use history_core::Book;
 use cell_base::{Items, Memory, SqlType, Text, Value};
+use history_core::Book;
 use link_traits::{Link, Words, send_all};
 use sql_tree::{Column, Table};
 use std::alloc::Global;
@@ -219,7 +219,6 @@ fn finish(session: &Session) -> Served
     }
 }
 
-
 // What a session is served with.
 struct Start {
     session: Session,
@@ -293,7 +292,7 @@ fn run<B: Book, L: Link, W: Words>(
     requires away { (B.past book.old).seat ≡ away }
     ensures served { (talk : Talk) × (taken : List ℕ) × (es : List Entry) × (asked : List Asked) × (sent : List ℕ) × (lost : List ℕ) ×
         Serves W.gives (B.past book.old) words.old (sight_of L.traffic L.read_faults L.write_faults link.old) result.end result.short
-            (B.past book.new) words.new (sight_of L.traffic L.read_faults L.write_faults link.new) talk taken es asked sent lost }
+        (B.past book.new) words.new (sight_of L.traffic L.read_faults L.write_faults link.new) talk taken es asked sent lost }
     ensures away { (B.past book.new).seat ≡ away }
     ensures stays { B.stays book.old book.new }
 {
@@ -324,16 +323,18 @@ pub fn serve_link<B: Book, L: Link, W: Words>(
     requires { (B.past book.old).seat ≡ away }
     ensures served { (talk : Talk) × (taken : List ℕ) × (es : List Entry) × (asked : List Asked) × (sent : List ℕ) × (lost : List ℕ) ×
         Serves W.gives (B.past book.old) words.old (sight_of L.traffic L.read_faults L.write_faults link.old) result.end result.short
-            (B.past book.new) words.new (sight_of L.traffic L.read_faults L.write_faults link.new) talk taken es asked sent lost }
+        (B.past book.new) words.new (sight_of L.traffic L.read_faults L.write_faults link.new) talk taken es asked sent lost }
     ensures away { (B.past book.new).seat ≡ away }
     ensures stays { B.stays book.old book.new }
 {
     match begin(alloc) {
-        Ok(Start {
-            session,
-            table,
-            mut room,
-        }) => run(session, &table, &mut room, book, link, words),
+        Ok(
+            Start {
+                session,
+                table,
+                mut room,
+            },
+        ) => run(session, &table, &mut room, book, link, words),
         Err(Memory) => Served {
             end: End::Memory,
             short: true,

@@ -6,9 +6,9 @@ ghost use Rattle.monkey_server.specs.declared.call.Call.{Call as Asked};
 ghost use Rattle.monkey_server.specs.Told.{Entry, unsent, stop as stopped, has_short, owed_by};
 ghost use Rattle.monkey_server.specs.Stands.{Steps, InPhase, IsHolding, NoBuilt, with_short, owed_at, outer, work_at, Lacks, NeedsTable, ComesFrom, wants_memory, Advances, reply_of};
 
-use crate::prepared::Prepared;
 use crate::call::Answer;
 use crate::end::{End, Stop};
+use crate::prepared::Prepared;
 use crate::replies::{one_row, startup};
 use crate::stage::{Fatal, Fault, Finish, Owed, Reply, Stage};
 use crate::turns::{advance, break_off, enter, finish_of, leave, owed_between, resume, want_of};
@@ -262,7 +262,6 @@ impl Session {
             }
         }
     }
-
 
     /// The reply was sent.
     pub fn sent(&mut self)

@@ -268,13 +268,7 @@ pub fn finish_of(cause: Stop, nothing: bool) -> Finish
     ensures lacks { LacksBy (end_of result) [] }
 {
     match cause {
-        Stop::EndOfInput => {
-            if nothing {
-                Finish::Closed
-            } else {
-                Finish::Cut
-            }
-        }
+        Stop::EndOfInput => { if nothing { Finish::Closed } else { Finish::Cut } }
         Stop::ReadFault => Finish::ReadFault,
         Stop::Spent => Finish::Fatal(Fatal::Spent),
     }

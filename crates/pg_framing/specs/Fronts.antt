@@ -46,7 +46,7 @@ pub record HasLength (bytes : List ℕ) (kind len : ℕ) : Type 0 where
   pub kind_is : slice_index bytes 0 ≡ kind
   pub length_is : number_at 1 bytes ≡ len
 
--- the type bytes of messages that the server will take one day
+-- the type bytes of the messages of the protocol that the server does not take
 abbrev pub IsLater : ℕ → Type 0
 IsLater kind = IsTrue (list_any (λ k. k == kind) (codes "SHPBDECFdcf"))
 

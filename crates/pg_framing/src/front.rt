@@ -27,7 +27,7 @@ pub enum FrameFault {
     UnknownType(u8),
     /// The text of a query isn't ended by its only zero byte.
     NoTerminator,
-    /// A message of the protocol that this server doesn't take yet.
+    /// A message of the protocol that this server doesn't take.
     NotBuilt,
     /// Want of memory.
     Memory,

@@ -1,7 +1,6 @@
-use Rattle.std.proofs.Common.{ℕ, refl, ap, sym, ◌∙◌, Err, length}
-use Rattle.history_core.specs.declared.event.Event.TheVariants.{Open, Close, Define, Look, Begin, Read, Write, Commit, Rollback}
+use Rattle.std.proofs.Common.{refl, ap, Err, length}
+use Rattle.history_core.specs.declared.event.Event.TheVariants.{Close, Look, Begin, Read, Write, Commit, Rollback}
 use Rattle.history_core.specs.Book.{session_of}
-use Rattle.sql_tree.specs.Sound.{first_table}
 use Rattle.monkey_server.specs.declared.call.Call.TheVariants as calls
 use Rattle.monkey_server.specs.declared.call.Answer.TheVariants as answers
 use Rattle.monkey_server.proofs.Playing.{played, declined, defined_plays, look_fits}

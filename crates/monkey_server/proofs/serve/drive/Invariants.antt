@@ -1,4 +1,4 @@
-use Rattle.std.proofs.Common.{◌≡◌, ℕ}
+use Rattle.std.proofs.Common.{ℕ}
 use Rattle.history_core.specs.Book.{Past}
 use Rattle.link_traits.specs.Traffic.{Sight, sight_of}
 use Rattle.monkey_server.specs.Sessions.{work_of}

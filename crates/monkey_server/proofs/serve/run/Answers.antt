@@ -1,7 +1,6 @@
-use Rattle.std.proofs.Common.{rules, ◌+◌, ℕ, refl, sym, ◌∙◌, ap, subst, arith}
+use Rattle.std.proofs.Common.{rules, ◌+◌, ℕ, arith}
 use Rattle.link_traits.specs.Traffic.{Sight, sight_of}
-use Rattle.monkey_server.specs.Serve.{Sits}
-use Rattle.monkey_server.proofs.Serving.{Ran-new, Serves-ran, wants_bytes, is_over, away_over, sits_new}
+use Rattle.monkey_server.proofs.Serving.{Ran-new, Serves-ran, is_over, away_over, sits_new}
 use Rattle.monkey_server.proofs.serve.run.Goals as goal
 
 pub loop-session-init : goal.loop-session-init
@@ -28,7 +27,7 @@ returns-then-n-eq0 g c =
           Serves-ran g.W.Words.gives (g.B.Book.past c.args.book.now) c.args.words.now f c.drive-then-n-eq0.new.session c.finish-then-n-eq0.result.end c.finish-then-n-eq0.result.short (g.B.Book.past c.drive-then-n-eq0.new.book) c.drive-then-n-eq0.new.words
           (sight_of g.L.Sides.traffic g.L.Sides.read_faults g.L.Sides.write_faults c.drive-then-n-eq0.new.link) (many + c.take_in-n.result) c.finish-then-n-eq0.ensures.end c.finish-then-n-eq0.ensures.short
           (c.drive-then-n-eq0.ensures.ran (g.B.Book.past c.args.book.now) c.args.words.now f (many + c.take_in-n.result)
-              (c.take_in-n.ensures.ran (g.B.Book.past c.args.book.now) c.args.words.now f many c.loop-session.invariant.ran.1 (c.drive.ensures.ran (g.B.Book.past c.args.book.now) c.args.words.now f many c.loop-session.invariant.ran.2)));
+          (c.take_in-n.ensures.ran (g.B.Book.past c.args.book.now) c.args.words.now f many c.loop-session.invariant.ran.1 (c.drive.ensures.ran (g.B.Book.past c.args.book.now) c.args.words.now f many c.loop-session.invariant.ran.2)));
       away = away_over c.drive-then-n-eq0.new.session.stage c.drive-then-n-eq0.new.session.known (g.B.Book.past c.drive-then-n-eq0.new.book) (is_over c.drive-then-n-eq0.new.session.stage c.drive-then-n-eq0.new.session.known c.drive-then-n-eq0.ensures.rests (c.drive-then-n-eq0.ensures.last (c.take_in-n.ensures.stopped c.if-n-eq0.true))) c.drive-then-n-eq0.ensures.sits;
       stays = g.met.B.Book.stays_trans _ _ _ (g.met.B.Book.stays_trans _ _ _ c.loop-session.invariant.stays c.drive.ensures.stays) c.drive-then-n-eq0.ensures.stays;
     }

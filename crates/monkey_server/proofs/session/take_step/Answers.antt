@@ -1,4 +1,4 @@
-use Rattle.std.proofs.Common.{◌≡◌, ℕ, ◌+◌, ◌*◌, ◌<◌, ap, subst, refl, sym, ◌∙◌, Some, None, IfSome, IsNone, length, arith}
+use Rattle.std.proofs.Common.{◌≡◌, ap, subst, refl, sym, IfSome, IsNone}
 use Rattle.std.specs.Prelude.{Option}
 use Rattle.pg_framing.specs.declared.front.Front.{Front}
 use Rattle.pg_framing.specs.Fronts.{Held, TakesFront}
@@ -6,7 +6,7 @@ use Rattle.pg_framing.specs.Spelling.{phase_after}
 use Rattle.monkey_server.specs.declared.stage.Owed.{Owed}
 use Rattle.monkey_server.specs.declared.end.End.TheVariants as ends
 use Rattle.monkey_server.specs.Told.{ending}
-use Rattle.monkey_server.specs.Stands.{LeadsTo, owed_at}
+use Rattle.monkey_server.specs.Stands.{LeadsTo}
 use Rattle.monkey_server.proofs.Stepping.{Steps-partial, Steps-front, Steps-faulty, Steps-memory}
 use Rattle.monkey_server.proofs.session.take_step.Goals as goal
 

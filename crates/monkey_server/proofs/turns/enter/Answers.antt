@@ -1,7 +1,6 @@
 use Rattle.std.proofs.Common.{ℕ, List, sym, subst}
 use Rattle.monkey_server.specs.Requests.{IsRequest}
 use Rattle.pg_framing.specs.declared.front.Front.{Front}
-use Rattle.pg_framing.specs.declared.front.Front.TheVariants.{Query}
 use Rattle.monkey_server.specs.Talk.{query}
 use Rattle.monkey_server.specs.Stands.{Enters}
 use Rattle.monkey_server.proofs.turns.enter.Goals as goal

@@ -1,9 +1,9 @@
-use Rattle.std.proofs.Common.{◌≡◌, Bool, ℕ, List, [], ◌++◌, ◌∷◌, length, sym, subst, refl, ap, ◌∙◌, None, false}
+use Rattle.std.proofs.Common.{Bool, [], sym, subst, ap, ◌∙◌, None}
 use Rattle.std.specs.Prelude.{◌||◌}
 use Rattle.monkey_server.specs.declared.call.Answer.{Answer}
 use Rattle.monkey_server.specs.declared.stage.Stage.{Stage}
 use Rattle.monkey_server.specs.declared.stage.Stage.TheVariants as stages
-use Rattle.monkey_server.specs.Stands.{Advances, with_short, wants_memory, entry_for}
+use Rattle.monkey_server.specs.Stands.{Advances, with_short, wants_memory}
 use Rattle.monkey_server.proofs.Passes.{IsShort-with_short}
 use Rattle.monkey_server.proofs.Grows.{StandsFor-answered}
 use Rattle.monkey_server.proofs.Holding.{holding-some}
@@ -15,8 +15,8 @@ returns-in-Opening-Opened-clause-grown c =
     λ taken es asked sent k e s w.
     let advances : Advances c.args.self.now.stage c.args.self.now.known c.args.answer c.greet-step.result.stage c.greet-step.result.wanting c.greet-step.new.built.items c.args.self.now.known =
     subst (λ (x : Stage). Advances x c.args.self.now.known c.args.answer c.greet-step.result.stage c.greet-step.result.wanting c.greet-step.new.built.items c.args.self.now.known) (sym c.in-Opening-Opened.is-0)
-        (subst (λ (x : Answer). Advances stages.Opening c.args.self.now.known x c.greet-step.result.stage c.greet-step.result.wanting c.greet-step.new.built.items c.args.self.now.known) (sym c.in-Opening-Opened.is-1)
-        (c.greet-step.ensures.goes c.args.self.now.known)) in (
+    (subst (λ (x : Answer). Advances stages.Opening c.args.self.now.known x c.greet-step.result.stage c.greet-step.result.wanting c.greet-step.new.built.items c.args.self.now.known) (sym c.in-Opening-Opened.is-1)
+    (c.greet-step.ensures.goes c.args.self.now.known)) in (
       with_short c.greet-step.result.wanting sent [],
       IsShort-with_short c.greet-step.result.wanting sent,
       (
@@ -32,8 +32,8 @@ returns-in-Fetching-Found-clause-grown c =
     λ taken es asked sent k e s w.
     let advances : Advances c.args.self.now.stage c.args.self.now.known c.args.answer c.select-step.result.stage c.select-step.result.wanting c.select-step.new.built.items c.args.self.now.known =
     subst (λ (x : Stage). Advances x c.args.self.now.known c.args.answer c.select-step.result.stage c.select-step.result.wanting c.select-step.new.built.items c.args.self.now.known) (sym c.in-Fetching-Found.is-0)
-        (subst (λ (x : Answer). Advances (stages.Fetching c.in-Fetching-Found.field-0-0) c.args.self.now.known x c.select-step.result.stage c.select-step.result.wanting c.select-step.new.built.items c.args.self.now.known) (sym c.in-Fetching-Found.is-1)
-        (c.select-step.ensures.goes c.in-Fetching-Found.field-0-0 c.args.self.now.known)) in (
+    (subst (λ (x : Answer). Advances (stages.Fetching c.in-Fetching-Found.field-0-0) c.args.self.now.known x c.select-step.result.stage c.select-step.result.wanting c.select-step.new.built.items c.args.self.now.known) (sym c.in-Fetching-Found.is-1)
+    (c.select-step.ensures.goes c.in-Fetching-Found.field-0-0 c.args.self.now.known)) in (
       with_short c.select-step.result.wanting sent [],
       IsShort-with_short c.select-step.result.wanting sent,
       (

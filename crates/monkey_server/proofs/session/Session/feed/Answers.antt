@@ -1,4 +1,4 @@
-use Rattle.std.proofs.Common.{◌≡◌, Bool, ap, ℕ, List, [], ◌∷◌, ◌++◌, length, true, sym, subst, refl, ◌∙◌}
+use Rattle.std.proofs.Common.{Bool, ap, [], ◌∷◌, ◌++◌, length, true, sym, subst, refl, ◌∙◌}
 use Rattle.std.specs.Prelude.{◌||◌}
 use Rattle.pg_framing.specs.Fronts.{Held}
 use Rattle.monkey_server.specs.declared.stage.Owed.{Owed}

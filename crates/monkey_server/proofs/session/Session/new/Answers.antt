@@ -1,4 +1,4 @@
-use Rattle.std.proofs.Common.{ℕ, List, [], sym, subst, refl, false}
+use Rattle.std.proofs.Common.{[], sym, subst, refl, false}
 use Rattle.pg_framing.specs.Fronts.{Held}
 use Rattle.monkey_server.specs.declared.stage.Stage.TheVariants as stages
 use Rattle.monkey_server.specs.Stands.{StandsFor}

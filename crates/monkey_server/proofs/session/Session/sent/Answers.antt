@@ -1,4 +1,4 @@
-use Rattle.std.proofs.Common.{ℕ, Bool, List, [], ◌++◌, length, sym, subst, refl, ap, ◌∙◌}
+use Rattle.std.proofs.Common.{ℕ, Bool, List, [], ◌++◌, ap, ◌∙◌}
 use Rattle.std.specs.Prelude.{◌||◌}
 use Rattle.monkey_server.specs.Stands.{with_short, reply_of}
 use Rattle.monkey_server.proofs.Passes.{IsShort-with_short}

@@ -1,4 +1,4 @@
-use Rattle.std.proofs.Common.{◌≡◌, nat_eq, ℕ, List, length, ◌∙◌, sym, ap, subst, refl}
+use Rattle.std.proofs.Common.{nat_eq, ℕ, ap, subst, refl}
 use Rattle.monkey_server.specs.declared.stage.Owed.{Owed}
 use Rattle.monkey_server.specs.declared.stage.Stage.{Stage}
 use Rattle.monkey_server.specs.Told.{ending, stop}

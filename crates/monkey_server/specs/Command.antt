@@ -1,0 +1,20 @@
+-- The words of the command line.
+use Rattle.std.specs.Prelude.{◌≡◌, ◌<◌, ℕ, List, [], ◌∷◌, ◌++◌, length, codes, All}
+use Rattle.monkey_server.specs.Requests.{IsDigit, number_of}
+
+-- digits, at least one, of a number that fits 32 bits
+pub record IsWord (digits : List ℕ) (n : ℕ) : Type 0 where
+  pub some : 0 < length digits
+  pub each : All IsDigit digits
+  pub value : n ≡ number_of digits
+  pub bounded : n < 4294967296
+
+-- numbers with a comma between two of them
+abbrev pub Lists : List ℕ → List ℕ → Type 0
+Lists text [] = ⊥
+Lists text (n ∷ []) = IsWord text n
+Lists text (n ∷ (m ∷ more)) = (front : List ℕ) × (rest : List ℕ) × (text ≡ front ++ 44 ∷ rest) × IsWord front n × Lists rest (m ∷ more)
+
+-- `pipe rc WORDS`
+abbrev pub IsPipe : List (List ℕ) → List ℕ → Type 0
+IsPipe args words = (list : List ℕ) × (args ≡ codes "pipe" ∷ codes "rc" ∷ list ∷ []) × Lists list words

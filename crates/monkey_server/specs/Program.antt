@@ -1,0 +1,118 @@
+-- What the program does in a host.
+use Rattle.std.specs.Prelude.{◌≡◌, ℕ, List, [], ◌∷◌, ◌++◌, codes, Option, None, Some, Bool, true, false, ◌⊎◌}
+use Rattle.cell_base.specs.declared.level.Level.TheVariants.{Rc}
+use Rattle.link_traits.specs.Faults.{Rose}
+use Rattle.link_traits.specs.Traffic.{Both, Wrote, WrotePart, Sight}
+use Rattle.link_traits.specs.Host.{HostCall, standard_link_called}
+use Rattle.history_core.specs.Chronicle.{IsLegalChronicle}
+use Rattle.history_core.specs.Book.{Past, away}
+use Rattle.monkey_server.specs.declared.call.Call.{Call}
+use Rattle.monkey_server.specs.declared.end.End.{End}
+use Rattle.monkey_server.specs.declared.end.End.TheVariants as ends
+use Rattle.monkey_server.specs.Talk.{Talk}
+use Rattle.monkey_server.specs.Told.{Entry}
+use Rattle.monkey_server.specs.Record.{events_of}
+use Rattle.monkey_server.specs.Choices.{DrawsFirst}
+use Rattle.monkey_server.specs.Command.{IsPipe}
+use Rattle.monkey_server.specs.Serve.{Serves}
+
+-- what a host tells at a moment
+pub record Hosted : Type 0 where
+  pub calls : List HostCall
+  pub back : List Sight
+  pub out : Option Sight
+  pub objects_out : ℕ
+  pub link_faults : ℕ
+
+-- what a host tells, by the meanings of `Host`
+abbrev pub hosted_of : {H : Type 0} → (H → List HostCall) → (H → List Sight) → (H → Option Sight) → (H → ℕ) → (H → ℕ) → H → Hosted
+hosted_of calls back out objects_out link_faults host =
+    record { calls = calls host; back = back host; out = out host; objects_out = objects_out host; link_faults = link_faults host }
+
+abbrev pub usage_line : List ℕ
+usage_line = codes "usage: monkeydb pipe LEVEL WORDS | serve [OPTIONS] | check PATH | sim LEVEL SEED SESSIONS QUERIES" ++ 10 ∷ []
+
+-- the past of a book at Read Committed that has no event
+abbrev pub no_past : Past
+no_past = record { seen = record { level = Rc; events = []; tables = [] }; own = []; seat = away }
+
+-- A session was served over a link, from no history at Read Committed to a legal one whose events are the session's alone. Its reads drew
+-- these words in order, and then 0.
+pub record ServesAlone (words : List ℕ) (f g : Sight) (end : End) (wanting : Bool) : Type 0 where
+  pub past : Past
+  pub rest : List ℕ
+  pub talk : Talk
+  pub taken : List ℕ
+  pub es : List Entry
+  pub asked : List Call
+  pub sent : List ℕ
+  pub lost : List ℕ
+  pub serves : Serves DrawsFirst no_past words f end wanting past rest g talk taken es asked sent lost
+  pub level : past.seen.level ≡ Rc
+  pub legal : IsLegalChronicle past.seen
+  pub events : past.seen.events ≡ events_of es
+  pub closed : past.seat ≡ away
+
+-- the status of an end. A want of memory stands before it.
+abbrev pub status_of : End → Bool → ℕ
+status_of end true = 5
+status_of ends.Terminated false = 0
+status_of ends.Closed false = 0
+status_of ends.ReadFault false = 3
+status_of ends.WriteFault false = 4
+status_of ends.Memory false = 5
+status_of _ false = 1
+
+-- nothing was asked of the host
+pub record Untouched (before : Hosted) (code : ℕ) (after : Hosted) : Type 0 where
+  pub code_is : code ≡ 5
+  pub calls : after.calls ≡ before.calls
+  pub back : after.back ≡ before.back
+  pub out : after.out ≡ before.out
+
+-- the host handed the standard link out and got it back, over which a session was served
+pub record Piped (words : List ℕ) (before : Hosted) (code : ℕ) (after : Hosted) : Type 0 where
+  pub given : Sight
+  pub returned : Sight
+  pub end : End
+  pub wanting : Bool
+  pub calls : after.calls ≡ before.calls ++ standard_link_called (Some given) ∷ []
+  pub back : after.back ≡ before.back ++ returned ∷ []
+  pub out : after.out ≡ before.out
+  pub serves : ServesAlone words given returned end wanting
+  pub code_is : code ≡ status_of end wanting
+
+-- the host gave no link, and counted that
+pub record Linkless (before : Hosted) (code : ℕ) (after : Hosted) : Type 0 where
+  pub code_is : code ≡ 6
+  pub calls : after.calls ≡ before.calls ++ standard_link_called None ∷ []
+  pub back : after.back ≡ before.back
+  pub out : after.out ≡ before.out
+  pub rose : Rose before.link_faults after.link_faults
+
+-- what was written of the usage line, with its status
+abbrev pub Prints : Sight → ℕ → Sight → Type 0
+Prints o code p =
+    ((code ≡ 2) × Both (Wrote usage_line) o.traffic p.traffic)
+    ⊎ ((code ≡ 4) × Both (WrotePart usage_line) o.traffic p.traffic × Rose o.write_faults p.write_faults)
+
+-- the usage line was printed
+pub record Misused (before : Hosted) (code : ℕ) (after : Hosted) : Type 0 where
+  pub calls : after.calls ≡ before.calls
+  pub back : after.back ≡ before.back
+  pub old_out : Sight
+  pub new_out : Sight
+  pub old_out_is : before.out ≡ Some old_out
+  pub new_out_is : after.out ≡ Some new_out
+  pub prints : Prints old_out code new_out
+
+-- `pipe rc WORDS`
+abbrev pub Pipes : List ℕ → Hosted → ℕ → Hosted → Type 0
+Pipes words before code after = Piped words before code after ⊎ (Linkless before code after ⊎ Untouched before code after)
+
+-- what the program does with these words
+abbrev pub Does : List (List ℕ) → Hosted → ℕ → Hosted → Type 0
+Does args before code after =
+    ((words : List ℕ) × IsPipe args words × Pipes words before code after)
+    ⊎ ((((words : List ℕ) → ¬ (IsPipe args words)) × Misused before code after)
+    ⊎ Untouched before code after)

@@ -1,0 +1,92 @@
+// The command `pipe rc WORDS`, read from the words that the program is started with.
+ghost use Rattle.std.specs.Prelude.{◌≡◌, ◌≢◌, ◌≤◌, ◌<◌, ◌+◌, ◌*◌, ◌-◌, ◌↔◌, ℕ, List, [], ◌∷◌, ◌++◌, codes, IfOk, IfSome, IsNone, IsTrue, Ok, None};
+ghost use Rattle.monkey_server.specs.Command.{IsWord, Lists, IsPipe};
+ghost use Rattle.monkey_server.specs.Requests.{IsDigit};
+
+use crate::request::at_comma;
+use cell_base::{Items, Memory, Text};
+use std::alloc::Global;
+
+// The number with one more digit, where that fits 32 bits.
+fn with_digit(number: u32, digit: u8) -> Option<u32>
+    ensures digit { IfSome result (λ more. IsDigit digit) }
+    ensures some { IfSome result (λ more. more ≡ 10 * number + (digit - 48)) }
+    ensures bounded { IfSome result (λ more. more < 4294967296) }
+    ensures none { IsNone result → IsDigit digit → 4294967296 ≤ 10 * number + (digit - 48) }
+{
+    if !digit.is_ascii_digit() {
+        return None;
+    }
+    number.checked_mul(10)?.checked_add(u32::from(digit - b'0'))
+}
+
+// The number that the digits spell, where it fits 32 bits.
+fn number(part: &[u8]) -> Option<u32>
+    ensures some { IfSome result (λ n. IsWord part.now n) }
+    ensures none { IsNone result → (n : ℕ) → ¬ (IsWord part.now n) }
+{
+    if part.is_empty() {
+        return None;
+    }
+    let mut number: u32 = 0;
+    for digit in part {
+        number = with_digit(number, *digit)?;
+    }
+    Some(number)
+}
+
+// The numbers of a list.
+fn words_of(alloc: Global, text: &[u8]) -> Result<Option<Items<u32>>, Memory>
+    ensures some { IfOk result (λ found. IfSome found (λ words. Lists text.now words)) }
+    ensures none { IfOk result (λ found. IsNone found → (words : List ℕ) → ¬ (Lists text.now words)) }
+{
+    let mut words = Items::new(alloc);
+    let mut rest = text;
+    while let Some((front, after)) = at_comma(rest) {
+        let Some(word) = number(front) else {
+            return Ok(None);
+        };
+        words.push(word)?;
+        rest = after;
+    }
+    let Some(word) = number(rest) else {
+        return Ok(None);
+    };
+    words.push(word)?;
+    Ok(Some(words))
+}
+
+// Whether the text is the word.
+fn is_word(text: &Text, word: &[u8]) -> bool
+    ensures { IsTrue result ↔ (text.now ≡ word.now) }
+{
+    text.bytes() == word
+}
+
+// The list behind `pipe rc`.
+fn list_of(args: &[Text]) -> Option<&[u8]>
+    ensures some { IfSome result (λ list. args.now ≡ codes "pipe" ∷ codes "rc" ∷ list.now ∷ []) }
+    ensures none { IsNone result → (list : List ℕ) → args.now ≢ codes "pipe" ∷ codes "rc" ∷ list ∷ [] }
+{
+    let [pipe, rc, list] = args else {
+        return None;
+    };
+    if !is_word(pipe, b"pipe") {
+        return None;
+    }
+    if !is_word(rc, b"rc") {
+        return None;
+    }
+    Some(list.bytes())
+}
+
+/// The numbers that follow `pipe rc`. `None` comes exactly where the words are no such command.
+pub fn command_of(alloc: Global, args: &[Text]) -> Result<Option<Items<u32>>, Memory>
+    ensures some { IfOk result (λ found. IfSome found (λ words. IsPipe args.now words)) }
+    ensures none { IfOk result (λ found. IsNone found → (words : List ℕ) → ¬ (IsPipe args.now words)) }
+{
+    match list_of(args) {
+        None => Ok(None),
+        Some(list) => words_of(alloc, list),
+    }
+}

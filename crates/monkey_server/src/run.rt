@@ -1,0 +1,102 @@
+// The program.
+ghost use Rattle.std.specs.Prelude.{◌≡◌, ℕ, List, ◌⊎◌, IfOk, IfSome, IsSome, Some, None};
+ghost use Rattle.monkey_server.specs.Command.{IsPipe};
+ghost use Rattle.monkey_server.specs.Program.{hosted_of, status_of, ServesAlone, Pipes, Misused, Does};
+ghost use Rattle.link_traits.specs.Traffic.{sight_of};
+
+use crate::command::command_of;
+use crate::end::End;
+use crate::list_words::ListWords;
+use crate::serve::{Served, serve_link};
+use cell_base::{Items, Memory, Text};
+use link_traits::{Host, HostFault, Link, send_all};
+use solo_book::SoloBook;
+use std::alloc::Global;
+
+/// How the program ends.
+#[derive(Clone, Copy, Debug, PartialEq, Eq)]
+pub struct Status {
+    pub code: u8,
+}
+
+const USAGE: &str =
+    "usage: monkeydb pipe LEVEL WORDS | serve [OPTIONS] | check PATH | sim LEVEL SEED SESSIONS QUERIES\n";
+
+// The status of what became of a session.
+fn status_for(served: Served) -> Status
+    ensures { result.code ≡ status_of served.end served.short }
+{
+    if served.short {
+        return Status { code: 5 };
+    }
+    let code = match served.end {
+        End::Terminated | End::Closed => 0,
+        End::ReadFault => 3,
+        End::WriteFault => 4,
+        End::Memory => 5,
+        End::Cut | End::Protocol(_) | End::Refused(_) | End::Spent => 1,
+    };
+    Status { code }
+}
+
+// Serves one session at Read Committed over a link.
+fn serve_alone<L: Link>(alloc: Global, link: &mut L, words: Items<u32>) -> Served
+    ensures { ServesAlone words (sight_of L.traffic L.read_faults L.write_faults link.old) (sight_of L.traffic L.read_faults L.write_faults link.new) result.end result.short }
+{
+    let mut book = SoloBook::new(alloc);
+    let mut words = ListWords::new(words);
+    let served = serve_link(alloc, &mut book, link, &mut words);
+    let _ = book.history();
+    served
+}
+
+// Serves one session over the standard link.
+fn pipe<H: Host>(alloc: Global, host: &mut H, words: Items<u32>) -> Status
+    requires { H.objects_out host.old ≡ 0 }
+    ensures pipes { Pipes words (hosted_of H.calls H.back H.out H.objects_out H.link_faults host.old) result.code (hosted_of H.calls H.back H.out H.objects_out H.link_faults host.new) }
+    ensures none_out { H.objects_out host.new ≡ 0 }
+{
+    let mut link = match host.standard_link() {
+        Ok(link) => link,
+        Err(HostFault::Failed) => return Status { code: 6 },
+        Err(HostFault::Memory) => return Status { code: 5 },
+    };
+    let served = serve_alone(alloc, &mut link, words);
+    host.link_back(link);
+    status_for(served)
+}
+
+// Prints the usage line.
+fn misuse<H: Host>(host: &mut H) -> Status
+    requires objects { H.objects_out host.old ≡ 0 }
+    requires out { IsSome (H.out host.old) }
+    ensures misused { Misused (hosted_of H.calls H.back H.out H.objects_out H.link_faults host.old) result.code (hosted_of H.calls H.back H.out H.objects_out H.link_faults host.new) }
+    ensures none_out { H.objects_out host.new ≡ 0 }
+{
+    let mut out = host.take_out();
+    let printed = send_all(&mut out, USAGE.as_bytes());
+    host.out_back(out);
+    match printed {
+        Ok(()) => Status { code: 2 },
+        Err(_) => Status { code: 4 },
+    }
+}
+
+/// Does all that the program does with the words of its command line, its own name left out. `pipe rc WORDS` serves one session
+/// at Read Committed over the host's standard link, with the numbers of WORDS as the choice words and 0 behind them; other words
+/// print the usage line.
+///
+/// The status is 0 where the session ended well, 1 where its bytes were at fault, 2 for the usage line, 3 where reading failed,
+/// 4 where writing failed, 5 where memory was wanting and 6 where the host gave no link.
+pub fn monkey_main<H: Host>(alloc: Global, host: &mut H, words: &[Text]) -> Status
+    requires objects { H.objects_out host.old ≡ 0 }
+    requires out { IsSome (H.out host.old) }
+    ensures does { Does words.now (hosted_of H.calls H.back H.out H.objects_out H.link_faults host.old) result.code (hosted_of H.calls H.back H.out H.objects_out H.link_faults host.new) }
+    ensures none_out { H.objects_out host.new ≡ 0 }
+{
+    match command_of(alloc, words) {
+        Ok(Some(list)) => pipe(alloc, host, list),
+        Ok(None) => misuse(host),
+        Err(Memory) => Status { code: 5 },
+    }
+}

@@ -1,0 +1,126 @@
+// What no clause says: that sessions are served where there is memory. The bytes were put together by hand from the messages.
+ghost use Rattle.std.specs.Prelude.{◌≡◌, ◌<◌};
+
+use crate::list_words::ListWords;
+use crate::run::monkey_main;
+use crate::serve::serve_link;
+use cell_base::{Items, Memory, Text};
+use link_traits::{MemHost, MemLink, MemPlan, MemSink};
+use solo_book::SoloBook;
+use std::alloc::Global;
+use std::test::Fail;
+
+// A startup, a table, a row, a read of the row, and the end.
+const ROW: &[u8] =
+    b"\0\0\0\x10\0\x03\0\0user\0a\0\0Q\0\0\04CREATE TABLE t (k bigint PRIMARY KEY, v bigint)\0Q\0\0\0!INSERT INTO t VALUES (1, 10)\0Q\0\0\0 SELECT v FROM t WHERE k = 1\0X\0\0\0\x04";
+// What is sent where the read finds no row.
+const MISSED: &[u8] =
+    b"R\0\0\0\x08\0\0\0\0S\0\0\0\x18server_version\014.0\0S\0\0\0\x19server_encoding\0UTF8\0S\0\0\0\x19client_encoding\0UTF8\0S\0\0\0\x17DateStyle\0ISO, MDY\0S\0\0\0\x19integer_datetimes\0on\0S\0\0\0#standard_conforming_strings\0on\0K\0\0\0\x0c\0\0\0\x01\0\0\0\0Z\0\0\0\x05IC\0\0\0\x11CREATE TABLE\0Z\0\0\0\x05IC\0\0\0\x0fINSERT 0 1\0Z\0\0\0\x05IT\0\0\0\x1a\0\x01v\0\0\0\0\0\0\0\0\0\0\x14\0\x08\xff\xff\xff\xff\0\0C\0\0\0\x0dSELECT 0\0Z\0\0\0\x05I";
+// What is sent where the read finds the row.
+const FOUND: &[u8] =
+    b"R\0\0\0\x08\0\0\0\0S\0\0\0\x18server_version\014.0\0S\0\0\0\x19server_encoding\0UTF8\0S\0\0\0\x19client_encoding\0UTF8\0S\0\0\0\x17DateStyle\0ISO, MDY\0S\0\0\0\x19integer_datetimes\0on\0S\0\0\0#standard_conforming_strings\0on\0K\0\0\0\x0c\0\0\0\x01\0\0\0\0Z\0\0\0\x05IC\0\0\0\x11CREATE TABLE\0Z\0\0\0\x05IC\0\0\0\x0fINSERT 0 1\0Z\0\0\0\x05IT\0\0\0\x1a\0\x01v\0\0\0\0\0\0\0\0\0\0\x14\0\x08\xff\xff\xff\xff\0\0D\0\0\0\x0c\0\x01\0\0\0\x0210C\0\0\0\x0dSELECT 1\0Z\0\0\0\x05I";
+// A startup that names no user.
+const NO_USER: &[u8] = b"\0\0\0\x09\0\x03\0\0\0";
+// The refusal of such a startup.
+const REFUSED: &[u8] = b"E\0\0\0;SFATAL\0VFATAL\0C28000\0Mno user name in startup message\0\0";
+// A read of a table that is not there, and a statement that the server does not run.
+const NO_TABLE: &[u8] =
+    b"\0\0\0\x10\0\x03\0\0user\0a\0\0Q\0\0\0 SELECT v FROM t WHERE k = 1\0Q\0\0\0\x0dSELECT 1\0";
+// Their errors.
+const ERRORS: &[u8] =
+    b"R\0\0\0\x08\0\0\0\0S\0\0\0\x18server_version\014.0\0S\0\0\0\x19server_encoding\0UTF8\0S\0\0\0\x19client_encoding\0UTF8\0S\0\0\0\x17DateStyle\0ISO, MDY\0S\0\0\0\x19integer_datetimes\0on\0S\0\0\0#standard_conforming_strings\0on\0K\0\0\0\x0c\0\0\0\x01\0\0\0\0Z\0\0\0\x05IE\0\0\03SERROR\0VERROR\0C42P01\0Mrelation does not exist\0\0Z\0\0\0\x05IE\0\0\01SERROR\0VERROR\0C0A000\0Mfeature not supported\0\0Z\0\0\0\x05I";
+// A table made twice, and a key inserted twice.
+const TWICE: &[u8] =
+    b"\0\0\0\x10\0\x03\0\0user\0a\0\0Q\0\0\04CREATE TABLE t (k bigint PRIMARY KEY, v bigint)\0Q\0\0\04CREATE TABLE t (k bigint PRIMARY KEY, v bigint)\0Q\0\0\0!INSERT INTO t VALUES (1, 10)\0Q\0\0\0!INSERT INTO t VALUES (1, 11)\0X\0\0\0\x04";
+// What is sent where the second insert finds the first.
+const TAKEN: &[u8] =
+    b"R\0\0\0\x08\0\0\0\0S\0\0\0\x18server_version\014.0\0S\0\0\0\x19server_encoding\0UTF8\0S\0\0\0\x19client_encoding\0UTF8\0S\0\0\0\x17DateStyle\0ISO, MDY\0S\0\0\0\x19integer_datetimes\0on\0S\0\0\0#standard_conforming_strings\0on\0K\0\0\0\x0c\0\0\0\x01\0\0\0\0Z\0\0\0\x05IC\0\0\0\x11CREATE TABLE\0Z\0\0\0\x05IE\0\0\03SERROR\0VERROR\0C42P07\0Mrelation already exists\0\0Z\0\0\0\x05IC\0\0\0\x0fINSERT 0 1\0Z\0\0\0\x05IE\0\0\0JSERROR\0VERROR\0C23505\0Mduplicate key value violates unique constraint\0\0Z\0\0\0\x05I";
+
+fn plan(alloc: Global, piece: u32) -> MemPlan
+    ensures { result.piece ≡ piece }
+{
+    MemPlan {
+        piece,
+        fails: Items::new(alloc),
+        bytes: 1000,
+        reads: 1000,
+    }
+}
+
+fn link(alloc: Global, input: &[u8], piece: u32) -> Result<MemLink, Memory>
+    requires { 0 < piece }
+{
+    MemLink::new(
+        alloc,
+        Vec::from_slice(alloc, input)?,
+        plan(alloc, piece),
+        plan(alloc, 64),
+    )
+}
+
+fn text(alloc: Global, bytes: &[u8]) -> Result<Text, Memory> {
+    match Text::from_bytes(alloc, bytes) {
+        Ok(text) => Ok(text),
+        Err(_) => Err(Memory),
+    }
+}
+
+// Whether `pipe rc LIST` ends with this status and has sent these bytes, for an input that comes in pieces of this length.
+fn answers(
+    alloc: Global,
+    list: &[u8],
+    input: &[u8],
+    piece: u32,
+    code: u8,
+    sent: &[u8],
+) -> Result<bool, Memory>
+    requires { 0 < piece }
+{
+    let link = link(alloc, input, piece)?;
+    let out = MemSink::new(alloc, plan(alloc, 64))?;
+    let mut host = MemHost::new(alloc, Some(link), out, Items::new(alloc))?;
+    let words = [
+        text(alloc, b"pipe")?,
+        text(alloc, b"rc")?,
+        text(alloc, list)?,
+    ];
+    let status = monkey_main(alloc, &mut host, words.as_slice());
+    Ok(match host.back() {
+        [link] => status.code == code && link.written() == sent,
+        _ => false,
+    })
+}
+
+// The number of events of a session with these words.
+fn events(alloc: Global, words: &[u32], input: &[u8]) -> Result<usize, Memory> {
+    let mut book = SoloBook::new(alloc);
+    let mut link = link(alloc, input, 64)?;
+    let mut words = ListWords::new(Items::from_slice(alloc, words)?);
+    serve_link(alloc, &mut book, &mut link, &mut words);
+    Ok(book.history().events().len())
+}
+
+#[test]
+fn serves_sessions(rt: HostRuntime) -> Result<(), Fail> {
+    let alloc = rt.alloc();
+    for piece in 1..200 {
+        assert!(rt; answers(alloc, b"1,0,2", ROW, piece, 0, MISSED)?);
+        assert!(rt; answers(alloc, b"1,1,2", ROW, piece, 0, FOUND)?);
+    }
+    assert!(rt; answers(alloc, b"0,0", ROW, 7, 0, MISSED)?);
+    assert!(rt; answers(alloc, b"0,1,7", ROW, 7, 0, FOUND)?);
+    assert!(rt; answers(alloc, b"0", NO_USER, 7, 1, REFUSED)?);
+    assert!(rt; answers(alloc, b"0", NO_TABLE, 7, 0, ERRORS)?);
+    assert!(rt; answers(alloc, b"0,1", TWICE, 7, 0, TAKEN)?);
+    Ok(())
+}
+
+#[test]
+fn records_events(rt: HostRuntime) -> Result<(), Fail> {
+    let alloc = rt.alloc();
+    assert_eq!(rt; events(alloc, &[1, 0, 2], ROW)?, 13);
+    assert_eq!(rt; events(alloc, &[1, 1, 2], ROW)?, 14);
+    assert_eq!(rt; events(alloc, &[0], NO_USER)?, 0);
+    assert_eq!(rt; events(alloc, &[0], NO_TABLE)?, 3);
+    Ok(())
+}
