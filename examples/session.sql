@@ -1,0 +1,3 @@
+CREATE TABLE t (k bigint PRIMARY KEY, v bigint)
+INSERT INTO t VALUES (1, 10)
+SELECT v FROM t WHERE k = 1
