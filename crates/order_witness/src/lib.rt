@@ -131,29 +131,69 @@ mod tests {
     use super::*;
     use std::test::Fail;
 
-    /// Two edges have an order, found by hand, and two more make a cycle.
+    // The graph 0 to 3 to 1 of four numbers.
+    fn path(alloc: Global) -> Result<Graph, AllocError>
+        ensures { IfOk result (λ graph. IsInRange graph.size graph.edges.items) }
+    {
+        let mut edges = Vec::new(alloc);
+        edges.push(Edge {
+            before: 0,
+            after: 3,
+        })?;
+        edges.push(Edge {
+            before: 3,
+            after: 1,
+        })?;
+        Ok(Graph { size: 4, edges })
+    }
+
+    // The graph 1 to 3 to 1 of four numbers.
+    fn ring(alloc: Global) -> Result<Graph, AllocError>
+        ensures { IfOk result (λ graph. IsInRange graph.size graph.edges.items) }
+    {
+        let mut edges = Vec::new(alloc);
+        edges.push(Edge {
+            before: 1,
+            after: 3,
+        })?;
+        edges.push(Edge {
+            before: 3,
+            after: 1,
+        })?;
+        Ok(Graph { size: 4, edges })
+    }
+
+    // Whether the graph has just this order.
+    fn has_order(alloc: Global, graph: &Graph, expected: &[u32]) -> bool
+        requires { IsInRange graph.now.size graph.now.edges.items }
+    {
+        match order_or_cycle(alloc, graph) {
+            Ok(Verdict::Order(order)) => order.as_slice() == expected,
+            Ok(Verdict::Cycle(_)) => false,
+            Err(Memory) => false,
+        }
+    }
+
+    // Whether the graph has a cycle, of so many edges.
+    fn has_cycle(alloc: Global, graph: &Graph, length: usize) -> bool
+        requires { IsInRange graph.now.size graph.now.edges.items }
+    {
+        match order_or_cycle(alloc, graph) {
+            Ok(Verdict::Cycle(cycle)) => cycle.len() == length,
+            Ok(Verdict::Order(_)) => false,
+            Err(Memory) => false,
+        }
+    }
+
+    /// A path has an order, found by hand, and a ring is a cycle.
     #[test]
     fn orders_and_cycles(rt: HostRuntime) -> Result<(), Fail> {
-        let mut graph = Graph {
-            size: 4,
-            edges: Vec::new(rt.alloc()),
-        };
-        for (before, after) in [(0, 3), (3, 1)] {
-            graph.edges.push(Edge { before, after })?;
-        }
+        let graph = path(rt.alloc())?;
         assert_eq!(&rt; holds_cycle(rt.alloc(), &graph), Ok(false));
-        match order_or_cycle(rt.alloc(), &graph) {
-            Ok(Verdict::Order(order)) => assert_eq!(&rt; order.as_slice(), [0, 2, 3, 1].as_slice()),
-            _ => assert!(&rt; false),
-        }
-        for (before, after) in [(1, 2), (2, 3)] {
-            graph.edges.push(Edge { before, after })?;
-        }
+        assert!(&rt; has_order(rt.alloc(), &graph, &[0, 2, 3, 1]));
+        let graph = ring(rt.alloc())?;
         assert_eq!(&rt; holds_cycle(rt.alloc(), &graph), Ok(true));
-        match order_or_cycle(rt.alloc(), &graph) {
-            Ok(Verdict::Cycle(cycle)) => assert_eq!(&rt; cycle.len(), 3),
-            _ => assert!(&rt; false),
-        }
+        assert!(&rt; has_cycle(rt.alloc(), &graph, 2));
         Ok(())
     }
 }
