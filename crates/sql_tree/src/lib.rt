@@ -1,6 +1,8 @@
 //! Tokens and the trees of SQL as plain data, without behaviour beyond copies.
 #![tactic(auto)]
 
+mod copied;
+mod depth;
 mod expr;
 mod op;
 mod statement;
