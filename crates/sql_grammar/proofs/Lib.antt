@@ -4,5 +4,6 @@ pub mod Follow
 pub mod Complete
 pub mod Whole
 pub mod Rules
-pub mod EveryKind
+pub mod Patterns
 pub mod Exactly
+pub mod Messages

@@ -13,7 +13,7 @@ use Rattle.sql_grammar.specs.Grammar.{expr, IsExpr, name_of}
 use Rattle.sql_grammar.specs.Reading.{Parser, and_then, front, name, read}
 use Rattle.sql_grammar.specs.Syntax
 use Rattle.sql_grammar.specs.Syntax.{Kind, kind, is, is_name, Syntax, gives, one, name_but, integer, text, expression, ◌⨟◌, map, only, either, repeat, spells, Repeats}
-use Rattle.sql_grammar.specs.Steps.{empty, begins, opens, reading, repeat_from}
+use Rattle.sql_grammar.specs.Steps.{any, begins, reading, repeat_from}
 use Rattle.sql_grammar.proofs.Taken.{bind, none_some, pair_of, value_of, after_of, Named, name_takes}
 use Rattle.sql_grammar.proofs.Whole.{Found, expr_sound}
 
@@ -32,7 +32,8 @@ test_some true o y e = (refl, e)
 test_some false o y e = absurd (none_some e)
 
 is_end : (t : Sought) → is t Syntax.end ≡ true → ⊥
-is_end (sought.Word w) e = cc
+is_end (sought.Plain w) e = cc
+is_end (sought.Reserved w) e = cc
 is_end (sought.Key w) e = cc
 is_end (sought.Sign w) e = cc
 
@@ -67,21 +68,21 @@ expression_sound most ts x r e =
     let f = expr_sound most ts a.value a.after a.first in
     same (spells (expression most)) ts a.value.tree a.after x r a.second (record { taken = f.taken; splits = f.splits; spelled = f.is })
 
--- items behind those that were found
-record TakesMore {A : Type 0} (R : List Mark → A → Type 0) (whole : List Mark) (found zs : List A) (after : List Mark) : Type 0 where
+-- lists behind what was found
+record TakesMore {A : Type 0} (R : List Mark → List A → Type 0) (whole : List Mark) (found zs : List A) (after : List Mark) : Type 0 where
   taken : List Mark
   items : List A
   splits : whole ≡ taken ++ after
   spelled : Repeats R taken items
   all : zs ≡ found ++ items
 
-no_more : {A : Type 0} (R : List Mark → A → Type 0) (ts : List Mark) (found zs : List A) (r : List Mark) → ◌≡◌ {A = Option (List A × List Mark)} (Some (found, ts)) (Some (zs, r)) → TakesMore R ts found zs r
+no_more : {A : Type 0} (R : List Mark → List A → Type 0) (ts : List Mark) (found zs : List A) (r : List Mark) → ◌≡◌ {A = Option (List A × List Mark)} (Some (found, ts)) (Some (zs, r)) → TakesMore R ts found zs r
 no_more R ts found zs r e = record { taken = []; items = []; splits = after_of _ _ _ _ e; spelled = Repeats.none; all = sym (value_of _ _ _ _ e) ∙ sym (append-nil found) }
 
-one_more : {A : Type 0} (R : List Mark → A → Type 0) (ts us : List Mark) (found zs : List A) (x : A) (r : List Mark) → Takes R ts x us → TakesMore R us (found ++ x ∷ []) zs r → TakesMore R ts found zs r
-one_more R ts us found zs x r a m = record {
+one_more : {A : Type 0} (R : List Mark → List A → Type 0) (ts us : List Mark) (found zs xs : List A) (r : List Mark) → Takes R ts xs us → TakesMore R us (found ++ xs) zs r → TakesMore R ts found zs r
+one_more R ts us found zs xs r a m = record {
   taken = a.taken ++ m.taken;
-  items = x ∷ m.items;
+  items = xs ++ m.items;
   splits = a.splits ∙ ap (λ z. a.taken ++ z) m.splits ∙ simp append_assoc;
   spelled = Repeats.more a.spelled m.spelled;
   all = m.all ∙ simp append_assoc;
@@ -90,20 +91,20 @@ one_more R ts us found zs x r a m = record {
 abbrev pub SoundItem : {A : Type 0} → (List Mark → A → Type 0) → Parser A → Type 0
 SoundItem {A = A} R p = (ts : List Mark) (x : A) (r : List Mark) → p ts ≡ Some (x, r) → Takes R ts x r
 
-step_sound : {A : Type 0} (R : List Mark → A → Type 0) (item : Parser A) → SoundItem R item → (go : A → Parser (List A)) (found : List A)
-    → ((x : A) (us : List Mark) (zs : List A) (r : List Mark) → go x us ≡ Some (zs, r) → TakesMore R us (found ++ x ∷ []) zs r)
+step_sound : {A : Type 0} (R : List Mark → List A → Type 0) (item : Parser (List A)) → SoundItem R item → (go : List A → Parser (List A)) (found : List A)
+    → ((xs : List A) (us : List Mark) (zs : List A) (r : List Mark) → go xs us ≡ Some (zs, r) → TakesMore R us (found ++ xs) zs r)
     → (c : Bool) (ts : List Mark) (zs : List A) (r : List Mark) → (if c then and_then (item ts) go else Some (found, ts)) ≡ Some (zs, r) → TakesMore R ts found zs r
 step_sound R item h go found again true ts zs r e =
     let a = bind (item ts) _ _ e in
     one_more R ts a.after found zs a.value r (h ts a.value a.after a.first) (again a.value a.after zs r a.second)
 step_sound R item h go found again false ts zs r e = no_more R ts found zs r e
 
-repeat_sound : {A : Type 0} (R : List Mark → A → Type 0) (first : Kind → Bool) (item : Parser A) → SoundItem R item → (turns : ℕ) (found : List A) (ts : List Mark) (zs : List A) (r : List Mark)
+repeat_sound : {A : Type 0} (R : List Mark → List A → Type 0) (first : Kind → Bool) (item : Parser (List A)) → SoundItem R item → (turns : ℕ) (found : List A) (ts : List Mark) (zs : List A) (r : List Mark)
     → repeat_from first item turns found ts ≡ Some (zs, r) → TakesMore R ts found zs r
 unfolding repeat_from
 repeat_sound R first item h zero found ts zs r e = no_more R ts found zs r e
 repeat_sound R first item h (suc turns) found ts zs r e =
-    step_sound R item h (λ x. repeat_from first item turns (found ++ x ∷ [])) found (λ x us zs r e. repeat_sound R first item h turns (found ++ x ∷ []) us zs r e) (first (kind (front ts))) ts zs r e
+    step_sound R item h (λ xs us. repeat_from first item turns (found ++ xs) us) found (λ xs us zs r e. repeat_sound R first item h turns (found ++ xs) us zs r e) (first (kind (front ts))) ts zs r e
 
 either_sound : {A : Type 0} (R S : List Mark → A → Type 0) (c : Bool) (p q : Option (A × List Mark)) (ts : List Mark) (x : A) (r : List Mark) → (p ≡ Some (x, r) → Takes R ts x r) → (q ≡ Some (x, r) → Takes S ts x r)
     → (if c then p else q) ≡ Some (x, r) → Takes (λ us y. Syntax.Either R S us y) ts x r
@@ -137,11 +138,11 @@ sound (only test a) ts x r e =
     let t = sound a ts p.value p.after p.first in
     let h = test_some (test p.value) _ _ p.second in
     same (spells (only test a)) ts p.value p.after x r h.1 (record { taken = t.taken; splits = t.splits; spelled = record { spelled = t.spelled; passes = h.0 } })
-sound (either a b) ts x r e = either_sound (spells a) (spells b) (begins a (kind (front ts))) (reading a ts) (reading b ts) ts x r (sound a ts x r) (sound b ts x r) e
+sound (either a b) ts x r e = either_sound (spells a) (spells b) (any (begins a) (kind (front ts))) (reading a ts) (reading b ts) ts x r (sound a ts x r) (sound b ts x r) e
 sound (repeat a b) ts x r e =
     let p = bind (reading a ts) _ _ e in
     let t = sound a ts p.value p.after p.first in
-    let m = repeat_sound (spells b) (begins b) (reading b) (sound b) (length p.after) p.value p.after x r p.second in
+    let m = repeat_sound (spells b) (any (begins b)) (reading b) (sound b) (length p.after) p.value p.after x r p.second in
     record {
       taken = t.taken ++ m.taken;
       splits = t.splits ∙ ap (λ z. t.taken ++ z) m.splits ∙ simp append_assoc;

@@ -3,3 +3,4 @@ pub mod Reading
 pub mod Words
 pub mod Syntax
 pub mod Steps
+pub mod Statements

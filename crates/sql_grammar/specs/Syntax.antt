@@ -42,7 +42,8 @@ kind (Some (Sign s)) = sign (tag_of the_sign.the_type s)
 
 -- the word or the sign that a rule asks for
 abbrev pub is : Sought → Kind → Bool
-is (sought.Word w) (word plain n) = eqb n (place w)
+is (sought.Plain w) (word true n) = eqb n (place w)
+is (sought.Reserved w) (word false n) = eqb n (place w)
 is (sought.Key k) (key n) = eqb n (tag_of the_keyword.the_type k)
 is (sought.Sign s) (sign n) = eqb n (tag_of the_sign.the_type s)
 is _ _ = false
@@ -77,15 +78,15 @@ pub data Syntax : Type 0 → Type 1 where
   only : {A : Type 0} → (A → Bool) → Syntax A → Syntax A
   -- the one or the other
   either : {A : Type 0} → Syntax A → Syntax A → Syntax A
-  -- a list, and any number of further items
-  repeat : {A : Type 0} → Syntax (List A) → Syntax A → Syntax (List A)
+  -- a list, and any number of further ones behind it
+  repeat : {A : Type 0} → Syntax (List A) → Syntax (List A) → Syntax (List A)
 
 -- ---- what they spell
 
--- any number of items one behind the other
-pub data Repeats {A : Type 0} (R : List Mark → A → Type 0) : List Mark → List A → Type 0 where
+-- any number of lists one behind the other
+pub data Repeats {A : Type 0} (R : List Mark → List A → Type 0) : List Mark → List A → Type 0 where
   none : Repeats R [] []
-  more : {ts us : List Mark} {x : A} {xs : List A} → R ts x → Repeats R us xs → Repeats R (ts ++ us) (x ∷ xs)
+  more : {ts us : List Mark} {xs ys : List A} → R ts xs → Repeats R us ys → Repeats R (ts ++ us) (xs ++ ys)
 
 pub record One (test : Kind → Bool) (ts : List Mark) : Type 0 where
   pub mark : Mark
@@ -118,7 +119,7 @@ pub data Either {A : Type 0} (R S : List Mark → A → Type 0) (ts : List Mark)
   left : R ts x → Either R S ts x
   right : S ts x → Either R S ts x
 
-pub record Begun {A : Type 0} (R : List Mark → List A → Type 0) (S : List Mark → A → Type 0) (ts : List Mark) (zs : List A) : Type 0 where
+pub record Begun {A : Type 0} (R S : List Mark → List A → Type 0) (ts : List Mark) (zs : List A) : Type 0 where
   pub xs : List A
   pub ys : List A
   pub all : zs ≡ xs ++ ys

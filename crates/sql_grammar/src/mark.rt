@@ -124,7 +124,10 @@ pub struct Node {
 /// A word or a sign that a rule asks for.
 #[derive(Clone, Copy, Debug, PartialEq, Eq)]
 pub enum Sought {
-    Word(Word),
+    /// A word of statements that isn't reserved.
+    Plain(Word),
+    /// A reserved word of statements.
+    Reserved(Word),
     Key(Keyword),
     Sign(Sign),
 }
