@@ -1,0 +1,12 @@
+pub mod Digits
+pub mod Runs
+pub mod Comments
+pub mod Quotes
+pub mod Utf8
+pub mod Forms
+pub mod Plain
+pub mod Sound
+pub mod Complete
+pub mod Once
+pub mod Cuts
+pub mod Some
