@@ -206,11 +206,11 @@ exact (repeat a b) f w ts zs o r h =
     let g = more_open b (starts b) f p.second r h in
     let i = exact a either_of (and_left (fits a either_of) (fits b either_of) second) p.front o.xs p.first (p.rest ++ r) g in
     let j = more_reads (spells b) (begins b) f (reading b)
-        (λ us x q v e. open_some (empty b) (begins b) either_of (kind (front (us ++ v))) some (starts b us x q either_of v e))
-        (λ us x q v e. exact b either_of b_fits us x q v e)
-        (λ us x q. long b us x q some)
-        (λ v e. apart_mark (begins b) f ends (front v) e)
-        (λ us ys q v e. more_open b (starts b) f q v e)
-        p.second (length (p.rest ++ r)) (omega (arith, length-append p.rest r)) o.xs r h in
+    (λ us x q v e. open_some (empty b) (begins b) either_of (kind (front (us ++ v))) some (starts b us x q either_of v e))
+    (λ us x q v e. exact b either_of b_fits us x q v e)
+    (λ us x q. long b us x q some)
+    (λ v e. apart_mark (begins b) f ends (front v) e)
+    (λ us ys q v e. more_open b (starts b) f q v e)
+    p.second (length (p.rest ++ r)) (omega (arith, length-append p.rest r)) o.xs r h in
     ap (λ z. reading (repeat a b) z) (regroup ts p.front p.rest r p.splits)
     ∙ reads_on (reading a (p.front ++ (p.rest ++ r))) _ o.xs (p.rest ++ r) _ i (j ∙ ap (λ z. Some (z, r)) (sym o.all))

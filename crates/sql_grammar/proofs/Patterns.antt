@@ -70,9 +70,9 @@ any_right (p ∷ ps) qs m e = any_rest p (ps ++ qs) m (any_right ps qs m e)
 pub any_split : (ps qs : List Pattern) (m : Kind) → any (ps ++ qs) m ≡ true → (any ps m ≡ true) ⊎ (any qs m ≡ true)
 any_split [] qs m e = inr e
 any_split (p ∷ ps) qs m e = elim (any_cases p (ps ++ qs) m e) as (λ _. (any (p ∷ ps) m ≡ true) ⊎ (any qs m ≡ true)) [
-    inl h ↦ inl (any_first p ps m h)
+  | inl h ↦ inl (any_first p ps m h)
   | inr h ↦ elim (any_split ps qs m h) as (λ _. (any (p ∷ ps) m ≡ true) ⊎ (any qs m ≡ true)) [ inl g ↦ inl (any_rest p ps m g) | inr g ↦ inr g ]
-  ]
+]
 
 -- ---- patterns that differ
 
@@ -108,16 +108,16 @@ clash _ _ _ h e f = cc
 one_apart : (p : Pattern) (qs : List Pattern) (m : Kind) → differs p qs ≡ true → any qs m ≡ true → fit p m ≡ true → ⊥
 one_apart p [] m h f e = cc
 one_apart p (q ∷ qs) m h f e = elim (any_cases q qs m f) as (λ _. ⊥) [
-    inl g ↦ clash m p q (and_left (differ p q) (differs p qs) h) e g
+  | inl g ↦ clash m p q (and_left (differ p q) (differs p qs) h) e g
   | inr g ↦ one_apart p qs m (and_right (differ p q) (differs p qs) h) g e
-  ]
+]
 
 all_apart : (ps qs : List Pattern) (m : Kind) → apart ps qs ≡ true → any qs m ≡ true → any ps m ≡ true → ⊥
 all_apart [] qs m h f e = cc
 all_apart (p ∷ ps) qs m h f e = elim (any_cases p ps m e) as (λ _. ⊥) [
-    inl g ↦ one_apart p qs m (and_left (differs p qs) (apart ps qs) h) f g
+  | inl g ↦ one_apart p qs m (and_left (differs p qs) (apart ps qs) h) f g
   | inr g ↦ all_apart ps qs m (and_right (differs p qs) (apart ps qs) h) f g
-  ]
+]
 
 never : (a : Bool) → (a ≡ true → ⊥) → a ≡ false
 never true f = absurd (f refl)

@@ -405,12 +405,16 @@ unfoldable pub statement : ℕ → ℕ → Syntax Statement
 statement depth rows = either (select depth) (either (insert depth rows) (either (update depth) (either (delete depth) (either (create depth) control))))
 
 -- [stmt]
-unfoldable pub piece : ℕ → ℕ → Syntax (List Statement)
-piece depth rows = either (single (statement depth rows)) (gives [])
+unfoldable pub piece : ℕ → ℕ → Syntax (Option Statement)
+piece depth rows = option (statement depth rows)
+
+abbrev pub as_list : Option Statement → List Statement
+as_list None = []
+as_list (Some x) = x ∷ []
 
 unfoldable pub next_piece : ℕ → ℕ → Syntax (List Statement)
-next_piece depth rows = sign s.Semi ▹ piece depth rows
+next_piece depth rows = sign s.Semi ▹ map as_list (piece depth rows)
 
 -- message := [stmt] { ';' [stmt] }, with so many statements at most
 unfoldable pub message : ℕ → ℕ → ℕ → Syntax (List Statement)
-message depth rows statements = only (λ xs. nat_le (length xs) statements) (repeat (piece depth rows) (next_piece depth rows))
+message depth rows statements = only (λ xs. nat_le (length xs) statements) (repeat (map as_list (piece depth rows)) (next_piece depth rows))
