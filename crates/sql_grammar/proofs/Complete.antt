@@ -1,6 +1,5 @@
 -- What is spelled so is read, whatever follows that doesn't go on with it.
-use Rattle.std.proofs.Common.{◌≡◌, ℕ, zero, suc, ◌+◌, ◌-◌, ◌<◌, ◌≤◌, max, Bool, true, false, List, [], ◌∷◌, ◌++◌, length, Option, Some, None, refl, ap, sym, ◌∙◌, subst, append_assoc, length-append, add-one, arith}
-use Rattle.std.specs.Prelude.{nat_le}
+use Rattle.std.proofs.Common.{◌≡◌, ℕ, zero, suc, ◌+◌, ◌<◌, ◌≤◌, max, Bool, true, false, List, [], ◌∷◌, ◌++◌, length, Option, Some, None, refl, ap, sym, ◌∙◌, subst, append_assoc, length-append, arith}
 use Rattle.std.proofs.lemmas.Bool.{le-leb}
 use Rattle.sql_tree.specs.declared.token.Sign.TheVariants as s
 use Rattle.sql_tree.specs.declared.op.Op.{Op}
@@ -12,10 +11,9 @@ use Rattle.sql_grammar.specs.declared.mark.Mark.TheVariants.{Key, Plain, Quoted,
 use Rattle.sql_grammar.specs.declared.mark.Node.{Node}
 use Rattle.sql_grammar.specs.Grammar
 use Rattle.sql_grammar.specs.Grammar.{Level, expr, and, not, is, cmp, rng, sum, prod, un, atom, below, link, comparison, name_of, nots, negation, within, Spells, SpellsList}
-use Rattle.sql_grammar.specs.Reading
-use Rattle.sql_grammar.specs.Reading.{Parser, and_then, front, node, made, close, opening, null_word, and_word, not_word, comma, name, parens, argument, call, named, read_atom, read_un, read_chain, chain_from, linked, link_at, comparison_at, read_prod, read_sum, list_from, list, among, between, not_range, range, compared, compared_by, null_test, tests_from, pure, read, read_at, read_or, read_and, read_not, read_is, read_cmp, read_rng}
+use Rattle.sql_grammar.specs.Reading.{Parser, and_then, front, node, made, close, opening, null_word, and_word, not_word, comma, name, parens, argument, call, named, read_atom, read_un, read_chain, chain_from, link_at, read_prod, read_sum, list_from, list, among, between, not_range, range, compared, null_test, tests_from, read, read_at, read_or, read_and, read_not, read_is, read_cmp, read_rng}
 use Rattle.sql_grammar.proofs.Taken.{none_some, pair_of}
-use Rattle.sql_grammar.proofs.Follow.{number, rank, Ends, number_down, link_follows, comparison_follows, expr_ends, and_ends, sum_ends, prod_ends, comparison_ends, begins_un, begins_atom, begins_not, begins, Begins, spelling_begins, positive}
+use Rattle.sql_grammar.proofs.Follow.{rank, Ends, link_follows, comparison_follows, expr_ends, and_ends, sum_ends, prod_ends, comparison_ends, begins_un, begins_atom, begins_not, Begins, spelling_begins, positive}
 
 made_fits : (room : ℕ) (x : Expr) (d : ℕ) (ts : List Mark) → d ≤ room → made room x d ts ≡ Some (node x d, ts)
 unfolding made

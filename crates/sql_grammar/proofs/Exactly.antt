@@ -1,13 +1,11 @@
 -- What a rule spells is read, whatever follows that the rule doesn't go on with.
-use Rattle.std.proofs.Common.{◌≡◌, ℕ, zero, suc, ◌+◌, ◌<◌, ◌≤◌, Bool, true, false, List, [], ◌∷◌, ◌++◌, length, Option, Some, None, refl, ap, sym, ◌∙◌, subst, append_assoc, length-append, arith, inl, inr}
+use Rattle.std.proofs.Common.{◌≡◌, ℕ, zero, suc, ◌+◌, ◌≤◌, Bool, true, false, List, [], ◌∷◌, ◌++◌, length, Option, Some, refl, ap, sym, ◌∙◌, subst, append_assoc, length-append, arith, inl, inr}
 use Rattle.std.specs.Prelude.{◌||◌, ◌&&◌, not, if◌then◌else◌}
 use Rattle.std.proofs.lemmas.List.{append-nil}
-use Rattle.sql_grammar.specs.declared.mark.Sought.{Sought}
-use Rattle.sql_grammar.specs.declared.mark.Word.{Word}
 use Rattle.sql_grammar.specs.declared.mark.Mark.{Mark}
 use Rattle.sql_grammar.specs.declared.mark.Mark.TheVariants.{Number, Str}
 use Rattle.sql_grammar.specs.Grammar.{expr, IsExpr}
-use Rattle.sql_grammar.specs.Reading.{Parser, and_then, front, node, name, read}
+use Rattle.sql_grammar.specs.Reading.{Parser, front, node, read}
 use Rattle.sql_grammar.specs.Syntax
 use Rattle.sql_grammar.specs.Syntax.{Kind, kind, is, is_name, Syntax, gives, one, name_but, integer, text, expression, ◌⨟◌, map, only, either, repeat, spells, Repeats}
 use Rattle.sql_grammar.specs.Steps.{Pattern, a_number, a_string, fit, any, empty, begins, begins_expression, opens, reading, repeat_from, fits, apart, goes_on}

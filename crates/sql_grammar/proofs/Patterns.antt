@@ -1,6 +1,6 @@
 -- Patterns of marks.
-use Rattle.std.proofs.Common.{◌≡◌, ℕ, ◌<◌, Bool, true, false, List, [], ◌∷◌, ◌++◌, Option, Some, None, refl, ap, sym, ◌∙◌, subst, arith, inl, inr}
-use Rattle.std.specs.Prelude.{◌||◌, ◌&&◌, not, ◌⊎◌, eqb, if◌then◌else◌}
+use Rattle.std.proofs.Common.{◌≡◌, ℕ, ◌<◌, Bool, true, false, List, [], ◌∷◌, ◌++◌, Option, Some, refl, sym, ◌∙◌, arith, inl, inr}
+use Rattle.std.specs.Prelude.{◌||◌, ◌&&◌, not, ◌⊎◌, eqb}
 use Rattle.std.proofs.lemmas.Bool.{eqb-true, eq-eqb}
 use denote.Enum.Declared.{tag_of}
 use Rattle.sql_tree.specs.declared.token.Sign.TheVariants as s
@@ -10,11 +10,10 @@ use Rattle.sql_grammar.specs.declared.mark.Keyword.TheVariants as k
 use Rattle.sql_grammar.specs.declared.mark.Sought.TheVariants as sought
 use Rattle.sql_grammar.specs.declared.mark.Word.{Word}
 use Rattle.sql_grammar.specs.declared.mark.Mark.{Mark}
-use Rattle.sql_grammar.specs.declared.mark.Mark.TheVariants.{Key, Reserved, Plain, Quoted, Number, Str, Param, Sign}
+use Rattle.sql_grammar.specs.declared.mark.Mark.TheVariants.{Key, Plain, Quoted, Number, Str, Sign}
 use Rattle.sql_grammar.specs.Grammar.{expr}
 use Rattle.sql_grammar.specs.Syntax
 use Rattle.sql_grammar.specs.Syntax.{Kind, kind, place, among, is, is_name}
-use Rattle.sql_grammar.specs.Steps
 use Rattle.sql_grammar.specs.Steps.{Pattern, the, a_name, a_number, a_string, the_end, fit, any, differ, differs, apart, goes_on, begins_expression}
 use Rattle.sql_grammar.proofs.Follow.{rank, begins}
 

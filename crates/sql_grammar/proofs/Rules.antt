@@ -1,21 +1,19 @@
 -- Rules of statements are read exactly where the next mark tells how they go on.
-use Rattle.std.proofs.Common.{◌≡◌, ℕ, ℤ, zero, suc, ◌+◌, ◌<◌, ◌≤◌, Bool, true, false, List, [], ◌∷◌, ◌++◌, length, Option, Some, None, refl, ap, sym, ◌∙◌, subst, append_assoc, length-append, arith}
-use Rattle.std.specs.Prelude.{◌||◌, ◌&&◌, not, if◌then◌else◌}
+use Rattle.std.proofs.Common.{◌≡◌, ℕ, ℤ, zero, suc, Bool, true, false, List, [], ◌∷◌, ◌++◌, length, Option, Some, None, refl, ap, sym, ◌∙◌, subst, append_assoc}
+use Rattle.std.specs.Prelude.{if◌then◌else◌}
 use Rattle.std.proofs.lemmas.List.{append-nil}
-use Rattle.sql_tree.specs.declared.token.Sign.TheVariants as s
-use Rattle.sql_grammar.specs.declared.mark.Keyword.TheVariants as k
 use Rattle.sql_grammar.specs.declared.mark.Sought.{Sought}
 use Rattle.sql_grammar.specs.declared.mark.Sought.TheVariants as sought
 use Rattle.sql_grammar.specs.declared.mark.Word.{Word}
 use Rattle.sql_grammar.specs.declared.mark.Mark.{Mark}
-use Rattle.sql_grammar.specs.declared.mark.Mark.TheVariants.{Key, Reserved, Plain, Quoted, Number, Str, Param, Sign}
-use Rattle.sql_grammar.specs.Grammar.{expr, IsExpr, name_of}
-use Rattle.sql_grammar.specs.Reading.{Parser, and_then, front, name, read}
+use Rattle.sql_grammar.specs.declared.mark.Mark.TheVariants.{Number, Str}
+use Rattle.sql_grammar.specs.Grammar.{expr}
+use Rattle.sql_grammar.specs.Reading.{Parser, and_then, front, read}
 use Rattle.sql_grammar.specs.Syntax
 use Rattle.sql_grammar.specs.Syntax.{Kind, kind, is, is_name, Syntax, gives, one, name_but, integer, text, expression, ◌⨟◌, map, only, either, repeat, spells, Repeats}
 use Rattle.sql_grammar.specs.Steps.{any, begins, reading, repeat_from}
-use Rattle.sql_grammar.proofs.Taken.{bind, none_some, pair_of, value_of, after_of, Named, name_takes}
-use Rattle.sql_grammar.proofs.Whole.{Found, expr_sound}
+use Rattle.sql_grammar.proofs.Taken.{bind, none_some, pair_of, value_of, after_of, name_takes}
+use Rattle.sql_grammar.proofs.Whole.{expr_sound}
 
 -- the marks in front of the rest spell the value
 pub record Takes {A : Type 0} (R : List Mark → A → Type 0) (whole : List Mark) (x : A) (after : List Mark) : Type 0 where

@@ -10,9 +10,8 @@ use Rattle.sql_grammar.specs.declared.mark.Mark.TheVariants.{Key, Plain, Quoted,
 use Rattle.sql_grammar.specs.declared.mark.Node.{Node}
 use Rattle.sql_grammar.specs.Grammar
 use Rattle.sql_grammar.specs.Grammar.{Level, expr, and, not, is, cmp, rng, sum, prod, un, atom, below, link, comparison, name_of, nots, negation, within, Spells, SpellsList}
-use Rattle.sql_grammar.specs.Reading
-use Rattle.sql_grammar.specs.Reading.{Parser, and_then, node, made, close, opening, null_word, and_word, not_word, comma, name, parens, argument, call, named, read_atom, read_un, read_chain, chain_from, linked, link_at, read_prod, read_sum, list_from, list, among, between, not_range, range, compared, compared_by, null_test, tests_from, pure, read, read_at, read_or, read_and, read_not, read_is, read_cmp, read_rng}
-use Rattle.sql_grammar.proofs.Taken.{Steps, bind, Took, done, made_takes, pair_of, value_of, after_of, none_some, close_takes, opening_takes, null_word_takes, and_word_takes, not_word_takes, commas, comma_takes, Named, name_takes}
+use Rattle.sql_grammar.specs.Reading.{Parser, node, made, close, opening, null_word, and_word, not_word, comma, name, parens, argument, call, named, read_atom, read_un, read_chain, chain_from, linked, read_prod, read_sum, list_from, list, among, between, not_range, range, compared, compared_by, null_test, tests_from, pure, read, read_at, read_or, read_and, read_not, read_is, read_cmp, read_rng}
+use Rattle.sql_grammar.proofs.Taken.{bind, Took, done, made_takes, pair_of, none_some, close_takes, opening_takes, null_word_takes, and_word_takes, not_word_takes, commas, comma_takes, name_takes}
 
 abbrev pub SoundFor : ℕ → Level → Parser Node → Type 0
 SoundFor room l p = (ts : List Mark) (x : Node) (r : List Mark) → p ts ≡ Some (x, r) → Took room l ts x r

@@ -7,7 +7,7 @@ use Rattle.sql_tree.specs.declared.expr.Expr.{Expr}
 use Rattle.sql_tree.specs.declared.expr.Expr.TheVariants as e
 use Rattle.sql_grammar.specs.declared.mark.Keyword.TheVariants as k
 use Rattle.sql_grammar.specs.declared.mark.Mark.{Mark}
-use Rattle.sql_grammar.specs.declared.mark.Mark.TheVariants.{Key, Plain, Quoted, Number, Str, Param, Sign}
+use Rattle.sql_grammar.specs.declared.mark.Mark.TheVariants.{Key, Plain, Quoted, Number, Str, Sign}
 
 -- from what binds loosest to what binds tightest
 pub data Level : Type 0 where

@@ -1,5 +1,5 @@
 -- The grammar of statements, a line for each rule, and the tree that each spells.
-use Rattle.std.specs.Prelude.{◌≡◌, ℕ, ℤ, pos, negsuc, Bool, true, false, nat_le, ◌&&◌, ◌||◌, if◌then◌else◌, List, [], ◌∷◌, ◌++◌, length, codes, Option, Some, None}
+use Rattle.std.specs.Prelude.{ℕ, ℤ, pos, negsuc, Bool, true, false, nat_le, ◌&&◌, if◌then◌else◌, List, [], ◌∷◌, ◌++◌, length, codes, Option, Some, None}
 use Rattle.std.specs.Fmt.{signed_decimal}
 use Rattle.cell_base.specs.declared.sql_type.SqlType.{SqlType}
 use Rattle.cell_base.specs.declared.sql_type.SqlType.TheVariants as t
@@ -109,9 +109,13 @@ next_tabs = sign s.Comma ▹ single tab
 unfoldable pub next_joins : ℕ → Syntax (List TableRef)
 next_joins depth = single (join depth)
 
+-- { ',' tab } | { [INNER] JOIN tab ON expr | CROSS JOIN tab }
+unfoldable pub more_from : ℕ → Syntax (List TableRef)
+more_from depth = either (repeat next_tabs next_tabs) (repeat (gives []) (next_joins depth))
+
 -- from := tab { ',' tab } | tab { [INNER] JOIN tab ON expr | CROSS JOIN tab }
 unfoldable pub from : ℕ → Syntax (List TableRef)
-from depth = map (λ p. p.0 ∷ p.1) (tab ⨟ either (repeat next_tabs next_tabs) (repeat (gives []) (next_joins depth)))
+from depth = map (λ p. p.0 ∷ p.1) (tab ⨟ more_from depth)
 
 abbrev pub entries : Option (List TableRef × Option Expr) → List TableRef
 entries None = []

@@ -1,5 +1,5 @@
 -- How rules of statements are read, from left to right: what the private functions of the parser do. No public clause speaks of it.
-use Rattle.std.specs.Prelude.{◌≡◌, ℕ, ℤ, zero, suc, Bool, true, false, eqb, ◌||◌, ◌&&◌, not, if◌then◌else◌, List, [], ◌∷◌, ◌++◌, length, Option, Some, None}
+use Rattle.std.specs.Prelude.{ℕ, ℤ, zero, suc, Bool, true, false, eqb, ◌||◌, ◌&&◌, not, if◌then◌else◌, List, [], ◌∷◌, ◌++◌, length, Option, Some, None}
 use denote.Enum.Declared.{tag_of}
 use Rattle.sql_tree.specs.contracts.token.Sign as the_sign
 use Rattle.sql_grammar.specs.contracts.mark.Keyword as the_keyword

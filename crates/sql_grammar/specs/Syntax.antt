@@ -1,9 +1,8 @@
 -- What the rules of statements are made of, and which marks each spells with which value.
-use Rattle.std.specs.Prelude.{◌≡◌, ℕ, ℤ, Bool, true, false, eqb, ◌||◌, not, if◌then◌else◌, List, [], ◌∷◌, ◌++◌, Option, Some, None}
+use Rattle.std.specs.Prelude.{◌≡◌, ℕ, ℤ, Bool, true, false, eqb, not, if◌then◌else◌, List, [], ◌∷◌, ◌++◌, Option, Some, None}
 use denote.Enum.Declared.{tag_of}
 use Rattle.sql_tree.specs.declared.expr.Expr.{Expr}
 use Rattle.sql_tree.specs.contracts.token.Sign as the_sign
-use Rattle.sql_grammar.specs.declared.mark.Keyword.{Keyword}
 use Rattle.sql_grammar.specs.contracts.mark.Keyword as the_keyword
 use Rattle.sql_grammar.specs.declared.mark.Word.{Word}
 use Rattle.sql_grammar.specs.contracts.mark.Word as the_word
