@@ -102,4 +102,3 @@ fn show_all(alloc: Global, out: &mut String, among: &[Expr]) -> Result<(), Alloc
     }
     Ok(())
 }
-
