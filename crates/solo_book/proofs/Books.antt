@@ -308,7 +308,7 @@ write_seat old new cell value is goes =
     ∙ ap (λ (w : List (Cell × Value)). pending old.sessions w) (last_writes-push old.history.events (Write old.sessions cell value))
     ∙ ap (λ (s : ℕ). pending s (last_writes old.history.events ++ (cell, value) ∷ [])) (sym (session_seated old.stage old.sessions old.history.events (pending_open old.stage is)))
     ∙ ap (λ (w : List (Cell × Value)). pending (session_of (seat_of old.stage old.sessions old.history.events)) (w ++ (cell, value) ∷ []))
-      (sym (writes_pending old.stage old.sessions old.history.events is))
+    (sym (writes_pending old.stage old.sessions old.history.events is))
 
 -- the seat after the session's or the transaction's end
 pub end_seat :

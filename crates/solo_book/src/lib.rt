@@ -1,4 +1,10 @@
 //! A book of one session after another at Read Committed, whose reads are offered exactly what the level permits.
+//!
+//! `SoloBook` meets `Book` over a history of its own: each call adds just its event, and a read takes what its word picks of
+//! the ascending list of all writes that may be read next. As long as one session was opened, these are the writers of the cell
+//! that no later writer has passed, from which the same transaction has read before, as `one_session_permits` says. In later
+//! sessions each writer is tried: it may be read where some order extends all pairs that the history and the read force. The
+//! crate stands on `history_core`, which has the definitions, and on `order_witness`.
 #![tactic(auto)]
 
 mod append;
@@ -11,6 +17,8 @@ mod pairs;
 mod reading;
 mod single;
 mod tables;
+#[cfg(test)]
+mod tests;
 mod tests_of_records;
 
 pub use book::SoloBook;

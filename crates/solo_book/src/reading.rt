@@ -91,7 +91,14 @@ pub fn read_cell(desk: &mut Desk, cell: &Cell, word: u32) -> Result<Value, BookF
     let Ok(read) = cell.copy(desk.alloc) else {
         return Err(BookFault::Memory);
     };
-    let event = Event::Read(desk.sessions, read, choice.source, choice.count, word, value);
+    let event = Event::Read(
+        desk.sessions,
+        read,
+        choice.source,
+        choice.count,
+        word,
+        value,
+    );
     match append(&mut desk.history, event) {
         Ok(()) => Ok(told),
         Err(fault) => Err(fault),

@@ -27,7 +27,8 @@ fn some_passes_by(history: &History, all: &[Seen], cell: &Cell, source: u32) -> 
     requires { All (IsFromBegun history.now.events) all.now }
     ensures { IsTrue result ↔ Any (PassesBy history.now.events cell.now source) all.now }
 {
-    all.iter().any(|seen| passes_by(history, seen, cell, source))
+    all.iter()
+        .any(|seen| passes_by(history, seen, cell, source))
 }
 
 /// Whether the reader has read from a later writer of the cell.

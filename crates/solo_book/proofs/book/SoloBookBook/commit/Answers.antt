@@ -10,4 +10,3 @@ returns-clause-adds c =
     let is = stage_pending c.self.inside.desk.stage c.self.inside.desk.sessions c.self.inside.desk.history.events
     (subst (λ (p : Past). IsInTransaction p.seat) (sym c.self.view_is) c.requires) in
     rw (← c.self.view_is) (adds_seated c.self.inside.desk c.commit_transaction.new.desk (λ n. Commit n) _ Seated (pending_open c.self.inside.desk.stage is) c.commit_transaction.ensures.adds)
-
