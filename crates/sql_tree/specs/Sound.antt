@@ -1,8 +1,7 @@
 -- The tables that a session may define.
-use Rattle.std.specs.Prelude.{◌≡◌, List, [], ◌∷◌, codes, true, false}
+use Rattle.std.specs.Prelude.{◌≡◌, [], ◌∷◌, codes, true, false}
 use Rattle.cell_base.specs.declared.sql_type.SqlType.TheVariants.{Bigint}
 use Rattle.cell_base.specs.declared.value.Value.TheVariants.{Null}
-use Rattle.sql_tree.specs.declared.table.Column.{Column}
 use Rattle.sql_tree.specs.declared.table.Table.{Table}
 
 -- the table of `CREATE TABLE t (k bigint PRIMARY KEY, v bigint)`

@@ -1,11 +1,14 @@
 //! Tokens and the trees of SQL as plain data, without behaviour beyond copies.
 #![tactic(auto)]
 
+mod copied;
+mod depth;
 mod expr;
 mod op;
 mod statement;
 mod table;
 mod token;
+mod typed;
 mod typed_expr;
 
 pub use expr::Expr;
@@ -15,4 +18,5 @@ pub use statement::{
 };
 pub use table::{Column, OutField, Table};
 pub use token::{Sign, Token, TokenKind};
+pub use typed::{Typed, TypedChange, TypedInsert, TypedSelect};
 pub use typed_expr::{TypedExpr, TypedNode};

@@ -1,0 +1,6 @@
+pub mod Cursor
+pub mod Reads
+pub mod Levels
+pub mod Nests
+pub mod Parts
+pub mod Limited
