@@ -1,7 +1,9 @@
-// The buffer, kept as a vector of cells with their values.
-ghost use Rattle.std.specs.Prelude.{◌≡◌, ◌≤◌, ◌<◌, ◌+◌, ◌-◌, ◌∷◌, ◌++◌, [], length, vec_capacity, OnOk, OnErr, IsOk, IfSome, IfNone, Contains};
+// The buffer, kept as a vector of cells with their values, and an index by the cells' hashes.
+ghost use Rattle.std.specs.Prelude.{◌≡◌, ◌≤◌, ◌<◌, ◌+◌, ◌-◌, ◌∷◌, ◌++◌, [], length, slice_set, vec_capacity, OnOk, OnErr, IsOk, IfSome, IfNone, Contains};
 ghost use Rattle.txn_buffer.specs.Buffer.{IsMap, Puts, KeepsOrder, StandsAt, IsAbsent};
+ghost use Rattle.txn_buffer.specs.Index.{last_of, hash_of, IsIndexed};
 
+use crate::index::{Index, hash};
 use cell_base::{Cell, Memory, Value};
 use std::alloc::Global;
 use std::marker::Model;
@@ -11,17 +13,25 @@ use std::marker::Model;
 #[derive(Debug, Drop)]
 pub struct TxnBuffer {
     entries: Vec<(Cell, Value)>,
+    index: Index,
+    // For how many further cells all three lists have room.
+    room: usize,
 }
 
 impl Model for TxnBuffer {
-    ghost use Rattle.std.specs.Prelude.{◌-◌, length, vec_capacity};
+    ghost use Rattle.std.specs.Prelude.{◌+◌, ◌≤◌, length, vec_capacity};
+    ghost use Rattle.std.specs.HashMap.{spare};
     ghost use Rattle.txn_buffer.specs.Buffer.{Buffer, IsMap};
+    ghost use Rattle.txn_buffer.specs.Index.{last_of, IsIndexed};
 
     ghost Value = { Buffer };
 
-    ghost view = { λ b. record { writes = b.entries.items; spare = vec_capacity b.entries - length b.entries.items } };
+    ghost view = { λ b. record { writes = b.entries.items; spare = b.room } };
 
-    ghost invariant = { λ b. IsMap b.entries.items };
+    ghost invariant = { λ b. IsMap b.entries.items × IsIndexed b.entries.items (last_of b.index.last) b.index.before.items
+        × (length b.entries.items + b.room ≤ vec_capacity b.entries)
+        × (length b.index.before.items + b.room ≤ vec_capacity b.index.before)
+        × (b.room ≤ spare b.index.last) };
 }
 
 impl TxnBuffer {
@@ -31,6 +41,8 @@ impl TxnBuffer {
     {
         TxnBuffer {
             entries: Vec::new(alloc),
+            index: Index::new(alloc),
+            room: 0,
         }
     }
 
@@ -42,7 +54,12 @@ impl TxnBuffer {
         ensures succeeds { more ≤ self.old.spare → IsOk result }
         ensures err { OnErr result (self.new ≡ self.old) }
     {
+        if more <= self.room {
+            return Ok(());
+        }
         self.entries.reserve(more)?;
+        self.index.reserve(more)?;
+        self.room = more;
         Ok(())
     }
 
@@ -53,9 +70,14 @@ impl TxnBuffer {
         ensures order { KeepsOrder self.old.writes self.new.writes cell }
         ensures spare { self.old.spare ≤ self.new.spare + 1 }
     {
-        match find(&self.entries, &cell) {
+        let hash = hash(&cell);
+        match find(&self.entries, &self.index, &cell, hash) {
             Some(at) => replace(&mut self.entries, at, cell, value),
-            None => append(&mut self.entries, cell, value),
+            None => {
+                self.room -= 1;
+                self.index.push(hash);
+                append(&mut self.entries, cell, value);
+            }
         }
     }
 
@@ -64,7 +86,7 @@ impl TxnBuffer {
         ensures there { IfSome result (λ value. Contains self.now.writes (cell.now, value.now)) }
         ensures absent { IfNone result (IsAbsent self.now.writes cell.now) }
     {
-        match find(&self.entries, cell) {
+        match find(&self.entries, &self.index, cell, hash(cell)) {
             Some(at) => Some(&self.entries[at].1),
             None => None,
         }
@@ -79,15 +101,20 @@ impl TxnBuffer {
     }
 }
 
-/// Where the cell stands.
-fn find(entries: &[(Cell, Value)], cell: &Cell) -> Option<usize>
+/// Where the cell stands: a walk over the cells of its hash, the last one first.
+fn find(entries: &[(Cell, Value)], index: &Index, cell: &Cell, hash: u64) -> Option<usize>
+    requires indexed { IsIndexed entries.now (last_of index.now.last) index.now.before.items }
+    requires hash { hash ≡ hash_of cell.now }
     ensures found { IfSome result (λ at. StandsAt entries.now cell.now at) }
     ensures absent { IfNone result (IsAbsent entries.now cell.now) }
 {
-    for (i, entry) in entries.iter().enumerate() {
-        if entry.0.is_same(cell) {
-            return Some(i);
+    let mut place = index.last_place(hash);
+    while place > 0 {
+        let at = place - 1;
+        if entries[at].0.is_same(cell) {
+            return Some(at);
         }
+        place = index.before[at];
     }
     None
 }
@@ -96,6 +123,7 @@ fn find(entries: &[(Cell, Value)], cell: &Cell) -> Option<usize>
 fn replace(entries: &mut Vec<(Cell, Value)>, at: usize, cell: Cell, value: Value)
     requires map { IsMap entries.old.items }
     requires at { StandsAt entries.old.items cell at }
+    ensures items { entries.new.items ≡ slice_set entries.old.items at (cell, value) }
     ensures map { IsMap entries.new.items }
     ensures value { Puts entries.old.items entries.new.items cell value }
     ensures order { KeepsOrder entries.old.items entries.new.items cell }
@@ -110,6 +138,7 @@ fn append(entries: &mut Vec<(Cell, Value)>, cell: Cell, value: Value)
     requires map { IsMap entries.old.items }
     requires absent { IsAbsent entries.old.items cell }
     requires room { length entries.old.items < vec_capacity entries.old }
+    ensures items { entries.new.items ≡ entries.old.items ++ (cell, value) ∷ [] }
     ensures map { IsMap entries.new.items }
     ensures value { Puts entries.old.items entries.new.items cell value }
     ensures order { KeepsOrder entries.old.items entries.new.items cell }

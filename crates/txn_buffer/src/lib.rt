@@ -5,6 +5,7 @@
 #![tactic(auto)]
 
 mod buffer;
+mod index;
 #[cfg(test)]
 mod tests;
 
