@@ -1,13 +1,13 @@
 //! Each kernel over a pool of rows, by lanes and by a plain loop.
 
-use crate::{meter, plain};
+use crate::{lanes, meter, plain};
 use anyhow::Result;
 use bit_rows::{ROW_BITS, Row};
 use std::alloc::{AllocError, Global};
 use std::time::CpuClock;
 
-/// How many rows the pool has.
-const POOL: u32 = 64;
+/// How many rows the pools have: 16 KiB of words, which the nearest cache holds, and 128 KiB.
+const POOLS: [u32; 2] = [8, 64];
 
 /// Rows that have each third number, so that no two rows of different rests meet.
 #[derive(Drop)]
@@ -49,10 +49,10 @@ fn words_of(alloc: Global, row: &Row) -> Result<Vec<u64>, AllocError> {
     Ok(words)
 }
 
-fn filled_pool(alloc: Global) -> Result<Pool, AllocError> {
+fn filled_pool(alloc: Global, size: u32) -> Result<Pool, AllocError> {
     let mut rows = Vec::new(alloc);
     let mut words = Vec::new(alloc);
-    for _ in 0..POOL {
+    for _ in 0..size {
         let row = row_of(alloc, 0)?;
         words.push(words_of(alloc, &row)?)?;
         rows.push(row)?;
@@ -67,7 +67,7 @@ fn filled_pool(alloc: Global) -> Result<Pool, AllocError> {
     })
 }
 
-/// One kernel's two times and what both found.
+/// One kernel's two times and whether both found the same.
 fn report(rt: &impl Print, name: &str, lanes: u64, loops: u64, same: bool) -> Result<()> {
     println!(rt; "{name}: lanes {lanes} ns, plain loop {loops} ns, same answers {same}")?;
     Ok(())
@@ -78,15 +78,15 @@ fn measure_join(
     pool: &Pool,
     rounds: u32,
 ) -> Result<()> {
-    let calls = u64::from(rounds) * u64::from(POOL);
+    let calls = u64::from(rounds).saturating_mul(pool.rows.len() as u64);
     let mut row = Row::new(rt.alloc())?;
     let start = rt.thread_cpu_time()?;
     for _ in 0..rounds {
         for other in &pool.rows {
-            row.or_into(other);
+            lanes::join(&mut row, other);
         }
     }
-    let lanes = meter::each(rt, start, calls)?;
+    let by_lanes = meter::each(rt, start, calls)?;
     let mut words = words_of(rt.alloc(), &pool.probe)?;
     let start = rt.thread_cpu_time()?;
     for _ in 0..rounds {
@@ -99,24 +99,24 @@ fn measure_join(
     report(
         rt,
         "or_into",
-        lanes,
+        by_lanes,
         loops,
         row.count() == plain::count(&words),
     )
 }
 
 fn measure_meet(rt: &(impl CpuClock + Print), pool: &Pool, rounds: u32) -> Result<()> {
-    let calls = u64::from(rounds) * u64::from(POOL);
-    let mut by_lanes = 0u32;
+    let calls = u64::from(rounds).saturating_mul(pool.rows.len() as u64);
+    let mut met = 0u32;
     let start = rt.thread_cpu_time()?;
     for _ in 0..rounds {
         for row in &pool.rows {
-            if row.meets(&pool.probe) {
-                by_lanes = by_lanes.wrapping_add(1);
+            if lanes::meet(row, &pool.probe) {
+                met = met.wrapping_add(1);
             }
         }
     }
-    let lanes = meter::each(rt, start, calls)?;
+    let by_lanes = meter::each(rt, start, calls)?;
     let mut by_loops = 0u32;
     let start = rt.thread_cpu_time()?;
     for _ in 0..rounds {
@@ -127,21 +127,21 @@ fn measure_meet(rt: &(impl CpuClock + Print), pool: &Pool, rounds: u32) -> Resul
         }
     }
     let loops = meter::each(rt, start, calls)?;
-    report(rt, "meets", lanes, loops, by_lanes == by_loops)
+    report(rt, "meets", by_lanes, loops, met == by_loops)
 }
 
 fn measure_meet_three(rt: &(impl CpuClock + Print), pool: &Pool, rounds: u32) -> Result<()> {
-    let calls = u64::from(rounds) * u64::from(POOL);
-    let mut by_lanes = 0u32;
+    let calls = u64::from(rounds).saturating_mul(pool.rows.len() as u64);
+    let mut met = 0u32;
     let start = rt.thread_cpu_time()?;
     for _ in 0..rounds {
         for row in &pool.rows {
-            if row.and_any(row, &pool.probe) {
-                by_lanes = by_lanes.wrapping_add(1);
+            if lanes::meet_three(row, row, &pool.probe) {
+                met = met.wrapping_add(1);
             }
         }
     }
-    let lanes = meter::each(rt, start, calls)?;
+    let by_lanes = meter::each(rt, start, calls)?;
     let mut by_loops = 0u32;
     let start = rt.thread_cpu_time()?;
     for _ in 0..rounds {
@@ -152,19 +152,19 @@ fn measure_meet_three(rt: &(impl CpuClock + Print), pool: &Pool, rounds: u32) ->
         }
     }
     let loops = meter::each(rt, start, calls)?;
-    report(rt, "and_any", lanes, loops, by_lanes == by_loops)
+    report(rt, "and_any", by_lanes, loops, met == by_loops)
 }
 
 fn measure_count(rt: &(impl CpuClock + Print), pool: &Pool, rounds: u32) -> Result<()> {
-    let calls = u64::from(rounds) * u64::from(POOL);
-    let mut by_lanes = 0u32;
+    let calls = u64::from(rounds).saturating_mul(pool.rows.len() as u64);
+    let mut all = 0u32;
     let start = rt.thread_cpu_time()?;
     for _ in 0..rounds {
         for row in &pool.rows {
-            by_lanes = by_lanes.wrapping_add(row.count());
+            all = all.wrapping_add(lanes::count(row));
         }
     }
-    let lanes = meter::each(rt, start, calls)?;
+    let by_lanes = meter::each(rt, start, calls)?;
     let mut by_loops = 0u32;
     let start = rt.thread_cpu_time()?;
     for _ in 0..rounds {
@@ -173,14 +173,22 @@ fn measure_count(rt: &(impl CpuClock + Print), pool: &Pool, rounds: u32) -> Resu
         }
     }
     let loops = meter::each(rt, start, calls)?;
-    report(rt, "count", lanes, loops, by_lanes == by_loops)
+    report(rt, "count", by_lanes, loops, all == by_loops)
 }
 
-/// Times each kernel, over the pool so many times.
-pub(crate) fn measure(rt: &(impl CpuClock + Print + AllocGlobal), rounds: u32) -> Result<()> {
-    let pool = filled_pool(rt.alloc())?;
+fn measure_pool(rt: &(impl CpuClock + Print + AllocGlobal), size: u32, rounds: u32) -> Result<()> {
+    println!(rt; "{size} rows:")?;
+    let pool = filled_pool(rt.alloc(), size)?;
     measure_join(rt, &pool, rounds)?;
     measure_meet(rt, &pool, rounds)?;
     measure_meet_three(rt, &pool, rounds)?;
     measure_count(rt, &pool, rounds)
+}
+
+/// Times each kernel, over each pool so many times.
+pub(crate) fn measure(rt: &(impl CpuClock + Print + AllocGlobal), rounds: u32) -> Result<()> {
+    for size in POOLS {
+        measure_pool(rt, size, rounds)?;
+    }
+    Ok(())
 }

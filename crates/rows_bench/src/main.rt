@@ -1,7 +1,7 @@
 //! Measures rows of bits and kept reachability, in processor time of this thread.
 //!
-//! Without arguments it says how it is used, and ends. `kernels ROUNDS` times each kernel over a
-//! pool of rows beside a plain loop over the same words, and `reach SIZE` times the calls of a
+//! Without arguments it says how it is used, and ends. `kernels ROUNDS` times each kernel over
+//! pools of rows beside a plain loop over the same words, and `reach SIZE` times the calls of a
 //! `Reach` of so many numbers. Both print nanoseconds for one call.
 #![tactic(auto)]
 
@@ -11,6 +11,7 @@ use std::rt::Env;
 use std::time::CpuClock;
 
 mod kernels;
+mod lanes;
 mod meter;
 mod plain;
 mod reaching;
