@@ -53,6 +53,8 @@ pub(crate) fn measure(rt: &(impl CpuClock + Print + AllocGlobal), rows: u32) -> 
     let start = rt.thread_cpu_time()?;
     let there = found(&buffer, count);
     let got = meter::each(rt, start, count)?;
-    println!(rt; "buffer: put of a new cell {new} ns, of one that is there {again} ns, get {got} ns, {there} found")?;
+    println!(rt;
+        "buffer: put of a new cell {new} ns, of one that is there {again} ns, get {got} ns, {there} found"
+    )?;
     Ok(())
 }

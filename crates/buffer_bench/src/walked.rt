@@ -52,6 +52,8 @@ pub(crate) fn measure(rt: &(impl CpuClock + Print + AllocGlobal), rows: u32) -> 
     let start = rt.thread_cpu_time()?;
     let there = found(&list, count);
     let got = meter::each(rt, start, count)?;
-    println!(rt; "list: put of a new cell {new} ns, of one that is there {again} ns, get {got} ns, {there} found")?;
+    println!(rt;
+        "list: put of a new cell {new} ns, of one that is there {again} ns, get {got} ns, {there} found"
+    )?;
     Ok(())
 }

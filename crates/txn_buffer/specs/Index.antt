@@ -1,5 +1,5 @@
 -- Where the cells of one hash stand. A place is given as one more, and 0 stands for none.
-use Rattle.std.specs.Prelude.{◌≡◌, ◌≢◌, ◌≤◌, ◌<◌, ◌+◌, ◌-◌, ℕ, suc, Some, List, length, slice_get, slice_index, nat_eq, unwrap_or, fold, vec_capacity}
+use Rattle.std.specs.Prelude.{◌≡◌, ◌≢◌, ◌≤◌, ◌<◌, ℕ, suc, Some, List, length, slice_get, slice_index, nat_eq, unwrap_or, fold}
 use Rattle.std.specs.Hash as fed
 use Rattle.std.specs.Hash.FoldHasher as folding
 use Rattle.std.specs.HashMap.{HashMap, get}
