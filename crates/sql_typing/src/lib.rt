@@ -1,0 +1,2 @@
+//! Which typed expressions are well typed, and how a value is converted to a column's type.
+#![tactic(auto)]
