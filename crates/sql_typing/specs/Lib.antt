@@ -1,0 +1,5 @@
+pub mod Outcome
+pub mod Operators
+pub mod Literals
+pub mod Names
+pub mod Expressions

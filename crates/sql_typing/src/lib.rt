@@ -1,0 +1,8 @@
+//! Which typed expressions are well typed, and how a value is converted to a column's type.
+#![tactic(auto)]
+
+mod form;
+mod place;
+
+pub use form::Form;
+pub use place::Place;
