@@ -5,7 +5,7 @@ ghost use Rattle.sql_types.specs.Gives.{Gives};
 
 use crate::TypeFault;
 use crate::operands::settled;
-use crate::operators::aggregate_kind;
+use crate::operators::aggregate_type;
 use cell_base::{Boxed, SqlState, SqlType};
 use sql_tree::{Aggregate, TypedExpr, TypedNode};
 use sql_typing::{Form, Place};
@@ -42,7 +42,7 @@ fn aggregate(alloc: Global, function: Aggregate, argument: Form) -> Result<Form,
     ensures { Gives (spec.aggregate function argument) result }
 {
     let argument = settled(SqlType::Text, argument)?;
-    match aggregate_kind(function, argument.kind) {
+    match aggregate_type(function, argument.kind) {
         Some(kind) => Ok(Form::Typed(TypedExpr {
             kind,
             node: TypedNode::Aggregate(function, Some(Boxed::new(alloc, argument)?)),

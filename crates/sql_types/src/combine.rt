@@ -7,7 +7,7 @@ ghost use Rattle.sql_tree.specs.declared.typed_expr.TypedNode.TheVariants as nod
 
 use crate::TypeFault;
 use crate::operands::{common_kind, condition, kind_of, settled};
-use crate::operators::{are_comparable, is_arithmetic, is_logical, is_numeric, is_whole, wider};
+use crate::operators::{are_comparable, is_arithmetic, is_connective, is_numeric, is_number, wider};
 use cell_base::{Boxed, Items, Memory, SqlState, SqlType};
 use sql_tree::{Op, TypedExpr, TypedNode};
 use sql_typing::Form;
@@ -62,7 +62,7 @@ fn whole_operands(
 {
     let a = settled(kind, left)?;
     let b = settled(kind, right)?;
-    if is_whole(a.kind) && is_whole(b.kind) {
+    if is_number(a.kind) && is_number(b.kind) {
         Ok(binary(alloc, wider(a.kind, b.kind), op, a, b)?)
     } else {
         Err(TypeFault::State(SqlState::S42883))
@@ -77,7 +77,7 @@ fn calculated(alloc: Global, op: Op, left: Form, right: Form) -> Result<Form, Ty
         return Err(TypeFault::State(SqlState::S0A000));
     }
     let kind = common_kind(&left, &right);
-    if is_whole(kind) {
+    if is_number(kind) {
         whole_operands(alloc, op, kind, left, right)
     } else {
         Err(TypeFault::State(SqlState::S42883))
@@ -100,7 +100,7 @@ pub fn combined(alloc: Global, op: Op, left: Form, right: Form) -> Result<Form, 
 {
     if is_arithmetic(op) {
         calculated(alloc, op, left, right)
-    } else if is_logical(op) {
+    } else if is_connective(op) {
         joined(alloc, op, left, right)
     } else {
         compared(alloc, op, left, right)
@@ -145,15 +145,13 @@ fn members_of(
     Ok(members)
 }
 
-/// IN, and NOT IN where `negated`.
-#[tactic(auto, unfolding(sql_typing::specs::Expressions::among))]
-pub fn among(
+fn among_members(
     alloc: Global,
     left: Form,
     forms: Items<Form>,
     negated: bool,
 ) -> Result<Form, TypeFault>
-    ensures { Gives (spec.among left forms negated) result }
+    ensures { Gives (spec.among_members left forms negated) result }
 {
     let kind = match kind_of(&left) {
         Some(kind) => kind,
@@ -165,4 +163,19 @@ pub fn among(
         kind: SqlType::Boolean,
         node: TypedNode::In(Boxed::new(alloc, value)?, members, negated),
     }))
+}
+
+/// IN, and NOT IN where `negated`.
+pub fn among(
+    alloc: Global,
+    left: Form,
+    forms: Items<Form>,
+    negated: bool,
+) -> Result<Form, TypeFault>
+    ensures { Gives (spec.among left forms negated) result }
+{
+    match forms.as_slice() {
+        [] => Err(TypeFault::State(SqlState::S42601)),
+        [_, ..] => among_members(alloc, left, forms, negated),
+    }
 }

@@ -10,7 +10,7 @@ use crate::calls::{aggregated, inside, starred};
 use crate::combine::{among, combined};
 use crate::names::resolved;
 use crate::operands::{condition, settled};
-use crate::operators::{aggregate_named, is_numeric, is_whole};
+use crate::operators::{aggregate_named, is_numeric, is_number};
 use crate::{Entry, TypeFault};
 use cell_base::{Boxed, Items, SqlState, SqlType, Text, Value};
 use sql_tree::{Expr, TypedExpr, TypedNode};
@@ -59,7 +59,7 @@ fn negated(alloc: Global, form: Form) -> Result<Form, TypeFault>
 {
     match form {
         Form::Typed(expr) => {
-            if is_whole(expr.kind) {
+            if is_number(expr.kind) {
                 Ok(of_kind(expr.kind, TypedNode::Neg(Boxed::new(alloc, expr)?)))
             } else if is_numeric(expr.kind) {
                 Err(TypeFault::State(SqlState::S0A000))

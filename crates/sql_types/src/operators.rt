@@ -1,44 +1,45 @@
 // Which types an operator and an aggregate take, and the type of what they give.
 ghost use Rattle.std.specs.Prelude.{◌≡◌};
-ghost use Rattle.sql_typing.specs.Operators as spec;
+ghost use Rattle.sql_typing.specs.Kinds as kinds;
+ghost use Rattle.sql_typing.specs.Operators.{aggregate_named};
+ghost use Rattle.sql_typing.specs.WellTyped as typed;
 
 use cell_base::{SqlType, Text};
 use sql_tree::{Aggregate, Op};
 
 pub fn is_boolean(kind: SqlType) -> bool
-    ensures { result ≡ spec.is_boolean kind }
+    ensures { result ≡ kinds.is_boolean kind }
 {
     matches!(kind, SqlType::Boolean)
 }
 
-pub fn is_whole(kind: SqlType) -> bool
-    ensures { result ≡ spec.is_whole kind }
+pub fn is_number(kind: SqlType) -> bool
+    ensures { result ≡ kinds.is_number kind }
 {
     matches!(kind, SqlType::Integer | SqlType::Bigint)
 }
 
-fn is_textual(kind: SqlType) -> bool
-    ensures { result ≡ spec.is_textual kind }
+fn is_text(kind: SqlType) -> bool
+    ensures { result ≡ kinds.is_text kind }
 {
     matches!(kind, SqlType::Text | SqlType::Varchar(_))
 }
 
 pub fn is_numeric(kind: SqlType) -> bool
-    ensures { result ≡ spec.is_numeric kind }
+    ensures { result ≡ kinds.is_numeric kind }
 {
     matches!(kind, SqlType::Numeric)
 }
 
 pub fn are_comparable(a: SqlType, b: SqlType) -> bool
-    ensures { result ≡ spec.are_comparable a b }
+    ensures { result ≡ kinds.are_comparable a b }
 {
-    (is_whole(a) && is_whole(b))
-        || (is_textual(a) && is_textual(b))
-        || (is_boolean(a) && is_boolean(b))
+    (is_number(a) && is_number(b))
+        || ((is_text(a) && is_text(b)) || (is_boolean(a) && is_boolean(b)))
 }
 
 pub fn wider(a: SqlType, b: SqlType) -> SqlType
-    ensures { result ≡ spec.wider a b }
+    ensures { result ≡ kinds.wider a b }
 {
     match (a, b) {
         (SqlType::Integer, SqlType::Integer) => SqlType::Integer,
@@ -47,20 +48,20 @@ pub fn wider(a: SqlType, b: SqlType) -> SqlType
 }
 
 pub fn is_arithmetic(op: Op) -> bool
-    ensures { result ≡ spec.is_arithmetic op }
+    ensures { result ≡ typed.is_arithmetic op }
 {
     matches!(op, Op::Add | Op::Sub | Op::Mul | Op::Div | Op::Rem)
 }
 
-pub fn is_logical(op: Op) -> bool
-    ensures { result ≡ spec.is_logical op }
+pub fn is_connective(op: Op) -> bool
+    ensures { result ≡ typed.is_connective op }
 {
     matches!(op, Op::And | Op::Or)
 }
 
 /// The aggregate of a name.
 pub fn aggregate_named(name: &Text) -> Option<Aggregate>
-    ensures { result ≡ spec.aggregate_named name.now }
+    ensures { result ≡ aggregate_named name.now }
 {
     let name = name.as_str();
     if name == "count" {
@@ -77,11 +78,14 @@ pub fn aggregate_named(name: &Text) -> Option<Aggregate>
 }
 
 /// The type of an aggregate over values of a type, where it takes them.
-pub fn aggregate_kind(function: Aggregate, kind: SqlType) -> Option<SqlType>
-    ensures { result ≡ spec.aggregate_kind function kind }
+pub fn aggregate_type(function: Aggregate, kind: SqlType) -> Option<SqlType>
+    ensures { result ≡ typed.aggregate_type function kind }
 {
     match function {
-        Aggregate::Count => Some(SqlType::Bigint),
+        Aggregate::Count => match kind {
+            SqlType::Numeric => None,
+            _ => Some(SqlType::Bigint),
+        },
         Aggregate::Sum => match kind {
             SqlType::Integer => Some(SqlType::Bigint),
             SqlType::Bigint => Some(SqlType::Numeric),

@@ -1,6 +1,7 @@
 -- The typed tree of an expression, or the code that comes first. Operands come from left to right, before their node.
-use Rattle.std.specs.Prelude.{ℕ, ◌^◌, Bool, true, false, ◌||◌, ◌&&◌, not, if◌then◌else◌, List, [], ◌∷◌, map, Option, Some, None, Ok, Err, ℤ, pos, negsuc, nat_lt}
-use Rattle.cell_base.specs.declared.sql_state.SqlState.TheVariants.{S0A000, S42803, S42804, S42883}
+-- (PostgreSQL's documentation, "Type Conversion" and "Aggregate Expressions".)
+use Rattle.std.specs.Prelude.{ℕ, ◌^◌, Bool, true, false, ◌||◌, ◌&&◌, not, if◌then◌else◌, List, [], ◌∷◌, map, Option, Some, None, Ok, Err, ℤ}
+use Rattle.cell_base.specs.declared.sql_state.SqlState.TheVariants.{S0A000, S42601, S42803, S42804, S42883}
 use Rattle.cell_base.specs.declared.sql_type.SqlType.{SqlType}
 use Rattle.cell_base.specs.declared.sql_type.SqlType.TheVariants as type
 use Rattle.cell_base.specs.declared.value.Value.{Value}
@@ -18,7 +19,9 @@ use Rattle.sql_typing.specs.declared.form.Form.TheVariants.{Typed, Quoted, Null}
 use Rattle.sql_typing.specs.declared.place.Place.{Place}
 use Rattle.sql_typing.specs.declared.place.Place.TheVariants.{Row, Group}
 use Rattle.sql_typing.specs.Outcome.{Outcome, and_then, all_of}
-use Rattle.sql_typing.specs.Operators.{is_boolean, is_whole, is_numeric, are_comparable, wider, is_arithmetic, is_logical, aggregate_named, aggregate_kind}
+use Rattle.sql_typing.specs.Kinds.{is_boolean, is_number, is_numeric, are_comparable, wider, is_within}
+use Rattle.sql_typing.specs.WellTyped.{is_arithmetic, is_connective, aggregate_type}
+use Rattle.sql_typing.specs.Operators.{aggregate_named}
 use Rattle.sql_typing.specs.Literals.{quoted}
 use Rattle.sql_typing.specs.Names.{Source, Found, resolved}
 
@@ -29,8 +32,7 @@ typed_node kind n = record { kind = kind; node = n }
 
 -- integer where the number fits one, else bigint
 abbrev pub literal_kind : ℤ → SqlType
-literal_kind (pos n) = if nat_lt n (2 ^ 31) then type.Integer else type.Bigint
-literal_kind (negsuc n) = if nat_lt n (2 ^ 31) then type.Integer else type.Bigint
+literal_kind n = if is_within (2 ^ 31) n then type.Integer else type.Bigint
 
 abbrev pub null : SqlType → TypedExpr
 null kind = typed_node kind (node.Constant value.Null)
@@ -94,7 +96,7 @@ is_numeric_form _ = false
 
 abbrev pub calculated_with : Op → TypedExpr → TypedExpr → Outcome Form
 calculated_with op a b =
-    if is_whole a.kind && is_whole b.kind then typed_form (wider a.kind b.kind) (node.Binary op a b) else Err S42883
+    if is_number a.kind && is_number b.kind then typed_form (wider a.kind b.kind) (node.Binary op a b) else Err S42883
 
 abbrev pub whole_operands : Op → SqlType → Form → Form → Outcome Form
 whole_operands op kind a b = and_then (settled kind a) (λ x. and_then (settled kind b) (λ y. calculated_with op x y))
@@ -103,17 +105,17 @@ whole_operands op kind a b = and_then (settled kind a) (λ x. and_then (settled 
 unfoldable pub calculated : Op → Form → Form → Outcome Form
 calculated op a b =
     if is_numeric_form a || is_numeric_form b then Err S0A000
-    else (if is_whole (common_kind a b) then whole_operands op (common_kind a b) a b else Err S42883)
+    else (if is_number (common_kind a b) then whole_operands op (common_kind a b) a b else Err S42883)
 
 unfoldable pub joined : Op → Form → Form → Outcome Form
 joined op a b = and_then (condition a) (λ x. and_then (condition b) (λ y. typed_form type.Boolean (node.Binary op x y)))
 
 unfoldable pub combined : Op → Form → Form → Outcome Form
-combined op a b = if is_arithmetic op then calculated op a b else (if is_logical op then joined op a b else compared op a b)
+combined op a b = if is_arithmetic op then calculated op a b else (if is_connective op then joined op a b else compared op a b)
 
 abbrev pub negated_form : Form → Outcome Form
 negated_form (Typed e) =
-    if is_whole e.kind then typed_form e.kind (node.Neg e) else (if is_numeric e.kind then Err S0A000 else Err S42883)
+    if is_number e.kind then typed_form e.kind (node.Neg e) else (if is_numeric e.kind then Err S0A000 else Err S42883)
 negated_form _ = Err S42883
 
 abbrev pub inverted : Form → Outcome Form
@@ -135,10 +137,15 @@ member_of kind e = if are_comparable kind e.kind then Ok e else Err S42883
 unfoldable pub member : SqlType → Form → Outcome TypedExpr
 member kind m = and_then (settled kind m) (λ e. member_of kind e)
 
-unfoldable pub among : Form → List Form → Bool → Outcome Form
-among left members negated =
+abbrev pub among_members : Form → List Form → Bool → Outcome Form
+among_members left members negated =
     and_then (settled (kind_or (first_kind members) (kind_of left)) left) (λ x.
     and_then (all_of (map (member x.kind) members)) (λ xs. typed_form type.Boolean (node.In x xs negated)))
+
+-- No statement that is read has an IN without members; PostgreSQL's grammar refuses one.
+abbrev pub among : Form → List Form → Bool → Outcome Form
+among left [] negated = Err S42601
+among left (m ∷ ms) negated = among_members left (m ∷ ms) negated
 
 -- ---- functions
 
@@ -151,7 +158,7 @@ allowed Row given = Err S42803
 allowed Group given = given
 
 abbrev pub aggregate : Aggregate → Form → Outcome Form
-aggregate f form = and_then (settled type.Text form) (λ e. aggregate_of f e (aggregate_kind f e.kind))
+aggregate f form = and_then (settled type.Text form) (λ e. aggregate_of f e (aggregate_type f e.kind))
 
 -- a call in this place, of the aggregate that its name has
 abbrev pub aggregated : Place → Option Aggregate → Form → Outcome Form
