@@ -1,0 +1,18 @@
+//! The value of an expression over a row, and the conversion of a value to a column's type.
+//!
+//! The rules are PostgreSQL's: three-valued logic, integers that don't leave their type, division toward zero, text by
+//! bytes.
+#![tactic(auto)]
+
+mod assignment;
+mod compare;
+mod compute;
+mod datum;
+mod evaluation;
+mod fault;
+mod logic;
+mod lookup;
+
+pub use assignment::assign;
+pub use evaluation::eval;
+pub use fault::EvalFault;
