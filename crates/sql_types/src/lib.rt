@@ -7,6 +7,7 @@ ghost use Rattle.sql_types.specs.Scope.{IsNarrow, sources};
 
 mod calls;
 mod combine;
+mod constant;
 mod entry;
 mod error;
 mod expression;
@@ -15,6 +16,7 @@ mod names;
 mod operands;
 mod operators;
 
+pub use constant::typed_constant;
 pub use entry::Entry;
 pub use error::TypeFault;
 

@@ -7,3 +7,4 @@ pub mod Literals
 pub mod Names
 pub mod Expressions
 pub mod Constants
+pub mod Building
