@@ -1,2 +1,9 @@
-//! Which typed expressions are well typed, and how a value is converted to a column's type.
+//! Definitions of typing: the typed tree of an expression, or the code that comes first; which typed expressions are well
+//! typed; and how a value is converted to a column's type.
 #![tactic(auto)]
+
+mod form;
+mod place;
+
+pub use form::Form;
+pub use place::Place;
