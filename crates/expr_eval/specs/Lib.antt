@@ -1,0 +1,5 @@
+pub mod Operators
+pub mod Values
+pub mod Kinds
+pub mod Lent
+pub mod Answers

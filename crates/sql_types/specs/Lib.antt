@@ -1,0 +1,3 @@
+pub mod Gives
+pub mod Scope
+pub mod Found

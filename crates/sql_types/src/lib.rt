@@ -1,0 +1,43 @@
+//! The types of expressions and statements: the typed tree, or the code that comes first.
+#![tactic(auto)]
+
+ghost use Rattle.sql_typing.specs.Expressions.{flag};
+ghost use Rattle.sql_types.specs.Gives.{Gives};
+ghost use Rattle.sql_types.specs.Scope.{IsNarrow, sources};
+
+mod calls;
+mod combine;
+mod constant;
+mod entry;
+mod error;
+mod expression;
+mod literal;
+mod names;
+mod operands;
+mod operators;
+
+pub use constant::typed_constant;
+pub use entry::Entry;
+pub use error::TypeFault;
+
+use crate::expression::form;
+use crate::operands::condition;
+use sql_tree::{Expr, TypedExpr};
+use sql_typing::Place;
+use std::alloc::Global;
+
+/// The typed tree of a condition over one row of each entry. One of another type than boolean is 42804, a quoted literal 0A000,
+/// an aggregate 42803, a name 42703, 42702 or 42P01 where it stands for no column, for two, or its qualifier for no entry.
+/// The other codes are those of operands: 42883, 22P02 and 22003. The one that comes first from left to right, operands before
+/// their node, is answered (PostgreSQL's documentation, "Value Expressions" and "Type Conversion").
+#[tactic(auto, unfolding(sql_typing::specs::Expressions::flag))]
+pub fn typed_flag(
+    alloc: Global,
+    expr: &Expr,
+    scope: &[Entry<'_>],
+) -> Result<TypedExpr, TypeFault>
+    requires { IsNarrow scope.now }
+    ensures { Gives (flag (sources scope.now) expr.now) result }
+{
+    Ok(condition(form(alloc, expr, scope, Place::Row)?)?)
+}

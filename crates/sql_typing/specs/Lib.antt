@@ -1,0 +1,10 @@
+pub mod Kinds
+pub mod WellTyped
+pub mod Assignment
+pub mod Outcome
+pub mod Operators
+pub mod Literals
+pub mod Names
+pub mod Expressions
+pub mod Constants
+pub mod Building
