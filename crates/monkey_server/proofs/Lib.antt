@@ -6,7 +6,6 @@ pub mod Carrying
 pub mod Serving
 pub mod Digits
 pub mod Commas
-pub mod Strips
 pub mod LastUser
 pub mod Texts
 pub mod Lengths

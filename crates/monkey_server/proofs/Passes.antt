@@ -5,7 +5,7 @@ use Rattle.std.specs.Prelude.{◌==◌}
 use Rattle.monkey_server.specs.declared.stage.Stage.{Stage}
 use Rattle.monkey_server.specs.declared.stage.Stage.TheVariants as stages
 use Rattle.monkey_server.specs.Told.{Entry, did, refused, short, unsent, stop, Said, Script, unless_short, unless_unsent}
-use Rattle.monkey_server.specs.Stands.{least, IsFrom, IsLast, IsBusy, with_short, IsFed, IsShort}
+use Rattle.monkey_server.specs.Stands.{least, IsFrom, IsLast, IsBusy, with_short, IsFed, IsShort, IsPassing}
 
 pub eqb-ne : (a b : ℕ) → a ≢ b → (a == b) ≡ false
 eqb-ne a b h = grind (arith, nat_tests)
@@ -32,6 +32,13 @@ unless_short-passes false k rest said (short true n ∷ es) h = refl
 unless_short-passes false k rest said (short false n ∷ es) h = rw (eqb-ne n (length said.bytes) (λ e. omega (arith, e, h))) refl
 unless_short-passes final k rest said (unsent n ∷ es) h = refl
 unless_short-passes final k rest said (stop cause ∷ es) h = refl
+
+-- nor where one stands that doesn't end the session
+pub unless_short-over : (w : Option Bool) (k rest : Script) (said : Said) (es : List Entry) → IsPassing w → IsFrom 1 (length said.bytes) es →
+    unless_short true k rest said (with_short w said.bytes es) ≡ rest said (with_short w said.bytes es)
+unless_short-over None k rest said es p h = unless_short-passes true k rest said es h
+unless_short-over (Some false) k rest said es p h = refl
+unless_short-over (Some true) k rest said es p h = absurd p
 
 -- a want of memory stands here
 pub unless_short-takes : (final : Bool) (k rest : Script) (said : Said) (es : List Entry) → unless_short final k rest said (short final (length said.bytes) ∷ es) ≡ k said es

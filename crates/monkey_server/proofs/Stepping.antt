@@ -1,5 +1,5 @@
 -- The steps of a session over the bytes that it holds.
-use Rattle.std.proofs.Common.{◌≡◌, Bool, true, ℕ, List, [], ◌++◌, length, refl, sym, ◌∙◌, ap, subst, append_assoc, Some, None}
+use Rattle.std.proofs.Common.{◌≡◌, Bool, true, ℕ, List, [], ◌++◌, length, refl, sym, ◌∙◌, ap, subst, append_assoc, Option, Some, None}
 use Rattle.std.proofs.lemmas.List.{append-nil}
 use Rattle.pg_framing.specs.declared.front.Front.{Front}
 use Rattle.pg_framing.specs.declared.front.FrameFault.{FrameFault}
@@ -11,7 +11,7 @@ use Rattle.monkey_server.specs.declared.stage.Stage.TheVariants as stages
 use Rattle.monkey_server.specs.Talk.{asks, faulty, IsTalk}
 use Rattle.monkey_server.specs.Told.{Entry, ending, owed_by, handled, session}
 use Rattle.monkey_server.specs.Stands.{least, IsFrom, IsBusy, LeadsTo, Enters, Steps}
-use Rattle.monkey_server.proofs.Passes.{busy-last, least-busy, unless_short-passes, IsFed-last}
+use Rattle.monkey_server.proofs.Passes.{busy-last, least-busy, unless_short-passes, unless_short-over, IsFed-last}
 use Rattle.monkey_server.proofs.Grows.{session-short}
 
 pub Steps-partial : (opened : Bool) (known : ℕ) (before after : Held) → after ≡ before → IsPartial before.started before.rest → Steps opened known before (stages.Waiting opened) None after
@@ -27,9 +27,9 @@ Steps-partial opened known before after is partial = record {
 at_one : (stage : Stage) (n : ℕ) (es : List Entry) → IsBusy stage → IsFrom (least stage) n es → IsFrom 1 n es
 at_one stage n es busy from = subst (λ (k : ℕ). IsFrom k n es) (least-busy stage busy) from
 
-pub Steps-front : (opened : Bool) (known : ℕ) (before after : Held) (front : Front) (stage : Stage) → TakesFront before.started before.rest front after.rest →
-    after.started ≡ phase_after before.started front → Enters front known stage → Steps opened known before stage None after
-Steps-front opened known before after front stage takes started enters = record {
+pub Steps-front : (opened : Bool) (known : ℕ) (before after : Held) (front : Front) (stage : Stage) (wanting : Option Bool) → TakesFront before.started before.rest front after.rest →
+    after.started ≡ phase_after before.started front → Enters front known stage wanting → Steps opened known before stage wanting after
+Steps-front opened known before after front stage wanting takes started enters = record {
   turns = asks enters.ask;
   heard = λ bytes talk fed h. (
     front,
@@ -40,7 +40,7 @@ Steps-front opened known before after front stage takes started enters = record 
     subst (λ (b : Bool). IsTalk b (after.rest ++ bytes) talk) started h,
   );
   goes = λ built talk said es from.
-      unless_short-passes true (ending (owed_by opened) ends.Memory) (handled enters.ask known (λ k. session true k talk)) said es (at_one stage (length said.bytes) es enters.busy from)
+      unless_short-over wanting (ending (owed_by opened) ends.Memory) (handled enters.ask known (λ k. session true k talk)) said es enters.passing (at_one stage (length said.bytes) es enters.busy from)
       ∙ enters.goes built talk said es;
   waits = λ o is. absurd (subst IsBusy is enters.busy);
 }

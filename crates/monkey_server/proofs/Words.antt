@@ -4,8 +4,7 @@ use Rattle.std.specs.Prelude.{All, Contains, fold}
 use Rattle.std.proofs.lemmas.List.{take_more, take_all, take-append-drop}
 use Rattle.std.proofs.lemmas.List.Sums.{fold-append}
 use Rattle.std.proofs.lemmas.List.Elements.{All-push, All-weaker, All-contains, Contains-append_right}
-use Rattle.monkey_server.specs.Requests.{IsDigit, number_of}
-use Rattle.monkey_server.specs.Command.{IsWord, Lists}
+use Rattle.monkey_server.specs.Command.{IsDigit, number_of, IsWord, Lists}
 use Rattle.monkey_server.proofs.Digits.{value_more}
 use Rattle.monkey_server.proofs.Commas.{no_comma_from, cut_same}
 

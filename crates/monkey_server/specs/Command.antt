@@ -1,6 +1,12 @@
 -- The words of the command line.
-use Rattle.std.specs.Prelude.{◌≡◌, ◌<◌, ℕ, List, [], ◌∷◌, ◌++◌, length, codes, All}
-use Rattle.monkey_server.specs.Requests.{IsDigit, number_of}
+use Rattle.std.specs.Prelude.{◌≡◌, ◌≤◌, ◌<◌, ◌+◌, ◌*◌, ◌-◌, ℕ, List, [], ◌∷◌, ◌++◌, length, codes, All, fold}
+
+abbrev pub IsDigit : ℕ → Type 0
+IsDigit c = (48 ≤ c) × (c ≤ 57)
+
+-- the number that decimal digits spell
+abbrev pub number_of : List ℕ → ℕ
+number_of digits = fold (λ n c. 10 * n + (c - 48)) 0 digits
 
 -- digits, at least one, of a number that fits 32 bits
 pub record IsWord (digits : List ℕ) (n : ℕ) : Type 0 where

@@ -1,5 +1,3 @@
-pub mod Parts
-pub mod Requests
 pub mod Users
 pub mod Talk
 pub mod Replies

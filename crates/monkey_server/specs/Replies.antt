@@ -12,6 +12,7 @@ use Rattle.monkey_server.specs.declared.stage.Fatal.{Fatal}
 use Rattle.monkey_server.specs.declared.stage.Fatal.TheVariants as fatals
 use Rattle.monkey_server.specs.declared.stage.Reply.{Reply}
 use Rattle.monkey_server.specs.declared.stage.Reply.TheVariants as replies
+use Rattle.query_request.specs.Requests.{state_of}
 use Rattle.pg_framing.specs.declared.replies.TransactionState.TheVariants.{Idle}
 use Rattle.pg_framing.specs.Replies.{auth_ok, parameter, key_data, ready, row_description, data_row, command_complete, error_response}
 
@@ -49,7 +50,7 @@ one_row_reply value = row_description result_fields ++ (data_row (as_bigint valu
 
 -- the code of a statement that failed
 abbrev pub fault_state : Fault → SqlState
-fault_state fails.Unsupported = states.S0A000
+fault_state (fails.Query fault) = state_of fault
 fault_state fails.NoTable = states.S42P01
 fault_state fails.TableTaken = states.S42P07
 fault_state fails.DuplicateKey = states.S23505

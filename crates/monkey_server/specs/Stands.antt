@@ -6,6 +6,7 @@ use Rattle.cell_base.specs.declared.value.Value.TheVariants.{Flag, Int}
 use Rattle.history_core.specs.declared.event.Event.{Event}
 use Rattle.history_core.specs.declared.fault.BookFault.TheVariants as faults
 use Rattle.pg_framing.specs.declared.front.Front.{Front}
+use Rattle.pg_framing.specs.declared.front.Front.TheVariants.{Query}
 use Rattle.pg_framing.specs.Fronts.{Held, HasNoFront, HasFault}
 use Rattle.pg_framing.specs.declared.front.FrameFault.{FrameFault}
 use Rattle.monkey_server.specs.declared.call.Call.{Call}
@@ -189,13 +190,24 @@ abbrev pub entry_for : Answer → Event → Entry
 entry_for (answers.Refused why) e = refused why
 entry_for a e = did a e
 
--- a message of a client leads to a stage
-pub record Enters (front : Front) (known : ℕ) (stage : Stage) : Type 0 where
+abbrev pub IsNoQuery : Front → Type 0
+IsNoQuery (Query text) = ⊥
+IsNoQuery _ = Unit {0}
+
+-- a want of memory, where there was one, that doesn't end the session
+abbrev pub IsPassing : Option Bool → Type 0
+IsPassing None = Unit {0}
+IsPassing (Some false) = Unit {0}
+IsPassing (Some true) = ⊥
+
+-- a message of a client leads to a stage, with a want of memory in its reading where there was one
+pub record Enters (front : Front) (known : ℕ) (stage : Stage) (wanting : Option Bool) : Type 0 where
   pub ask : Ask
   pub says : Says front ask
   pub busy : IsBusy stage
+  pub passing : IsPassing wanting
   pub goes : (built : List ℕ) (talk : Talk) (said : Said) (es : List Entry) →
-      handled ask known (λ k. session true k talk) said es ≡ goes_on stage built known talk said es
+      handled ask known (λ k. session true k talk) said (with_short wanting said.bytes es) ≡ goes_on stage built known talk said es
 
 -- Where a message or bytes are wanted, the next message, a fault or a want of memory leads to a stage.
 pub record Steps (opened : Bool) (known : ℕ) (before : Held) (stage : Stage) (wanting : Option Bool) (after : Held) : Type 0 where

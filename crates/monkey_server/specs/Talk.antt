@@ -5,8 +5,8 @@ use Rattle.pg_framing.specs.declared.front.Front.TheVariants.{Startup, Version, 
 use Rattle.pg_framing.specs.declared.front.FrameFault.{FrameFault}
 use Rattle.pg_framing.specs.Spelling.{IsFront, spelling, phase_after}
 use Rattle.pg_framing.specs.Fronts.{HasNoFront, HasFault}
-use Rattle.monkey_server.specs.declared.request.Request.{Request}
-use Rattle.monkey_server.specs.Requests.{IsRequest}
+use Rattle.query_request.specs.declared.request.Request.{Request}
+use Rattle.query_request.specs.Requests.{IsRequest}
 use Rattle.monkey_server.specs.Users.{HasUser}
 
 -- what a message asks for
@@ -18,6 +18,8 @@ pub data Ask : Type 0 where
   -- a startup of another version
   version : Ask
   query : Request → Ask
+  -- a query whose text could not be read for want of memory
+  unread_query : Ask
   terminate : Ask
 
 abbrev pub Says : Front → Ask → Type 0
@@ -25,6 +27,7 @@ Says (Startup pairs) start = HasUser pairs
 Says (Startup pairs) nameless = ¬ (HasUser pairs)
 Says (Version code rest) version = Unit {0}
 Says (Query text) (query request) = IsRequest text request
+Says (Query text) unread_query = Unit {0}
 Says Terminate terminate = Unit {0}
 Says _ _ = ⊥
 

@@ -19,15 +19,15 @@ use Rattle.monkey_server.specs.declared.end.End.{End}
 use Rattle.monkey_server.specs.declared.end.End.TheVariants as ends
 use Rattle.monkey_server.specs.declared.end.Stop.{Stop}
 use Rattle.monkey_server.specs.declared.end.Stop.TheVariants as stops
-use Rattle.monkey_server.specs.declared.request.Request.{Request}
-use Rattle.monkey_server.specs.declared.request.Request.TheVariants as requests
+use Rattle.query_request.specs.declared.request.Request.{Request}
+use Rattle.query_request.specs.declared.request.Request.TheVariants as requests
 use Rattle.monkey_server.specs.declared.stage.Access.{Access}
 use Rattle.monkey_server.specs.declared.stage.Access.TheVariants.{Get, Put}
 use Rattle.monkey_server.specs.declared.stage.Fault.{Fault}
 use Rattle.monkey_server.specs.declared.stage.Fault.TheVariants as fails
 use Rattle.monkey_server.specs.declared.stage.Owed.{Owed}
 use Rattle.monkey_server.specs.declared.stage.Owed.TheVariants as owes
-use Rattle.monkey_server.specs.Talk.{Ask, start, nameless, version, query, terminate, Talk, asks, partial, faulty, unread}
+use Rattle.monkey_server.specs.Talk.{Ask, start, nameless, version, query, unread_query, terminate, Talk, asks, partial, faulty, unread}
 use Rattle.monkey_server.specs.Replies.{startup_reply, ready_reply, created_reply, inserted_reply, no_row_reply, one_row_reply, error_reply, fatal_reply, fault_state, is_present}
 
 -- An entry of a session's record. A want of memory says whether it ends the session, and it and a failed write say how many
@@ -137,7 +137,7 @@ abbrev pub tell : List ℕ → Script → Script → Script
 tell bytes fault rest said entries = unless_unsent fault rest (with_bytes said bytes) entries
 
 -- A want of memory of the session itself stands where as many bytes were told as its entry says: before a message or behind
--- the start of the session, where it ends the session, or in a statement.
+-- the start of the session, where it ends the session, in the reading of a query, or in a statement.
 abbrev pub unless_short : Bool → Script → Script → Script
 unless_short final short_of rest said [] = rest said []
 unless_short final short_of rest said (did a e ∷ entries) = rest said (did a e ∷ entries)
@@ -253,7 +253,7 @@ abbrev pub requested : Request → ℕ → (ℕ → Script) → Script
 requested requests.Create known rest = creates (rest known)
 requested (requests.Get key) known rest = looks (Get key) known rest
 requested (requests.Put key value) known rest = looks (Put key value) known rest
-requested requests.Other known rest = failed fails.Unsupported (rest known)
+requested (requests.Refused fault) known rest = failed (fails.Query fault) (rest known)
 
 -- Messages. Whether the session was opened says what it owes.
 
@@ -276,6 +276,7 @@ handled start known rest = opens (rest known)
 handled nameless known rest = closed (ends.Refused states.S28000)
 handled version known rest = closed (ends.Refused states.S0A000)
 handled (query request) known rest = requested request known rest
+handled unread_query known rest = unless_short false (failed fails.Memory (rest known)) lost
 handled terminate known rest = closing ends.Terminated
 
 abbrev pub stop_end : Stop → ℕ → End

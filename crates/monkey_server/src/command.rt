@@ -1,9 +1,7 @@
 // The command `pipe rc WORDS`, read from the words that the program is started with.
-ghost use Rattle.std.specs.Prelude.{◌≡◌, ◌≢◌, ◌≤◌, ◌<◌, ◌+◌, ◌*◌, ◌-◌, ◌↔◌, ℕ, List, [], ◌∷◌, ◌++◌, codes, IfOk, IfSome, IsNone, IsTrue, Ok, None};
-ghost use Rattle.monkey_server.specs.Command.{IsWord, Lists, IsPipe};
-ghost use Rattle.monkey_server.specs.Requests.{IsDigit};
+ghost use Rattle.std.specs.Prelude.{◌≡◌, ◌≢◌, ◌≤◌, ◌<◌, ◌+◌, ◌*◌, ◌-◌, ◌↔◌, ℕ, List, [], ◌∷◌, ◌++◌, codes, Contains, IfOk, IfSome, IsNone, IsTrue, Ok, None};
+ghost use Rattle.monkey_server.specs.Command.{IsDigit, IsWord, Lists, IsPipe};
 
-use crate::request::at_comma;
 use cell_base::{Items, Memory, Text};
 use std::alloc::Global;
 
@@ -33,6 +31,16 @@ fn number(part: &[u8]) -> Option<u32>
         number = with_digit(number, *digit)?;
     }
     Some(number)
+}
+
+// What stands before the first comma, and what behind it.
+fn at_comma(text: &[u8]) -> Option<(&[u8], &[u8])>
+    ensures some { IfSome result (λ x. text.now ≡ x.0.now ++ 44 ∷ x.1.now) }
+    ensures no_comma { IfSome result (λ x. ¬ (Contains x.0.now 44)) }
+    ensures none { IsNone result → ¬ (Contains text.now 44) }
+{
+    let end = text.iter().position(|byte| *byte == b',')?;
+    Some((&text[..end], &text[end + 1..]))
 }
 
 // The numbers of a list.

@@ -7,7 +7,6 @@ mod end;
 mod list_words;
 mod prepared;
 mod replies;
-mod request;
 mod run;
 mod serve;
 mod session;

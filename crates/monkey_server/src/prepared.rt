@@ -9,6 +9,7 @@ use crate::replies::{append_result, error, fatal};
 use crate::stage::{Fatal, Fault, Reply};
 use cell_base::{Memory, SqlState};
 use pg_framing::{TransactionState, append_complete, append_ready};
+use query_request::QueryFault;
 use std::alloc::Global;
 
 /// The replies whose bytes are known beforehand.
@@ -35,12 +36,18 @@ struct Done {
 // The replies of statements that fail.
 #[derive(Debug, Drop)]
 struct Errors {
+    not_utf8: Vec<u8>,
+    syntax: Vec<u8>,
+    out_of_range: Vec<u8>,
     unsupported: Vec<u8>,
     no_table: Vec<u8>,
     table_taken: Vec<u8>,
     duplicate_key: Vec<u8>,
     full: Vec<u8>,
     memory: Vec<u8>,
+    ghost not_utf8_is: { not_utf8.items ≡ error_reply states.S22021 },
+    ghost syntax_is: { syntax.items ≡ error_reply states.S42601 },
+    ghost out_of_range_is: { out_of_range.items ≡ error_reply states.S22003 },
     ghost unsupported_is: { unsupported.items ≡ error_reply states.S0A000 },
     ghost no_table_is: { no_table.items ≡ error_reply states.S42P01 },
     ghost table_taken_is: { table_taken.items ≡ error_reply states.S42P07 },
@@ -86,6 +93,9 @@ impl Done {
 impl Errors {
     fn new(alloc: Global) -> Result<Errors, Memory> {
         Ok(Errors {
+            not_utf8: error(alloc, SqlState::S22021)?,
+            syntax: error(alloc, SqlState::S42601)?,
+            out_of_range: error(alloc, SqlState::S22003)?,
             unsupported: error(alloc, SqlState::S0A000)?,
             no_table: error(alloc, SqlState::S42P01)?,
             table_taken: error(alloc, SqlState::S42P07)?,
@@ -99,7 +109,11 @@ impl Errors {
         ensures { result.now ≡ error_reply (fault_state fault) }
     {
         match fault {
-            Fault::Unsupported => self.unsupported.as_slice(),
+            Fault::Query(QueryFault::NotUtf8) => self.not_utf8.as_slice(),
+            Fault::Query(QueryFault::Syntax) => self.syntax.as_slice(),
+            Fault::Query(QueryFault::OutOfRange) => self.out_of_range.as_slice(),
+            Fault::Query(QueryFault::Unsupported) => self.unsupported.as_slice(),
+            Fault::Query(QueryFault::Limit) => self.full.as_slice(),
             Fault::NoTable => self.no_table.as_slice(),
             Fault::TableTaken => self.table_taken.as_slice(),
             Fault::DuplicateKey => self.duplicate_key.as_slice(),

@@ -11,7 +11,9 @@ use crate::end::{End, Stop};
 use crate::prepared::Prepared;
 use crate::replies::{one_row, startup};
 use crate::stage::{Fatal, Fault, Finish, Owed, Reply, Stage};
-use crate::turns::{advance, break_off, enter, finish_of, leave, owed_between, resume, want_of};
+use crate::turns::{
+    Step, advance, break_off, enter, finish_of, leave, owed_between, resume, want_of,
+};
 use crate::want::Want;
 use cell_base::{Memory, Value};
 use history_core::BookFault;
@@ -32,15 +34,8 @@ pub struct Session {
     ghost table: { NeedsTable stage → 0 < known },
 }
 
-// What comes of the bytes that are held: the stage, and a want of memory, where there was one, by whether it ends the session.
-#[derive(Clone, Copy)]
-struct Step {
-    stage: Stage,
-    wanting: Option<bool>,
-}
-
 // Begins with the next message that is whole, if there is one.
-fn take_step(frames: &mut Frames, opened: bool) -> Step
+fn take_step(alloc: Global, frames: &mut Frames, opened: bool) -> Step
     requires { frames.old.started ≡ opened }
     ensures goes { (known : ℕ) → Steps opened known frames.old result.stage result.wanting frames.new }
     ensures owed { owed_at result.stage ≡ owed_by opened }
@@ -56,10 +51,7 @@ fn take_step(frames: &mut Frames, opened: bool) -> Step
             stage: Stage::Waiting(opened),
             wanting: None,
         },
-        Ok(Some(front)) => Step {
-            stage: enter(&front),
-            wanting: None,
-        },
+        Ok(Some(front)) => enter(alloc, &front),
         Err(fault) => {
             if is_memory(fault) {
                 Step {
@@ -219,7 +211,7 @@ impl Session {
         };
         match self.frames.feed(piece) {
             Ok(()) => {
-                let step = take_step(&mut self.frames, opened);
+                let step = take_step(self.alloc, &mut self.frames, opened);
                 self.stage = step.stage;
                 self.short = either(self.short, step.wanting.is_some());
             }
@@ -279,7 +271,7 @@ impl Session {
         match self.stage {
             Stage::Telling(pending, reply) => self.stage = resume(pending, reply),
             Stage::Settling(_) => {
-                let step = take_step(&mut self.frames, true);
+                let step = take_step(self.alloc, &mut self.frames, true);
                 self.stage = step.stage;
                 self.short = either(self.short, step.wanting.is_some());
             }

@@ -2,6 +2,7 @@
 use crate::end::End;
 use cell_base::SqlState;
 use pg_framing::FrameFault;
+use query_request::QueryFault;
 
 /// A statement on one row of the table.
 #[derive(Clone, Copy, Debug, PartialEq, Eq)]
@@ -24,8 +25,8 @@ pub enum Owed {
 /// Why a statement failed.
 #[derive(Clone, Copy, Debug, PartialEq, Eq)]
 pub enum Fault {
-    /// Another text than those that the server runs.
-    Unsupported,
+    /// A query that asks for nothing that the server runs.
+    Query(QueryFault),
     NoTable,
     TableTaken,
     DuplicateKey,

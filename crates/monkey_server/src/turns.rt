@@ -1,21 +1,22 @@
 // The steps of a session from one stage to the next.
-ghost use Rattle.std.specs.Prelude.{◌≡◌, ℕ, ◌<◌, ◌≤◌, List, [], length, Bool, true, false, ◌≢◌};
+ghost use Rattle.std.specs.Prelude.{◌≡◌, ℕ, ◌<◌, ◌≤◌, ◌^◌, List, [], length, Bool, true, false, ◌≢◌};
 ghost use Rattle.monkey_server.specs.declared.call.Call.{Call as Asked};
 ghost use Rattle.monkey_server.specs.Talk.{Talk};
 ghost use Rattle.pg_framing.specs.Spelling.{IsFront, phase_after};
 ghost use Rattle.monkey_server.specs.Told.{Said, Entry, closed, ending, owed_by, refusal_fault, checked, found, session, key_of, presence_of, field_of, stop_end, requested};
-ghost use Rattle.monkey_server.specs.Stands.{LeadsTo, Advances, FitsWant, IsPlain, InPhase, owed_at, owed_after, known_after, outer, outer_end, end_of, wants, work_at, Lacks, LacksBy, ComesFrom, NeedsTable, goes_on, IsBusy, IsReading, broken, IsStopped, IsHolding, NoBuilt, Enters, resumed, owed_in, IsLast};
+ghost use Rattle.monkey_server.specs.Stands.{LeadsTo, Advances, FitsWant, IsPlain, InPhase, owed_at, owed_after, known_after, outer, outer_end, end_of, wants, work_at, Lacks, LacksBy, ComesFrom, NeedsTable, goes_on, IsBusy, IsReading, broken, IsStopped, IsHolding, NoBuilt, Enters, resumed, owed_in, IsLast, IsNoQuery};
 
 use crate::call::{Answer, Call};
 use crate::end::{End, Stop};
 use crate::replies::is_present;
-use crate::request::{Request, request_of};
 use crate::stage::{Access, Fatal, Fault, Finish, Owed, Reply, Stage};
 use crate::user::has_user;
 use crate::want::Want;
-use cell_base::{Cell, Key, SqlState, Value};
+use cell_base::{Cell, Key, Memory, SqlState, Value};
 use history_core::{BookFault, DefineAnswer};
 use pg_framing::Front;
+use query_request::{Request, request_of};
+use std::alloc::Global;
 
 /// The end that a finish is.
 pub fn end_at(finish: Finish) -> End
@@ -291,13 +292,21 @@ fn begin_request(request: Request) -> Stage
         Request::Create => Stage::Defining,
         Request::Get(key) => Stage::Looking(Access::Get(key)),
         Request::Put(key, value) => Stage::Looking(Access::Put(key, value)),
-        Request::Other => Stage::Telling(false, Reply::Error(Fault::Unsupported)),
+        Request::Refused(fault) => Stage::Telling(false, Reply::Error(Fault::Query(fault))),
     }
 }
 
-/// The stage that a message leads to, where the session was started as the message says.
-pub fn enter(front: &Front) -> Stage
-    ensures goes { (known : ℕ) → Enters front.now known result }
+/// A stage, and a want of memory on the way to it, where there was one, by whether it ends the session.
+#[derive(Clone, Copy)]
+pub struct Step {
+    pub stage: Stage,
+    pub wanting: Option<bool>,
+}
+
+// The stage that a message without a query leads to.
+fn enter_plain(front: &Front) -> Stage
+    requires { IsNoQuery front.now }
+    ensures goes { (known : ℕ) → Enters front.now known result None }
     ensures owed { (started : Bool) → IsFront started front.now → owed_at result ≡ owed_by started }
     ensures outer { outer result ≡ None }
     ensures lacks { Lacks result [] }
@@ -315,8 +324,53 @@ pub fn enter(front: &Front) -> Stage
             }
         }
         Front::Version(_, _) => Stage::Parting(Fatal::OtherVersion),
-        Front::Query(text) => begin_request(request_of(text.as_slice())),
+        Front::Query(_) => unreachable!(),
         Front::Terminate => Stage::Closing(Finish::Terminated),
+    }
+}
+
+// The step that a query leads to.
+fn enter_query(alloc: Global, text: &[u8]) -> Step
+    requires { length text.now < 2 ^ 32 }
+    ensures goes { (known : ℕ) → Enters (Front.Query text.now) known result.stage result.wanting }
+    ensures owed { owed_at result.stage ≡ Owed.Close }
+    ensures outer { outer result.stage ≡ None }
+    ensures lacks { Lacks result.stage [] }
+    ensures work { work_at result.stage ≤ 12 }
+    ensures phase { InPhase result.stage true }
+    ensures table { NeedsTable result.stage → ⊥ }
+    ensures constant { NoBuilt result.stage }
+{
+    match request_of(alloc, text) {
+        Ok(request) => Step {
+            stage: begin_request(request),
+            wanting: None,
+        },
+        Err(Memory) => Step {
+            stage: Stage::Telling(false, Reply::Error(Fault::Memory)),
+            wanting: Some(false),
+        },
+    }
+}
+
+/// The step that a message leads to, where the session was started as the message says.
+pub fn enter(alloc: Global, front: &Front) -> Step
+    requires { (started : Bool) × IsFront started front.now }
+    ensures goes { (known : ℕ) → Enters front.now known result.stage result.wanting }
+    ensures owed { (started : Bool) → IsFront started front.now → owed_at result.stage ≡ owed_by started }
+    ensures outer { outer result.stage ≡ None }
+    ensures lacks { Lacks result.stage [] }
+    ensures work { work_at result.stage ≤ 12 }
+    ensures phase { (started : Bool) → IsFront started front.now → InPhase result.stage (phase_after started front.now) }
+    ensures table { NeedsTable result.stage → ⊥ }
+    ensures constant { NoBuilt result.stage }
+{
+    match front {
+        Front::Query(text) => enter_query(alloc, text.as_slice()),
+        _ => Step {
+            stage: enter_plain(front),
+            wanting: None,
+        },
     }
 }
 

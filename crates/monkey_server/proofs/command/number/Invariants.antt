@@ -1,7 +1,7 @@
 -- What the loop of `number` keeps.
 use Rattle.std.proofs.Common.{◌≡◌, ◌<◌, take}
 use Rattle.std.specs.Prelude.{All}
-use Rattle.monkey_server.specs.Requests.{IsDigit, number_of}
+use Rattle.monkey_server.specs.Command.{IsDigit, number_of}
 use Rattle.monkey_server.proofs.command.number.Given as goal
 
 abbrev pub invariant-loop-digit : goal.invariant-loop-digit

@@ -17,7 +17,7 @@ returns-in-Ok-None-clause-goes c = λ known.
 
 pub returns-in-Ok-Some-clause-goes : goal.returns-in-Ok-Some-clause-goes
 returns-in-Ok-Some-clause-goes c = λ known.
-    Steps-front c.args.opened known c.args.frames.now c.next.new.self c.in-Ok-Some.front c.enter.result
+    Steps-front c.args.opened known c.args.frames.now c.next.new.self c.in-Ok-Some.front c.enter.result.stage c.enter.result.wanting
     (subst (λ (o : Option Front). IfSome o (λ f. TakesFront c.args.frames.now.started c.args.frames.now.rest f c.next.new.self.rest)) c.in-Ok-Some.field-0-is c.in-Ok-Some.ensures.front)
     (subst (λ (o : Option Front). IfSome o (λ f. c.next.new.self.started ≡ phase_after c.args.frames.now.started f)) c.in-Ok-Some.field-0-is c.in-Ok-Some.ensures.started)
     (c.enter.ensures.goes known)
