@@ -36,6 +36,13 @@ const TWICE: &[u8] =
 const TAKEN: &[u8] =
     b"R\0\0\0\x08\0\0\0\0S\0\0\0\x18server_version\014.0\0S\0\0\0\x19server_encoding\0UTF8\0S\0\0\0\x19client_encoding\0UTF8\0S\0\0\0\x17DateStyle\0ISO, MDY\0S\0\0\0\x19integer_datetimes\0on\0S\0\0\0#standard_conforming_strings\0on\0K\0\0\0\x0c\0\0\0\x01\0\0\0\0Z\0\0\0\x05IC\0\0\0\x11CREATE TABLE\0Z\0\0\0\x05IE\0\0\03SERROR\0VERROR\0C42P07\0Mrelation already exists\0\0Z\0\0\0\x05IC\0\0\0\x0fINSERT 0 1\0Z\0\0\0\x05IE\0\0\0JSERROR\0VERROR\0C23505\0Mduplicate key value violates unique constraint\0\0Z\0\0\0\x05I";
 
+// A SELECT spelled in another way before its table is there, and three texts that aren't read.
+const READ: &[u8] =
+    b"\0\0\0\x10\0\x03\0\0user\0a\0\0Q\0\0\0+select V from T where K = (1) ; -- one\0Q\0\0\0\x16SELECT 1; SELEC 2\0Q\0\0\0\x0dSELECT \xff\0Q\0\0\0\x1fSELECT 9223372036854775808\0X\0\0\0\x04";
+// Their errors.
+const UNREAD: &[u8] =
+    b"R\0\0\0\x08\0\0\0\0S\0\0\0\x18server_version\014.0\0S\0\0\0\x19server_encoding\0UTF8\0S\0\0\0\x19client_encoding\0UTF8\0S\0\0\0\x17DateStyle\0ISO, MDY\0S\0\0\0\x19integer_datetimes\0on\0S\0\0\0#standard_conforming_strings\0on\0K\0\0\0\x0c\0\0\0\x01\0\0\0\0Z\0\0\0\x05IE\0\0\03SERROR\0VERROR\0C42P01\0Mrelation does not exist\0\0Z\0\0\0\x05IE\0\0\0(SERROR\0VERROR\0C42601\0Msyntax error\0\0Z\0\0\0\x05IE\0\0\0CSERROR\0VERROR\0C22021\0Minvalid byte sequence for encoding UTF8\0\0Z\0\0\0\x05IE\0\0\0.SERROR\0VERROR\0C22003\0Mvalue out of range\0\0Z\0\0\0\x05I";
+
 fn plan(alloc: Global, piece: u32) -> MemPlan
     ensures { result.piece ≡ piece }
 {
@@ -112,6 +119,7 @@ fn serves_sessions(rt: HostRuntime) -> Result<(), Fail> {
     assert!(rt; answers(alloc, b"0", NO_USER, 7, 1, REFUSED)?);
     assert!(rt; answers(alloc, b"0", NO_TABLE, 7, 0, ERRORS)?);
     assert!(rt; answers(alloc, b"0,1", TWICE, 7, 0, TAKEN)?);
+    assert!(rt; answers(alloc, b"0", READ, 7, 0, UNREAD)?);
     Ok(())
 }
 
@@ -122,5 +130,6 @@ fn records_events(rt: HostRuntime) -> Result<(), Fail> {
     assert_eq!(rt; events(alloc, &[1, 1, 2], ROW)?, 14);
     assert_eq!(rt; events(alloc, &[0], NO_USER)?, 0);
     assert_eq!(rt; events(alloc, &[0], NO_TABLE)?, 3);
+    assert_eq!(rt; events(alloc, &[0], READ)?, 3);
     Ok(())
 }
