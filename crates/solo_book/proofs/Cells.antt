@@ -1,5 +1,5 @@
 -- What an index keeps at its cells, as a list is put in.
-use Rattle.std.proofs.Common.{◌≡◌, Bool, true, false, cond, Option, Some, List, ℕ, rules, ap, sym, ◌∙◌, subst, inl, inr, ◌⊎◌, refl}
+use Rattle.std.proofs.Common.{◌≡◌, Bool, true, false, cond, Some, List, ℕ, rules, ap, sym, ◌∙◌, subst, inl, inr, ◌⊎◌, refl}
 use Rattle.std.specs.HashMap.{get}
 use Rattle.std.specs.Map.{lookup}
 use Rattle.cell_base.specs.declared.cell.Cell.{Cell}

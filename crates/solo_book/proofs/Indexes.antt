@@ -16,9 +16,9 @@ use Rattle.history_core.specs.declared.event.Event.TheVariants.{Write, Commit}
 use Rattle.history_core.specs.declared.fault.BookFault.{BookFault}
 use Rattle.history_core.specs.Events.{begun, session_in, is_begin}
 use Rattle.history_core.specs.Records.{is_any_end}
-use Rattle.history_core.specs.Transactions.{IsOf, IsCommitted, IsPending}
+use Rattle.history_core.specs.Transactions.{IsPending}
 use Rattle.history_core.specs.Relations.{HasWritten, Writes}
-use Rattle.history_core.specs.Chronicle.{Chronicle, followed_by}
+use Rattle.history_core.specs.Chronicle.{Chronicle}
 use Rattle.history_core.proofs.Grown.{of_back, committed_back}
 use Rattle.history_core.proofs.Next.{pending_back, pending_bounded}
 use Rattle.history_core.proofs.Prefixes.{of_kept, committed_kept, start_bounded}

@@ -1,7 +1,7 @@
 -- The writers of each cell, by cell.
 use Rattle.std.specs.Prelude.{◌≡◌, ◌<◌, ◌≤◌, ◌+◌, ◌⊎◌, ◌↔◌, ℕ, Bool, Option, Some, None, List, [], Contains, length, slice_index}
 use Rattle.std.specs.List.Sorted.{IsStrictlyIncreasing}
-use Rattle.std.specs.HashMap.{HashMap, get}
+use Rattle.std.specs.HashMap.{get}
 use Rattle.cell_base.specs.declared.cell.Cell.{Cell}
 use Rattle.cell_base.specs.contracts.cell.CellPartialEq.TheImpl as cell_eq
 use Rattle.history_core.specs.declared.event.Event.{Event}

@@ -1,10 +1,9 @@
 -- Which writes a read may still see where all transactions are of one session.
-use Rattle.std.specs.Prelude.{◌≡◌, ◌<◌, ◌≤◌, ◌+◌, ◌-◌, ◌%◌, ◌⊎◌, ℕ, Some, List, ◌∷◌, length, slice_get, drop}
+use Rattle.std.specs.Prelude.{◌≡◌, ◌<◌, ◌≤◌, ◌-◌, ◌%◌, ◌⊎◌, ℕ, Some, List, ◌∷◌, length, slice_get, drop}
 use Rattle.cell_base.specs.declared.cell.Cell.{Cell}
 use Rattle.history_core.specs.declared.event.Event.{Event}
 use Rattle.history_core.specs.declared.txn.Seen.{Seen}
 use Rattle.history_core.specs.declared.txn.Seen.TheVariants.{Read, Scan}
-use Rattle.history_core.specs.Events.{begun}
 use Rattle.history_core.specs.Relations.{Writes, ReadsFrom}
 use Rattle.solo_book.specs.declared.desk.Choice.{Choice}
 use Rattle.solo_book.specs.Tests.{IsReadFrom}

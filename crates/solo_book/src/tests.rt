@@ -1,5 +1,5 @@
 // What no clause says: that the calls succeed with ample memory, and offers and values that were found by hand.
-ghost use Rattle.std.specs.Prelude.{◌≡◌, [], IfOk, OnOk};
+ghost use Rattle.std.specs.Prelude.{◌≡◌, IfOk, OnOk};
 ghost use Rattle.sql_tree.specs.Sound.{IsSound};
 ghost use Rattle.history_core.specs.Events.{table_of};
 ghost use Rattle.history_core.specs.Book.{IsIdle, IsStorable};
@@ -96,7 +96,7 @@ fn put_and_get(
     let mut book = start(alloc)?;
     put(&mut book, put_word, 10)?;
     get(&mut book, first, second)?;
-    Ok(told(alloc, &book)?)
+    Ok(reads_of(alloc, &book)?)
 }
 
 /// Two inserts of one key by these words.
@@ -104,7 +104,7 @@ fn put_twice(alloc: Global, first: u32, second: u32) -> Result<Items<Told>, Book
     let mut book = start(alloc)?;
     put(&mut book, first, 10)?;
     put(&mut book, second, 99)?;
-    Ok(told(alloc, &book)?)
+    Ok(reads_of(alloc, &book)?)
 }
 
 /// An insert that is rolled back, another one, and a read of its row.
@@ -116,7 +116,7 @@ fn put_after_rollback(alloc: Global) -> Result<Items<Told>, BookFault> {
     roll_back(&mut book);
     put(&mut book, 3, 20)?;
     get(&mut book, 5, 8)?;
-    Ok(told(alloc, &book)?)
+    Ok(reads_of(alloc, &book)?)
 }
 
 /// Three transactions that write the row, and a read of it in this session and in another one.
@@ -128,7 +128,7 @@ fn get_of_three(alloc: Global) -> Result<Items<Told>, BookFault> {
     get(&mut book, 7, 1)?;
     reopen(&mut book)?;
     get(&mut book, 1, 4)?;
-    Ok(told(alloc, &book)?)
+    Ok(reads_of(alloc, &book)?)
 }
 
 /// A book with an open session and the table `t`.
@@ -144,10 +144,12 @@ fn start(alloc: Global) -> Result<SoloBook, BookFault>
 fn define(book: &mut SoloBook, table: &Table) -> Result<(), BookFault>
     requires idle { IsIdle book.old.seat }
     requires sound { IsSound table.now }
-    requires none { book.old.seen.tables ≡ [] }
     ensures { OnOk result (IsReady book.new) }
 {
     book.define(table)?;
+    if book.history().tables().is_empty() {
+        return Err(BookFault::Memory);
+    }
     Ok(())
 }
 
@@ -254,7 +256,7 @@ fn roll_back(book: &mut SoloBook)
 }
 
 /// The reads of the history, in order.
-fn told(alloc: Global, book: &SoloBook) -> Result<Items<Told>, Memory> {
+fn reads_of(alloc: Global, book: &SoloBook) -> Result<Items<Told>, Memory> {
     let mut all = Items::new(alloc);
     for event in book.history().events() {
         if let Event::Read(_, _, source, count, word, value) = event {

@@ -1,4 +1,4 @@
-use Rattle.std.proofs.Common.{List, ℕ, Option, Some, sym, ap, subst, refl}
+use Rattle.std.proofs.Common.{List, ℕ, Option, ap, subst, refl}
 use Rattle.std.specs.Option.{IsSome}
 use Rattle.solo_book.specs.Index.{ListsWriters}
 use Rattle.solo_book.proofs.Cells.{index_updated, index_same, found_at}

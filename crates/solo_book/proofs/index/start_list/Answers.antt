@@ -1,4 +1,4 @@
-use Rattle.std.proofs.Common.{List, ℕ, [], ◌∷◌, sym, ap, subst, arith}
+use Rattle.std.proofs.Common.{List, ℕ, sym, subst, arith}
 use Rattle.solo_book.specs.Index.{ListsWriters}
 use Rattle.solo_book.proofs.Indexes.{listed_one}
 use Rattle.solo_book.proofs.Cells.{index_updated, index_same}

@@ -1,7 +1,5 @@
-use Rattle.std.proofs.Common.{◌≡◌, Bool, true, sym, ap, ◌∙◌, subst}
-use Rattle.history_core.specs.declared.event.Event.{Event}
+use Rattle.std.proofs.Common.{sym, subst}
 use Rattle.history_core.specs.Events.{session_in}
-use Rattle.history_core.specs.Records.{is_any_end}
 use Rattle.history_core.specs.Chronicle.{Chronicle}
 use Rattle.solo_book.specs.Index.{IsIndex, IsLast}
 use Rattle.solo_book.proofs.Indexes.{indexed_end}

@@ -1,4 +1,4 @@
-use Rattle.std.proofs.Common.{◌<◌, ap, sym, subst, arith}
+use Rattle.std.proofs.Common.{ap, sym, subst, arith}
 use Rattle.history_core.specs.Chronicle.{Chronicle}
 use Rattle.history_core.specs.declared.event.Event.TheVariants.{Write}
 use Rattle.history_core.specs.Legal.{Follows}
