@@ -17,7 +17,9 @@ use Rattle.solo_book.proofs.Legality.{tables_defined}
 use Rattle.history_core.specs.Chronicle.{Chronicle, IsLegalChronicle, followed_by, with_table}
 use Rattle.sql_tree.specs.declared.table.Table.{Table}
 use Rattle.history_core.specs.declared.fault.BookFault.{BookFault}
-use Rattle.history_core.proofs.Prefixes.{begun-push_start, begun-push_other}
+use Rattle.history_core.proofs.Prefixes.{begun-push_start, begun-push_other, sound_of}
+use Rattle.history_core.proofs.Offers.{pending_unique}
+use Rattle.solo_book.specs.Index.{IsLast}
 use Rattle.history_core.proofs.Next.{pending_kept, pending_back, pending_begin}
 use Rattle.history_core.proofs.Numbers.{opened_bounds, pending_opened, closed_opened}
 use Rattle.history_core.proofs.SessionLemmas.{open_still, IsPlain, opened-push_other}
@@ -180,3 +182,11 @@ read_follows history n stage cell source count word value served is unwritten in
     let defined_all = tables_defined history served.legal in
     let stands = (at_stage history n stage Pending is served).stands in
     ((begun history.events, stands.1), unwritten, omega arith, written)
+
+-- what is pending in the last session is the transaction that began last
+pub pending_last : (history : Chronicle) (n : ℕ) → IsServed history n Pending → IsLast history.events n
+pending_last history n served k pending =
+    pending_unique history.events (sound_of history.events served.legal.legal.formed) n k (begun history.events) pending served.stands.1
+
+pub idle_last : (history : Chronicle) (n : ℕ) → IsServed history n Seated → IsLast history.events n
+idle_last history n served k pending = absurd (served.stands.1 (k, pending))

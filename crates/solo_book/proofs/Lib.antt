@@ -1,8 +1,10 @@
 pub mod Trial
 pub mod OneSession
 pub mod Bridge
-pub mod Seens
 pub mod PairLemmas
 pub mod Legality
 pub mod Desks
 pub mod Books
+pub mod Indexes
+pub mod Picks
+pub mod Cells

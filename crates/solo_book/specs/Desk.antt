@@ -10,6 +10,7 @@ use Rattle.history_core.specs.declared.fault.DefineAnswer.{DefineAnswer}
 use Rattle.history_core.specs.declared.fault.DefineAnswer.TheVariants.{Defined, Taken}
 use Rattle.history_core.specs.Events.{begun, opened, names}
 use Rattle.history_core.specs.Transactions.{IsPending, HasPending}
+use Rattle.history_core.specs.Relations.{Writes}
 use Rattle.history_core.specs.Legal.{IsOpen, IsOffered}
 use Rattle.history_core.specs.Chronicle.{Chronicle, IsLegalChronicle, followed_by, with_table}
 use Rattle.history_core.specs.Book.{Past, Seat, away, seated, pending}
@@ -88,6 +89,6 @@ AnswersTo old table (Taken n) new =
     (n ≡ length old.history.tables) × Contains (names old.history.events) table.name × GoesTo old (Look old.sessions n) old.sessions old.stage new
 
 -- the read of what was chosen was offered, whatever its value
-abbrev pub IsChosen : Desk → Cell → ℕ → Choice → Type 0
-IsChosen desk cell word choice =
-    (value : Value) → IsOffered desk.history.level desk.history.events (Read desk.sessions cell choice.source choice.count word value)
+pub record IsChosen (history : Chronicle) (session : ℕ) (cell : Cell) (word : ℕ) (choice : Choice) : Type 0 where
+  pub offered : (value : Value) → IsOffered history.level history.events (Read session cell choice.source choice.count word value)
+  pub writes : Writes history.events choice.source cell

@@ -1,4 +1,6 @@
 pub mod Pairs
 pub mod Passed
 pub mod Tests
+pub mod Index
 pub mod Desk
+pub mod Seats

@@ -5,15 +5,20 @@ ghost use Rattle.history_core.specs.declared.fault.Limit.{Limit};
 ghost use Rattle.history_core.specs.Legal.{Follows, IsOffered, full_for};
 ghost use Rattle.history_core.specs.Chronicle.{followed_by, with_table, IsLegalChronicle};
 ghost use Rattle.history_core.specs.Records.{IsNoDefinition, is_any_end};
+ghost use Rattle.history_core.specs.Events.{session_in};
+ghost use Rattle.solo_book.specs.Index.{IsLast, IsNoWrite};
 
-use history_core::{BookFault, Event, History};
+use crate::indexed::IndexedHistory;
+use cell_base::{Cell, Value};
+use history_core::{BookFault, Event};
 use sql_tree::Table;
 
-/// Appends an event that keeps the history legal, any but a definition. On an error nothing changes.
-pub fn append(history: &mut History, event: Event) -> Result<(), BookFault>
+/// Appends an event that keeps the history legal, any but a definition, a write and a commit. On an error nothing changes.
+pub fn append(history: &mut IndexedHistory, event: Event) -> Result<(), BookFault>
     requires legal { IsLegalChronicle history.old }
     requires follows { Follows history.old.events event }
     requires pushed { IsNoDefinition event }
+    requires other { IsNoWrite event }
     requires offered { IsOffered history.old.level history.old.events event }
     ensures legal { IsLegalChronicle history.new }
     ensures ok { OnOk result (history.new ≡ followed_by history.old event) }
@@ -26,8 +31,33 @@ pub fn append(history: &mut History, event: Event) -> Result<(), BookFault>
     }
 }
 
+/// Appends a write of the transaction that began last. On an error nothing changes.
+pub fn append_write(
+    history: &mut IndexedHistory,
+    session: u32,
+    cell: Cell,
+    value: Value,
+) -> Result<(), BookFault>
+    requires legal { IsLegalChronicle history.old }
+    requires follows { Follows history.old.events (Event.Write session cell value) }
+    requires last { IsLast history.old.events session }
+    ensures legal { IsLegalChronicle history.new }
+    ensures ok { OnOk result (history.new ≡ followed_by history.old (Event.Write session cell value)) }
+    ensures full { (limit : Limit) → result ≡ Err (BookFault.Full limit) → full_for history.new.events (Event.Write session cell value) ≡ Some limit }
+    ensures err { OnErr result (history.new ≡ history.old) }
+{
+    match history.push_write(session, cell, value) {
+        Ok(()) => Ok(()),
+        Err(fault) => Err(fault),
+    }
+}
+
 /// Appends the definition of a table whose name isn't taken. On an error nothing changes.
-pub fn append_define(history: &mut History, session: u32, table: Table) -> Result<(), BookFault>
+pub fn append_define(
+    history: &mut IndexedHistory,
+    session: u32,
+    table: Table,
+) -> Result<(), BookFault>
     requires legal { IsLegalChronicle history.old }
     requires follows { Follows history.old.events (Event.Define session table.name) }
     requires sound { IsSound table }
@@ -43,10 +73,11 @@ pub fn append_define(history: &mut History, session: u32, table: Table) -> Resul
 }
 
 /// Appends a Commit, a Rollback or a Close. Takes no memory and always succeeds.
-pub fn append_end(history: &mut History, event: Event)
+pub fn append_end(history: &mut IndexedHistory, event: Event)
     requires legal { IsLegalChronicle history.old }
     requires follows { Follows history.old.events event }
     requires end { IsTrue (is_any_end event) }
+    requires last { IsLast history.old.events (session_in event) }
     ensures legal { IsLegalChronicle history.new }
     ensures adds { history.new ≡ followed_by history.old event }
 {

@@ -4,6 +4,7 @@ use crate::calls::{
     write_cell,
 };
 use crate::desk::{Desk, Stage};
+use crate::indexed::IndexedHistory;
 use crate::reading::read_cell;
 use crate::tables::{define_table, look_at_tables};
 use cell_base::{Cell, Items, Level, Value};
@@ -47,7 +48,7 @@ impl SoloBook {
         SoloBook {
             desk: Desk {
                 alloc,
-                history: History::new(alloc, Level::Rc),
+                history: IndexedHistory::new(alloc, Level::Rc),
                 sessions: 0,
                 stage: Stage::Away,
             },
@@ -62,7 +63,7 @@ impl SoloBook {
         ensures own { self.now.own ≡ self.now.seen.events }
         ensures tables { length self.now.seen.tables ≤ 64 }
     {
-        &self.desk.history
+        self.desk.history.history()
     }
 }
 

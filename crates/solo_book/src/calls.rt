@@ -11,7 +11,7 @@ ghost use Rattle.history_core.specs.Book.{IsStorable};
 ghost use Rattle.solo_book.specs.declared.desk.Stage.TheVariants as stages;
 ghost use Rattle.solo_book.specs.Desk.{IsDesk, GoesTo};
 
-use crate::append::{append, append_define, append_end};
+use crate::append::{append, append_end, append_write};
 use crate::desk::{Desk, Stage};
 use cell_base::{Cell, Items, Memory, Value};
 use history_core::{BookFault, DefineAnswer, Event, Limit};
@@ -61,7 +61,7 @@ pub fn begin_transaction(desk: &mut Desk) -> Result<u32, BookFault>
     match append(&mut desk.history, Event::Begin(desk.sessions)) {
         Ok(()) => {
             desk.stage = Stage::Pending;
-            Ok(desk.history.begun())
+            Ok(desk.history.history().begun())
         }
         Err(fault) => Err(fault),
     }
@@ -79,7 +79,7 @@ pub fn write_cell(desk: &mut Desk, cell: Cell, value: Value) -> Result<(), BookF
     ensures err { OnErr result (desk.new ≡ desk.old) }
 {
     let session = desk.sessions;
-    append(&mut desk.history, Event::Write(session, cell, value))
+    append_write(&mut desk.history, session, cell, value)
 }
 
 /// Ends the pending transaction by a Commit.

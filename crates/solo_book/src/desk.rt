@@ -1,5 +1,5 @@
 // What a book of one session after another keeps.
-use history_core::History;
+use crate::indexed::IndexedHistory;
 use std::alloc::Global;
 
 /// Where the session that was opened last stands.
@@ -17,7 +17,7 @@ pub enum Stage {
 #[derive(Debug, Drop)]
 pub struct Desk {
     pub alloc: Global,
-    pub history: History,
+    pub history: IndexedHistory,
     pub sessions: u32,
     pub stage: Stage,
 }

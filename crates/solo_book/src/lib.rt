@@ -5,18 +5,26 @@
 //! that no later writer has passed, from which the same transaction has read before, as `one_session_permits` says. In later
 //! sessions each writer is tried: it may be read where some order extends all pairs that the history and the read force. The
 //! crate stands on `history_core`, which has the definitions, and on `order_witness`.
+//!
+//! An index keeps the writers of each cell as they write. So a read in the first session looks at no other transaction: it
+//! finds the cell's writers by a hash, and of those the ones that are passed by a binary search for each read that the same
+//! transaction made before. It takes memory for its event alone. A commit, a rollback and a close take none.
 #![tactic(auto)]
 
 mod append;
 mod book;
 mod calls;
 mod desk;
+mod index;
+mod indexed;
 mod laws;
 mod offering;
 mod pairs;
 mod reading;
 mod single;
 mod tables;
+#[cfg(test)]
+mod tests;
 mod tests_of_records;
 
 pub use book::SoloBook;

@@ -1,15 +1,16 @@
 // Which writes a read may see, of any number of sessions: each writer is tried against all forced pairs.
-ghost use Rattle.std.specs.Prelude.{◌≡◌, false, ◌<◌, ◌≤◌, ◌+◌, ◌↔◌, ℕ, List, IsTrue, IfOk, length};
+ghost use Rattle.std.specs.Prelude.{◌≡◌, false, ◌<◌, ◌≤◌, ◌+◌, ◌%◌, ◌↔◌, ℕ, List, Some, IsTrue, IfOk, length, slice_get};
 ghost use Rattle.cell_base.specs.declared.level.Level.TheVariants.{Rc};
-ghost use Rattle.history_core.specs.Events.{begun, opened};
+ghost use Rattle.history_core.specs.Events.{begun};
 ghost use Rattle.history_core.specs.Transactions.{IsPending, HasPending};
 ghost use Rattle.history_core.specs.Relations.{Writes};
 ghost use Rattle.history_core.specs.Legal.{IsFormed, IsLegal, IsPermitted, IsOffer};
+ghost use Rattle.solo_book.specs.Desk.{IsChosen};
 ghost use Rattle.solo_book.specs.Pairs.{IsForced, IsPairList, HasOrder};
 ghost use Rattle.graph_base.specs.Walk.{IsInRange, HasCycle};
 
+use crate::desk::Choice;
 use crate::pairs::{add_trial, forced_pairs, is_writer};
-use crate::single::single_offer;
 use cell_base::{Cell, Memory};
 use graph_base::{Edge, Graph};
 use history_core::History;
@@ -102,24 +103,30 @@ fn tried_offer(
     Ok(offer)
 }
 
-/// The writes that the pending transaction of the last session may read next, ascending. So many sessions were opened.
-pub fn permitted_list(
+/// The number that the word picks of an offer.
+fn picked(choices: &[u32], word: u32) -> u32
+    requires some { 0 < length choices.now }
+    requires short { length choices.now ≤ 16384 }
+    ensures { slice_get choices.now (word % length choices.now) ≡ Some result }
+{
+    choices[(word % choices.len() as u32) as usize]
+}
+
+/// What a read of the session's pending transaction takes, however many sessions were opened.
+pub fn tried_choice(
     alloc: Global,
     history: &History,
-    sessions: u32,
+    session: u32,
     cell: &Cell,
-) -> Result<Vec<u32>, Memory>
+    word: u32,
+) -> Result<Choice, Memory>
     requires level { history.now.level ≡ Rc }
     requires legal { IsLegal history.now.level history.now.events }
-    requires sessions { sessions ≡ opened history.now.events }
-    requires pending { HasPending history.now.events sessions }
-    ensures exact { IfOk result (λ offer. IsOffer history.now.level history.now.events sessions cell.now offer.items) }
-    ensures some { IfOk result (λ offer. 0 < length offer.items) }
-    ensures short { IfOk result (λ offer. length offer.items ≤ 16384) }
+    requires pending { HasPending history.now.events session }
+    ensures { IfOk result (IsChosen history.now session cell.now word) }
 {
-    if sessions <= 1 {
-        single_offer(alloc, history, sessions, cell)
-    } else {
-        tried_offer(alloc, history, sessions, cell)
-    }
+    let choices = tried_offer(alloc, history, session, cell)?;
+    let source = picked(choices.as_slice(), word);
+    let count = choices.as_slice().len() as u32;
+    Ok(Choice { source, count })
 }

@@ -9,7 +9,8 @@ ghost use Rattle.solo_book.specs.Desk.{IsDesk, IsChosen, ReadsTo};
 
 use crate::append::append;
 use crate::desk::{Choice, Desk};
-use crate::offering::permitted_list;
+use crate::offering::tried_choice;
+use crate::single::single_choice;
 use cell_base::{Cell, Memory, Value};
 use history_core::{BookFault, Event, History, Limit};
 use std::alloc::Global;
@@ -26,8 +27,7 @@ fn initial(cell: &Cell) -> Value
 
 /// What the writer wrote to the cell.
 fn value_of(alloc: Global, history: &History, source: u32, cell: &Cell) -> Result<Value, Memory>
-    requires bounded { source ≤ begun history.now.events }
-    requires writes { Writes history.now.events source cell.now }
+    requires { Writes history.now.events source cell.now }
     ensures { IfOk result (λ value. WritesValue history.now.events source cell.now value) }
 {
     if source == 0 {
@@ -42,27 +42,17 @@ fn value_of(alloc: Global, history: &History, source: u32, cell: &Cell) -> Resul
     }
 }
 
-/// The number that the word picks of an offer.
-fn picked(choices: &[u32], word: u32) -> u32
-    requires some { 0 < length choices.now }
-    requires short { length choices.now ≤ 16384 }
-    ensures { slice_get choices.now (word % length choices.now) ≡ Some result }
-{
-    choices[(word % choices.len() as u32) as usize]
-}
-
 /// What a read of the pending transaction takes.
 fn choose(desk: &Desk, cell: &Cell, word: u32) -> Result<Choice, Memory>
     requires kept { IsDesk desk.now }
     requires pending { desk.now.stage ≡ stages.Pending }
-    ensures chosen { IfOk result (IsChosen desk.now cell.now word) }
-    ensures writes { IfOk result (λ choice. Writes desk.now.history.events choice.source cell.now) }
-    ensures bounded { IfOk result (λ choice. choice.source ≤ begun desk.now.history.events) }
+    ensures { IfOk result (IsChosen desk.now.history desk.now.sessions cell.now word) }
 {
-    let choices = permitted_list(desk.alloc, &desk.history, desk.sessions, cell)?;
-    let source = picked(choices.as_slice(), word);
-    let count = choices.as_slice().len() as u32;
-    Ok(Choice { source, count })
+    let session = desk.sessions;
+    if session <= 1 {
+        return Ok(single_choice(&desk.history, session, cell, word));
+    }
+    tried_choice(desk.alloc, desk.history.history(), session, cell, word)
 }
 
 /// Reads a cell that the pending transaction hasn't written.
@@ -82,7 +72,7 @@ pub fn read_cell(desk: &mut Desk, cell: &Cell, word: u32) -> Result<Value, BookF
     let Ok(choice) = choose(desk, cell, word) else {
         return Err(BookFault::Memory);
     };
-    let Ok(value) = value_of(desk.alloc, &desk.history, choice.source, cell) else {
+    let Ok(value) = value_of(desk.alloc, desk.history.history(), choice.source, cell) else {
         return Err(BookFault::Memory);
     };
     let Ok(told) = value.copy(desk.alloc) else {

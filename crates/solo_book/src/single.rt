@@ -1,84 +1,80 @@
-// What a read may see where one session was opened: each writer that no later writer has passed.
-ghost use Rattle.std.specs.Prelude.{◌≡◌, ◌<◌, ◌≤◌, ◌↔◌, All, Any, IsTrue, IfOk, length};
+// What a read takes where one session was opened: of the writers that no later writer has passed, the one that the word picks.
+ghost use Rattle.std.specs.Prelude.{◌≡◌, ◌<◌, ◌≤◌, length};
+ghost use Rattle.std.specs.List.Sorted.{IsStrictlyIncreasing};
 ghost use Rattle.cell_base.specs.declared.level.Level.TheVariants.{Rc};
-ghost use Rattle.history_core.specs.Events.{begun, opened};
-ghost use Rattle.history_core.specs.Transactions.{IsPending, HasPending};
-ghost use Rattle.history_core.specs.Legal.{IsFormed, IsLegal, IsPermitted, IsOffer};
-ghost use Rattle.solo_book.specs.Passed.{IsPassed, PassesBy, IsFromBegun};
+ghost use Rattle.history_core.specs.Events.{opened};
+ghost use Rattle.history_core.specs.Transactions.{HasPending};
+ghost use Rattle.history_core.specs.Legal.{IsLegal};
+ghost use Rattle.solo_book.specs.Passed.{ArePassed, RaisesTo, RaisesBy, IsPick};
+ghost use Rattle.solo_book.specs.Desk.{IsChosen};
 
-use crate::pairs::is_writer;
-use cell_base::{Cell, Memory};
-use history_core::{History, Seen};
-use std::alloc::Global;
+use crate::desk::Choice;
+use crate::indexed::IndexedHistory;
+use cell_base::Cell;
+use history_core::Seen;
 
-/// Whether what was seen is a read from a later writer of the cell.
-fn passes_by(history: &History, seen: &Seen, cell: &Cell, source: u32) -> bool
-    requires { IsFromBegun history.now.events seen.now }
-    ensures { IsTrue result ↔ PassesBy history.now.events cell.now source seen.now }
+/// How many of the writers are passed or read last, when one more read was from the source.
+fn raised_to(writers: &[u32], passed: usize, source: u32) -> usize
+    requires ascending { IsStrictlyIncreasing writers.now }
+    requires within { passed ≤ length writers.now }
+    ensures { RaisesTo writers.now passed source result }
+{
+    match writers[passed..].binary_search(&source) {
+        Ok(at) => passed + at + 1,
+        Err(_) => passed,
+    }
+}
+
+/// How many of the writers are passed or read last, when one more thing was seen.
+fn raised_by(writers: &[u32], passed: usize, seen: &Seen) -> usize
+    requires ascending { IsStrictlyIncreasing writers.now }
+    requires within { passed ≤ length writers.now }
+    ensures { RaisesBy writers.now passed seen.now result }
 {
     match seen {
-        Seen::Read(_, _, from) => *from > source && is_writer(history, *from, cell),
-        Seen::Scan(_, _, _) => false,
+        Seen::Read(_, _, source) => raised_to(writers, passed, *source),
+        Seen::Scan(_, _, _) => passed,
     }
 }
 
-/// Whether some of what was seen is a read from a later writer of the cell.
-fn some_passes_by(history: &History, all: &[Seen], cell: &Cell, source: u32) -> bool
-    requires { All (IsFromBegun history.now.events) all.now }
-    ensures { IsTrue result ↔ Any (PassesBy history.now.events cell.now source) all.now }
+/// How many of the writers are passed or read last by what was seen.
+fn count_passed(writers: &[u32], all: &[Seen]) -> usize
+    requires { IsStrictlyIncreasing writers.now }
+    ensures { ArePassed all.now (length all.now) writers.now result }
 {
-    all.iter()
-        .any(|seen| passes_by(history, seen, cell, source))
-}
-
-/// Whether the reader has read from a later writer of the cell.
-fn is_passed(history: &History, reader: u32, cell: &Cell, source: u32) -> bool
-    requires formed { IsFormed history.now.events }
-    requires some { 0 < reader }
-    requires reader { reader ≤ begun history.now.events }
-    ensures { IsTrue result ↔ IsPassed history.now.events reader cell.now source }
-{
-    let txn = history.txn(reader);
-    some_passes_by(history, txn.seen.as_slice(), cell, source)
-}
-
-/// Whether the pending transaction may read the cell from the source.
-fn is_open_to(history: &History, session: u32, reader: u32, cell: &Cell, source: u32) -> bool
-    requires legal { IsLegal Rc history.now.events }
-    requires one { opened history.now.events ≤ 1 }
-    requires pending { IsPending history.now.events reader session }
-    requires source { source ≤ begun history.now.events }
-    ensures { IsTrue result ↔ IsPermitted Rc history.now.events session cell.now source }
-{
-    if !is_writer(history, source, cell) {
-        return false;
+    let mut passed = 0;
+    for seen in all {
+        passed = raised_by(writers, passed, seen);
     }
-    !is_passed(history, reader, cell, source)
+    passed
 }
 
-/// The writes that the pending transaction may read next, ascending, where one session was opened.
-pub fn single_offer(
-    alloc: Global,
-    history: &History,
-    session: u32,
-    cell: &Cell,
-) -> Result<Vec<u32>, Memory>
+/// What the word picks of the initial transaction and the writers, without the first so many.
+fn pick(writers: &[u32], passed: usize, word: u32) -> Choice
+    requires within { passed ≤ length writers.now }
+    requires few { length writers.now ≤ 16383 }
+    ensures { IsPick writers.now passed word result }
+{
+    let count = (writers.len() + 1 - passed) as u32;
+    let place = passed + (word % count) as usize;
+    let source = if place == 0 { 0 } else { writers[place - 1] };
+    Choice { source, count }
+}
+
+/// What a read of the pending transaction takes, where one session was opened. Takes no memory. It costs a look at the
+/// cell's writers by the index, and for each earlier read of the transaction a binary search among those writers that the
+/// reads before it haven't passed.
+pub fn single_choice(history: &IndexedHistory, session: u32, cell: &Cell, word: u32) -> Choice
     requires level { history.now.level ≡ Rc }
     requires legal { IsLegal history.now.level history.now.events }
     requires one { opened history.now.events ≤ 1 }
     requires pending { HasPending history.now.events session }
-    ensures exact { IfOk result (λ offer. IsOffer history.now.level history.now.events session cell.now offer.items) }
-    ensures some { IfOk result (λ offer. 0 < length offer.items) }
-    ensures short { IfOk result (λ offer. length offer.items ≤ 16384) }
+    ensures { IsChosen history.now session cell.now word result }
 {
-    let Some(reader) = history.pending(session) else {
+    let Some(reader) = history.history().pending(session) else {
         unreachable!()
     };
-    let mut offer = Vec::new(alloc);
-    for source in 0..history.begun() + 1 {
-        if is_open_to(history, session, reader, cell, source) {
-            offer.push(source)?;
-        }
-    }
-    Ok(offer)
+    let writers = history.writers(cell);
+    let passed = count_passed(writers, history.history().txn(reader).seen.as_slice());
+    pick(writers, passed, word)
 }

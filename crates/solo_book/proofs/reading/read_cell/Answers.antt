@@ -1,6 +1,8 @@
 use Rattle.std.proofs.Common.{sym, subst}
 use Rattle.cell_base.specs.declared.cell.Cell.{Cell}
 use Rattle.history_core.specs.declared.event.Event.TheVariants.{Read}
+use Rattle.history_core.specs.Chronicle.{Chronicle}
+use Rattle.history_core.specs.Relations.{WritesValue}
 use Rattle.history_core.specs.Legal.{Follows, IsOffered}
 use Rattle.solo_book.proofs.Desks.{read_follows, served_plain, plain_read, goes_with}
 use Rattle.solo_book.proofs.reading.read_cell.Goals as goal
@@ -10,13 +12,14 @@ append-requires-clause-follows c =
     subst (λ (x : Cell). Follows c.args.desk.now.history.events (Read c.args.desk.now.sessions x c.in-Ok.choice.source c.in-Ok.choice.count c.args.word c.in-Ok-value_of.value))
     (sym c.in-Ok-copy-2.ensures)
     (read_follows c.args.desk.now.history c.args.desk.now.sessions c.args.desk.now.stage c.args.cell.now c.in-Ok.choice.source c.in-Ok.choice.count c.args.word
-    c.in-Ok-value_of.value c.requires.kept c.requires.pending c.requires.unwritten c.requires.defined c.in-Ok-value_of.ensures)
+    c.in-Ok-value_of.value c.requires.kept c.requires.pending c.requires.unwritten c.requires.defined
+    (subst (λ (h : Chronicle). WritesValue h.events c.in-Ok.choice.source c.args.cell.now c.in-Ok-value_of.value) c.history.ensures c.in-Ok-value_of.ensures))
 
 pub append-requires-clause-offered : goal.append-requires-clause-offered
 append-requires-clause-offered c =
     subst (λ (x : Cell). IsOffered c.args.desk.now.history.level c.args.desk.now.history.events
     (Read c.args.desk.now.sessions x c.in-Ok.choice.source c.in-Ok.choice.count c.args.word c.in-Ok-value_of.value))
-    (sym c.in-Ok-copy-2.ensures) (c.in-Ok.ensures.chosen c.in-Ok-value_of.value)
+    (sym c.in-Ok-copy-2.ensures) (c.in-Ok.ensures.offered c.in-Ok-value_of.value)
 
 pub returns-in-Ok-append-clause-kept : goal.returns-in-Ok-append-clause-kept
 returns-in-Ok-append-clause-kept c =

@@ -1,6 +1,6 @@
 use Rattle.std.proofs.Common.{◌<◌, ◌%◌, length, arith}
 use Rattle.std.proofs.lemmas.Option.{slice_get-get_or}
-use Rattle.solo_book.proofs.reading.picked.Goals as goal
+use Rattle.solo_book.proofs.offering.picked.Goals as goal
 
 pub returns : goal.returns
 returns c =

@@ -1,0 +1,302 @@
+-- What the word picks where one session was opened.
+use Rattle.std.proofs.Common.{◌≡◌, ℕ, ◌+◌, ◌-◌, ◌%◌, ◌<◌, ◌≤◌, List, ◌∷◌, Some, Ok, Err, zero, suc, length, get_or, drop, take, arith, refl, ap, sym, ◌∙◌, subst, inl, inr}
+use Rattle.std.specs.List.{Contains, slice_get}
+use Rattle.std.specs.List.Sorted.{IsStrictlyIncreasing, IsBinarySearchResult}
+use Rattle.std.specs.Ordering.{nat_cmp}
+use Rattle.std.proofs.lemmas.List.Sorted.{searched}
+use Rattle.std.proofs.lemmas.List.{get_or-drop, get_or_default, length-drop, take_all}
+use Rattle.std.proofs.lemmas.List.Elements.{Contains-get_or}
+use Rattle.std.proofs.lemmas.Option.{slice_get-get_or, slice_get_within, get_or_from_slice_get}
+use Rattle.std.proofs.lemmas.Bool.{cases_lt}
+use Rattle.cell_base.specs.declared.level.Level.{Level}
+use Rattle.cell_base.specs.declared.level.Level.TheVariants.{Rc}
+use Rattle.history_core.specs.Chronicle.{Chronicle}
+use Rattle.cell_base.specs.declared.cell.Cell.{Cell}
+use Rattle.history_core.specs.declared.event.Event.{Event}
+use Rattle.history_core.specs.declared.txn.Seen.{Seen}
+use Rattle.history_core.specs.declared.txn.Seen.TheVariants.{Read as SeenRead, Scan as SeenScan}
+use Rattle.history_core.specs.declared.txn.Txn.{Txn}
+use Rattle.history_core.specs.Events.{opened}
+use Rattle.history_core.specs.Transactions.{IsPending}
+use Rattle.history_core.specs.Relations.{Writes}
+use Rattle.history_core.specs.Records.{IsRecordOf}
+use Rattle.history_core.specs.Legal.{IsLegal, IsOffer}
+use Rattle.history_core.proofs.Prefixes.{Contains-from_slice_get}
+use Rattle.solo_book.specs.Passed.{IsPassed, ArePassed, RaisesTo, RaisesBy, left_of, IsPick}
+use Rattle.solo_book.specs.Desk.{IsChosen}
+use Rattle.solo_book.proofs.Legality.{picked_writes}
+use Rattle.solo_book.specs.Tests.{IsReadFrom}
+use Rattle.solo_book.specs.Index.{AreWriters}
+use Rattle.solo_book.specs.declared.desk.Choice.{Choice}
+use Rattle.solo_book.proofs.Bridge.{reads_from_record, record_reads_from, Any-from_contains}
+use Rattle.solo_book.proofs.OneSession.{permitted_unpassed, unpassed_permitted}
+use Rattle.solo_book.proofs.Indexes.{increasing_less, increasing_same}
+
+-- a place of the initial transaction and the writers
+full_rises :
+    (events : List Event) (x : Cell) (writers : List ℕ) → AreWriters events x writers → IsStrictlyIncreasing (0 ∷ writers)
+full_rises events x writers are zero within =
+    let first : Contains writers (get_or writers 0 0) = Contains-get_or writers 0 0 (omega arith) in
+    let positive = ((are.exact (get_or writers 0 0)).0 first).0 in
+    let at : get_or (0 ∷ writers) (zero + 1) 0 ≡ get_or writers 0 0 = refl in
+    omega arith
+full_rises events x writers are (suc k) within =
+    let up : get_or writers k 0 < get_or writers (k + 1) 0 = are.ascending k (omega arith) in
+    let a : get_or (0 ∷ writers) (suc k) 0 ≡ get_or writers k 0 = refl in
+    let b : get_or (0 ∷ writers) (suc k + 1) 0 ≡ get_or writers (k + 1) 0 = ap (λ (i : ℕ). get_or (0 ∷ writers) i 0) (let e : suc k + 1 ≡ suc (k + 1) = omega arith in e) in
+    omega arith
+
+full_writes :
+    (events : List Event) (x : Cell) (writers : List ℕ) → AreWriters events x writers → (k : ℕ) → k < length (0 ∷ writers) →
+    Writes events (get_or (0 ∷ writers) k 0) x
+full_writes events x writers are zero within = inl refl
+full_writes events x writers are (suc k) within = ((are.exact (get_or writers k 0)).0 (Contains-get_or writers k 0 (omega arith))).1
+
+-- where a writer stands
+full_place :
+    (events : List Event) (x : Cell) (writers : List ℕ) → AreWriters events x writers → (w : ℕ) → Writes events w x →
+    (k : ℕ) × ((k < length (0 ∷ writers)) × (get_or (0 ∷ writers) k 0 ≡ w))
+full_place events x writers are zero writes = (0, (omega arith, refl))
+full_place events x writers are (suc w) writes =
+    let there = (are.exact (suc w)).1 (omega arith, writes) in
+    let within = there.1 in
+    (suc there.0, (omega arith, get_or_default writers there.0 0 (suc w) within ∙ there.2))
+
+pub left_rises : (xs : List ℕ) (n : ℕ) → IsStrictlyIncreasing xs → IsStrictlyIncreasing (drop n xs)
+left_rises xs n rises k within =
+    let short : length (drop n xs) ≡ length xs - n = length-drop n xs in
+    let a : get_or (drop n xs) k 0 ≡ get_or xs (n + k) 0 = get_or-drop n xs k 0 in
+    let b : get_or (drop n xs) (k + 1) 0 ≡ get_or xs (n + (k + 1)) 0 = get_or-drop n xs (k + 1) 0 in
+    let c : get_or xs (n + (k + 1)) 0 ≡ get_or xs (n + k + 1) 0 = ap (λ (i : ℕ). get_or xs i 0) (omega arith) in
+    let h = rises (n + k) (omega arith) in
+    omega arith
+
+-- what is left are the writers that no later writer has passed
+pub left_is_offer :
+    (events : List Event) (s k : ℕ) (x : Cell) (writers : List ℕ) (txn : Txn) (count : ℕ) → IsLegal Rc events → opened events ≤ 1 →
+    IsPending events k s → IsRecordOf events k txn → AreWriters events x writers → ArePassed txn.seen (length txn.seen) writers count →
+    IsOffer Rc events s x (left_of writers count)
+left_is_offer events s k x writers txn count legal one pending record_is are passed =
+    let rises : IsStrictlyIncreasing (0 ∷ writers) = full_rises events x writers are in
+    let short : length (left_of writers count) ≡ length (0 ∷ writers) - count = length-drop count (0 ∷ writers) in
+    record {
+      ascending = left_rises (0 ∷ writers) count rises;
+      exact = λ w. (
+        λ there.
+            let within = there.1 in
+            let inside : count + there.0 < length (0 ∷ writers) = omega arith in
+            let at : get_or (0 ∷ writers) (count + there.0) 0 ≡ w =
+            sym (get_or-drop count (0 ∷ writers) there.0 0) ∙ get_or_default (left_of writers count) there.0 0 w within ∙ there.2 in
+            permitted_unpassed events s k w x legal one pending
+            (subst (λ (v : ℕ). Writes events v x) at (full_writes events x writers are (count + there.0) inside))
+            (λ later. none_passes w (count + there.0) (omega arith) inside at later),
+        λ permitted.
+            let there = full_place events x writers are w permitted.0 in
+            let within = there.1.0 in
+            elim (cases_lt there.0 count) [
+              | inl before ↦ absurd (unpassed_permitted events s k w x legal one pending permitted (is_passed w there.0 before within there.1.1))
+              | inr behind ↦
+                  let at : count + (there.0 - count) ≡ there.0 = omega arith in (
+                    there.0 - count,
+                    omega arith,
+                    get_or_default (left_of writers count) (there.0 - count) w 0 (omega arith) ∙ get_or-drop count (0 ∷ writers) (there.0 - count) 0
+                        ∙ ap (λ (i : ℕ). get_or (0 ∷ writers) i 0) at ∙ there.1.1,
+                  )
+            ],
+      );
+    }
+  where
+    none_passes : (w i : ℕ) → count ≤ i → i < length (0 ∷ writers) → get_or (0 ∷ writers) i 0 ≡ w → IsPassed events k x w → ⊥
+    none_passes w i behind within at later =
+        let above = later.above in
+        let there = (are.exact later.later).1 (omega arith, later.writes) in
+        let inside = there.1 in
+        let is_later : get_or writers there.0 0 ≡ later.later = get_or_default writers there.0 0 later.later inside ∙ there.2 in
+        let seen = record_reads_from events k later.later txn (omega arith) record_is later.read in
+        let place : slice_get txn.seen seen.0 ≡ Some seen.1 = slice_get-get_or txn.seen seen.0 seen.1 seen.2 ∙ ap (λ (t : Seen). Some t) seen.3 in
+        let low : there.0 < count =
+        passed.all seen.0 seen.1 seen.2 place later.later there.0 seen.4 (slice_get-get_or writers there.0 later.later inside ∙ ap (λ (v : ℕ). Some v) there.2) in
+        elim (cases_lt (there.0 + 1) i) [
+          | inl less ↦
+              let up : get_or (0 ∷ writers) (there.0 + 1) 0 < get_or (0 ∷ writers) i 0 =
+              increasing_less (0 ∷ writers) (full_rises events x writers are) (there.0 + 1) i less within in
+              let same : get_or (0 ∷ writers) (there.0 + 1) 0 ≡ get_or writers there.0 0 = ap (λ (j : ℕ). get_or (0 ∷ writers) j 0) (let e : there.0 + 1 ≡ suc there.0 = omega arith in e) in
+              omega arith
+          | inr more ↦
+              let e : i ≡ suc there.0 = omega arith in
+              let same : get_or (0 ∷ writers) i 0 ≡ get_or writers there.0 0 = ap (λ (j : ℕ). get_or (0 ∷ writers) j 0) e in
+              omega arith
+        ]
+
+    is_passed : (w i : ℕ) → i < count → i < length (0 ∷ writers) → get_or (0 ∷ writers) i 0 ≡ w → IsPassed events k x w
+    is_passed w i before within at =
+        let last = passed.last (omega arith) in
+        let from : ℕ = last.1.1.0 in
+        let facts = last.1.1.1 in
+        let inside : count - 1 < length writers = slice_get_within writers (count - 1) from facts.2 in
+        let is_from : get_or writers (count - 1) 0 ≡ from = get_or_from_slice_get writers (count - 1) from 0 facts.2 in
+        let same : get_or (0 ∷ writers) (suc (count - 1)) 0 ≡ get_or writers (count - 1) 0 = refl in
+        let up : get_or (0 ∷ writers) i 0 < get_or (0 ∷ writers) (suc (count - 1)) 0 =
+        increasing_less (0 ∷ writers) (full_rises events x writers are) i (suc (count - 1)) (omega arith) (omega arith) in
+        let member : Contains writers from = Contains-from_slice_get writers (count - 1) from facts.2 in
+        record {
+          later = from;
+          above = omega arith;
+          writes = ((are.exact from).0 member).1;
+          read = reads_from_record events k from txn record_is
+              (Any-from_contains (λ t. IsReadFrom t from) txn.seen last.1.0 (Contains-from_slice_get txn.seen last.0 last.1.0 facts.0) facts.1);
+        }
+
+-- a search behind the first so many that found the source
+pub raised_found :
+    (writers : List ℕ) (passed source at : ℕ) → IsStrictlyIncreasing writers → passed ≤ length writers → at < length (drop passed writers) →
+    get_or (drop passed writers) at 0 ≡ source → RaisesTo writers passed source (passed + at + 1)
+raised_found writers passed source at rises within inside is =
+    let short : length (drop passed writers) ≡ length writers - passed = length-drop passed writers in
+    let there : get_or writers (passed + at) 0 ≡ source = sym (get_or-drop passed writers at 0) ∙ is in
+    let last : passed + at + 1 - 1 ≡ passed + at = omega arith in
+    record {
+      within = omega arith;
+      above = omega arith;
+      all = λ k stands.
+          let bound = slice_get_within writers k source stands in
+          let value : get_or writers k 0 ≡ source = get_or_from_slice_get writers k source 0 stands in
+          let same : k ≡ passed + at = increasing_same writers rises k (passed + at) bound (omega arith) (value ∙ sym there) in
+          omega arith;
+      last = inr (
+        omega arith,
+        ap (λ (i : ℕ). slice_get writers i) last ∙ slice_get-get_or writers (passed + at) 0 (omega arith) ∙ ap (λ (v : ℕ). Some v) there,
+      );
+    }
+
+-- a search that didn't find it
+pub raised_absent :
+    (writers : List ℕ) (passed source : ℕ) → passed ≤ length writers →
+    ((k : ℕ) → k < length (drop passed writers) → get_or (drop passed writers) k 0 ≡ source → ⊥) → RaisesTo writers passed source passed
+raised_absent writers passed source within none =
+    let short : length (drop passed writers) ≡ length writers - passed = length-drop passed writers in
+    record {
+      within = within;
+      above = omega arith;
+      all = λ k stands.
+          let bound = slice_get_within writers k source stands in
+          let value : get_or writers k 0 ≡ source = get_or_from_slice_get writers k source 0 stands in
+          elim (cases_lt k passed) [
+            | inl less ↦ less
+            | inr more ↦
+                let at : passed + (k - passed) ≡ k = omega arith in
+                absurd (none (k - passed) (omega arith) (get_or-drop passed writers (k - passed) 0 ∙ ap (λ (i : ℕ). get_or writers i 0) at ∙ value))
+          ];
+      last = inl refl;
+    }
+
+pub rises_loosely :
+    (xs : List ℕ) → IsStrictlyIncreasing xs → (i j : ℕ) → i ≤ j → j < length xs → get_or xs i 0 ≤ get_or xs j 0
+rises_loosely xs rises i j le within =
+    elim (cases_lt i j) [
+      | inl less ↦ let h = increasing_less xs rises i j less within in omega arith
+      | inr more ↦ let same : i ≡ j = omega arith in let e : get_or xs i 0 ≡ get_or xs j 0 = ap (λ (k : ℕ). get_or xs k 0) same in omega arith
+    ]
+
+-- one thing more was seen
+pub passed_more :
+    (seen : List Seen) (place : ℕ) (writers : List ℕ) (old new : ℕ) (s : Seen) → slice_get seen place ≡ Some s → RaisesBy writers old s new →
+    ArePassed seen place writers old → ArePassed seen (place + 1) writers new
+passed_more seen place writers old new (SeenRead number cell from) stands raises passed = record {
+  within = raises.within;
+  all = λ i s below is source k read at. elim (cases_lt i place) [
+    | inl before ↦ let low = passed.all i s before is source k read at in let up = raises.above in omega arith
+    | inr here ↦
+        let e : i ≡ place = omega arith in
+        let both : Some s ≡ Some (SeenRead number cell from) = sym is ∙ ap (λ (j : ℕ). slice_get seen j) e ∙ stands in
+        let same : s ≡ SeenRead number cell from = cc in
+        let from_is : from ≡ source = subst (λ (t : Seen). IsReadFrom t source) same read in
+        raises.all k (at ∙ ap (λ (v : ℕ). Some v) (sym from_is))
+  ];
+  last = λ some. elim raises.last [
+    | inl same ↦
+        let before = passed.last (omega arith) in
+        (before.0, (before.1.0, (before.1.1.0, (before.1.1.1.0, before.1.1.1.1, ap (λ (n : ℕ). slice_get writers (n - 1)) same ∙ before.1.1.1.2))))
+    | inr new_one ↦ (place, (SeenRead number cell from, (from, (stands, refl, new_one.1))))
+  ];
+}
+passed_more seen place writers old new (SeenScan number table keys) stands raises passed =
+    subst (λ (n : ℕ). ArePassed seen (place + 1) writers n) (sym raises) record {
+      within = passed.within;
+      all = λ i s below is source k read at. elim (cases_lt i place) [
+        | inl before ↦ passed.all i s before is source k read at
+        | inr here ↦
+            let e : i ≡ place = omega arith in
+            let both : Some s ≡ Some (SeenScan number table keys) = sym is ∙ ap (λ (j : ℕ). slice_get seen j) e ∙ stands in
+            let same : s ≡ SeenScan number table keys = cc in
+            absurd (subst (λ (t : Seen). IsReadFrom t source) same read)
+      ];
+      last = passed.last;
+    }
+
+pub passed_none : (seen : List Seen) (writers : List ℕ) → ArePassed seen 0 writers 0
+passed_none seen writers = record {
+  within = omega arith;
+  all = λ i s below. absurd (omega arith);
+  last = λ some. absurd (omega arith);
+}
+
+-- what is left behind the first so many, as a slice
+rest_is : (writers : List ℕ) (passed : ℕ) → take (length writers - passed) (drop passed writers) ≡ drop passed writers
+rest_is writers passed =
+    let short : length (drop passed writers) ≡ length writers - passed = length-drop passed writers in
+    take_all (length writers - passed) (drop passed writers) (omega arith)
+
+pub search_found :
+    (writers : List ℕ) (passed source at : ℕ) → IsStrictlyIncreasing writers → passed ≤ length writers →
+    IsBinarySearchResult (λ y. nat_cmp y source) (take (length writers - passed) (drop passed writers)) (Ok at) →
+    RaisesTo writers passed source (passed + at + 1)
+search_found writers passed source at rises within result =
+    let here = subst (λ (r : List ℕ). IsBinarySearchResult (λ y. nat_cmp y source) r (Ok at)) (rest_is writers passed) result in
+    let found = searched (drop passed writers) source (Ok at) here (rises_loosely (drop passed writers) (left_rises writers passed rises)) in
+    raised_found writers passed source at rises within found.0 found.1
+
+pub search_absent :
+    (writers : List ℕ) (passed source at : ℕ) → IsStrictlyIncreasing writers → passed ≤ length writers →
+    IsBinarySearchResult (λ y. nat_cmp y source) (take (length writers - passed) (drop passed writers)) (Err at) →
+    RaisesTo writers passed source passed
+search_absent writers passed source at rises within result =
+    let here = subst (λ (r : List ℕ). IsBinarySearchResult (λ y. nat_cmp y source) r (Err at)) (rest_is writers passed) result in
+    let found = searched (drop passed writers) source (Err at) here (rises_loosely (drop passed writers) (left_rises writers passed rises)) in
+    raised_absent writers passed source within
+    (λ k inside is. elim (cases_lt k at) [
+      | inl before ↦ let low = found.1 k before in absurd (omega arith)
+      | inr behind ↦ let high = found.2 k (omega arith) inside in absurd (omega arith)
+    ])
+
+-- the read of what the word picks of those that are left was offered
+pub chosen_left :
+    (history : Chronicle) (s k : ℕ) (x : Cell) (writers : List ℕ) (seen : List Seen) (txn : Txn) (count word : ℕ) (choice : Choice) → history.level ≡ Rc →
+    IsLegal history.level history.events → opened history.events ≤ 1 → IsPending history.events k s → IsRecordOf history.events k txn →
+    AreWriters history.events x writers → seen ≡ txn.seen → ArePassed seen (length seen) writers count → IsPick writers count word choice →
+    IsChosen history s x word choice
+chosen_left history s k x writers seen txn count word choice level legal one pending record_is are same passed picks =
+    let offer : IsOffer Rc history.events s x (left_of writers count) =
+    left_is_offer history.events s k x writers txn count (subst (λ (l : Level). IsLegal l history.events) level legal) one pending record_is are
+    (subst (λ (ss : List Seen). ArePassed ss (length ss) writers count) same passed) in
+    let here : IsOffer history.level history.events s x (left_of writers count) =
+    subst (λ (l : Level). IsOffer l history.events s x (left_of writers count)) (sym level) offer in
+    record {
+      offered = λ value. (left_of writers count, here, picks.count, picks.source);
+      writes = picked_writes history.level history.events s x (left_of writers count) (word % choice.count) choice.source here picks.source;
+    }
+
+-- the read of what the word picks of an offer was offered
+pub chosen_tried :
+    (history : Chronicle) (s : ℕ) (x : Cell) (offer first second : List ℕ) (word source : ℕ) → IsOffer history.level history.events s x offer →
+    first ≡ offer → second ≡ offer → slice_get first (word % length first) ≡ Some source →
+    IsChosen history s x word (record { source = source; count = length second })
+chosen_tried history s x offer first second word source is same_first same_second picked =
+    let count : length second ≡ length offer = ap (λ (xs : List ℕ). length xs) same_second in
+    let here : slice_get offer (word % length offer) ≡ Some source =
+    ap (λ (xs : List ℕ). slice_get xs (word % length xs)) (sym same_first) ∙ picked in
+    let there : slice_get offer (word % length second) ≡ Some source = ap (λ (n : ℕ). slice_get offer (word % n)) count ∙ here in
+    record {
+      offered = λ value. (offer, is, count, there);
+      writes = picked_writes history.level history.events s x offer (word % length offer) source is here;
+    }

@@ -1,0 +1,15 @@
+use Rattle.std.proofs.Common.{ap}
+use Rattle.history_core.specs.Chronicle.{Chronicle}
+use Rattle.history_core.specs.declared.event.Event.TheVariants.{Define}
+use Rattle.solo_book.proofs.Books.{on_ok}
+use Rattle.solo_book.proofs.Indexes.{indexed_either, indexed_other}
+use Rattle.solo_book.proofs.indexed.IndexedHistory.push_define.Goals as goal
+
+pub invariant_of-self : goal.invariant_of-self
+invariant_of-self c =
+    indexed_either c.self.inside.history c.push_define.new.self (Define c.args.session c.args.table.name) c.self.inside.index c.push_define.result
+    (on_ok _ _ c.push_define.result (λ is. ap (λ (h : Chronicle). h.events) is) c.push_define.ensures.ok) c.push_define.ensures.err
+    (indexed_other c.self.inside.history.events (Define c.args.session c.args.table.name) c.self.inside.index tt) c.self.invariant
+
+pub returns-clause-full : goal.returns-clause-full
+returns-clause-full c = rw (← c.self.view_is) c.push_define.ensures.full

@@ -1,0 +1,135 @@
+// A history with an index of the writers by cell.
+ghost use Rattle.std.specs.Prelude.{◌≡◌, ◌↔◌, ◌≤◌, [], length, Some, Err, OnOk, OnErr, IsTrue};
+ghost use Rattle.sql_tree.specs.Sound.{IsSound};
+ghost use Rattle.history_core.specs.declared.event.Event.{Event};
+ghost use Rattle.history_core.specs.declared.fault.Limit.{Limit};
+ghost use Rattle.history_core.specs.Events.{session_in, load_of};
+ghost use Rattle.history_core.specs.Legal.{Follows, full_for};
+ghost use Rattle.history_core.specs.Chronicle.{followed_by, with_table, IsFormedChronicle};
+ghost use Rattle.history_core.specs.Records.{IsNoDefinition, is_any_end};
+
+use crate::index::{self, Index, note_writer, writers_of};
+use cell_base::{Cell, Level, Value};
+use history_core::{BookFault, Event, History, Limit};
+use sql_tree::Table;
+use std::alloc::Global;
+use std::marker::Model;
+
+/// A history, and for each cell the transactions that wrote it. Contracts see the history alone.
+#[derive(Debug, Drop)]
+pub struct IndexedHistory {
+    history: History,
+    index: Index,
+}
+
+impl Model for IndexedHistory {
+    ghost use Rattle.history_core.specs.Chronicle.{Chronicle};
+    ghost use Rattle.std.specs.Coded.{codes};
+    ghost use Rattle.sql_tree.specs.contracts.typed_expr.TypedNode as typed_node;
+
+    ghost Value = { Chronicle };
+
+    ghost coded = { Prim.hlevel (codes, typed_node.the_row.coded) };
+
+    ghost use Rattle.solo_book.specs.Index.{IsIndex};
+
+    ghost view = { λ h. h.history };
+
+    ghost invariant = { λ h. IsIndex h.history.events h.index };
+}
+
+impl IndexedHistory {
+    ghost use Rattle.solo_book.specs.Index.{AreWriters, IsLast, IsNoWrite};
+
+    /// A history of the level without events. Takes no memory.
+    pub fn new(alloc: Global, level: Level) -> IndexedHistory
+        ensures { result ≡ record { level = level; events = []; tables = [] } }
+    {
+        IndexedHistory {
+            history: History::new(alloc, level),
+            index: index::new(alloc),
+        }
+    }
+
+    /// Appends an event, any but a definition, a write and a commit, as `History::push` does.
+    pub fn push(&mut self, event: Event) -> Result<(), BookFault>
+        requires follows { Follows self.old.events event }
+        requires pushed { IsNoDefinition event }
+        requires other { IsNoWrite event }
+        ensures ok { OnOk result (self.new ≡ followed_by self.old event) }
+        ensures full { (limit : Limit) → (result ≡ Err (BookFault.Full limit)) ↔ (full_for self.old.events event ≡ Some limit) }
+        ensures err { OnErr result (self.new ≡ self.old) }
+    {
+        self.history.push(event)
+    }
+
+    /// Appends a write of the transaction that began last, as `History::push` does. Its place in the index is taken first,
+    /// so that the Commit takes no memory.
+    pub fn push_write(&mut self, session: u32, cell: Cell, value: Value) -> Result<(), BookFault>
+        requires follows { Follows self.old.events (Event.Write session cell value) }
+        requires last { IsLast self.old.events session }
+        ensures ok { OnOk result (self.new ≡ followed_by self.old (Event.Write session cell value)) }
+        ensures full { (limit : Limit) → (result ≡ Err (BookFault.Full limit)) ↔ (full_for self.old.events (Event.Write session cell value) ≡ Some limit) }
+        ensures err { OnErr result (self.new ≡ self.old) }
+    {
+        if self.history.load() >= 1_048_576 {
+            return Err(BookFault::Full(Limit::Load));
+        }
+        match note_writer(&mut self.index, &self.history, &cell) {
+            Ok(()) => self.history.push(Event::Write(session, cell, value)),
+            Err(_) => Err(BookFault::Memory),
+        }
+    }
+
+    /// Appends the definition of a sound table, as `History::push_define` does.
+    pub fn push_define(&mut self, session: u32, table: Table) -> Result<(), BookFault>
+        requires follows { Follows self.old.events (Event.Define session table.name) }
+        requires sound { IsSound table }
+        ensures ok { OnOk result (self.new ≡ with_table self.old session table) }
+        ensures full { (limit : Limit) → (result ≡ Err (BookFault.Full limit)) ↔ (full_for self.old.events (Event.Define session table.name) ≡ Some limit) }
+        ensures err { OnErr result (self.new ≡ self.old) }
+    {
+        self.history.push_define(session, table)
+    }
+
+    /// Appends a Commit, a Rollback or a Close. Takes no memory and always succeeds. The transaction is the last that
+    /// began.
+    pub fn end(&mut self, event: Event)
+        requires follows { Follows self.old.events event }
+        requires end { IsTrue (is_any_end event) }
+        requires last { IsLast self.old.events (session_in event) }
+        ensures { self.new ≡ followed_by self.old event }
+    {
+        self.history.end(event);
+    }
+
+    /// The tables, by their numbers from 0.
+    pub fn tables(&self) -> &[Table]
+        ensures items { result.now ≡ self.now.tables }
+        ensures formed { IsFormedChronicle self.now }
+    {
+        self.history.tables()
+    }
+
+    /// The load, which is the sum of the events' weights.
+    pub fn load(&self) -> u64
+        ensures { result ≡ load_of self.now.events }
+    {
+        self.history.load()
+    }
+
+    /// The history without the index.
+    pub fn history(&self) -> &History
+        ensures { result.now ≡ self.now }
+    {
+        &self.history
+    }
+
+    /// The writers of the cell but the initial transaction, ascending.
+    pub fn writers(&self, cell: &Cell) -> &[u32]
+        ensures writers { AreWriters self.now.events cell.now result.now }
+        ensures few { length result.now ≤ 16383 }
+    {
+        writers_of(&self.index, &self.history, cell)
+    }
+}
