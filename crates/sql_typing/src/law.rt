@@ -1,0 +1,5 @@
+// What holds of the definitions.
+
+/// Probe
+pub fn law() {
+}
