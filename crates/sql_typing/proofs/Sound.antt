@@ -1,16 +1,15 @@
 -- Each typed expression is well typed, and no aggregate stands in one that is of one row.
-use Rattle.std.proofs.Common.{◌≡◌, ℕ, Bool, true, false, cond, ◌||◌, ◌&&◌, ◌^◌, List, [], ◌∷◌, map, Option, Some, None, Ok, Err, ℤ, refl, sym, ap, subst, ◌∙◌, rules, arith}
+use Rattle.std.proofs.Common.{◌≡◌, ℕ, Bool, true, false, cond, ◌||◌, ◌&&◌, ◌^◌, List, [], ◌∷◌, map, Option, Some, None, Ok, Err, ℤ, refl, sym, ap, subst, ◌∙◌, arith}
 use Rattle.std.specs.List.{list_any}
 use Rattle.std.proofs.lemmas.Bool.{and_parts}
 use Rattle.cell_base.specs.declared.sql_type.SqlType.{SqlType}
 use Rattle.cell_base.specs.declared.sql_type.SqlType.TheVariants as type
-use Rattle.cell_base.specs.declared.sql_state.SqlState.TheVariants.{S0A000, S42601, S42803, S42804, S42883}
+use Rattle.cell_base.specs.declared.sql_state.SqlState.TheVariants.{S0A000, S42804, S42883}
 use Rattle.cell_base.specs.declared.value.Value.{Value}
 use Rattle.cell_base.specs.declared.value.Value.TheVariants as value
 use Rattle.sql_tree.specs.declared.expr.Expr.{Expr}
 use Rattle.sql_tree.specs.declared.expr.Expr.TheOpen.{Expr-F}
 use Rattle.sql_tree.specs.declared.expr.Expr.TheFolds.{fold-roll-Expr, ind-Expr}
-use Rattle.sql_tree.specs.declared.expr.Expr.TheViews.{roll-Expr}
 use Rattle.sql_tree.specs.declared.expr.Expr.{map-Expr}
 use Rattle.sql_tree.specs.declared.op.Op.{Op}
 use Rattle.sql_tree.specs.declared.op.Op.TheVariants.{Add, Sub, Mul, Div, Rem, Eq, Ne, Lt, Le, Gt, Ge, And, Or}
@@ -20,7 +19,7 @@ use Rattle.sql_tree.specs.declared.typed_expr.TypedExpr.{TypedExpr}
 use Rattle.sql_tree.specs.declared.typed_expr.TypedNode.{TypedNode}
 use Rattle.sql_tree.specs.declared.typed_expr.TypedNode.TheVariants as node
 use Rattle.sql_tree.specs.declared.typed_expr.TypedNode.TheVariants.{rolls-Constant, rolls-Column, rolls-Neg, rolls-Not, rolls-IsNull, rolls-Binary, rolls-In}
-use Rattle.sql_tree.specs.declared.typed_expr.TypedNode.TheOpen.{TypedNode-F, TypedExpr-F}
+use Rattle.sql_tree.specs.declared.typed_expr.TypedNode.TheOpen.{TypedNode-F}
 use Rattle.sql_tree.specs.declared.typed_expr.TypedNode.TheFolds.{fold-TypedNode, fold-roll-TypedNode, fold_out-TypedExpr}
 use Rattle.sql_typing.specs.declared.form.Form.{Form}
 use Rattle.sql_typing.specs.declared.form.Form.TheVariants.{Typed, Quoted, Null}
@@ -28,15 +27,15 @@ use Rattle.sql_typing.specs.declared.place.Place.{Place}
 use Rattle.sql_typing.specs.declared.place.Place.TheVariants.{Row, Group}
 use Rattle.sql_typing.specs.Outcome.{Outcome, and_then, all_of}
 use Rattle.sql_typing.specs.Kinds.{is_boolean, is_number, is_numeric, are_comparable, wider, is_within, is_null_or_of}
-use Rattle.sql_typing.specs.WellTyped.{ColumnTypes, IsWellTyped, AreMembers, has_aggregate, node_has_aggregate, expr_has_aggregate, is_arithmetic, is_comparison, is_connective, aggregate_type}
+use Rattle.sql_typing.specs.WellTyped.{ColumnTypes, AreMembers, has_aggregate, node_has_aggregate, expr_has_aggregate, is_arithmetic, is_comparison, is_connective, aggregate_type}
 use Rattle.sql_typing.specs.WellTyped.IsWellTyped.{constant as constant_rule, column as column_rule, count_rows as count_rule, aggregate_of as aggregate_rule, negated as neg_rule, denied as not_rule, tested as null_rule, computed as computed_rule, compared as compared_rule, connected as connected_rule, among as in_rule}
 use Rattle.sql_typing.specs.WellTyped.AreMembers.{none, more}
 use Rattle.sql_typing.specs.Names.{Source, Found, resolved}
 use Rattle.sql_typing.specs.Literals.{quoted}
 use Rattle.sql_typing.specs.Operators.{aggregate_named}
 use Rattle.sql_typing.specs.Expressions as spec
-use Rattle.sql_typing.specs.Expressions.{typed_node, null, operand, settled, condition_of, condition, compared_to, compared, calculated_with, whole_operands, calculated, joined, combined, negated_form, inverted, null_test, member_of, member, among_members, among, aggregate_of, aggregate, aggregated, starred, inside, column_at, column, typing, typing_step, common_kind, kind_or, kind_of, first_kind, is_numeric_form, literal_kind}
-use Rattle.sql_typing.specs.Sound.{Holds, IsPlainIn, IsSoundExpr, IsSoundForm, column_types, TypingIsSound}
+use Rattle.sql_typing.specs.Expressions.{typed_node, null, operand, settled, condition_of, condition, compared_to, compared, calculated_with, whole_operands, calculated, joined, combined, negated_form, inverted, null_test, member_of, member, among_members, among, aggregate_of, aggregate, aggregated, starred, inside, column_at, column, typing, typing_step, flag, common_kind, kind_or, kind_of, first_kind, is_numeric_form, literal_kind}
+use Rattle.sql_typing.specs.Sound.{Holds, IsPlainIn, IsSoundExpr, IsSoundForm, column_types, TypingIsSound, FlagIsSound, IsCondition as IsTypedCondition}
 use Rattle.sql_typing.proofs.Numbers.{IsConstant, then_holds, quoted_is}
 use Rattle.sql_typing.proofs.Columns.{IsIn, resolved_in}
 
@@ -352,7 +351,7 @@ forms_sound sources f good [] place = tt
 forms_sound sources f good (c ∷ cs) place =
     then_holds (IsSoundForm (column_types sources) place) (AreSoundForms (column_types sources) place) (f c place) _ (good c place)
     (λ x s. then_holds (AreSoundForms (column_types sources) place) (AreSoundForms (column_types sources) place) (all_of (map (λ (m : Place → Outcome Form). m place) (map f cs))) (λ xs. Ok (x ∷ xs))
-        (forms_sound sources f good cs place) (λ xs t. (s, t)))
+    (forms_sound sources f good cs place) (λ xs t. (s, t)))
 
 layer : {C : Type 0} (sources : List Source) (f : C → Place → Outcome Form) → ((c : C) → IsGood sources (f c)) → (y : Expr-F C) → IsGood sources (typing_step sources (map-Expr C (Place → Outcome Form) f y))
 layer sources f good (Expr-F.Int n) place = literal_by (column_types sources) place n (is_within (2 ^ 31) n) refl
@@ -377,7 +376,7 @@ layer sources f good (Expr-F.Binary o a b) place =
 layer sources f good (Expr-F.In a members negated) place =
     then_holds (IsSoundForm (column_types sources) place) (IsSoundForm (column_types sources) place) (f a place) _ (good a place)
     (λ x s. then_holds (AreSoundForms (column_types sources) place) (IsSoundForm (column_types sources) place) (all_of (map (λ (m : Place → Outcome Form). m place) (map f members))) (λ xs. among x xs negated)
-        (forms_sound sources f good members place) (λ xs t. among_sound (column_types sources) place x xs negated s t))
+    (forms_sound sources f good members place) (λ xs t. among_sound (column_types sources) place x xs negated s t))
 
 map_twice : {A B C : Type 0} (g : A → B) (h : B → C) (xs : List A) → map h (map g xs) ≡ map (λ x. h (g x)) xs
 map_twice g h [] = refl
@@ -402,3 +401,24 @@ typing_sound sources = ind-Expr (λ e. IsGood sources (typing sources e)) (λ x 
     let below : IsGood sources (typing_step sources (map-Expr _ (Place → Outcome Form) (λ c. typing sources c.0) y)) = layer sources (λ c. typing sources c.0) (λ c. c.1) y in
     let step = layer_twice (Place → Outcome Form) (λ c. c.0) (typing sources) y ∙ ap (map-Expr Expr (Place → Outcome Form) (typing sources)) is in
     subst (IsGood sources) (ap (typing_step sources) step ∙ sym (fold-roll-Expr (Place → Outcome Form) (typing_step sources) x)) below)
+
+boolean_is : (k : SqlType) → is_boolean k ≡ true → k ≡ type.Boolean
+boolean_is type.Boolean h = refl
+boolean_is type.Integer h = cc
+boolean_is type.Bigint h = cc
+boolean_is type.Text h = cc
+boolean_is (type.Varchar n) h = cc
+boolean_is type.Numeric h = cc
+
+narrowed : (types : ColumnTypes) (o : Outcome TypedExpr) → Holds (IsCondition types Row) o → Holds (IsTypedCondition types) o
+narrowed types (Ok e) h = record { well = h.sound.well; plain = h.sound.plain; boolean = boolean_is e.kind h.boolean }
+narrowed types (Err code) h = tt
+
+flag_of : (types : ColumnTypes) (o : Outcome Form) → Holds (IsSoundForm types Row) o → Holds (IsTypedCondition types) (and_then o condition)
+flag_of types o h =
+    then_holds (IsSoundForm types Row) (IsTypedCondition types) o condition h
+    (λ x s. narrowed types (condition x) (condition_sound types Row x s))
+
+pub flag_sound : FlagIsSound
+unfolding flag
+flag_sound sources e = flag_of (column_types sources) (typing sources e Row) (typing_sound sources e Row)

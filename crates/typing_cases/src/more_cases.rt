@@ -20,7 +20,10 @@ pub const CONDITIONS: [(&str, &str); 32] = [
     ("b in ('true')", "S0A000"),
     ("'x' in (k, true)", "S22P02"),
     // BETWEEN is two comparisons.
-    ("k between 1 and '5'", "and(>=(0.0:l 1:i):b <=(0.0:l 5:l):b):b"),
+    (
+        "k between 1 and '5'",
+        "and(>=(0.0:l 1:i):b <=(0.0:l 5:l):b):b",
+    ),
     // Calls. The argument comes first.
     ("count(*) = 1", "S42803"),
     ("count(nosuch) = 1", "S42703"),

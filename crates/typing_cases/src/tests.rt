@@ -1,9 +1,8 @@
 // What no clause says: that the types are those of SQL, by conditions and constants that were typed by hand.
 ghost use Rattle.std.specs.Prelude.{◌<◌, ◌^◌, length};
 
-use crate::cases;
-use crate::more_cases;
 use crate::show::{push_expr, push_value};
+use crate::{cases, more_cases};
 use cell_base::{Items, SqlType, Text, Value};
 use sql_lexer::tokens;
 use sql_parser::parse;
@@ -70,7 +69,11 @@ fn condition(alloc: Global, table: &Table, expr: &Expr) -> Result<String, AllocE
 }
 
 /// What the condition of the first statement, a DELETE, comes to.
-fn first_condition(alloc: Global, table: &Table, found: &Items<Statement>) -> Result<String, AllocError> {
+fn first_condition(
+    alloc: Global,
+    table: &Table,
+    found: &Items<Statement>,
+) -> Result<String, AllocError> {
     match found.as_slice() {
         [Statement::Delete(delete), ..] => match &delete.filter {
             Some(expr) => condition(alloc, table, expr),
@@ -134,7 +137,9 @@ fn constant(alloc: Global, expr: &Expr, kind: SqlType) -> Result<String, AllocEr
 }
 
 fn shown_default(alloc: Global, kind: &str, default: &str) -> Result<String, Fail> {
-    let statement = format!(in alloc; "CREATE TABLE t (k bigint PRIMARY KEY, c {kind} DEFAULT {default})")?;
+    let statement = format!(in alloc;
+        "CREATE TABLE t (k bigint PRIMARY KEY, c {kind} DEFAULT {default})"
+    )?;
     let text = text_of(alloc, statement.as_str())?;
     if text.bytes().len() > 1_000 {
         return Ok(String::from_str(alloc, "too long")?);
