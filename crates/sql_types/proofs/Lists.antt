@@ -49,7 +49,7 @@ pub typing_in : (sources : List Source) (place : Place) (left : Expr) (members :
     → typing sources (In left members negated) place ≡ and_then (typing sources left place) (λ x. and_then (typings sources members place) (λ xs. among x xs negated))
 typing_in sources place left members negated =
     let opened : typing sources (In left members negated) place ≡ and_then (typing sources left place) (λ x. and_then (all_of (map (λ m. m place) (map (typing sources) members))) (λ xs. among x xs negated))
-        = first_of (search (rules, the_lemmas), grind (arith, the_lemmas), search rules) in
+    = first_of (search (rules, the_lemmas), grind (arith, the_lemmas), search rules) in
     opened ∙ ap (λ ms. and_then (typing sources left place) (λ x. and_then (all_of ms) (λ xs. among x xs negated))) (map_twice (typing sources) (λ m. m place) members)
 
 pub gives_in : (left : Outcome Form) (members : Outcome (List Form)) (x : Form) (xs : List Form) (negated : Bool) (r : Result Form TypeFault)

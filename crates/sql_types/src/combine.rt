@@ -7,7 +7,9 @@ ghost use Rattle.sql_tree.specs.declared.typed_expr.TypedNode.TheVariants as nod
 
 use crate::TypeFault;
 use crate::operands::{common_kind, condition, kind_of, settled};
-use crate::operators::{are_comparable, is_arithmetic, is_connective, is_numeric, is_number, wider};
+use crate::operators::{
+    are_comparable, is_arithmetic, is_connective, is_number, is_numeric, wider,
+};
 use cell_base::{Boxed, Items, Memory, SqlState, SqlType};
 use sql_tree::{Op, TypedExpr, TypedNode};
 use sql_typing::Form;

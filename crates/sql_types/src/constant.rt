@@ -1,5 +1,5 @@
 // The values of literals that are converted to a column's type.
-ghost use Rattle.std.specs.Prelude.{◌≡◌, Option, Some, None, IfOk};
+ghost use Rattle.std.specs.Prelude.{◌≡◌};
 ghost use Rattle.sql_typing.specs.Assignment as assignment;
 ghost use Rattle.sql_typing.specs.Constants as spec;
 ghost use Rattle.sql_types.specs.Gives.{Gives};

@@ -10,7 +10,7 @@ use crate::calls::{aggregated, inside, starred};
 use crate::combine::{among, combined};
 use crate::names::resolved;
 use crate::operands::{condition, settled};
-use crate::operators::{aggregate_named, is_numeric, is_number};
+use crate::operators::{aggregate_named, is_number, is_numeric};
 use crate::{Entry, TypeFault};
 use cell_base::{Boxed, Items, SqlState, SqlType, Text, Value};
 use sql_tree::{Expr, TypedExpr, TypedNode};
@@ -46,10 +46,7 @@ fn column(
 {
     let found = resolved(scope, qualifier, name)?;
     match place {
-        Place::Row => Ok(of_kind(
-            found.kind,
-            TypedNode::Column(found.entry, found.column),
-        )),
+        Place::Row => Ok(of_kind(found.kind, TypedNode::Column(found.entry, found.column))),
         Place::Group => Err(SqlState::S42803),
     }
 }
@@ -75,10 +72,7 @@ fn inverted(alloc: Global, form: Form) -> Result<Form, TypeFault>
     ensures { Gives (spec.inverted form) result }
 {
     let expr = condition(form)?;
-    Ok(of_kind(
-        SqlType::Boolean,
-        TypedNode::Not(Boxed::new(alloc, expr)?),
-    ))
+    Ok(of_kind(SqlType::Boolean, TypedNode::Not(Boxed::new(alloc, expr)?)))
 }
 
 fn null_test(alloc: Global, form: Form, negated: bool) -> Result<Form, TypeFault>
@@ -108,10 +102,7 @@ pub fn form(
             TypedNode::Constant(Value::Int(*number)),
         )),
         Expr::Str(text) => Ok(Form::Quoted(text.copy(alloc)?)),
-        Expr::Flag(flag) => Ok(of_kind(
-            SqlType::Boolean,
-            TypedNode::Constant(Value::Flag(*flag)),
-        )),
+        Expr::Flag(flag) => Ok(of_kind(SqlType::Boolean, TypedNode::Constant(Value::Flag(*flag)))),
         Expr::Null => Ok(Form::Null),
         Expr::Column(None, name) => Ok(column(scope, place, None, name)?),
         Expr::Column(Some(qualifier), name) => Ok(column(scope, place, Some(qualifier), name)?),

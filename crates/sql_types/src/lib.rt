@@ -1,7 +1,9 @@
 //! The types of expressions and statements: the typed tree, or the code that comes first.
 #![tactic(auto)]
 
+ghost use Rattle.std.specs.Prelude.{IfOk};
 ghost use Rattle.sql_typing.specs.Expressions.{flag};
+ghost use Rattle.sql_typing.specs.Sound.{IsCondition, column_types};
 ghost use Rattle.sql_types.specs.Gives.{Gives};
 ghost use Rattle.sql_types.specs.Scope.{IsNarrow, sources};
 
@@ -16,12 +18,11 @@ mod names;
 mod operands;
 mod operators;
 
+use crate::expression::form;
+use crate::operands::condition;
 pub use constant::typed_constant;
 pub use entry::Entry;
 pub use error::TypeFault;
-
-use crate::expression::form;
-use crate::operands::condition;
 use sql_tree::{Expr, TypedExpr};
 use sql_typing::Place;
 use std::alloc::Global;
@@ -31,13 +32,10 @@ use std::alloc::Global;
 /// The other codes are those of operands: 42883, 22P02 and 22003. The one that comes first from left to right, operands before
 /// their node, is answered (PostgreSQL's documentation, "Value Expressions" and "Type Conversion").
 #[tactic(auto, unfolding(sql_typing::specs::Expressions::flag))]
-pub fn typed_flag(
-    alloc: Global,
-    expr: &Expr,
-    scope: &[Entry<'_>],
-) -> Result<TypedExpr, TypeFault>
+pub fn typed_flag(alloc: Global, expr: &Expr, scope: &[Entry<'_>]) -> Result<TypedExpr, TypeFault>
     requires { IsNarrow scope.now }
-    ensures { Gives (flag (sources scope.now) expr.now) result }
+    ensures typed { Gives (flag (sources scope.now) expr.now) result }
+    ensures sound { IfOk result (λ expr. IsCondition (column_types (sources scope.now)) expr) }
 {
     Ok(condition(form(alloc, expr, scope, Place::Row)?)?)
 }

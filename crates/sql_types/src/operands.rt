@@ -7,7 +7,7 @@ ghost use Rattle.sql_types.specs.Gives.{Gives};
 use crate::TypeFault;
 use crate::literal::whole;
 use crate::operators::{is_boolean, is_numeric};
-use cell_base::{Boxed, Items, Memory, SqlState, SqlType, Text, Value};
+use cell_base::{SqlState, SqlType, Text, Value};
 use sql_tree::{TypedExpr, TypedNode};
 use sql_typing::Form;
 use std::alloc::Global;

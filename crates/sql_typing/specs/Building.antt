@@ -1,5 +1,5 @@
 -- The table that a CREATE TABLE makes, or the code that comes first (PostgreSQL's documentation, "CREATE TABLE").
-use Rattle.std.specs.Prelude.{ℕ, ◌+◌, Bool, true, false, nat_le, ◌==◌, if◌then◌else◌, List, [], ◌∷◌, ◌++◌, map, length, Option, Some, None, Ok, Err}
+use Rattle.std.specs.Prelude.{ℕ, ◌+◌, Bool, true, nat_le, ◌==◌, if◌then◌else◌, List, [], ◌∷◌, ◌++◌, map, length, Option, Some, None, Ok, Err}
 use Rattle.std.specs.List.{list_any}
 use Rattle.std.specs.Str.{bytes_eq}
 use Rattle.cell_base.specs.declared.sql_state.SqlState.TheVariants.{S0A000, S42701, S42703, S54000}
@@ -16,7 +16,6 @@ use Rattle.sql_tree.specs.declared.typed_expr.TypedExpr.{TypedExpr}
 use Rattle.sql_typing.specs.Outcome.{Outcome, and_then, all_of}
 use Rattle.sql_typing.specs.Kinds.{is_boolean}
 use Rattle.sql_typing.specs.Constants.{constant}
-use Rattle.sql_typing.specs.Names.{Source}
 use Rattle.sql_typing.specs.Expressions.{flag}
 
 -- ---- columns
@@ -78,8 +77,8 @@ checks_of create columns = all_of (map (flag (record { name = create.name; colum
 unfoldable pub built : CreateTable → Outcome Table
 built create =
     if nat_le (length create.columns) 32 then
-        and_then (columns_from [] create.columns) (λ columns.
-        and_then (key_of columns (marked create.columns ++ create.keys)) (λ key.
-        and_then (checks_of create columns) (λ checks.
-        Ok (record { name = create.name; columns = keyed key columns; key = key; checks = checks }))))
+    and_then (columns_from [] create.columns) (λ columns.
+    and_then (key_of columns (marked create.columns ++ create.keys)) (λ key.
+    and_then (checks_of create columns) (λ checks.
+    Ok (record { name = create.name; columns = keyed key columns; key = key; checks = checks }))))
     else Err S54000

@@ -1,10 +1,9 @@
 -- The typed tree of an expression, or the code that comes first. Operands come from left to right, before their node.
 -- (PostgreSQL's documentation, "Type Conversion" and "Aggregate Expressions".)
-use Rattle.std.specs.Prelude.{ℕ, ◌^◌, Bool, true, false, ◌||◌, ◌&&◌, not, if◌then◌else◌, List, [], ◌∷◌, map, Option, Some, None, Ok, Err, ℤ}
+use Rattle.std.specs.Prelude.{ℕ, ◌^◌, Bool, false, ◌||◌, ◌&&◌, if◌then◌else◌, List, [], ◌∷◌, map, Option, Some, None, Ok, Err, ℤ}
 use Rattle.cell_base.specs.declared.sql_state.SqlState.TheVariants.{S0A000, S42601, S42803, S42804, S42883}
 use Rattle.cell_base.specs.declared.sql_type.SqlType.{SqlType}
 use Rattle.cell_base.specs.declared.sql_type.SqlType.TheVariants as type
-use Rattle.cell_base.specs.declared.value.Value.{Value}
 use Rattle.cell_base.specs.declared.value.Value.TheVariants as value
 use Rattle.sql_tree.specs.declared.expr.Expr.{Expr, fold-Expr}
 use Rattle.sql_tree.specs.declared.expr.Expr.TheOpen.{Expr-F}

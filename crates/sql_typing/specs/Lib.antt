@@ -8,3 +8,4 @@ pub mod Names
 pub mod Expressions
 pub mod Constants
 pub mod Building
+pub mod Sound

@@ -1,5 +1,5 @@
 -- The integer that a quoted literal stands for, and the value that a literal has where a type is asked.
-use Rattle.std.specs.Prelude.{ℕ, ◌+◌, ◌-◌, ◌*◌, ◌^◌, Bool, true, false, ◌||◌, ◌&&◌, if◌then◌else◌, ◌==◌, nat_lt, nat_le, List, [], ◌∷◌, reverse, length, Option, Some, None, Ok, Err, ℤ, pos, negsuc, neg_ℤ}
+use Rattle.std.specs.Prelude.{ℕ, ◌+◌, ◌-◌, ◌*◌, ◌^◌, Bool, true, false, ◌||◌, ◌&&◌, if◌then◌else◌, ◌==◌, nat_le, List, [], ◌∷◌, reverse, length, Option, Some, None, Ok, Err, ℤ, pos, neg_ℤ}
 use Rattle.std.specs.List.{list_all}
 use Rattle.cell_base.specs.declared.sql_state.SqlState.TheVariants.{S0A000, S22003, S22P02}
 use Rattle.cell_base.specs.declared.sql_type.SqlType.{SqlType}

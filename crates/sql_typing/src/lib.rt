@@ -3,6 +3,7 @@
 #![tactic(auto)]
 
 mod form;
+mod law;
 mod place;
 
 pub use form::Form;

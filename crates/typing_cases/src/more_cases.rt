@@ -1,0 +1,81 @@
+// More conditions over t (k bigint, n integer, s text, v varchar(3), b boolean), and constants of columns.
+
+/// A condition, and what it comes to.
+pub const CONDITIONS: [(&str, &str); 32] = [
+    // IS NULL.
+    ("k is null", "isnull(0.0:l):b"),
+    ("b is not null", "isnotnull(0.4:b):b"),
+    ("null is null", "isnull(null:t):b"),
+    ("'a' is null", "isnull('a':t):b"),
+    // IN.
+    ("k in (1, n, '2', null)", "in(0.0:l 1:i 0.1:i 2:l null:l):b"),
+    ("s not in ('a', v)", "notin(0.2:t 'a':t 0.3:v):b"),
+    ("'2' in (null, n, k)", "in(2:i null:i 0.1:i 0.0:l):b"),
+    ("'3000000000' in (n, k)", "S22003"),
+    ("'a' in ('b', null)", "in('a':t 'b':t null:t):b"),
+    ("null in (b)", "in(null:b 0.4:b):b"),
+    ("k in ('x', true)", "S22P02"),
+    ("k in (true, 'x')", "S42883"),
+    ("k in (true, nosuch)", "S42703"),
+    ("b in ('true')", "S0A000"),
+    ("'x' in (k, true)", "S22P02"),
+    // BETWEEN is two comparisons.
+    (
+        "k between 1 and '5'",
+        "and(>=(0.0:l 1:i):b <=(0.0:l 5:l):b):b",
+    ),
+    // Calls. The argument comes first.
+    ("count(*) = 1", "S42803"),
+    ("count(nosuch) = 1", "S42703"),
+    ("sum(k) = 1", "S42803"),
+    ("sum(true) = 1", "S42803"),
+    ("sum(count(nosuch)) = 1", "S42703"),
+    ("sum(*) = 1", "S42883"),
+    ("foo(*) = 1", "S0A000"),
+    ("foo(k) = 1", "S0A000"),
+    ("foo(nosuch) = 1", "S42703"),
+    ("foo(count(k)) = 1", "S42803"),
+    // The first code from left to right, operands before their node.
+    ("nosuch = u.x", "S42703"),
+    ("u.x = nosuch", "S42P01"),
+    ("k = 'x' and nosuch", "S22P02"),
+    ("(s + 1) in (nosuch)", "S42883"),
+    ("not (s = 1)", "S42883"),
+    ("(s = 1) is null and 'x'", "S42883"),
+];
+
+/// A column's type, its default, and what that comes to.
+pub const CONSTANTS: [(&str, &str, &str); 32] = [
+    ("integer", "1", "1"),
+    ("integer", "-1", "-1"),
+    ("integer", "2147483647", "2147483647"),
+    ("integer", "2147483648", "S22003"),
+    ("integer", "-2147483648", "-2147483648"),
+    ("integer", "-2147483649", "S22003"),
+    ("bigint", "9223372036854775807", "9223372036854775807"),
+    ("bigint", "-9223372036854775807", "-9223372036854775807"),
+    ("bigint", "' 12 '", "12"),
+    ("integer", "'-5'", "-5"),
+    ("integer", "'x'", "S22P02"),
+    ("integer", "'2147483648'", "S22003"),
+    ("integer", "true", "S42804"),
+    ("integer", "null", "null"),
+    ("boolean", "true", "true"),
+    ("boolean", "false", "false"),
+    ("boolean", "null", "null"),
+    ("boolean", "'true'", "S0A000"),
+    ("boolean", "1", "S42804"),
+    ("boolean", "-1", "S42804"),
+    ("text", "'abc'", "'abc'"),
+    ("text", "1", "S42804"),
+    ("text", "-1", "S42804"),
+    ("text", "true", "S42804"),
+    ("text", "null", "null"),
+    ("varchar(3)", "'abc'", "'abc'"),
+    ("varchar(3)", "'abc  '", "'abc'"),
+    ("varchar(3)", "'abcd'", "S22001"),
+    ("varchar(3)", "'ab  '", "'ab '"),
+    ("varchar(3)", "'äöü '", "'äöü'"),
+    ("varchar", "'abcdef'", "'abcdef'"),
+    ("varchar(3)", "1", "S42804"),
+];
