@@ -13,6 +13,8 @@ mod session;
 mod stage;
 #[cfg(test)]
 mod tests;
+#[cfg(test)]
+mod tests_of_command;
 mod turns;
 mod user;
 mod want;
