@@ -17,6 +17,8 @@ mod literal;
 mod names;
 mod operands;
 mod operators;
+#[cfg(test)]
+mod tests;
 
 use crate::expression::form;
 use crate::operands::condition;
