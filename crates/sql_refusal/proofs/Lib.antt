@@ -1,0 +1,9 @@
+pub mod Sound
+pub mod Exact
+pub mod Unrolled
+pub mod Rolled
+pub mod Levels
+pub mod Marks
+pub mod Turns
+pub mod Rules
+pub mod Messages

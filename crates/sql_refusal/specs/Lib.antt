@@ -1,0 +1,6 @@
+pub mod Pieces
+pub mod Wide
+pub mod Causes
+pub mod Forms
+pub mod Tables
+pub mod Deeper
