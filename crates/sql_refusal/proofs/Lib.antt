@@ -7,3 +7,6 @@ pub mod Marks
 pub mod Turns
 pub mod Rules
 pub mod Messages
+pub mod WideTypes
+pub mod Streamed
+pub mod Once

@@ -4,3 +4,6 @@ pub mod Causes
 pub mod Forms
 pub mod Tables
 pub mod Deeper
+pub mod WideForms
+pub mod MessageForms
+pub mod Streams

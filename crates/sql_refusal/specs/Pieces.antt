@@ -104,9 +104,12 @@ has_too_many tokens = nat_lt 256 (number holds_a_token (pieces tokens)) || some 
 
 -- ---- too deep
 
--- some token has a level above 66
+-- some token of the piece has a level above 66
+abbrev pub has_deep_place : List Token → Bool
+has_deep_place piece = some_place (λ before token after. too_deep before) [] piece
+
 abbrev pub has_deep_token : List Token → Bool
-has_deep_token tokens = some (λ piece. some_place (λ before token after. too_deep before) [] piece) (pieces tokens)
+has_deep_token tokens = some has_deep_place (pieces tokens)
 
 -- ---- tokens that aren't supported
 
@@ -136,5 +139,8 @@ is_unsupported before (t.Sign s.Join) after = true
 is_unsupported before (t.Param n) after = true
 is_unsupported before _ after = false
 
+abbrev pub has_unsupported_place : List Token → Bool
+has_unsupported_place piece = some_place (λ before token after. is_unsupported before token.kind after) [] piece
+
 abbrev pub has_unsupported_token : List Token → Bool
-has_unsupported_token tokens = some (λ piece. some_place (λ before token after. is_unsupported before token.kind after) [] piece) (pieces tokens)
+has_unsupported_token tokens = some has_unsupported_place (pieces tokens)

@@ -45,4 +45,5 @@ wide_message depth rows = repeat (for [] (optional (wide_statement depth rows)))
 pub record IsWide (ts : List Mark) : Type 0 where
   pub depth : ℕ
   pub rows : ℕ
-  pub spelled : spells (wide_message depth rows) ts []
+  pub value : List (Unit {0})
+  pub spelled : spells (wide_message depth rows) ts value

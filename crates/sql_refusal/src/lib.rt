@@ -3,10 +3,14 @@
 
 mod cause;
 mod expression;
+mod judge;
+mod message;
 mod pass;
+mod pieces;
 mod statement;
 mod rule;
 mod words;
 
 pub use cause::Cause;
-pub use words::UNSUPPORTED;
+pub use judge::cause_of;
+

@@ -12,7 +12,8 @@ use crate::expression::{begins, rule_of};
 use crate::rule::{Level, Pattern, Rule};
 use sql_grammar::{Mark, Word};
 
-fn first(ahead: &[Mark]) -> Option<&Mark>
+/// The next mark.
+pub fn first(ahead: &[Mark]) -> Option<&Mark>
     ensures { option_copied result ≡ front ahead.now }
 {
     match ahead {
@@ -92,7 +93,7 @@ fn is_empty(rule: &Rule) -> bool
 }
 
 /// Whether the next mark may begin the rule.
-fn may_begin(rule: &Rule, next: Option<&Mark>) -> bool
+pub fn may_begin(rule: &Rule, next: Option<&Mark>) -> bool
     ensures { result ≡ spec.may_begin (form_of rule.now) (kind (option_copied next.entry)) }
 {
     match rule {
@@ -170,4 +171,11 @@ fn part<'a>(ahead: &'a [Mark], room: usize, level: Level) -> Option<&'a [Mark]>
         return None;
     }
     pass(rule_of(level), ahead, room - 1, &part)
+}
+
+/// Passes over what the rule spells, in at most so many steps from level to level.
+pub fn over<'a>(rule: &'static Rule, ahead: &'a [Mark], room: usize) -> Option<&'a [Mark]>
+    ensures { Leaves (spec.passes (spec.at room) (form_of rule.now) ahead.now) result }
+{
+    pass(rule, ahead, room, &part)
 }

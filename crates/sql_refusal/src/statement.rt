@@ -1,4 +1,10 @@
 // The rules of statements.
+ghost use Rattle.std.specs.Prelude.{◌≡◌};
+ghost use Rattle.sql_grammar.specs.Statements as st;
+ghost use Rattle.sql_refusal.specs.Forms.{form};
+ghost use Rattle.sql_refusal.specs.Tables.{form_of};
+ghost use Rattle.sql_refusal.specs.WideForms.{create_with, wide_form};
+
 use crate::rule::Rule::{Either, Key, Many, Name, Nothing, Number, Part, Plain, Reserved, Sign as One, Text, Then};
 use crate::rule::{Level, Rule};
 use sql_grammar::{Keyword, Word};
@@ -77,7 +83,7 @@ const LIMIT: Rule = Either(&Then(&Reserved(Word::Limit), &Number), &Nothing);
 
 const OFFSET: Rule = Either(&Then(&Reserved(Word::Offset), &Number), &Nothing);
 
-const SELECT: Rule = Then(
+static SELECT: Rule = Then(
     &Reserved(Word::Select),
     &Then(
         &ITEMS,
@@ -97,7 +103,7 @@ const ROWS: Rule = Then(&ROW, &Many(&Then(&One(Sign::Comma), &ROW)));
 
 const COLUMNS: Rule = Either(&NAME_LIST, &Nothing);
 
-const INSERT: Rule = Then(
+static INSERT: Rule = Then(
     &Plain(Word::Insert),
     &Then(
         &Reserved(Word::Into),
@@ -112,7 +118,7 @@ const ASSIGNMENT: Rule = Then(&NAME, &Then(&One(Sign::Eq), &CELL));
 
 const ASSIGNMENTS: Rule = Then(&ASSIGNMENT, &Many(&Then(&One(Sign::Comma), &ASSIGNMENT)));
 
-const UPDATE: Rule = Then(
+static UPDATE: Rule = Then(
     &Plain(Word::Update),
     &Then(
         &NAME,
@@ -120,7 +126,7 @@ const UPDATE: Rule = Then(
     ),
 );
 
-const DELETE: Rule = Then(
+static DELETE: Rule = Then(
     &Plain(Word::Delete),
     &Then(&Reserved(Word::From), &Then(&NAME, &FILTER)),
 );
@@ -166,7 +172,7 @@ const MODES: Rule = Then(
     &Many(&Then(&Either(&One(Sign::Comma), &Nothing), &MODE)),
 );
 
-const BEGIN: Rule = Then(
+static BEGIN: Rule = Then(
     &Either(
         &Then(&Plain(Word::Begin), &WORK),
         &Then(&Plain(Word::Start), &Plain(Word::Transaction)),
@@ -174,12 +180,12 @@ const BEGIN: Rule = Then(
     &Either(&MODES, &Nothing),
 );
 
-const COMMIT: Rule = Then(
+static COMMIT: Rule = Then(
     &Either(&Plain(Word::Commit), &Reserved(Word::End)),
     &WORK,
 );
 
-const ROLLBACK: Rule = Then(
+static ROLLBACK: Rule = Then(
     &Either(&Plain(Word::Rollback), &Plain(Word::Abort)),
     &WORK,
 );
@@ -238,7 +244,7 @@ const SETTING: Rule = Then(
     &SETTING_VALUES,
 );
 
-const SET: Rule = Then(
+static SET: Rule = Then(
     &Plain(Word::Set),
     &Either(
         &TRANSACTION_MODES,
@@ -249,12 +255,7 @@ const SET: Rule = Then(
     ),
 );
 
-const SHOW: Rule = Then(&Plain(Word::Show), &Then(&NAME, &SUFFIX));
-
-const CONTROL: Rule = Either(
-    &BEGIN,
-    &Either(&COMMIT, &Either(&ROLLBACK, &Either(&SET, &SHOW))),
-);
+static SHOW: Rule = Then(&Plain(Word::Show), &Then(&NAME, &SUFFIX));
 
 // ---- CREATE TABLE
 
@@ -374,7 +375,7 @@ const WIDE_ELEMENTS: Rule = Then(
     &Many(&Then(&One(Sign::Comma), &WIDE_ELEMENT)),
 );
 
-const CREATE: Rule = Then(
+static CREATE: Rule = Then(
     &Reserved(Word::Create),
     &Then(
         &Reserved(Word::Table),
@@ -385,7 +386,7 @@ const CREATE: Rule = Then(
     ),
 );
 
-const WIDE_CREATE: Rule = Then(
+static WIDE_CREATE: Rule = Then(
     &Reserved(Word::Create),
     &Then(
         &Reserved(Word::Table),
@@ -396,33 +397,91 @@ const WIDE_CREATE: Rule = Then(
     ),
 );
 
-// ---- messages
 
-const STATEMENT: Rule = Either(
-    &SELECT,
-    &Either(
-        &INSERT,
-        &Either(&UPDATE, &Either(&DELETE, &Either(&CREATE, &CONTROL))),
-    ),
-);
+/// The rule of a SELECT.
+#[tactic(auto, unfolding(sql_grammar::specs::Statements::name, sql_grammar::specs::Statements::alias, sql_grammar::specs::Statements::filter, sql_grammar::specs::Statements::item, sql_grammar::specs::Statements::tab, sql_grammar::specs::Statements::join, sql_grammar::specs::Statements::next_tabs, sql_grammar::specs::Statements::next_joins, sql_grammar::specs::Statements::more_from, sql_grammar::specs::Statements::from, sql_grammar::specs::Statements::source, sql_grammar::specs::Statements::direction, sql_grammar::specs::Statements::term, sql_grammar::specs::Statements::order, sql_grammar::specs::Statements::limit, sql_grammar::specs::Statements::select))]
+pub fn select() -> &'static Rule
+    ensures { form_of result.now ≡ form (st.select 0) }
+{
+    &SELECT
+}
 
-const WIDE_STATEMENT: Rule = Either(
-    &SELECT,
-    &Either(
-        &INSERT,
-        &Either(&UPDATE, &Either(&DELETE, &Either(&WIDE_CREATE, &CONTROL))),
-    ),
-);
+/// The rule of an INSERT.
+#[tactic(auto, unfolding(sql_grammar::specs::Statements::name, sql_grammar::specs::Statements::cell, sql_grammar::specs::Statements::row, sql_grammar::specs::Statements::columns, sql_grammar::specs::Statements::insert))]
+pub fn insert() -> &'static Rule
+    ensures { form_of result.now ≡ form (st.insert 0 0) }
+{
+    &INSERT
+}
 
-const PIECE: Rule = Either(&STATEMENT, &Nothing);
+/// The rule of an UPDATE.
+#[tactic(auto, unfolding(sql_grammar::specs::Statements::name, sql_grammar::specs::Statements::filter, sql_grammar::specs::Statements::cell, sql_grammar::specs::Statements::assignment, sql_grammar::specs::Statements::update))]
+pub fn update() -> &'static Rule
+    ensures { form_of result.now ≡ form (st.update 0) }
+{
+    &UPDATE
+}
 
-const WIDE_PIECE: Rule = Either(&WIDE_STATEMENT, &Nothing);
+/// The rule of a DELETE.
+#[tactic(auto, unfolding(sql_grammar::specs::Statements::name, sql_grammar::specs::Statements::filter, sql_grammar::specs::Statements::delete))]
+pub fn delete() -> &'static Rule
+    ensures { form_of result.now ≡ form (st.delete 0) }
+{
+    &DELETE
+}
 
-/// The statements of a message.
-pub static MESSAGE: Rule = Then(&PIECE, &Many(&Then(&One(Sign::Semi), &PIECE)));
+/// The rule of a BEGIN or START TRANSACTION.
+#[tactic(auto, unfolding(sql_grammar::specs::Statements::work, sql_grammar::specs::Statements::level, sql_grammar::specs::Statements::mode, sql_grammar::specs::Statements::next_mode, sql_grammar::specs::Statements::modes, sql_grammar::specs::Statements::beginning, sql_grammar::specs::Statements::begin))]
+pub fn begin() -> &'static Rule
+    ensures { form_of result.now ≡ form st.begin }
+{
+    &BEGIN
+}
 
-/// The same, where a type may also be any name with numbers.
-pub static WIDE_MESSAGE: Rule = Then(
-    &WIDE_PIECE,
-    &Many(&Then(&One(Sign::Semi), &WIDE_PIECE)),
-);
+/// The rule of a COMMIT.
+#[tactic(auto, unfolding(sql_grammar::specs::Statements::work, sql_grammar::specs::Statements::commit))]
+pub fn commit() -> &'static Rule
+    ensures { form_of result.now ≡ form st.commit }
+{
+    &COMMIT
+}
+
+/// The rule of a ROLLBACK.
+#[tactic(auto, unfolding(sql_grammar::specs::Statements::work, sql_grammar::specs::Statements::rollback))]
+pub fn rollback() -> &'static Rule
+    ensures { form_of result.now ≡ form st.rollback }
+{
+    &ROLLBACK
+}
+
+/// The rule of a SET.
+#[tactic(auto, unfolding(sql_grammar::specs::Statements::name, sql_grammar::specs::Statements::level, sql_grammar::specs::Statements::mode, sql_grammar::specs::Statements::next_mode, sql_grammar::specs::Statements::modes, sql_grammar::specs::Statements::suffix, sql_grammar::specs::Statements::dotted, sql_grammar::specs::Statements::value_word, sql_grammar::specs::Statements::setting_value, sql_grammar::specs::Statements::setting_values, sql_grammar::specs::Statements::assigned, sql_grammar::specs::Statements::transaction_modes, sql_grammar::specs::Statements::characteristics, sql_grammar::specs::Statements::session_setting, sql_grammar::specs::Statements::set))]
+pub fn set() -> &'static Rule
+    ensures { form_of result.now ≡ form st.set }
+{
+    &SET
+}
+
+/// The rule of a SHOW.
+#[tactic(auto, unfolding(sql_grammar::specs::Statements::name, sql_grammar::specs::Statements::suffix, sql_grammar::specs::Statements::dotted, sql_grammar::specs::Statements::show))]
+pub fn show() -> &'static Rule
+    ensures { form_of result.now ≡ form st.show }
+{
+    &SHOW
+}
+
+/// The rule of a CREATE TABLE.
+#[tactic(auto, unfolding(sql_grammar::specs::Statements::name, sql_grammar::specs::Statements::constant_word, sql_grammar::specs::Statements::constant, sql_grammar::specs::Statements::check, sql_grammar::specs::Statements::label, sql_grammar::specs::Statements::constraint_body, sql_grammar::specs::Statements::next_constraint, sql_grammar::specs::Statements::constraints, sql_grammar::specs::Statements::size, sql_grammar::specs::Statements::sized, sql_grammar::specs::Statements::type_name, sql_grammar::specs::Statements::column, sql_grammar::specs::Statements::key_list, sql_grammar::specs::Statements::table_constraint, sql_grammar::specs::Statements::element, sql_grammar::specs::Statements::create))]
+pub fn create() -> &'static Rule
+    ensures { form_of result.now ≡ form (st.create 0) }
+{
+    &CREATE
+}
+
+/// The rule of a CREATE TABLE of the wide grammar.
+#[tactic(auto, unfolding(sql_grammar::specs::Statements::name, sql_grammar::specs::Statements::constant_word, sql_grammar::specs::Statements::constant, sql_grammar::specs::Statements::check, sql_grammar::specs::Statements::label, sql_grammar::specs::Statements::constraint_body, sql_grammar::specs::Statements::next_constraint, sql_grammar::specs::Statements::constraints, sql_grammar::specs::Statements::key_list, sql_grammar::specs::Statements::table_constraint, crate::specs::WideForms::wide_form))]
+pub fn wide_create() -> &'static Rule
+    ensures { form_of result.now ≡ create_with wide_form }
+{
+    &WIDE_CREATE
+}
