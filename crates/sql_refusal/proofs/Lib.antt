@@ -10,3 +10,4 @@ pub mod Messages
 pub mod WideTypes
 pub mod Streamed
 pub mod Once
+pub mod Always

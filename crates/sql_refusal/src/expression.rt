@@ -28,10 +28,7 @@ static NOT: Rule = Then(&Many(&Key(Keyword::Not)), &Part(Level::Is));
 
 static IS: Rule = Then(
     &Part(Level::Comparison),
-    &Many(&Then(
-        &Key(Keyword::Is),
-        &Then(&OPTIONAL_NOT, &Key(Keyword::Null)),
-    )),
+    &Many(&Then(&Key(Keyword::Is), &Then(&OPTIONAL_NOT, &Key(Keyword::Null)))),
 );
 
 const COMPARISONS: Rule = Any(&[
@@ -110,10 +107,7 @@ const ARGUMENT: Rule = Then(
 
 const NAMED: Rule = Then(
     &NAME,
-    &Either(
-        &Then(&One(Sign::Dot), &NAME),
-        &Either(&ARGUMENT, &Nothing),
-    ),
+    &Either(&Then(&One(Sign::Dot), &NAME), &Either(&ARGUMENT, &Nothing)),
 );
 
 const PARENTHESES: Rule = Then(&One(Sign::Open), &Then(&EXPRESSION, &CLOSE));

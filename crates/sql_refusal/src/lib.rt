@@ -7,10 +7,9 @@ mod judge;
 mod message;
 mod pass;
 mod pieces;
-mod statement;
 mod rule;
+mod statement;
 mod words;
 
 pub use cause::Cause;
 pub use judge::cause_of;
-

@@ -150,8 +150,11 @@ pub fn has_many_commas(piece: &[Token]) -> bool
 }
 
 const SELECT: &[u8] = b"select";
+
 const VALUES: &[u8] = b"values";
+
 const TABLE: &[u8] = b"table";
+
 const ON: &[u8] = b"on";
 
 fn is_unsupported_word(filled: bool, behind_create: bool, word: &[u8], after: &[Token]) -> bool

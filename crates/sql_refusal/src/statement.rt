@@ -5,7 +5,9 @@ ghost use Rattle.sql_refusal.specs.Forms.{form};
 ghost use Rattle.sql_refusal.specs.Tables.{form_of};
 ghost use Rattle.sql_refusal.specs.WideForms.{create_with, wide_form};
 
-use crate::rule::Rule::{Either, Key, Many, Name, Nothing, Number, Part, Plain, Reserved, Sign as One, Text, Then};
+use crate::rule::Rule::{
+    Either, Key, Many, Name, Nothing, Number, Part, Plain, Reserved, Sign as One, Text, Then,
+};
 use crate::rule::{Level, Rule};
 use sql_grammar::{Keyword, Word};
 use sql_tree::Sign;
@@ -20,10 +22,7 @@ const NAMES: Rule = Then(&NAME, &Many(&Then(&One(Sign::Comma), &NAME)));
 /// '(' name { ',' name } ')'
 const NAME_LIST: Rule = Then(&One(Sign::Open), &Then(&NAMES, &One(Sign::Close)));
 
-const ALIAS: Rule = Either(
-    &Either(&Then(&Reserved(Word::As), &NAME), &NAME),
-    &Nothing,
-);
+const ALIAS: Rule = Either(&Either(&Then(&Reserved(Word::As), &NAME), &NAME), &Nothing);
 
 const FILTER: Rule = Either(&Then(&Reserved(Word::Where), &EXPRESSION), &Nothing);
 
@@ -35,10 +34,7 @@ const ITEMS: Rule = Then(&ITEM, &Many(&Then(&One(Sign::Comma), &ITEM)));
 
 const TAB: Rule = Then(&NAME, &ALIAS);
 
-const CROSS_JOIN: Rule = Then(
-    &Reserved(Word::Cross),
-    &Then(&Reserved(Word::Join), &TAB),
-);
+const CROSS_JOIN: Rule = Then(&Reserved(Word::Cross), &Then(&Reserved(Word::Join), &TAB));
 
 const INNER_JOIN: Rule = Then(
     &Either(&Reserved(Word::Inner), &Nothing),
@@ -107,10 +103,7 @@ static INSERT: Rule = Then(
     &Plain(Word::Insert),
     &Then(
         &Reserved(Word::Into),
-        &Then(
-            &NAME,
-            &Then(&COLUMNS, &Then(&Plain(Word::Values), &ROWS)),
-        ),
+        &Then(&NAME, &Then(&COLUMNS, &Then(&Plain(Word::Values), &ROWS))),
     ),
 );
 
@@ -180,15 +173,9 @@ static BEGIN: Rule = Then(
     &Either(&MODES, &Nothing),
 );
 
-static COMMIT: Rule = Then(
-    &Either(&Plain(Word::Commit), &Reserved(Word::End)),
-    &WORK,
-);
+static COMMIT: Rule = Then(&Either(&Plain(Word::Commit), &Reserved(Word::End)), &WORK);
 
-static ROLLBACK: Rule = Then(
-    &Either(&Plain(Word::Rollback), &Plain(Word::Abort)),
-    &WORK,
-);
+static ROLLBACK: Rule = Then(&Either(&Plain(Word::Rollback), &Plain(Word::Abort)), &WORK);
 
 const SUFFIX: Rule = Either(&Then(&One(Sign::Dot), &NAME), &Nothing);
 
@@ -358,10 +345,7 @@ const TABLE_CONSTRAINT: Rule = Then(
     ),
 );
 
-const ELEMENT: Rule = Either(
-    &Then(&NAME, &Then(&TYPE, &CONSTRAINTS)),
-    &TABLE_CONSTRAINT,
-);
+const ELEMENT: Rule = Either(&Then(&NAME, &Then(&TYPE, &CONSTRAINTS)), &TABLE_CONSTRAINT);
 
 const WIDE_ELEMENT: Rule = Either(
     &Then(&NAME, &Then(&WIDE_TYPE, &CONSTRAINTS)),
@@ -396,7 +380,6 @@ static WIDE_CREATE: Rule = Then(
         ),
     ),
 );
-
 
 /// The rule of a SELECT.
 #[tactic(auto, unfolding(sql_grammar::specs::Statements::name, sql_grammar::specs::Statements::alias, sql_grammar::specs::Statements::filter, sql_grammar::specs::Statements::item, sql_grammar::specs::Statements::tab, sql_grammar::specs::Statements::join, sql_grammar::specs::Statements::next_tabs, sql_grammar::specs::Statements::next_joins, sql_grammar::specs::Statements::more_from, sql_grammar::specs::Statements::from, sql_grammar::specs::Statements::source, sql_grammar::specs::Statements::direction, sql_grammar::specs::Statements::term, sql_grammar::specs::Statements::order, sql_grammar::specs::Statements::limit, sql_grammar::specs::Statements::select))]
