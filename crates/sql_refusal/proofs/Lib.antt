@@ -1,0 +1,13 @@
+pub mod Sound
+pub mod Exact
+pub mod Unrolled
+pub mod Rolled
+pub mod Levels
+pub mod Marks
+pub mod Turns
+pub mod Rules
+pub mod Messages
+pub mod WideTypes
+pub mod Streamed
+pub mod Once
+pub mod Always

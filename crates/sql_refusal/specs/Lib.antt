@@ -1,0 +1,9 @@
+pub mod Pieces
+pub mod Wide
+pub mod Causes
+pub mod Forms
+pub mod Tables
+pub mod Deeper
+pub mod WideForms
+pub mod MessageForms
+pub mod Streams
