@@ -5,7 +5,7 @@ ghost use Rattle.std.specs.Prelude.{◌<◌, ◌^◌, length};
 use crate::texts;
 use anyhow::Result;
 use cell_base::Text;
-use sql_parser::statements;
+use sql_statements::statements;
 use std::alloc::{AllocError, Global};
 use std::io;
 use std::time::{CpuClock, Duration};

@@ -1,8 +1,8 @@
 -- A fault that is no want of memory.
 use Rattle.std.proofs.Common.{◌≢◌, refl}
-use Rattle.sql_parser.specs.declared.fault.ParseFault.{ParseFault}
-use Rattle.sql_parser.specs.declared.fault.ParseFault.TheVariants.{Lex, Syntax, Unsupported, TooDeep, TooMany, Memory}
-use Rattle.sql_parser.specs.Faults.{UnlessMemory}
+use Rattle.sql_statements.specs.declared.fault.ParseFault.{ParseFault}
+use Rattle.sql_statements.specs.declared.fault.ParseFault.TheVariants.{Lex, Syntax, Unsupported, TooDeep, TooMany, Memory}
+use Rattle.sql_statements.specs.Faults.{UnlessMemory}
 
 pub is_fault : (P : ParseFault → Type 0) (f : ParseFault) → f ≢ Memory → UnlessMemory P f → P f
 is_fault P (Lex g) other h = h

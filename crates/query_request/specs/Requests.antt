@@ -5,9 +5,9 @@ use Rattle.cell_base.specs.declared.sql_state.SqlState.{SqlState}
 use Rattle.cell_base.specs.declared.sql_state.SqlState.TheVariants as states
 use Rattle.sql_tree.specs.declared.statement.Statement.{Statement}
 use Rattle.sql_lexer.specs.declared.fault.LexFault.TheVariants as lex
-use Rattle.sql_parser.specs.declared.fault.ParseFault.{ParseFault}
-use Rattle.sql_parser.specs.declared.fault.ParseFault.TheVariants as parse
-use Rattle.sql_parser.specs.Faults.{AreStatementsOf, IsFaultOfText}
+use Rattle.sql_statements.specs.declared.fault.ParseFault.{ParseFault}
+use Rattle.sql_statements.specs.declared.fault.ParseFault.TheVariants as parse
+use Rattle.sql_statements.specs.Faults.{AreStatementsOf, IsFaultOfText}
 use Rattle.query_request.specs.declared.fault.QueryFault.{QueryFault}
 use Rattle.query_request.specs.declared.fault.QueryFault.TheVariants.{NotUtf8, Syntax, OutOfRange, Limit, Unsupported}
 use Rattle.query_request.specs.declared.request.Request.{Request}

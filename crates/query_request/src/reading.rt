@@ -1,6 +1,6 @@
 // What the bytes of a query ask for.
 ghost use Rattle.std.specs.Prelude.{◌≡◌, ◌≢◌, ◌<◌, ◌^◌, length, IfOk, IfSome, IsNone};
-ghost use Rattle.sql_parser.specs.Faults.{AreStatementsOf, IsFaultOfText};
+ghost use Rattle.sql_statements.specs.Faults.{AreStatementsOf, IsFaultOfText};
 ghost use Rattle.query_request.specs.Requests.{fault_of, IsRun, IsRequest};
 ghost use Rattle.query_request.specs.declared.request.Request.{Request as Asked};
 ghost use Rattle.std.specs.Str.{IsUtf8};
@@ -9,7 +9,7 @@ use crate::trees::run_of;
 use crate::{QueryFault, Request};
 use cell_base::{Memory, Text, TextFault};
 use sql_lexer::LexFault;
-use sql_parser::{ParseFault, statements};
+use sql_statements::{ParseFault, statements};
 use sql_tree::Statement;
 use std::alloc::Global;
 

@@ -66,6 +66,23 @@ refuses_same Memory g e = tt
 pub list_refuses : (ts : List Token) (f : ParseFault) → HasCause ts f → (g : ParseFault) → IsFaultOfList ts g → Refuses (Err f) g
 list_refuses ts f h g k = refuses_same f g (one_fault ts f g h k.1)
 
+-- the same where memory may have run out
+pub unless_outside : (ts : List Token) (f : ParseFault) → IsOutside ts → UnlessMemory (HasCause ts) f → UnlessMemory (IsFaultOfList ts) f
+unless_outside ts (Lex f) o h = (o, h)
+unless_outside ts Syntax o h = (o, h)
+unless_outside ts Unsupported o h = (o, h)
+unless_outside ts TooDeep o h = (o, h)
+unless_outside ts TooMany o h = (o, h)
+unless_outside ts Memory o h = tt
+
+pub unless_refuses : (ts : List Token) (f : ParseFault) → UnlessMemory (HasCause ts) f → (g : ParseFault) → IsFaultOfList ts g → Refuses (Err f) g
+unless_refuses ts (Lex f) h g k = absurd h
+unless_refuses ts Syntax h g k = list_refuses ts Syntax h g k
+unless_refuses ts Unsupported h g k = list_refuses ts Unsupported h g k
+unless_refuses ts TooDeep h g k = list_refuses ts TooDeep h g k
+unless_refuses ts TooMany h g k = list_refuses ts TooMany h g k
+unless_refuses ts Memory h g k = tt
+
 pub not_outside : (ts : List Token) (xs : List Statement) → IsLimited (marks ts) xs → (g : ParseFault) → IsFaultOfList ts g → ⊥
 not_outside ts xs h g k = k.0 xs h
 

@@ -1,7 +1,7 @@
 //! Tests of what the reader of SQL makes of texts: a table of some 350 texts, each with its statements or its fault.
 //!
 //! The statements are shown as text, with all parentheses, so that text is compared with text. The contracts of
-//! `sql_parser` say that it reads just what the grammar says; this table shows by cases read by hand that the grammar is the
+//! `sql_statements` say that it reads just what the grammar says; this table shows by cases read by hand that the grammar is the
 //! one that `docs/sql.md` describes. The crate has nothing but tests.
 #![tactic(auto)]
 

@@ -7,7 +7,7 @@ use crate::cases::{
 use crate::statement::line;
 use cell_base::{SqlState, Text, TextFault};
 use sql_lexer::tokens;
-use sql_parser::{ParseFault, parse, statements};
+use sql_statements::{ParseFault, parse, statements};
 use sql_tree::Statement;
 use std::alloc::{AllocError, Global};
 use std::process::Abort;

@@ -1,6 +1,6 @@
 use Rattle.std.proofs.Common.{refl, sym, subst, List}
 use Rattle.sql_tree.specs.declared.statement.Statement.{Statement}
-use Rattle.sql_parser.specs.Faults.{IsFaultOfText}
+use Rattle.sql_statements.specs.Faults.{IsFaultOfText}
 use Rattle.query_request.specs.declared.fault.QueryFault.{QueryFault}
 use Rattle.query_request.specs.declared.request.Request.TheVariants.{Refused}
 use Rattle.query_request.specs.Requests.{IsRun, IsRequest, faulty, runs, other}
