@@ -10,6 +10,8 @@ mod cases;
 #[cfg(test)]
 mod expr;
 #[cfg(test)]
+mod long_texts;
+#[cfg(test)]
 mod statement;
 #[cfg(test)]
 mod tests;

@@ -1,9 +1,7 @@
 // What no clause says: that the grammar is the one that is meant, by texts read by hand.
 ghost use Rattle.std.specs.Prelude.{◌<◌, ◌^◌, length};
 
-use crate::cases::{
-    CHANGES, EXPRESSIONS, FAULTS, LONG, RESERVED, SELECTS, SESSIONS, UNSUPPORTED,
-};
+use crate::cases::{CHANGES, EXPRESSIONS, FAULTS, LONG, RESERVED, SELECTS, SESSIONS, UNSUPPORTED};
 use crate::statement::line;
 use cell_base::{SqlState, Text, TextFault};
 use sql_lexer::tokens;
@@ -96,7 +94,11 @@ fn keeps_its_limits(rt: HostRuntime) -> Result<(), Fail> {
         let text = Text::from_bytes(rt.alloc(), spelled.as_bytes())?;
         assert!(rt; text.bytes().len() < 1_000_000);
         let found = verdict(rt.alloc(), &text)?;
-        assert_eq!(rt; found.as_str(), *want, "{times} times {open} behind {first}");
+        assert_eq!(rt;
+            found.as_str(),
+            *want,
+            "{times} times {open} behind {first}"
+        );
     }
     Ok(())
 }
