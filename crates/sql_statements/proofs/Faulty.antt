@@ -29,7 +29,7 @@ outside_fault ts TooMany o h = (o, h)
 outside_fault ts Memory o h = tt
 
 -- the cause of a fault, and back
-fault_of : Cause → ParseFault
+abbrev fault_of : Cause → ParseFault
 fault_of cause.TooMany = TooMany
 fault_of cause.TooDeep = TooDeep
 fault_of cause.Unsupported = Unsupported
@@ -41,7 +41,6 @@ pub record Caused (ts : List Token) (f : ParseFault) : Type 0 where
   pub same : fault_of by ≡ f
 
 caused : (ts : List Token) (f : ParseFault) → HasCause ts f → Caused ts f
-unfolding fault_of
 caused ts (Lex f) h = absurd h
 caused ts Syntax h = record { by = cause.Syntax; is = h; same = refl }
 caused ts Unsupported h = record { by = cause.Unsupported; is = h; same = refl }

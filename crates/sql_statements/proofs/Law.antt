@@ -1,5 +1,5 @@
 -- A text has statements or a fault, not both, and no two of either.
-use Rattle.std.proofs.Common.{◌≡◌, ℕ, Bool, false, List, [], ◌∷◌, Option, Some, None, refl, ap, sym, ◌∙◌, subst, inl, inr}
+use Rattle.std.proofs.Common.{◌≡◌, ℕ, Bool, false, List, [], ◌∷◌, Option, Some, None, refl, ap, sym, ◌∙◌, subst, inl, inr, arith, length}
 use Rattle.std.specs.Prelude.{◌⊎◌}
 use Rattle.sql_tree.specs.declared.statement.Statement.{Statement}
 use Rattle.sql_tree.specs.declared.token.Token.{Token}
@@ -9,7 +9,6 @@ use Rattle.sql_lexer.specs.Lexemes as lexemes
 use Rattle.sql_lexer.specs.Lexemes.{IsFaultAt}
 use Rattle.sql_lexer.specs.Tokens as lexer
 use Rattle.sql_lexer.specs.Tokens.{AreTokensOf, FirstFault, IsFirstFaultOf}
-use Rattle.sql_lexer.proofs.Once as once
 use Rattle.sql_lexer.proofs.Some.{some_reading}
 use Rattle.sql_grammar.specs.declared.mark.Mark.{Mark}
 use Rattle.sql_grammar.specs.Statements.{message}
@@ -25,7 +24,7 @@ use Rattle.sql_statements.specs.declared.fault.ParseFault.{ParseFault}
 use Rattle.sql_statements.specs.declared.fault.ParseFault.TheVariants.{Lex, Syntax, Unsupported, TooDeep, TooMany, Memory}
 use Rattle.sql_parser.specs.Levels.{max_depth, max_rows, max_statements}
 use Rattle.sql_parser.specs.Limited.{IsLimited}
-use Rattle.sql_statements.specs.Faults.{IsOutside, HasCause, IsFaultOfList, AreStatementsOf, TokensHaveFault, IsFaultOfText}
+use Rattle.sql_statements.specs.Faults.{IsOutside, AreStatementsOf, TokensHaveFault, IsFaultOfText}
 use Rattle.sql_statements.proofs.Faulty.{one_fault, list_fault, tokens_are, told, first_told, no_tokens}
 
 -- ---- no two
@@ -78,8 +77,13 @@ caused text ts a o cause.Syntax h = (Syntax, record { tokens = ts; cut = a; faul
 outside_faulty : (text : List ℕ) (ts : List Token) → AreTokensOf text ts → IsOutside ts → HasStatements text ⊎ HasFault text
 outside_faulty text ts a o = let c = some_cause ts in inr (caused text ts a o c.by c.is)
 
+-- how many marks are left
+abbrev over : Option (List Statement × List Mark) → ℕ
+over None = 0
+over (Some p) = length p.1
+
 left_over : {xs ys : List Statement} {m : Mark} {ms : List Mark} → ◌≡◌ {A = Option (List Statement × List Mark)} (Some (xs, m ∷ ms)) (Some (ys, [])) → ⊥
-left_over e = cc
+left_over {m = m} {ms = ms} e = let t : length (m ∷ ms) ≡ 0 = ap over e in omega (arith, t)
 
 judged : (text : List ℕ) (ts : List Token) → AreTokensOf text ts → (o : Option (List Statement × List Mark)) → reading (message max_depth max_rows max_statements) (marks ts) ≡ o → HasStatements text ⊎ HasFault text
 judged text ts a None e = outside_faulty text ts a (λ xs l. none_some (sym e ∙ messages.message_reads max_depth max_rows max_statements (marks ts) xs l))
