@@ -9,3 +9,4 @@ pub mod Expressions
 pub mod Constants
 pub mod Building
 pub mod Sound
+pub mod Changes
