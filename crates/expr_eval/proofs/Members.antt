@@ -1,12 +1,11 @@
 -- IN: what is found so far, and what the members that are left add.
-use Rattle.std.proofs.Common.{◌≡◌, ℕ, zero, suc, ◌+◌, ◌<◌, Bool, true, false, List, [], ◌∷◌, length, map, fold, drop, get_or, Option, Some, None, Result, Ok, Err, refl, sym, ap, ◌∙◌, subst, option_map, add-one, drop-cons, arith}
-use Rattle.std.specs.declared.cmp.Ordering.{Ordering}
+use Rattle.std.proofs.Common.{◌≡◌, ℕ, ◌+◌, ◌<◌, Bool, true, false, List, [], ◌∷◌, length, fold, drop, get_or, Option, Some, None, Ok, Err, refl, sym, ap, ◌∙◌, option_map, add-one, drop-cons}
 use Rattle.cell_base.specs.declared.sql_state.SqlState.{SqlState}
 use Rattle.cell_base.specs.declared.value.Value.{Value}
-use Rattle.cell_base.specs.declared.value.Value.TheVariants.{Null, Flag}
+use Rattle.cell_base.specs.declared.value.Value.TheVariants.{Flag}
 use Rattle.sql_tree.specs.declared.op.Op.TheVariants.{Eq}
 use Rattle.sql_tree.specs.declared.typed_expr.TypedExpr.{TypedExpr}
-use Rattle.expr_eval.specs.Operators.{Outcome, order_of, holds, flag_or_null, compared, either}
+use Rattle.expr_eval.specs.Operators.{Outcome, order_of, holds, flag_or_null, either}
 use Rattle.expr_eval.specs.Values.{Row, equal, either_of, among, value_of, values_of}
 
 -- what the members add to what is found so far

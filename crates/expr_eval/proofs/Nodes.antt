@@ -1,5 +1,5 @@
 -- The equations of the value of an expression, one for each node.
-use Rattle.std.proofs.Common.{◌≡◌, ℕ, Bool, List, map, Option, Result, Ok, Err, refl, sym, ap, ◌∙◌, subst, rules}
+use Rattle.std.proofs.Common.{◌≡◌, ℕ, Bool, List, map, Option, Ok, Err, sym, ap, ◌∙◌}
 use Rattle.cell_base.specs.declared.sql_type.SqlType.{SqlType}
 use Rattle.cell_base.specs.declared.sql_state.SqlState.{SqlState}
 use Rattle.sql_tree.specs.declared.typed_expr.TypedExpr.{TypedExpr}
@@ -10,9 +10,9 @@ use Rattle.sql_tree.specs.declared.op.Op.{Op}
 use Rattle.sql_tree.specs.declared.op.Aggregate.{Aggregate}
 use Rattle.sql_tree.specs.declared.typed_expr.TypedNode.TheVariants as node
 use Rattle.sql_tree.specs.declared.typed_expr.TypedNode.TheVariants.{Constant, Column, Neg, Not, IsNull, Binary, In, rolls-Constant, rolls-Column, rolls-Aggregate, rolls-Neg, rolls-Not, rolls-IsNull, rolls-Binary, rolls-In}
-use Rattle.sql_tree.specs.declared.typed_expr.TypedNode.TheOpen.{TypedNode-F, TypedExpr-F}
+use Rattle.sql_tree.specs.declared.typed_expr.TypedNode.TheOpen.{TypedNode-F}
 use Rattle.sql_tree.specs.declared.typed_expr.TypedNode.TheFolds.{fold-TypedNode, fold-roll-TypedNode, fold_out-TypedExpr}
-use Rattle.expr_eval.specs.Operators.{Outcome, negated, denied}
+use Rattle.expr_eval.specs.Operators.{Outcome}
 use Rattle.expr_eval.specs.Values.{Row, of_one, among, value_of, values_of, denied_if, node_value, expr_value}
 use Rattle.expr_eval.proofs.Members.{among_failed}
 

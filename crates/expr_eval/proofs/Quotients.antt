@@ -1,5 +1,5 @@
 -- A quotient that is checked for 64 bits.
-use Rattle.std.proofs.Common.{◌≡◌, ℕ, zero, suc, ◌<◌, ◌==◌, Bool, true, false, cond, Option, Some, None, Result, Err, ℤ, pos, negsuc, FitsSigned, w64, of_z, refl, subst, sym, ap, arith}
+use Rattle.std.proofs.Common.{◌≡◌, ℕ, zero, suc, ◌<◌, false, cond, Option, Some, None, Result, Err, ℤ, pos, negsuc, FitsSigned, w64, of_z, refl, subst, sym, arith}
 use Rattle.std.specs.Option.{SomeIff}
 use Rattle.std.specs.Int.{CanDivide, IsNonZero}
 use Rattle.std.specs.Int.RustNames.{int_div}
@@ -9,7 +9,7 @@ use Rattle.cell_base.specs.declared.sql_type.SqlType.{SqlType}
 use Rattle.sql_tree.specs.declared.op.Op.TheVariants.{Div}
 use Rattle.expr_eval.specs.declared.datum.Datum.{Datum}
 use Rattle.expr_eval.specs.Lent.{Lends}
-use Rattle.expr_eval.specs.Operators.{is_zero, in_range, divided, computed}
+use Rattle.expr_eval.specs.Operators.{is_zero, in_range, computed}
 
 some_where : (q : Option ℤ) (P Q : Type 0) (v : ℤ) → P → SomeIff q (P × Q) v → SomeIff q Q v
 some_where None P Q v p h = λ q. h (p, q)

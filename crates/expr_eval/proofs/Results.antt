@@ -1,19 +1,18 @@
 -- A result of a well-typed expression is null or of the expression's type.
-use Rattle.std.proofs.Common.{◌≡◌, ℕ, Bool, true, false, not, cond, ◌||◌, List, [], ◌∷◌, map, fold, Option, Some, None, option_map, Result, Ok, Err, ℤ, ◌+ℤ◌, ◌-ℤ◌, ◌*ℤ◌, neg_ℤ, refl, sym, ap, ◌∙◌, subst}
-use Rattle.cell_base.specs.declared.sql_state.SqlState.{SqlState}
+use Rattle.std.proofs.Common.{◌≡◌, Bool, true, false, cond, ◌||◌, List, [], ◌∷◌, Option, Some, None, option_map, Ok, Err, ℤ, ◌+ℤ◌, ◌-ℤ◌, ◌*ℤ◌, neg_ℤ, refl, sym, ap, ◌∙◌, subst}
 use Rattle.std.specs.Int.RustNames.{int_div, int_rem}
 use Rattle.cell_base.specs.declared.sql_state.SqlState.TheVariants.{S22003, S22012}
 use Rattle.cell_base.specs.declared.sql_type.SqlType.{SqlType}
 use Rattle.cell_base.specs.declared.sql_type.SqlType.TheVariants as kind
 use Rattle.cell_base.specs.declared.value.Value.{Value}
-use Rattle.cell_base.specs.declared.value.Value.TheVariants.{Unset, Null, Flag, Int, Wide, Text}
+use Rattle.cell_base.specs.declared.value.Value.TheVariants.{Null, Flag, Int}
 use Rattle.sql_tree.specs.declared.op.Op.{Op}
 use Rattle.sql_tree.specs.declared.op.Op.TheVariants.{Add, Sub, Mul, Div, Rem, Eq, Ne, Lt, Le, Gt, Ge, And, Or}
 use Rattle.sql_tree.specs.declared.op.Aggregate.TheVariants as aggregate
 use Rattle.sql_tree.specs.declared.typed_expr.TypedExpr.{TypedExpr}
 use Rattle.sql_tree.specs.declared.typed_expr.TypedNode.{TypedNode}
 use Rattle.sql_tree.specs.declared.typed_expr.TypedNode.TheVariants.{Constant, Column, Aggregate, Neg, Not, IsNull, Binary, In}
-use Rattle.sql_typing.specs.Kinds.{fits, is_within, is_of, is_null, is_null_or_of, wider}
+use Rattle.sql_typing.specs.Kinds.{fits, is_of, is_null, is_null_or_of, wider}
 use Rattle.sql_typing.specs.WellTyped.{ColumnTypes, IsWellTyped, is_arithmetic, is_comparison, is_connective}
 use Rattle.sql_typing.specs.WellTyped.IsWellTyped.{constant, column, count_rows, aggregate_of, negated, denied, tested, computed, compared, connected, among}
 use Rattle.expr_eval.specs.Operators as operators

@@ -1,8 +1,7 @@
 -- What a call answers, given the outcome that is defined for it.
 use Rattle.std.specs.Prelude.{◌≡◌, Ok, Err, Result, ⊤}
-use Rattle.cell_base.specs.declared.sql_state.SqlState.{SqlState}
 use Rattle.cell_base.specs.declared.value.Value.{Value}
-use Rattle.cell_base.specs.declared.value.Value.TheVariants.{Null, Flag, Int, Wide, Text, Unset}
+use Rattle.cell_base.specs.declared.value.Value.TheVariants.{Text}
 use Rattle.expr_eval.specs.declared.fault.EvalFault.{EvalFault}
 use Rattle.expr_eval.specs.declared.fault.EvalFault.TheVariants.{State, Memory}
 use Rattle.expr_eval.specs.Operators.{Outcome}

@@ -4,7 +4,11 @@
 //! bytes.
 #![tactic(auto)]
 
+#[cfg(test)]
+mod assigned;
 mod assignment;
+#[cfg(test)]
+mod cases;
 mod compare;
 mod compute;
 mod datum;
@@ -12,6 +16,10 @@ mod evaluation;
 mod fault;
 mod logic;
 mod lookup;
+#[cfg(test)]
+mod samples;
+#[cfg(test)]
+mod tests;
 
 pub use assignment::assign;
 pub use evaluation::eval;

@@ -10,5 +10,5 @@ pub returns-clause-typed : goal.returns-clause-typed
 returns-clause-typed c types well =
     let is : value_of c.args.expr.now c.args.row.now ≡ Ok (owned c.in_ok-value.value) = c.in_ok-value.ensures in
     let lent : is_null_or_of c.args.expr.now.kind (owned c.in_ok-value.value) ≡ true =
-        subst (IsTyped c.args.expr.now.kind) is (result_typed {types = types} {e = c.args.expr.now} c.args.row.now well) in
+    subst (IsTyped c.args.expr.now.kind) is (result_typed {types = types} {e = c.args.expr.now} c.args.row.now well) in
     ap (is_null_or_of c.args.expr.now.kind) c.in_ok-to_value.ensures.ok ∙ lent

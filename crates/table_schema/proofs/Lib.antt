@@ -1,0 +1,3 @@
+pub mod ColumnLists
+pub mod Keyed
+pub mod KeyNames
