@@ -10,3 +10,4 @@ pub mod Constants
 pub mod Building
 pub mod Sound
 pub mod Changes
+pub mod Select
