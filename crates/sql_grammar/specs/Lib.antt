@@ -4,3 +4,4 @@ pub mod Words
 pub mod Syntax
 pub mod Steps
 pub mod Statements
+pub mod Limited

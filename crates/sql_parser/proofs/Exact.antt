@@ -10,8 +10,7 @@ use Rattle.sql_grammar.proofs.Taken.{value_of}
 use Rattle.sql_grammar.proofs.Messages.{message_sound, message_reads}
 use Rattle.sql_parser.specs.declared.error.Refusal.{Refusal}
 use Rattle.sql_parser.specs.declared.error.Refusal.TheVariants.{Memory, NotInGrammar}
-use Rattle.sql_parser.specs.Levels.{max_depth, max_rows, max_statements}
-use Rattle.sql_parser.specs.Limited.{IsLimited}
+use Rattle.sql_grammar.specs.Limited.{IsLimited, max_depth, max_rows, max_statements}
 use Rattle.sql_parser.specs.Reads.{EndsWith, Gives}
 
 pub found_is : (ts : List Mark) (r : Result (List Statement) Refusal) → EndsWith (reading (message max_depth max_rows max_statements) ts) r → IfOk r (λ xs. IsLimited ts xs)

@@ -3,4 +3,3 @@ pub mod Reads
 pub mod Levels
 pub mod Nests
 pub mod Parts
-pub mod Limited

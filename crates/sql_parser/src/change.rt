@@ -1,7 +1,7 @@
 // INSERT, UPDATE and DELETE.
 ghost use Rattle.sql_grammar.specs.Statements as st;
 ghost use Rattle.sql_grammar.specs.Steps.{reading};
-ghost use Rattle.sql_parser.specs.Levels.{max_depth, max_rows};
+ghost use Rattle.sql_grammar.specs.Limited.{max_depth, max_rows};
 ghost use Rattle.sql_parser.specs.Reads.{Reads};
 
 use crate::error::Refusal;

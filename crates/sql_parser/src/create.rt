@@ -4,7 +4,7 @@ ghost use Rattle.sql_grammar.specs.Reading.{front};
 ghost use Rattle.sql_grammar.specs.Statements as st;
 ghost use Rattle.sql_grammar.specs.Steps.{any, begins, reading};
 ghost use Rattle.sql_grammar.specs.Syntax.{kind};
-ghost use Rattle.sql_parser.specs.Levels.{max_depth};
+ghost use Rattle.sql_grammar.specs.Limited.{max_depth};
 ghost use Rattle.sql_parser.specs.Reads.{Reads};
 
 use crate::change::NamePart;

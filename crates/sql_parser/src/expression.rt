@@ -1,7 +1,7 @@
 // Expressions as statements have them.
 ghost use Rattle.sql_grammar.specs.Steps.{reading};
 ghost use Rattle.sql_grammar.specs.Syntax as syntax;
-ghost use Rattle.sql_parser.specs.Levels.{max_depth};
+ghost use Rattle.sql_grammar.specs.Limited.{max_depth};
 ghost use Rattle.sql_parser.specs.Reads.{Reads};
 
 use crate::error::Refusal;

@@ -6,8 +6,7 @@ ghost use Rattle.sql_tree.specs.declared.statement.Statement.{Statement};
 ghost use Rattle.sql_grammar.specs.Steps.{reading};
 ghost use Rattle.sql_grammar.specs.Statements as st;
 ghost use Rattle.sql_grammar.specs.Words as words;
-ghost use Rattle.sql_parser.specs.Levels.{max_depth, max_rows, max_statements};
-ghost use Rattle.sql_parser.specs.Limited.{IsLimited};
+ghost use Rattle.sql_grammar.specs.Limited.{IsLimited, max_depth, max_rows, max_statements};
 ghost use Rattle.sql_parser.specs.Reads.{Gives, EndsWith};
 
 mod change;

@@ -5,7 +5,7 @@ ghost use Rattle.sql_grammar.specs.Statements as st;
 ghost use Rattle.sql_grammar.specs.Steps.{any, begins, reading};
 ghost use Rattle.sql_grammar.specs.Syntax as syntax;
 ghost use Rattle.sql_grammar.specs.Syntax.{kind};
-ghost use Rattle.sql_parser.specs.Levels.{max_depth, max_rows, max_statements};
+ghost use Rattle.sql_grammar.specs.Limited.{max_depth, max_rows, max_statements};
 ghost use Rattle.sql_parser.specs.Reads.{Reads};
 
 use crate::change::{delete, insert, update};

@@ -15,7 +15,7 @@ use Rattle.sql_refusal.specs.Causes.{IsCause}
 use Rattle.sql_refusal.proofs.Once.{one_cause}
 use Rattle.sql_statements.specs.declared.fault.ParseFault.{ParseFault}
 use Rattle.sql_statements.specs.declared.fault.ParseFault.TheVariants.{Lex, Syntax, Unsupported, TooDeep, TooMany, Memory}
-use Rattle.sql_parser.specs.Limited.{IsLimited}
+use Rattle.sql_grammar.specs.Limited.{IsLimited}
 use Rattle.sql_statements.specs.Faults.{IsOutside, HasCause, IsFaultOfList, AreStatementsOf, TokensHaveFault, IsFaultOfText, UnlessMemory, Answers, Refuses}
 
 -- ---- token lists

@@ -22,8 +22,7 @@ use Rattle.sql_refusal.specs.Causes.{IsCause}
 use Rattle.sql_refusal.proofs.Always.{some_cause}
 use Rattle.sql_statements.specs.declared.fault.ParseFault.{ParseFault}
 use Rattle.sql_statements.specs.declared.fault.ParseFault.TheVariants.{Lex, Syntax, Unsupported, TooDeep, TooMany, Memory}
-use Rattle.sql_parser.specs.Levels.{max_depth, max_rows, max_statements}
-use Rattle.sql_parser.specs.Limited.{IsLimited}
+use Rattle.sql_grammar.specs.Limited.{IsLimited, max_depth, max_rows, max_statements}
 use Rattle.sql_statements.specs.Faults.{IsOutside, AreStatementsOf, TokensHaveFault, IsFaultOfText}
 use Rattle.sql_statements.proofs.Faulty.{one_fault, list_fault, tokens_are, told, first_told, no_tokens}
 

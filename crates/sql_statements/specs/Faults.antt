@@ -12,7 +12,7 @@ use Rattle.sql_refusal.specs.declared.cause.Cause.TheVariants as cause
 use Rattle.sql_refusal.specs.Causes.{IsCause}
 use Rattle.sql_statements.specs.declared.fault.ParseFault.{ParseFault}
 use Rattle.sql_statements.specs.declared.fault.ParseFault.TheVariants.{Lex, Syntax, Unsupported, TooDeep, TooMany, Memory}
-use Rattle.sql_parser.specs.Limited.{IsLimited}
+use Rattle.sql_grammar.specs.Limited.{IsLimited}
 
 -- ---- token lists
 

@@ -8,7 +8,7 @@
 ghost use Rattle.std.specs.Prelude.{◌≡◌, ◌<◌, ◌^◌, ◌⊎◌, ℕ, List, length, IfOk, IfErr};
 ghost use Rattle.sql_tree.specs.declared.statement.Statement.{Statement};
 ghost use Rattle.sql_grammar.specs.Words as words;
-ghost use Rattle.sql_parser.specs.Limited.{IsLimited};
+ghost use Rattle.sql_grammar.specs.Limited.{IsLimited};
 ghost use Rattle.sql_statements.specs.declared.fault.ParseFault.{ParseFault};
 ghost use Rattle.sql_statements.specs.Faults.{AreStatementsOf, Answers, HasCause, IsFaultOfList, IsFaultOfText, Refuses, UnlessMemory};
 

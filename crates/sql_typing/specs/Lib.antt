@@ -9,3 +9,11 @@ pub mod Expressions
 pub mod Constants
 pub mod Building
 pub mod Sound
+pub mod Tables
+pub mod Given
+pub mod Insert
+pub mod Mentions
+pub mod Points
+pub mod Changes
+pub mod Select
+pub mod Typed

@@ -1,7 +1,7 @@
 -- What a function that builds ensures: this outcome, unless memory runs out.
 use Rattle.std.specs.Prelude.{◌≡◌, Result, Ok, Err}
-use Rattle.sql_types.specs.declared.error.TypeFault.{TypeFault}
-use Rattle.sql_types.specs.declared.error.TypeFault.TheVariants as typing
+use Rattle.expr_types.specs.declared.error.TypeFault.{TypeFault}
+use Rattle.expr_types.specs.declared.error.TypeFault.TheVariants as typing
 use Rattle.sql_typing.specs.Outcome.{Outcome}
 use Rattle.table_schema.specs.declared.fault.SchemaFault.{SchemaFault}
 use Rattle.table_schema.specs.declared.fault.SchemaFault.TheVariants.{State, Memory}

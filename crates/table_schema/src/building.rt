@@ -10,7 +10,7 @@ use crate::columns::columns_of;
 use crate::keys::key_of;
 use cell_base::{Items, SqlState};
 use sql_tree::{Column, CreateTable, Expr, Table, TypedExpr};
-use sql_types::{Entry, typed_flag};
+use expr_types::{Entry, typed_flag};
 use std::alloc::Global;
 
 /// The most columns of a table.

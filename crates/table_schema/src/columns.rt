@@ -9,7 +9,7 @@ ghost use Rattle.table_schema.specs.Columns.{names};
 use crate::SchemaFault;
 use cell_base::{Items, SqlState, SqlType, Text, Value};
 use sql_tree::{Column, ColumnDef, Expr};
-use sql_types::typed_constant;
+use expr_types::typed_constant;
 use std::alloc::Global;
 
 /// The greatest number of characters of a varchar.

@@ -1,6 +1,6 @@
 // Why there is no table.
 use cell_base::{Memory, SqlState};
-use sql_types::TypeFault;
+use expr_types::TypeFault;
 
 /// Why a CREATE TABLE makes no table.
 #[derive(Clone, Copy, Debug, PartialEq, Eq)]

@@ -3,7 +3,7 @@ use Rattle.sql_grammar.specs.declared.mark.Mark.{Mark}
 use Rattle.sql_grammar.specs.Statements.{message}
 use Rattle.sql_grammar.specs.Steps.{reading}
 use Rattle.sql_grammar.specs.Words.{marks}
-use Rattle.sql_parser.specs.Levels.{max_depth, max_rows, max_statements}
+use Rattle.sql_grammar.specs.Limited.{max_depth, max_rows, max_statements}
 use Rattle.sql_parser.specs.Reads.{EndsWith}
 use Rattle.sql_parser.proofs.Exact.{found_is, only_is}
 use Rattle.sql_parser.proofs.parse.Goals as goal

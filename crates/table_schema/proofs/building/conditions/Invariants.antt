@@ -1,5 +1,5 @@
 use Rattle.std.proofs.Common.{◌≡◌, [], ◌∷◌, map, drop}
-use Rattle.sql_types.proofs.Lists.{with_rest}
+use Rattle.expr_types.proofs.Lists.{with_rest}
 use Rattle.sql_typing.specs.Expressions.{flag}
 use Rattle.sql_typing.specs.Outcome.{all_of}
 use Rattle.table_schema.proofs.building.conditions.Given as goal

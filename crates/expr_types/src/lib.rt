@@ -1,0 +1,46 @@
+//! The types of expressions: the typed tree, or the code that comes first.
+#![tactic(auto)]
+
+ghost use Rattle.std.specs.Prelude.{IfOk};
+ghost use Rattle.sql_typing.specs.Expressions.{flag};
+ghost use Rattle.sql_typing.specs.Sound.{IsCondition, column_types};
+ghost use Rattle.expr_types.specs.Gives.{Gives};
+ghost use Rattle.expr_types.specs.Scope.{IsNarrow, sources};
+
+mod calls;
+mod combine;
+mod constant;
+mod entry;
+mod error;
+mod expression;
+mod literal;
+mod names;
+mod operands;
+mod operators;
+mod value;
+#[cfg(test)]
+mod tests;
+
+use crate::expression::form;
+use crate::operands::condition;
+pub use constant::typed_constant;
+pub use entry::Entry;
+pub use error::TypeFault;
+pub use operators::aggregate_named;
+pub use value::{typed_item, typed_value};
+use sql_tree::{Expr, TypedExpr};
+use sql_typing::Place;
+use std::alloc::Global;
+
+/// The typed tree of a condition over one row of each entry. One of another type than boolean is 42804, a quoted literal 0A000,
+/// an aggregate 42803, a name 42703, 42702 or 42P01 where it stands for no column, for two, or its qualifier for no entry.
+/// The other codes are those of operands: 42883, 22P02 and 22003. The one that comes first from left to right, operands before
+/// their node, is answered (PostgreSQL's documentation, "Value Expressions" and "Type Conversion").
+#[tactic(auto, unfolding(sql_typing::specs::Expressions::flag))]
+pub fn typed_flag(alloc: Global, expr: &Expr, scope: &[Entry<'_>]) -> Result<TypedExpr, TypeFault>
+    requires { IsNarrow scope.now }
+    ensures typed { Gives (flag (sources scope.now) expr.now) result }
+    ensures sound { IfOk result (λ expr. IsCondition (column_types (sources scope.now)) expr) }
+{
+    Ok(condition(form(alloc, expr, scope, Place::Row)?)?)
+}
