@@ -2,7 +2,7 @@
 use Rattle.std.proofs.Common.{◌≡◌, false, ℕ, ◌+◌, ◌≤◌, List, [], ◌∷◌, ◌++◌, length, take, drop, sym, ◌∙◌, ap, subst, append_assoc, arith, Option, Some, None, length-append}
 use Rattle.std.proofs.lemmas.List.{append-nil, take-append-drop}
 use Rattle.link_traits.specs.Traffic.{Traffic, Took, Wrote, WrotePart, Both, Sight}
-use Rattle.monkey_server.specs.declared.call.Call.{Call}
+use Rattle.monkey_server.specs.Calls.{Call}
 use Rattle.monkey_server.specs.declared.end.End.{End}
 use Rattle.monkey_server.specs.declared.end.End.TheVariants as ends
 use Rattle.monkey_server.specs.Talk.{Talk, IsTalk}

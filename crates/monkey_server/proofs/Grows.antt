@@ -9,8 +9,9 @@ use Rattle.pg_framing.specs.declared.front.FrameFault.TheVariants.{BadLength, Ba
 use Rattle.pg_framing.specs.Spelling.{spelling}
 use Rattle.pg_framing.specs.Fronts.{Held, HasFault}
 use Rattle.pg_framing.proofs.Numbers.{length-four_bytes}
-use Rattle.monkey_server.specs.declared.call.Call.{Call}
-use Rattle.monkey_server.specs.declared.call.Call.TheVariants as calls
+use Rattle.sql_tree.specs.declared.table.Table.{Table}
+use Rattle.monkey_server.specs.Calls.{Call}
+use Rattle.monkey_server.specs.Calls as calls
 use Rattle.monkey_server.specs.declared.call.Answer.{Answer}
 use Rattle.monkey_server.specs.declared.call.Answer.TheVariants as answers
 use Rattle.monkey_server.specs.declared.end.End.{End}
@@ -21,7 +22,7 @@ use Rattle.monkey_server.specs.declared.stage.Finish.TheVariants as finishes
 use Rattle.monkey_server.specs.declared.stage.Reply.{Reply}
 use Rattle.monkey_server.specs.declared.stage.Stage.{Stage}
 use Rattle.monkey_server.specs.declared.stage.Stage.TheVariants as stages
-use Rattle.monkey_server.specs.declared.want.Want.TheVariants as wanted
+use Rattle.monkey_server.specs.Calls as wanted
 use Rattle.monkey_server.specs.Replies.{fatal_reply, fatal_state, bytes_of}
 use Rattle.monkey_server.specs.Talk.{Talk, asks, partial, faulty, unread, IsTalk}
 use Rattle.monkey_server.specs.Told.{Entry, short, unsent, stop, Said, Next, more, call, ended, done, lost, closing, ending, owed_by, session, stop_end, waiting, handled, told}
@@ -29,7 +30,7 @@ use Rattle.monkey_server.specs.Stands.{goes_on, least, IsFrom, IsWaiting, Stands
 use Rattle.monkey_server.proofs.Passes.{eqb-ne, busy-last, least-busy, unless_short-takes, unless_unsent-passes, unless_unsent-takes, IsFrom-later, with_short-append, IsFrom-with_short, IsFrom-read, IsFed-last, IsFed-nothing, IsFed-back}
 
 -- with nothing more to come
-pub at_end : (stage : Stage) (built : List ℕ) (known : ℕ) (held : Held) (taken : List ℕ) (es : List Entry) (asked : List Call) (sent : List ℕ) (talk : Talk) →
+pub at_end : (stage : Stage) (built : List ℕ) (known : List Table) (held : Held) (taken : List ℕ) (es : List Entry) (asked : List Call) (sent : List ℕ) (talk : Talk) →
     (s : StandsFor stage built known held taken es asked sent) → IsTalk held.started held.rest talk →
     IsTalk false taken (s.whole talk) × (told (s.whole talk) es ≡ goes_on stage built known talk (record { bytes = sent; calls = asked }) [])
 at_end stage built known held taken es asked sent talk s h = (
@@ -38,25 +39,25 @@ at_end stage built known held taken es asked sent talk s h = (
   ap (told (s.whole talk)) (sym (append-nil es)) ∙ s.goes talk [] tt,
 )
 
-shown : (stage : Stage) (built : List ℕ) (known : ℕ) (held : Held) (taken : List ℕ) (es : List Entry) (asked : List Call) (sent : List ℕ) (talk : Talk) (next : Next) →
+shown : (stage : Stage) (built : List ℕ) (known : List Table) (held : Held) (taken : List ℕ) (es : List Entry) (asked : List Call) (sent : List ℕ) (talk : Talk) (next : Next) →
     StandsFor stage built known held taken es asked sent → IsTalk held.started held.rest talk →
     goes_on stage built known talk (record { bytes = sent; calls = asked }) [] ≡ (record { bytes = sent; calls = asked }, next) →
     (t : Talk) × IsTalk false taken t × (told t es ≡ (record { bytes = sent; calls = asked }, next))
 shown stage built known held taken es asked sent talk next s h e =
     let (a, b) = at_end stage built known held taken es asked sent talk s h in (s.whole talk, a, b ∙ e)
 
-pub Shows-stands : (stage : Stage) (built : List ℕ) (known : ℕ) (held : Held) (taken : List ℕ) (es : List Entry) (asked : List Call) (sent : List ℕ) →
+pub Shows-stands : (stage : Stage) (built : List ℕ) (known : List Table) (held : Held) (taken : List ℕ) (es : List Entry) (asked : List Call) (sent : List ℕ) →
     StandsFor stage built known held taken es asked sent → Shows (wants stage known) taken es asked sent
 Shows-stands (stages.Waiting o) built known held taken es asked sent s =
     shown (stages.Waiting o) built known held taken es asked sent (partial held.rest) more s (refl, (s.waits o refl).0, (s.waits o refl).1) refl
 Shows-stands stages.Opening built known held taken es asked sent s = shown stages.Opening built known held taken es asked sent unread (call calls.Open) s tt refl
-Shows-stands stages.Defining built known held taken es asked sent s = shown stages.Defining built known held taken es asked sent unread (call calls.Define) s tt refl
-Shows-stands (stages.Looking a) built known held taken es asked sent s = shown (stages.Looking a) built known held taken es asked sent unread (call (calls.Look known)) s tt refl
-Shows-stands (stages.Beginning a) built known held taken es asked sent s = shown (stages.Beginning a) built known held taken es asked sent unread (call calls.Begin) s tt refl
-Shows-stands (stages.Checking a) built known held taken es asked sent s = shown (stages.Checking a) built known held taken es asked sent unread _ s tt refl
-Shows-stands (stages.Fetching k) built known held taken es asked sent s = shown (stages.Fetching k) built known held taken es asked sent unread _ s tt refl
-Shows-stands (stages.Marking k v) built known held taken es asked sent s = shown (stages.Marking k v) built known held taken es asked sent unread _ s tt refl
-Shows-stands (stages.Filling k v) built known held taken es asked sent s = shown (stages.Filling k v) built known held taken es asked sent unread _ s tt refl
+Shows-stands (stages.Defining t) built known held taken es asked sent s = shown (stages.Defining t) built known held taken es asked sent unread (call (calls.Define t)) s tt refl
+Shows-stands (stages.Looking q a) built known held taken es asked sent s = shown (stages.Looking q a) built known held taken es asked sent unread (call (calls.Look (length known))) s tt refl
+Shows-stands (stages.Beginning t a) built known held taken es asked sent s = shown (stages.Beginning t a) built known held taken es asked sent unread (call calls.Begin) s tt refl
+Shows-stands (stages.Checking t a) built known held taken es asked sent s = shown (stages.Checking t a) built known held taken es asked sent unread _ s tt refl
+Shows-stands (stages.Fetching t k) built known held taken es asked sent s = shown (stages.Fetching t k) built known held taken es asked sent unread _ s tt refl
+Shows-stands (stages.Marking t k v) built known held taken es asked sent s = shown (stages.Marking t k v) built known held taken es asked sent unread _ s tt refl
+Shows-stands (stages.Filling t k v) built known held taken es asked sent s = shown (stages.Filling t k v) built known held taken es asked sent unread _ s tt refl
 Shows-stands stages.Committing built known held taken es asked sent s = shown stages.Committing built known held taken es asked sent unread (call calls.Commit) s tt refl
 Shows-stands (stages.Undoing f) built known held taken es asked sent s = shown (stages.Undoing f) built known held taken es asked sent unread (call calls.Rollback) s tt refl
 Shows-stands (stages.Telling p r) built known held taken es asked sent s = tt
@@ -70,7 +71,7 @@ not_holding : (stage : Stage) → IsBusy stage → (IsHolding stage → ⊥) →
 not_holding stage busy none built h = absurd (none h)
 
 -- a message or bytes are wanted, and what comes is looked at
-pub StandsFor-turned : (opened : Bool) (built : List ℕ) (known : ℕ) (before after : Held) (taken : List ℕ) (es : List Entry) (asked : List Call) (sent : List ℕ) (stage : Stage) (w : Option Bool)
+pub StandsFor-turned : (opened : Bool) (built : List ℕ) (known : List Table) (before after : Held) (taken : List ℕ) (es : List Entry) (asked : List Call) (sent : List ℕ) (stage : Stage) (w : Option Bool)
     (whole : Talk → Talk) →
     ((bytes : List ℕ) (talk : Talk) → IsTalk before.started (before.rest ++ bytes) talk → IsTalk false (taken ++ bytes) (whole talk)) →
     ((talk : Talk) (more_es : List Entry) → IsFrom (least stage) (length sent) more_es →
@@ -88,7 +89,7 @@ StandsFor-turned opened built known before after taken es asked sent stage w who
   some = some;
 }
 
-pub StandsFor-fed : (opened : Bool) (built : List ℕ) (known : ℕ) (held before after : Held) (piece taken : List ℕ) (es : List Entry) (asked : List Call) (sent : List ℕ) (stage : Stage) (w : Option Bool) →
+pub StandsFor-fed : (opened : Bool) (built : List ℕ) (known : List Table) (held before after : Held) (piece taken : List ℕ) (es : List Entry) (asked : List Call) (sent : List ℕ) (stage : Stage) (w : Option Bool) →
     before ≡ record held { rest = held.rest ++ piece } → StandsFor (stages.Waiting opened) built known held taken es asked sent →
     (IsHolding stage → 0 < length (reply_of built stage)) →
     Steps opened known before stage w after → StandsFor stage built known after (taken ++ piece) (es ++ with_short w sent []) asked sent
@@ -101,7 +102,7 @@ StandsFor-fed opened built known held before after piece taken es asked sent sta
     (λ talk more_es from. s.goes talk (with_short w sent more_es) (IsFrom-with_short w sent (least stage) more_es from))
     some steps
 
-pub session-short : (opened : Bool) (known : ℕ) (talk : Talk) (said : Said) (es : List Entry) →
+pub session-short : (opened : Bool) (known : List Table) (talk : Talk) (said : Said) (es : List Entry) →
     session opened known talk said (short true (length said.bytes) ∷ es) ≡ ending (owed_by opened) ends.Memory said es
 session-short opened known (asks a talk) said es = unless_short-takes true (ending (owed_by opened) ends.Memory) (handled a known (λ k. session true k talk)) said es
 session-short opened known (partial r) said es = unless_short-takes true (ending (owed_by opened) ends.Memory) (waiting opened (length r)) said es
@@ -109,7 +110,7 @@ session-short opened known (faulty f) said es = unless_short-takes true (ending 
 session-short opened known unread said es = unless_short-takes true (ending (owed_by opened) ends.Memory) lost said es
 
 -- the feeding itself met want of memory
-pub StandsFor-no_memory : (opened : Bool) (built : List ℕ) (known : ℕ) (held : Held) (piece taken : List ℕ) (es : List Entry) (asked : List Call) (sent : List ℕ) (stage : Stage) →
+pub StandsFor-no_memory : (opened : Bool) (built : List ℕ) (known : List Table) (held : Held) (piece taken : List ℕ) (es : List Entry) (asked : List Call) (sent : List ℕ) (stage : Stage) →
     StandsFor (stages.Waiting opened) built known held taken es asked sent → (IsHolding stage → 0 < length (reply_of built stage)) → LeadsTo stage (ending (owed_by opened) ends.Memory) →
     StandsFor stage built known held (taken ++ piece) (es ++ short true (length sent) ∷ []) asked sent
 StandsFor-no_memory opened built known held piece taken es asked sent stage s some leads = record {
@@ -128,7 +129,7 @@ pub IsFrom-entry : (l n : ℕ) (a : Answer) (e : Event) (es : List Entry) → Is
 IsFrom-entry l n (answers.Refused why) e es = tt
 IsFrom-entry l n _ e es = tt
 
-pub StandsFor-answered : (stage next : Stage) (built now_built : List ℕ) (known now_known : ℕ) (held : Held) (taken : List ℕ) (es : List Entry) (asked : List Call) (sent : List ℕ) (c : Call) (a : Answer) (e : Event) (w : Option Bool) →
+pub StandsFor-answered : (stage next : Stage) (built now_built : List ℕ) (known now_known : List Table) (held : Held) (taken : List ℕ) (es : List Entry) (asked : List Call) (sent : List ℕ) (c : Call) (a : Answer) (e : Event) (w : Option Bool) →
     StandsFor stage built known held taken es asked sent → Advances stage known a next w now_built now_known → wants stage known ≡ wanted.Book c →
     (IsHolding next → 0 < length (reply_of now_built next)) →
     StandsFor next now_built now_known held taken ((es ++ entry_for a e ∷ []) ++ with_short w sent []) (asked ++ c ∷ []) sent
@@ -144,7 +145,7 @@ StandsFor-answered stage next built now_built known now_known held taken es aske
   some = some;
 }
 
-pub StandsFor-told : (p : Bool) (r : Reply) (built : List ℕ) (known : ℕ) (held : Held) (taken : List ℕ) (es : List Entry) (asked : List Call) (sent : List ℕ) (stage : Stage) →
+pub StandsFor-told : (p : Bool) (r : Reply) (built : List ℕ) (known : List Table) (held : Held) (taken : List ℕ) (es : List Entry) (asked : List Call) (sent : List ℕ) (stage : Stage) →
     StandsFor (stages.Telling p r) built known held taken es asked sent → (IsHolding stage → 0 < length (reply_of built stage)) → IsBusy stage →
     ((talk : Talk) (said : Said) (more_es : List Entry) → resumed p (session true known talk) said more_es ≡ goes_on stage built known talk said more_es) →
     StandsFor stage built known held taken es asked (sent ++ bytes_of built r)
@@ -159,7 +160,7 @@ StandsFor-told p r built known held taken es asked sent stage s some busy resume
   some = some;
 }
 
-pub StandsFor-settled : (r : Reply) (built : List ℕ) (known : ℕ) (before after : Held) (taken : List ℕ) (es : List Entry) (asked : List Call) (sent : List ℕ) (stage : Stage) (w : Option Bool) →
+pub StandsFor-settled : (r : Reply) (built : List ℕ) (known : List Table) (before after : Held) (taken : List ℕ) (es : List Entry) (asked : List Call) (sent : List ℕ) (stage : Stage) (w : Option Bool) →
     StandsFor (stages.Settling r) built known before taken es asked sent → (IsHolding stage → 0 < length (reply_of built stage)) → Steps true known before stage w after →
     StandsFor stage built known after taken (es ++ with_short w (sent ++ bytes_of built r) []) asked (sent ++ bytes_of built r)
 StandsFor-settled r built known before after taken es asked sent stage w s some steps =
@@ -171,7 +172,7 @@ StandsFor-settled r built known before after taken es asked sent stage w s some 
     ∙ unless_unsent-passes (closing ends.WriteFault) (session true known talk) (record { bytes = now; calls = asked }) 0 (with_short w now more_es) (IsFrom-with_short w now (least stage) more_es from))
     some steps
 
-pub StandsFor-parted : (fatal : Fatal) (built : List ℕ) (known : ℕ) (held : Held) (taken : List ℕ) (es : List Entry) (asked : List Call) (sent : List ℕ) →
+pub StandsFor-parted : (fatal : Fatal) (built : List ℕ) (known : List Table) (held : Held) (taken : List ℕ) (es : List Entry) (asked : List Call) (sent : List ℕ) →
     StandsFor (stages.Parting fatal) built known held taken es asked sent → StandsFor (stages.Ended (finishes.Fatal fatal)) built known held taken es asked (sent ++ fatal_reply (fatal_state fatal))
 StandsFor-parted fatal built known held taken es asked sent s = record {
   whole = s.whole;
@@ -183,7 +184,7 @@ StandsFor-parted fatal built known held taken es asked sent s = record {
   some = λ h. absurd h;
 }
 
-pub StandsFor-unsent : (stage next : Stage) (built : List ℕ) (known : ℕ) (held : Held) (taken : List ℕ) (es : List Entry) (asked : List Call) (sent : List ℕ) →
+pub StandsFor-unsent : (stage next : Stage) (built : List ℕ) (known : List Table) (held : Held) (taken : List ℕ) (es : List Entry) (asked : List Call) (sent : List ℕ) →
     StandsFor stage built known held taken es asked sent → IsHolding stage → LeadsTo next (broken stage) → (IsHolding next → ⊥) →
     StandsFor next built known held taken (es ++ unsent (length (sent ++ reply_of built stage)) ∷ []) asked (sent ++ reply_of built stage)
 StandsFor-unsent (stages.Telling p r) next built known held taken es asked sent s h leads none =
@@ -224,7 +225,7 @@ StandsFor-unsent (stages.Parting f) next built known held taken es asked sent s 
     }
 StandsFor-unsent _ next built known held taken es asked sent s h leads none = absurd h
 
-pub StandsFor-stopped : (opened : Bool) (built : List ℕ) (known : ℕ) (held : Held) (taken : List ℕ) (es : List Entry) (asked : List Call) (sent : List ℕ) (stage : Stage) (cause : Stop) (end : End) →
+pub StandsFor-stopped : (opened : Bool) (built : List ℕ) (known : List Table) (held : Held) (taken : List ℕ) (es : List Entry) (asked : List Call) (sent : List ℕ) (stage : Stage) (cause : Stop) (end : End) →
     StandsFor (stages.Waiting opened) built known held taken es asked sent → LeadsTo stage (ending (owed_by opened) end) → (IsHolding stage → 0 < length (reply_of built stage)) →
     stop_end cause (length held.rest) ≡ end → StandsFor stage built known held taken (es ++ stop cause ∷ []) asked sent
 StandsFor-stopped opened built known held taken es asked sent stage cause end s leads some right = record {
@@ -269,7 +270,7 @@ no_fault Memory h = h
 nothing_waits : IsWaiting (record { started = false; rest = []; fault = None })
 nothing_waits = ((λ front rest fits whole. no_bytes front rest whole), (λ fault has. no_fault fault has))
 
-pub StandsFor-new : (built : List ℕ) → StandsFor (stages.Waiting false) built 0 (record { started = false; rest = []; fault = None }) [] [] [] []
+pub StandsFor-new : (built : List ℕ) → StandsFor (stages.Waiting false) built [] (record { started = false; rest = []; fault = None }) [] [] [] []
 unfolding told
 StandsFor-new built = record {
   whole = λ talk. talk;
@@ -280,7 +281,7 @@ StandsFor-new built = record {
 }
 
 -- a reply that was sent, whichever stage held it
-pub sent_telling : (stage next : Stage) (built : List ℕ) (known : ℕ) (held : Held) (taken : List ℕ) (es : List Entry) (asked : List Call) (sent : List ℕ) (p : Bool) (r : Reply) →
+pub sent_telling : (stage next : Stage) (built : List ℕ) (known : List Table) (held : Held) (taken : List ℕ) (es : List Entry) (asked : List Call) (sent : List ℕ) (p : Bool) (r : Reply) →
     stage ≡ stages.Telling p r → StandsFor stage built known held taken es asked sent → (IsHolding next → 0 < length (reply_of built next)) → IsBusy next →
     ((talk : Talk) (said : Said) (more_es : List Entry) → resumed p (session true known talk) said more_es ≡ goes_on next built known talk said more_es) →
     StandsFor next built known held taken (es ++ []) asked (sent ++ reply_of built stage)
@@ -289,14 +290,14 @@ sent_telling stage next built known held taken es asked sent p r is s some busy 
     (subst (λ (x : Stage). StandsFor next built known held taken es asked (sent ++ reply_of built x)) (sym is)
     (StandsFor-told p r built known held taken es asked sent next (subst (λ (x : Stage). StandsFor x built known held taken es asked sent) is s) some busy resumes))
 
-pub sent_settling : (stage next : Stage) (built : List ℕ) (known : ℕ) (held after : Held) (taken : List ℕ) (es : List Entry) (asked : List Call) (sent : List ℕ) (r : Reply) (w : Option Bool) →
+pub sent_settling : (stage next : Stage) (built : List ℕ) (known : List Table) (held after : Held) (taken : List ℕ) (es : List Entry) (asked : List Call) (sent : List ℕ) (r : Reply) (w : Option Bool) →
     stage ≡ stages.Settling r → StandsFor stage built known held taken es asked sent → (IsHolding next → 0 < length (reply_of built next)) → Steps true known held next w after →
     StandsFor next built known after taken (es ++ with_short w (sent ++ reply_of built stage) []) asked (sent ++ reply_of built stage)
 sent_settling stage next built known held after taken es asked sent r w is s some steps =
     subst (λ (x : Stage). StandsFor next built known after taken (es ++ with_short w (sent ++ reply_of built x) []) asked (sent ++ reply_of built x)) (sym is)
     (StandsFor-settled r built known held after taken es asked sent next w (subst (λ (x : Stage). StandsFor x built known held taken es asked sent) is s) some steps)
 
-pub sent_parting : (stage : Stage) (built : List ℕ) (known : ℕ) (held : Held) (taken : List ℕ) (es : List Entry) (asked : List Call) (sent : List ℕ) (fatal : Fatal) →
+pub sent_parting : (stage : Stage) (built : List ℕ) (known : List Table) (held : Held) (taken : List ℕ) (es : List Entry) (asked : List Call) (sent : List ℕ) (fatal : Fatal) →
     stage ≡ stages.Parting fatal → StandsFor stage built known held taken es asked sent → StandsFor (stages.Ended (finishes.Fatal fatal)) built known held taken (es ++ []) asked (sent ++ reply_of built stage)
 sent_parting stage built known held taken es asked sent fatal is s =
     subst (λ (x : List Entry). StandsFor (stages.Ended (finishes.Fatal fatal)) built known held taken x asked (sent ++ reply_of built stage)) (sym (append-nil es))

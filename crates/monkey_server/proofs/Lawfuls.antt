@@ -6,8 +6,8 @@ use Rattle.history_core.specs.declared.fault.BookFault.{BookFault}
 use Rattle.history_core.specs.declared.fault.BookFault.TheVariants as faults
 use Rattle.history_core.specs.declared.fault.DefineAnswer.TheVariants as defines
 use Rattle.history_core.specs.Book.{Past, Adds, GoesOn}
-use Rattle.monkey_server.specs.declared.call.Call.{Call}
-use Rattle.monkey_server.specs.declared.call.Call.TheVariants as calls
+use Rattle.monkey_server.specs.Calls.{Call}
+use Rattle.monkey_server.specs.Calls as calls
 use Rattle.monkey_server.specs.declared.call.Answer.{Answer}
 use Rattle.monkey_server.specs.declared.call.Answer.TheVariants as answers
 use Rattle.monkey_server.specs.Told.{Entry, did, refused, short, unsent, stop}
@@ -117,8 +117,8 @@ pub Happens-leaves : (p : Past) (c : Call) (a : Answer) (e : Event) (q : Past) â
 Happens-leaves p calls.Open (answers.Opened s) e q h = leaves_of p q e e refl h.1
 Happens-leaves p calls.Close answers.Closed e q h = leaves_of p q e e refl h.1
 Happens-leaves p (calls.Look known) (answers.Looked tables) e q h = leaves_of p q _ e h.0 h.1.adds
-Happens-leaves p calls.Define (answers.Defined (defines.Defined n)) e q h = leaves_of p q _ e h.0 h.1.3
-Happens-leaves p calls.Define (answers.Defined (defines.Taken n)) e q h = leaves_of p q _ e h.0 h.1.2
+Happens-leaves p (calls.Define t) (answers.Defined (defines.Defined n)) e q h = leaves_of p q _ e h.0 h.1.3
+Happens-leaves p (calls.Define t) (answers.Defined (defines.Taken n)) e q h = leaves_of p q _ e h.0 h.1.2
 Happens-leaves p calls.Begin (answers.Begun n) e q h = leaves_of p q e e refl h.1
 Happens-leaves p (calls.Touch cell) (answers.Found value) e q h = leaves_of p q e e refl h.4
 Happens-leaves p (calls.Write cell value) answers.Written e q h = leaves_of p q e e refl h.1

@@ -2,11 +2,12 @@
 use Rattle.std.proofs.Common.{◌≡◌, ◌↔◌, IfSome, Bool, true, false, ℕ, ◌+◌, ◌≤◌, List, [], ◌∷◌, ◌++◌, length, take, refl, sym, ◌∙◌, ap, subst, arith, Option, Some, None, length-append}
 use Rattle.std.proofs.lemmas.List.{append-nil}
 use Rattle.std.proofs.lemmas.Grind.{common_steps}
+use Rattle.sql_tree.specs.declared.table.Table.{Table}
 use Rattle.link_traits.specs.Faults.{Rose}
 use Rattle.link_traits.specs.Traffic.{Traffic, Took, Wrote, Both, Sight}
 use Rattle.history_core.specs.declared.event.Event.{Event}
 use Rattle.history_core.specs.Book.{Past, Seat, away, seated, pending, writes_of}
-use Rattle.monkey_server.specs.declared.call.Call.{Call}
+use Rattle.monkey_server.specs.Calls.{Call}
 use Rattle.monkey_server.specs.declared.call.Answer.{Answer}
 use Rattle.monkey_server.specs.declared.end.End.{End}
 use Rattle.monkey_server.specs.declared.end.End.TheVariants as ends
@@ -17,8 +18,8 @@ use Rattle.monkey_server.specs.declared.stage.Owed.TheVariants as owes
 use Rattle.monkey_server.specs.declared.stage.Stage.{Stage}
 use Rattle.monkey_server.specs.declared.stage.Stage.TheVariants as stages
 use Rattle.monkey_server.specs.declared.session.Session.{Session}
-use Rattle.monkey_server.specs.declared.want.Want.{Want}
-use Rattle.monkey_server.specs.declared.want.Want.TheVariants as wanted
+use Rattle.monkey_server.specs.Calls.{Want}
+use Rattle.monkey_server.specs.Calls as wanted
 use Rattle.monkey_server.specs.Talk.{Talk, IsTalk, unread}
 use Rattle.monkey_server.specs.Told.{Entry, ended, short, unsent, stop, more, told, has_short}
 use Rattle.monkey_server.specs.Sessions.{Stands, StandsShort}
@@ -60,7 +61,7 @@ Lacks-holding (stages.Telling p a) lost w l = l
 Lacks-holding (stages.Settling a) lost w l = l
 Lacks-holding _ lost w l = absurd w
 
-pub Lacks-bytes : (stage : Stage) (known : ℕ) (lost : List ℕ) → wants stage known ≡ wanted.Bytes → Lacks stage lost → lost ≡ []
+pub Lacks-bytes : (stage : Stage) (known : List Table) (lost : List ℕ) → wants stage known ≡ wanted.Bytes → Lacks stage lost → lost ≡ []
 Lacks-bytes (stages.Waiting o) known lost w l = l
 Lacks-bytes _ known lost w l = absurd (cc w)
 
@@ -118,9 +119,9 @@ Ran-unsent gives p v f s r q w g h many reply part lost grown holds outer_is lac
       },
     )
 
-shows_more : (s : Session) (taken : List ℕ) (es : List Entry) (asked : List Call) (sent : List ℕ) → wants s.stage s.known ≡ wanted.Bytes → Stands s taken es asked sent →
+shows_more : (s : Session) (taken : List ℕ) (es : List Entry) (asked : List Call) (sent : List ℕ) → wants s.stage s.known.items ≡ wanted.Bytes → Stands s taken es asked sent →
     (talk : Talk) × IsTalk false taken talk × (told talk es ≡ (record { bytes = sent; calls = asked }, more))
-shows_more s taken es asked sent w st = subst (λ (x : Want). Shows x taken es asked sent) w (Shows-stands s.stage s.built.items s.known s.frames taken es asked sent st.0)
+shows_more s taken es asked sent w st = subst (λ (x : Want). Shows x taken es asked sent) w (Shows-stands s.stage s.built.items s.known.items s.frames taken es asked sent st.0)
 
 -- why a stop came
 abbrev pub IsCause : Stop → Sight → Sight → List ℕ → Type 0
@@ -138,12 +139,12 @@ Blames-stopped _ _ f g taken i k = absurd i
 -- a stop, behind a read that gave nothing
 pub Ran-stopped : {W : Type 0} (gives : W → ℕ → W → Type 0) (p : Past) (v : W) (f : Sight) (s r : Session) (q : Past) (w : W) (g h : Sight) (many : ℕ) (cause : Stop) →
     ((taken : List ℕ) (es : List Entry) (asked : List Call) (sent : List ℕ) → Stands s taken es asked sent → Stands r taken (es ++ stop cause ∷ []) asked sent) →
-    wants s.stage s.known ≡ wanted.Bytes → IsStopped cause (outer r.stage) → Lacks r.stage [] →
+    wants s.stage s.known.items ≡ wanted.Bytes → IsStopped cause (outer r.stage) → Lacks r.stage [] →
     Both (Took []) g.traffic h.traffic → g.read_faults ≤ h.read_faults → h.write_faults ≡ g.write_faults → ((taken : List ℕ) → length taken ≡ many → f.read_faults ≤ g.read_faults → IsCause cause f h taken) →
     Ran gives p v f s q w g many → Ran gives p v f r q w h (many + 0)
 Ran-stopped gives p v f s r q w g h many cause grown bytes outer_is lacks took more_reads same_writes why ran =
     let (taken, es, asked, sent, lost, many_is, run) = ran in
-    let none_lost : lost ≡ [] = Lacks-bytes s.stage s.known lost bytes run.lacks in
+    let none_lost : lost ≡ [] = Lacks-bytes s.stage s.known.items lost bytes run.lacks in
     let (talk, is, shows) = shows_more s taken es asked sent bytes run.stands in (
       taken,
       es ++ stop cause ∷ [],
@@ -166,12 +167,12 @@ Ran-stopped gives p v f s r q w g h many cause grown bytes outer_is lacks took m
 -- a stop where the link told nothing new: no read, or one that failed
 pub Ran-halted : {W : Type 0} (gives : W → ℕ → W → Type 0) (p : Past) (v : W) (f : Sight) (s r : Session) (q : Past) (w : W) (g h : Sight) (many : ℕ) (cause : Stop) →
     ((taken : List ℕ) (es : List Entry) (asked : List Call) (sent : List ℕ) → Stands s taken es asked sent → Stands r taken (es ++ stop cause ∷ []) asked sent) →
-    wants s.stage s.known ≡ wanted.Bytes → IsStopped cause (outer r.stage) → Lacks r.stage [] →
+    wants s.stage s.known.items ≡ wanted.Bytes → IsStopped cause (outer r.stage) → Lacks r.stage [] →
     h.traffic ≡ g.traffic → g.read_faults ≤ h.read_faults → h.write_faults ≡ g.write_faults → ((taken : List ℕ) → length taken ≡ many → f.read_faults ≤ g.read_faults → IsCause cause f h taken) →
     Ran gives p v f s q w g many → Ran gives p v f r q w h (many + 0)
 Ran-halted gives p v f s r q w g h many cause grown bytes outer_is lacks same more_reads same_writes why ran =
     let (taken, es, asked, sent, lost, many_is, run) = ran in
-    let none_lost : lost ≡ [] = Lacks-bytes s.stage s.known lost bytes run.lacks in (
+    let none_lost : lost ≡ [] = Lacks-bytes s.stage s.known.items lost bytes run.lacks in (
       taken,
       es ++ stop cause ∷ [],
       asked,
@@ -193,12 +194,12 @@ Ran-halted gives p v f s r q w g h many cause grown bytes outer_is lacks same mo
 -- a piece
 pub Ran-fed : {W : Type 0} (gives : W → ℕ → W → Type 0) (p : Past) (v : W) (f : Sight) (s r : Session) (q : Past) (w : W) (g h : Sight) (many : ℕ) (piece : List ℕ) (n : ℕ) →
     ((taken : List ℕ) (es : List Entry) (asked : List Call) (sent : List ℕ) → Stands s taken es asked sent → StandsShort r (taken ++ piece) es asked sent) →
-    wants s.stage s.known ≡ wanted.Bytes → outer r.stage ≡ None → Lacks r.stage [] →
+    wants s.stage s.known.items ≡ wanted.Bytes → outer r.stage ≡ None → Lacks r.stage [] →
     Both (Took piece) g.traffic h.traffic → g.read_faults ≤ h.read_faults → h.write_faults ≡ g.write_faults → length piece ≡ n →
     Ran gives p v f s q w g many → Ran gives p v f r q w h (many + n)
 Ran-fed gives p v f s r q w g h many piece n grown bytes outer_is lacks took more_reads same_writes size ran =
     let (taken, es, asked, sent, lost, many_is, run) = ran in
-    let none_lost : lost ≡ [] = Lacks-bytes s.stage s.known lost bytes run.lacks in
+    let none_lost : lost ≡ [] = Lacks-bytes s.stage s.known.items lost bytes run.lacks in
     let (talk, is, shows) = shows_more s taken es asked sent bytes run.stands in
     let (added, is_short, stands) = grown taken es asked sent run.stands in (
       taken ++ piece,
@@ -223,17 +224,17 @@ take-size n s h = grind (arith, common_steps)
 
 -- the whole run
 
-pub stage_over : (stage : Stage) (known : ℕ) (end : End) → wants stage known ≡ wanted.Ended end → (finish : Finish) × (stage ≡ stages.Ended finish) × (end_of finish ≡ end)
+pub stage_over : (stage : Stage) (known : List Table) (end : End) → wants stage known ≡ wanted.Ended end → (finish : Finish) × (stage ≡ stages.Ended finish) × (end_of finish ≡ end)
 stage_over (stages.Ended e) known end w = (e, refl, cc w)
 stage_over _ known end w = absurd (cc w)
 
 pub Serves-ran : {W : Type 0} (gives : W → ℕ → W → Type 0) (p : Past) (v : W) (f : Sight) (s : Session) (end : End) (wanting : Bool) (q : Past) (w : W) (g : Sight) (many : ℕ) →
-    wants s.stage s.known ≡ wanted.Ended end → ((taken : List ℕ) (es : List Entry) (asked : List Call) (sent : List ℕ) → Stands s taken es asked sent → wanting ≡ has_short es) → Ran gives p v f s q w g many →
+    wants s.stage s.known.items ≡ wanted.Ended end → ((taken : List ℕ) (es : List Entry) (asked : List Call) (sent : List ℕ) → Stands s taken es asked sent → wanting ≡ has_short es) → Ran gives p v f s q w g many →
     (talk : Talk) × (taken : List ℕ) × (es : List Entry) × (asked : List Call) × (sent : List ℕ) × (lost : List ℕ) × Serves gives p v f end wanting q w g talk taken es asked sent lost
 Serves-ran gives p v f s end wanting q w g many over flag ran =
     let (taken, es, asked, sent, lost, many_is, run) = ran in
-    let (finish, is, end_is) = stage_over s.stage s.known end over in
-    let shows : Shows (wanted.Ended end) taken es asked sent = subst (λ (x : Want). Shows x taken es asked sent) over (Shows-stands s.stage s.built.items s.known s.frames taken es asked sent run.stands.0) in (
+    let (finish, is, end_is) = stage_over s.stage s.known.items end over in
+    let shows : Shows (wanted.Ended end) taken es asked sent = subst (λ (x : Want). Shows x taken es asked sent) over (Shows-stands s.stage s.built.items s.known.items s.frames taken es asked sent run.stands.0) in (
       shows.0,
       taken,
       es,
@@ -276,12 +277,12 @@ Ran-new gives p v f s st is = (
   },
 )
 
-pub wants_bytes : (stage : Stage) (known : ℕ) → IsResting (wants stage known) → ((end : End) → wants stage known ≡ wanted.Ended end → ⊥) → wants stage known ≡ wanted.Bytes
+pub wants_bytes : (stage : Stage) (known : List Table) → IsResting (wants stage known) → ((end : End) → wants stage known ≡ wanted.Ended end → ⊥) → wants stage known ≡ wanted.Bytes
 wants_bytes (stages.Waiting o) known r n = refl
 wants_bytes (stages.Ended e) known r n = absurd (n (end_of e) refl)
 wants_bytes _ known r n = absurd r
 
-pub is_over : (stage : Stage) (known : ℕ) → IsResting (wants stage known) → IsLast stage → IsOver (wants stage known)
+pub is_over : (stage : Stage) (known : List Table) → IsResting (wants stage known) → IsLast stage → IsOver (wants stage known)
 is_over (stages.Ended e) known r l = tt
 is_over (stages.Waiting o) known r l = absurd l
 is_over _ known r l = absurd r
@@ -294,11 +295,11 @@ at_end n (Some a) None e h k = absurd k
 at_end n (Some a) (Some b) e h k = sym k.left ∙ h.0 e
 
 -- a session at its beginning sits by a book that has none
-pub sits_new : (stage : Stage) (known : ℕ) (p : Past) → stage ≡ stages.Waiting false → known ≡ 0 → p.seat ≡ away → Sits stage known p
+pub sits_new : (stage : Stage) (known : List Table) (p : Past) → stage ≡ stages.Waiting false → known ≡ [] → p.seat ≡ away → Sits stage known p
 sits_new stage known p is none seat = record {
   owed = ap owed_of seat ∙ sym (ap owed_at is);
   unwritten = λ _. ap writes_of seat;
-  known_tables = omega (arith, none);
+  known_tables = omega (arith, ap length none);
 }
 
 is_away : (seat : Seat) → owed_of seat ≡ owes.Nothing → seat ≡ away
@@ -307,7 +308,7 @@ is_away (seated s) h = absurd (cc h)
 is_away (pending s writes) h = absurd (cc h)
 
 -- a session that ended left its book
-pub away_over : (stage : Stage) (known : ℕ) (p : Past) → IsOver (wants stage known) → Sits stage known p → p.seat ≡ away
+pub away_over : (stage : Stage) (known : List Table) (p : Past) → IsOver (wants stage known) → Sits stage known p → p.seat ≡ away
 away_over (stages.Ended e) known p over sits = is_away p.seat sits.owed
 away_over _ known p over sits = absurd over
 

@@ -1,4 +1,6 @@
 pub mod Users
+pub mod Calls
+pub mod Tables
 pub mod Talk
 pub mod Replies
 pub mod Told

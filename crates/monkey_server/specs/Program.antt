@@ -6,7 +6,7 @@ use Rattle.link_traits.specs.Traffic.{Both, Wrote, WrotePart, Sight}
 use Rattle.link_traits.specs.Host.{HostCall, standard_link_called}
 use Rattle.history_core.specs.Chronicle.{IsLegalChronicle}
 use Rattle.history_core.specs.Book.{Past, away}
-use Rattle.monkey_server.specs.declared.call.Call.{Call}
+use Rattle.monkey_server.specs.Calls.{Call}
 use Rattle.monkey_server.specs.declared.end.End.{End}
 use Rattle.monkey_server.specs.declared.end.End.TheVariants as ends
 use Rattle.monkey_server.specs.Talk.{Talk}

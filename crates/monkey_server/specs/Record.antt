@@ -1,6 +1,5 @@
 -- When a session's record is lawful: its calls were made of the book one after another, and each entry is what came of its call.
 use Rattle.std.specs.Prelude.{◌≡◌, ℕ, List, [], ◌∷◌, length, Option, Some}
-use Rattle.sql_tree.specs.Sound.{first_table}
 use Rattle.history_core.specs.declared.event.Event.{Event}
 use Rattle.history_core.specs.declared.event.Event.TheVariants.{Open, Close, Define, Look, Begin, Read, Write, Commit, Rollback}
 use Rattle.history_core.specs.declared.fault.Limit.{Limit}
@@ -10,8 +9,8 @@ use Rattle.history_core.specs.declared.fault.DefineAnswer.TheVariants as defines
 use Rattle.history_core.specs.Events.{begun}
 use Rattle.history_core.specs.Legal.{full_for, full_load}
 use Rattle.history_core.specs.Book.{Past, session_of, Adds, GoesOn, AnswersTables, AnswersDefine}
-use Rattle.monkey_server.specs.declared.call.Call.{Call}
-use Rattle.monkey_server.specs.declared.call.Call.TheVariants as calls
+use Rattle.monkey_server.specs.Calls.{Call}
+use Rattle.monkey_server.specs.Calls as calls
 use Rattle.monkey_server.specs.declared.call.Answer.{Answer}
 use Rattle.monkey_server.specs.declared.call.Answer.TheVariants as answers
 use Rattle.monkey_server.specs.Told.{Entry, did, refused, short, unsent, stop}
@@ -19,7 +18,7 @@ use Rattle.monkey_server.specs.Told.{Entry, did, refused, short, unsent, stop}
 -- the limit that keeps a call out
 abbrev pub limit_for : Past → Call → Option Limit
 limit_for past calls.Open = full_for past.seen.events (Open 0)
-limit_for past calls.Define = full_for past.seen.events (Define 0 first_table.name)
+limit_for past (calls.Define table) = full_for past.seen.events (Define 0 table.name)
 limit_for past calls.Begin = full_for past.seen.events (Begin 0)
 limit_for past _ = full_load past.seen.events
 
@@ -39,8 +38,8 @@ abbrev pub Happens : Past → Call → Answer → Event → Past → Type 0
 Happens old calls.Open (answers.Opened session) e new = (e ≡ Open session) × Adds old e new
 Happens old calls.Close answers.Closed e new = (e ≡ Close (session_of old.seat)) × Adds old e new
 Happens old (calls.Look known) (answers.Looked tables) e new = (e ≡ Look (session_of old.seat) (length new.seen.tables)) × AnswersTables old known tables new
-Happens old calls.Define (answers.Defined (defines.Defined n)) e new = (e ≡ Define (session_of old.seat) first_table.name) × AnswersDefine old first_table (defines.Defined n) new
-Happens old calls.Define (answers.Defined (defines.Taken n)) e new = (e ≡ Look (session_of old.seat) n) × AnswersDefine old first_table (defines.Taken n) new
+Happens old (calls.Define table) (answers.Defined (defines.Defined n)) e new = (e ≡ Define (session_of old.seat) table.name) × AnswersDefine old table (defines.Defined n) new
+Happens old (calls.Define table) (answers.Defined (defines.Taken n)) e new = (e ≡ Look (session_of old.seat) n) × AnswersDefine old table (defines.Taken n) new
 Happens old calls.Begin (answers.Begun n) e new = (e ≡ Begin (session_of old.seat)) × Adds old e new × (n ≡ begun new.seen.events)
 Happens old (calls.Touch cell) (answers.Found value) e new =
     (source : ℕ) × (count : ℕ) × (word : ℕ) × (e ≡ Read (session_of old.seat) cell source count word value) × Adds old e new

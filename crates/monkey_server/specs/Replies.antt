@@ -6,13 +6,10 @@ use Rattle.cell_base.specs.declared.sql_type.SqlType.TheVariants.{Bigint}
 use Rattle.cell_base.specs.declared.value.Value.{Value}
 use Rattle.cell_base.specs.declared.value.Value.TheVariants.{Null, Flag, Int}
 use Rattle.sql_tree.specs.declared.table.OutField.{OutField}
-use Rattle.monkey_server.specs.declared.stage.Fault.{Fault}
-use Rattle.monkey_server.specs.declared.stage.Fault.TheVariants as fails
 use Rattle.monkey_server.specs.declared.stage.Fatal.{Fatal}
 use Rattle.monkey_server.specs.declared.stage.Fatal.TheVariants as fatals
 use Rattle.monkey_server.specs.declared.stage.Reply.{Reply}
 use Rattle.monkey_server.specs.declared.stage.Reply.TheVariants as replies
-use Rattle.query_request.specs.Requests.{state_of}
 use Rattle.pg_framing.specs.declared.replies.TransactionState.TheVariants.{Idle}
 use Rattle.pg_framing.specs.Replies.{auth_ok, parameter, key_data, ready, row_description, data_row, command_complete, error_response}
 
@@ -48,15 +45,6 @@ as_bigint _ = Null
 unfoldable pub one_row_reply : Value → List ℕ
 one_row_reply value = row_description result_fields ++ (data_row (as_bigint value ∷ []) ++ command_complete (codes "SELECT 1"))
 
--- the code of a statement that failed
-abbrev pub fault_state : Fault → SqlState
-fault_state (fails.Query fault) = state_of fault
-fault_state fails.NoTable = states.S42P01
-fault_state fails.TableTaken = states.S42P07
-fault_state fails.DuplicateKey = states.S23505
-fault_state fails.Full = states.S54000
-fault_state fails.Memory = states.S53200
-
 unfoldable pub error_reply : SqlState → List ℕ
 error_reply state = error_response false state
 
@@ -83,4 +71,4 @@ bytes_of built replies.Created = created_reply
 bytes_of built replies.Inserted = inserted_reply
 bytes_of built replies.NoRow = no_row_reply
 bytes_of built replies.Ready = ready_reply
-bytes_of built (replies.Error fault) = error_reply (fault_state fault)
+bytes_of built (replies.Error state) = error_reply state

@@ -1,12 +1,14 @@
 -- What a run of a session over a book, a link and words comes to.
 use Rattle.std.specs.Prelude.{◌≡◌, ℕ, ◌+◌, ◌≤◌, List, [], ◌∷◌, ◌++◌, length, Option, Some, None, Bool, false}
+use Rattle.sql_tree.specs.declared.table.Table.{Table}
+use Rattle.sound_table.specs.Sound.{IsSound}
 use Rattle.link_traits.specs.Faults.{Rose}
 use Rattle.link_traits.specs.Traffic.{Traffic, Both, Sight}
 use Rattle.history_core.specs.declared.event.Event.{Event}
 use Rattle.history_core.specs.Events.{table_of}
 use Rattle.history_core.specs.Book.{Seat, away, seated, pending, Past, IsSeated, IsIdle, IsInTransaction, IsUnwritten, IsStorable, HasTable, session_of, writes_of}
-use Rattle.monkey_server.specs.declared.call.Call.{Call}
-use Rattle.monkey_server.specs.declared.call.Call.TheVariants as calls
+use Rattle.monkey_server.specs.Calls.{Call}
+use Rattle.monkey_server.specs.Calls as calls
 use Rattle.monkey_server.specs.declared.call.Answer.{Answer}
 use Rattle.monkey_server.specs.declared.call.Answer.TheVariants as answers
 use Rattle.monkey_server.specs.declared.end.End.{End}
@@ -30,7 +32,7 @@ abbrev pub MayAsk : Call → Past → Type 0
 MayAsk calls.Open past = past.seat ≡ away
 MayAsk calls.Close past = IsIdle past.seat
 MayAsk (calls.Look known) past = IsSeated past.seat × (known ≤ length past.seen.tables)
-MayAsk calls.Define past = IsSeated past.seat
+MayAsk (calls.Define table) past = IsSeated past.seat × IsSound table
 MayAsk calls.Begin past = IsIdle past.seat
 MayAsk (calls.Touch cell) past = IsInTransaction past.seat × IsUnwritten cell past.seat × HasTable past (table_of cell)
 MayAsk (calls.Write cell value) past = IsInTransaction past.seat × IsStorable value × HasTable past (table_of cell)
@@ -58,10 +60,10 @@ owed_of (seated s) = owes.Close
 owed_of (pending s writes) = owes.Rollback
 
 -- The book is where the session's stage has it, and has defined the tables that the session knows.
-pub record Sits (stage : Stage) (known : ℕ) (past : Past) : Type 0 where
+pub record Sits (stage : Stage) (known : List Table) (past : Past) : Type 0 where
   pub owed : owed_of past.seat ≡ owed_at stage
   pub unwritten : IsReading stage → writes_of past.seat ≡ []
-  pub known_tables : known ≤ length past.seen.tables
+  pub known_tables : length known ≤ length past.seen.tables
 
 -- A mark, counted from where the link was: what had been sent before the read is told of what had been taken and of a prefix of the
 -- record, and more was wanted.

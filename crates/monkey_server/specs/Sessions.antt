@@ -1,13 +1,13 @@
 -- When the state of a session stands for the bytes that it was fed, the record of what it was answered, the calls that it asked, and
 -- the bytes taken from it.
 use Rattle.std.specs.Prelude.{◌≡◌, ℕ, ◌+◌, ◌*◌, List, ◌++◌, length}
-use Rattle.monkey_server.specs.declared.call.Call.{Call}
+use Rattle.monkey_server.specs.Calls.{Call}
 use Rattle.monkey_server.specs.declared.session.Session.{Session}
 use Rattle.monkey_server.specs.Told.{Entry, has_short}
 use Rattle.monkey_server.specs.Stands.{StandsFor, IsShort, work_at}
 
 abbrev pub Stands : Session → List ℕ → List Entry → List Call → List ℕ → Type 0
-Stands s taken es asked sent = StandsFor s.stage s.built.items s.known s.frames taken es asked sent × (s.short ≡ has_short es)
+Stands s taken es asked sent = StandsFor s.stage s.built.items s.known.items s.frames taken es asked sent × (s.short ≡ has_short es)
 
 -- the state stands for these lists, with a want of memory added where the call met one
 abbrev pub StandsShort : Session → List ℕ → List Entry → List Call → List ℕ → Type 0

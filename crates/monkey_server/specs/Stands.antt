@@ -1,6 +1,6 @@
 -- When a stage of a session stands for the bytes that it was fed, the record of what it was answered, the calls that it asked, and
 -- the bytes taken from it.
-use Rattle.std.specs.Prelude.{◌≡◌, ℕ, ◌+◌, ◌<◌, ◌≤◌, List, [], ◌∷◌, ◌++◌, length, Option, Some, None, Bool, true, false, not}
+use Rattle.std.specs.Prelude.{◌≡◌, ℕ, ◌+◌, ◌<◌, ◌≤◌, ◌⊎◌, List, [], ◌∷◌, ◌++◌, length, All, Option, Some, None, Bool, true, false, not}
 use Rattle.cell_base.specs.declared.sql_state.SqlState.TheVariants as states
 use Rattle.cell_base.specs.declared.value.Value.TheVariants.{Flag, Int}
 use Rattle.history_core.specs.declared.event.Event.{Event}
@@ -9,15 +9,17 @@ use Rattle.pg_framing.specs.declared.front.Front.{Front}
 use Rattle.pg_framing.specs.declared.front.Front.TheVariants.{Query}
 use Rattle.pg_framing.specs.Fronts.{Held, HasNoFront, HasFault}
 use Rattle.pg_framing.specs.declared.front.FrameFault.{FrameFault}
-use Rattle.monkey_server.specs.declared.call.Call.{Call}
-use Rattle.monkey_server.specs.declared.call.Call.TheVariants as calls
+use Rattle.monkey_server.specs.Calls.{Call}
+use Rattle.monkey_server.specs.Calls as calls
 use Rattle.monkey_server.specs.declared.call.Answer.{Answer}
 use Rattle.monkey_server.specs.declared.call.Answer.TheVariants as answers
 use Rattle.monkey_server.specs.declared.end.End.{End}
 use Rattle.monkey_server.specs.declared.end.End.TheVariants as ends
 use Rattle.monkey_server.specs.declared.end.Stop.{Stop}
 use Rattle.monkey_server.specs.declared.end.Stop.TheVariants as stops
-use Rattle.monkey_server.specs.declared.stage.Access.{Access}
+use Rattle.query_request.specs.declared.request.Access.{Access}
+use Rattle.sql_tree.specs.declared.table.Table.{Table}
+use Rattle.sound_table.specs.Sound.{IsSound}
 use Rattle.monkey_server.specs.declared.stage.Owed.{Owed}
 use Rattle.monkey_server.specs.declared.stage.Owed.TheVariants as owes
 use Rattle.monkey_server.specs.declared.stage.Fatal.{Fatal}
@@ -27,8 +29,8 @@ use Rattle.monkey_server.specs.declared.stage.Finish.TheVariants as finishes
 use Rattle.monkey_server.specs.declared.stage.Reply.TheVariants as replies
 use Rattle.monkey_server.specs.declared.stage.Stage.{Stage}
 use Rattle.monkey_server.specs.declared.stage.Stage.TheVariants as stages
-use Rattle.monkey_server.specs.declared.want.Want.{Want}
-use Rattle.monkey_server.specs.declared.want.Want.TheVariants as wanted
+use Rattle.monkey_server.specs.Calls.{Want}
+use Rattle.monkey_server.specs.Calls as wanted
 use Rattle.monkey_server.specs.Talk.{Ask, Says, Talk, IsTalk}
 use Rattle.monkey_server.specs.Replies.{fatal_reply, fatal_state, bytes_of}
 use Rattle.monkey_server.specs.Told.{Entry, did, refused, short, unsent, stop, Said, Script, more, call, ended, with_call, tell, done, lost, closing, ending, owed_by, readied, undone, committed, creates, fills, marks, fetches, checks, begins, looks, opens, handled, session, told, key_of, presence_of, field_of}
@@ -59,19 +61,19 @@ abbrev pub owed_in : Bool → Owed
 owed_in true = owes.Rollback
 owed_in false = owes.Close
 
--- what a stage goes on with, given the reply that was built, the number of tables known, and what the client says from here on
-abbrev pub goes_on : Stage → List ℕ → ℕ → Talk → Script
+-- what a stage goes on with, given the reply that was built, the tables known, and what the client says from here on
+abbrev pub goes_on : Stage → List ℕ → List Table → Talk → Script
 goes_on (stages.Waiting opened) built known talk = session opened known talk
 goes_on stages.Opening built known talk = opens (session true known talk)
-goes_on stages.Defining built known talk = creates (session true known talk)
-goes_on (stages.Looking access) built known talk = looks access known (λ k. session true k talk)
-goes_on (stages.Beginning access) built known talk = begins access (session true known talk)
-goes_on (stages.Checking access) built known talk = checks access (session true known talk)
-goes_on (stages.Fetching key) built known talk = fetches key (session true known talk)
-goes_on (stages.Marking key value) built known talk = marks key value (session true known talk)
-goes_on (stages.Filling key value) built known talk = fills key value (session true known talk)
+goes_on (stages.Defining table) built known talk = creates table (session true known talk)
+goes_on (stages.Looking statement access) built known talk = looks statement access known (λ k. session true k talk)
+goes_on (stages.Beginning table access) built known talk = begins table access (session true known talk)
+goes_on (stages.Checking table access) built known talk = checks table access (session true known talk)
+goes_on (stages.Fetching table key) built known talk = fetches table key (session true known talk)
+goes_on (stages.Marking table key value) built known talk = marks table key value (session true known talk)
+goes_on (stages.Filling table key value) built known talk = fills table key value (session true known talk)
 goes_on stages.Committing built known talk = committed (session true known talk)
-goes_on (stages.Undoing fault) built known talk = undone fault (session true known talk)
+goes_on (stages.Undoing state) built known talk = undone state (session true known talk)
 goes_on (stages.Telling pending reply) built known talk = tell (bytes_of built reply) (ending (owed_in pending) ends.WriteFault) (resumed pending (session true known talk))
 goes_on (stages.Settling reply) built known talk = tell (bytes_of built reply) (closing ends.WriteFault) (session true known talk)
 goes_on (stages.Leaving finish) built known talk = ending owes.Rollback (end_of finish)
@@ -124,7 +126,7 @@ IsWaiting held = HasNoFront held.started held.rest × ((fault : FrameFault) → 
 
 -- Whatever comes, told of the lists grown by it is what the state goes on with. `whole` puts what the client says from here on behind what
 -- it said before.
-pub record StandsFor (stage : Stage) (built : List ℕ) (known : ℕ) (held : Held) (taken : List ℕ) (entries : List Entry) (asked : List Call) (sent : List ℕ) : Type 0 where
+pub record StandsFor (stage : Stage) (built : List ℕ) (known : List Table) (held : Held) (taken : List ℕ) (entries : List Entry) (asked : List Call) (sent : List ℕ) : Type 0 where
   pub whole : Talk → Talk
   pub heard : (bytes : List ℕ) (talk : Talk) → IsFed stage bytes → IsTalk held.started (held.rest ++ bytes) talk → IsTalk false (taken ++ bytes) (whole talk)
   pub goes : (talk : Talk) (es : List Entry) → IsFrom (least stage) (length sent) es →
@@ -145,7 +147,7 @@ IsBusy (stages.Waiting opened) = ⊥
 IsBusy _ = Unit {0}
 
 abbrev pub LeadsTo : Stage → Script → Type 0
-LeadsTo stage script = IsLast stage × ((built : List ℕ) (known : ℕ) (talk : Talk) (said : Said) (es : List Entry) → script said es ≡ goes_on stage built known talk said es)
+LeadsTo stage script = IsLast stage × ((built : List ℕ) (known : List Table) (talk : Talk) (said : Said) (es : List Entry) → script said es ≡ goes_on stage built known talk said es)
 
 -- Before the startup a session waits, and from there on it has started.
 abbrev pub phase_fits : Stage → Bool → Bool
@@ -160,19 +162,19 @@ phase_fits _ started = started
 abbrev pub InPhase : Stage → Bool → Type 0
 InPhase stage started = phase_fits stage started ≡ true
 
--- what a stage wants, given the number of tables known, and the reply that it holds
-abbrev pub wants : Stage → ℕ → Want
+-- what a stage wants, given the tables known
+abbrev pub wants : Stage → List Table → Want
 wants (stages.Waiting opened) known = wanted.Bytes
 wants stages.Opening known = wanted.Book calls.Open
-wants stages.Defining known = wanted.Book calls.Define
-wants (stages.Looking access) known = wanted.Book (calls.Look known)
-wants (stages.Beginning access) known = wanted.Book calls.Begin
-wants (stages.Checking access) known = wanted.Book (calls.Touch (presence_of (key_of access)))
-wants (stages.Fetching key) known = wanted.Book (calls.Touch (field_of key))
-wants (stages.Marking key value) known = wanted.Book (calls.Write (presence_of key) (Flag true))
-wants (stages.Filling key value) known = wanted.Book (calls.Write (field_of key) (Int value))
+wants (stages.Defining table) known = wanted.Book (calls.Define table)
+wants (stages.Looking statement access) known = wanted.Book (calls.Look (length known))
+wants (stages.Beginning table access) known = wanted.Book calls.Begin
+wants (stages.Checking table access) known = wanted.Book (calls.Touch (presence_of table (key_of access)))
+wants (stages.Fetching table key) known = wanted.Book (calls.Touch (field_of table key))
+wants (stages.Marking table key value) known = wanted.Book (calls.Write (presence_of table key) (Flag true))
+wants (stages.Filling table key value) known = wanted.Book (calls.Write (field_of table key) (Int value))
 wants stages.Committing known = wanted.Book calls.Commit
-wants (stages.Undoing fault) known = wanted.Book calls.Rollback
+wants (stages.Undoing state) known = wanted.Book calls.Rollback
 wants (stages.Telling pending reply) known = wanted.Send
 wants (stages.Settling reply) known = wanted.Send
 wants (stages.Leaving finish) known = wanted.Book calls.Rollback
@@ -201,7 +203,7 @@ IsPassing (Some false) = Unit {0}
 IsPassing (Some true) = ⊥
 
 -- a message of a client leads to a stage, with a want of memory in its reading where there was one
-pub record Enters (front : Front) (known : ℕ) (stage : Stage) (wanting : Option Bool) : Type 0 where
+pub record Enters (front : Front) (known : List Table) (stage : Stage) (wanting : Option Bool) : Type 0 where
   pub ask : Ask
   pub says : Says front ask
   pub busy : IsBusy stage
@@ -210,7 +212,7 @@ pub record Enters (front : Front) (known : ℕ) (stage : Stage) (wanting : Optio
       handled ask known (λ k. session true k talk) said (with_short wanting said.bytes es) ≡ goes_on stage built known talk said es
 
 -- Where a message or bytes are wanted, the next message, a fault or a want of memory leads to a stage.
-pub record Steps (opened : Bool) (known : ℕ) (before : Held) (stage : Stage) (wanting : Option Bool) (after : Held) : Type 0 where
+pub record Steps (opened : Bool) (known : List Table) (before : Held) (stage : Stage) (wanting : Option Bool) (after : Held) : Type 0 where
   pub turns : Talk → Talk
   pub heard : (bytes : List ℕ) (talk : Talk) → IsFed stage bytes → IsTalk after.started (after.rest ++ bytes) talk → IsTalk before.started (before.rest ++ bytes) (turns talk)
   pub goes : (built : List ℕ) (talk : Talk) (said : Said) (es : List Entry) → IsFrom (least stage) (length said.bytes) es →
@@ -218,7 +220,7 @@ pub record Steps (opened : Bool) (known : ℕ) (before : Held) (stage : Stage) (
   pub waits : (o : Bool) → stage ≡ stages.Waiting o → IsWaiting after
 
 -- An answer to a stage's call leads on, with a want of memory behind it where there was one.
-pub record Advances (stage : Stage) (known : ℕ) (answer : Answer) (next : Stage) (wanting : Option Bool) (built : List ℕ) (after : ℕ) : Type 0 where
+pub record Advances (stage : Stage) (known : List Table) (answer : Answer) (next : Stage) (wanting : Option Bool) (built : List ℕ) (after : List Table) : Type 0 where
   pub goes : (c : Call) (before : List ℕ) (talk : Talk) (said : Said) (es : List Entry) (e : Event) → wants stage known ≡ wanted.Book c → IsFrom 1 (length said.bytes) es →
       goes_on stage before known talk said (entry_for answer e ∷ with_short wanting said.bytes es) ≡ goes_on next built after talk (with_call said c) es
   pub busy : IsBusy next
@@ -246,10 +248,10 @@ abbrev pub Fits : Call → Answer → Type 0
 Fits calls.Open (answers.Opened s) = Unit {0}
 Fits calls.Open (answers.Refused why) = Unit {0}
 Fits calls.Close answers.Closed = Unit {0}
-Fits (calls.Look known) (answers.Looked tables) = known + length tables < 4294967296
+Fits (calls.Look known) (answers.Looked tables) = (known + length tables < 4294967296) × AreNarrowTables tables
 Fits (calls.Look known) (answers.Refused why) = Unit {0}
-Fits calls.Define (answers.Defined a) = Unit {0}
-Fits calls.Define (answers.Refused why) = Unit {0}
+Fits (calls.Define table) (answers.Defined a) = Unit {0}
+Fits (calls.Define table) (answers.Refused why) = Unit {0}
 Fits calls.Begin (answers.Begun n) = Unit {0}
 Fits calls.Begin (answers.Refused why) = Unit {0}
 Fits (calls.Touch cell) (answers.Found value) = Unit {0}
@@ -270,30 +272,31 @@ wants_memory (answers.Refused faults.Memory) = true
 wants_memory (answers.Refused (faults.Full limit)) = false
 wants_memory _ = false
 
--- how many tables are known behind an answer
-abbrev pub known_after : ℕ → Answer → ℕ
-known_after known (answers.Looked tables) = known + length tables
-known_after known _ = known
+-- The tables known behind an answer are those known before, and, behind a look, perhaps those that it showed.
+abbrev pub IsKnownAfter : List Table → Answer → List Table → Type 0
+IsKnownAfter known (answers.Looked tables) after = (after ≡ known) ⊎ (after ≡ known ++ tables)
+IsKnownAfter known _ after = after ≡ known
 
--- the answers that a reply is built of
+-- the answers that need memory are left out
 abbrev pub IsPlain : Stage → Answer → Type 0
 IsPlain stages.Opening (answers.Opened s) = ⊥
-IsPlain (stages.Fetching key) (answers.Found value) = ⊥
+IsPlain (stages.Looking statement access) (answers.Looked tables) = ⊥
+IsPlain (stages.Fetching table key) (answers.Found value) = ⊥
 IsPlain _ _ = Unit {0}
 
 -- what the session owes its book
 abbrev pub owed_at : Stage → Owed
 owed_at (stages.Waiting opened) = owed_by opened
 owed_at stages.Opening = owes.Nothing
-owed_at stages.Defining = owes.Close
-owed_at (stages.Looking access) = owes.Close
-owed_at (stages.Beginning access) = owes.Close
-owed_at (stages.Checking access) = owes.Rollback
-owed_at (stages.Fetching key) = owes.Rollback
-owed_at (stages.Marking key value) = owes.Rollback
-owed_at (stages.Filling key value) = owes.Rollback
+owed_at (stages.Defining table) = owes.Close
+owed_at (stages.Looking statement access) = owes.Close
+owed_at (stages.Beginning table access) = owes.Close
+owed_at (stages.Checking table access) = owes.Rollback
+owed_at (stages.Fetching table key) = owes.Rollback
+owed_at (stages.Marking table key value) = owes.Rollback
+owed_at (stages.Filling table key value) = owes.Rollback
 owed_at stages.Committing = owes.Rollback
-owed_at (stages.Undoing fault) = owes.Rollback
+owed_at (stages.Undoing state) = owes.Rollback
 owed_at (stages.Telling pending reply) = owed_in pending
 owed_at (stages.Settling reply) = owes.Close
 owed_at (stages.Leaving finish) = owes.Rollback
@@ -309,24 +312,34 @@ owed_after calls.Commit answers.Committed owed = owes.Close
 owed_after calls.Rollback answers.RolledBack owed = owes.Close
 owed_after _ _ owed = owed
 
--- A stage that reads knows that a table is defined and that its transaction has written nothing.
+-- A stage that reads has a transaction that has written nothing.
 abbrev pub IsReading : Stage → Type 0
-IsReading (stages.Checking access) = Unit {0}
-IsReading (stages.Fetching key) = Unit {0}
+IsReading (stages.Checking table access) = Unit {0}
+IsReading (stages.Fetching table key) = Unit {0}
 IsReading _ = ⊥
 
-abbrev pub NeedsTable : Stage → Type 0
-NeedsTable (stages.Beginning access) = Unit {0}
-NeedsTable (stages.Checking access) = Unit {0}
-NeedsTable (stages.Fetching key) = Unit {0}
-NeedsTable (stages.Marking key value) = Unit {0}
-NeedsTable (stages.Filling key value) = Unit {0}
-NeedsTable _ = ⊥
+-- A stage that works on a row knows its table.
+abbrev pub KnowsTable : Stage → List Table → Type 0
+KnowsTable (stages.Beginning table access) known = table < length known
+KnowsTable (stages.Checking table access) known = table < length known
+KnowsTable (stages.Fetching table key) known = table < length known
+KnowsTable (stages.Marking table key value) known = table < length known
+KnowsTable (stages.Filling table key value) known = table < length known
+KnowsTable _ known = Unit {0}
+
+-- the table that is about to be defined is sound
+abbrev pub DefinesSound : Stage → Type 0
+DefinesSound (stages.Defining table) = IsSound table
+DefinesSound _ = Unit {0}
+
+-- a table has fewer columns than there are numbers of 32 bits
+abbrev pub AreNarrowTables : List Table → Type 0
+AreNarrowTables tables = All (λ table. length table.columns < 4294967296) tables
 
 -- a reading stage comes of a Begin, or of a read in a reading stage
 abbrev pub ComesFrom : Stage → Stage → Type 0
-ComesFrom before (stages.Checking access) = (a : Access) × (before ≡ stages.Beginning a)
-ComesFrom before (stages.Fetching key) = IsReading before
+ComesFrom before (stages.Checking table access) = (t : ℕ) × (a : Access) × (before ≡ stages.Beginning t a)
+ComesFrom before (stages.Fetching table key) = IsReading before
 ComesFrom before _ = Unit {0}
 
 -- an end whose cause is the link
@@ -349,15 +362,15 @@ outer _ = None
 abbrev pub work_at : Stage → ℕ
 work_at (stages.Waiting opened) = 4
 work_at stages.Opening = 6
-work_at stages.Defining = 7
-work_at (stages.Looking access) = 12
-work_at (stages.Beginning access) = 11
-work_at (stages.Checking access) = 10
-work_at (stages.Fetching key) = 8
-work_at (stages.Marking key value) = 9
-work_at (stages.Filling key value) = 8
+work_at (stages.Defining table) = 7
+work_at (stages.Looking statement access) = 12
+work_at (stages.Beginning table access) = 11
+work_at (stages.Checking table access) = 10
+work_at (stages.Fetching table key) = 8
+work_at (stages.Marking table key value) = 9
+work_at (stages.Filling table key value) = 8
 work_at stages.Committing = 6
-work_at (stages.Undoing fault) = 7
+work_at (stages.Undoing state) = 7
 work_at (stages.Telling true reply) = 7
 work_at (stages.Telling false reply) = 6
 work_at (stages.Settling reply) = 5

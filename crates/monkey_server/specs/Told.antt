@@ -1,5 +1,5 @@
 -- What a session is told, and which calls it asks of its book, given what its client says and what became of it so far.
-use Rattle.std.specs.Prelude.{ℕ, ℤ, zero, suc, ◌==◌, ◌+◌, List, [], ◌∷◌, ◌++◌, length, if◌then◌else◌, Bool, true, false, ◌||◌}
+use Rattle.std.specs.Prelude.{ℕ, ℤ, ◌==◌, List, [], ◌∷◌, ◌++◌, length, if◌then◌else◌, Bool, true, false, ◌||◌, Option, Some, None, Ok, Err}
 use Rattle.cell_base.specs.declared.cell.Cell.{Cell}
 use Rattle.cell_base.specs.declared.cell.Cell.TheVariants.{Presence, Field}
 use Rattle.cell_base.specs.declared.key.Key.TheVariants.{Int as IntKey}
@@ -11,8 +11,8 @@ use Rattle.history_core.specs.declared.event.Event.{Event}
 use Rattle.history_core.specs.declared.fault.BookFault.{BookFault}
 use Rattle.history_core.specs.declared.fault.BookFault.TheVariants as faults
 use Rattle.history_core.specs.declared.fault.DefineAnswer.TheVariants as defines
-use Rattle.monkey_server.specs.declared.call.Call.{Call}
-use Rattle.monkey_server.specs.declared.call.Call.TheVariants as calls
+use Rattle.monkey_server.specs.Calls.{Call}
+use Rattle.monkey_server.specs.Calls as calls
 use Rattle.monkey_server.specs.declared.call.Answer.{Answer}
 use Rattle.monkey_server.specs.declared.call.Answer.TheVariants as answers
 use Rattle.monkey_server.specs.declared.end.End.{End}
@@ -21,14 +21,18 @@ use Rattle.monkey_server.specs.declared.end.Stop.{Stop}
 use Rattle.monkey_server.specs.declared.end.Stop.TheVariants as stops
 use Rattle.query_request.specs.declared.request.Request.{Request}
 use Rattle.query_request.specs.declared.request.Request.TheVariants as requests
-use Rattle.monkey_server.specs.declared.stage.Access.{Access}
-use Rattle.monkey_server.specs.declared.stage.Access.TheVariants.{Get, Put}
-use Rattle.monkey_server.specs.declared.stage.Fault.{Fault}
-use Rattle.monkey_server.specs.declared.stage.Fault.TheVariants as fails
+use Rattle.query_request.specs.declared.request.Access.{Access}
+use Rattle.query_request.specs.declared.request.Access.TheVariants.{Get, Put}
+use Rattle.sql_tree.specs.declared.statement.Statement.{Statement}
+use Rattle.sql_tree.specs.declared.table.Table.{Table}
+use Rattle.sql_tree.specs.declared.typed.Typed.{Typed}
+use Rattle.sql_typing.specs.Outcome.{Outcome}
+use Rattle.sql_typing.specs.Typed.{typed}
+use Rattle.monkey_server.specs.Tables.{number_of_t}
 use Rattle.monkey_server.specs.declared.stage.Owed.{Owed}
 use Rattle.monkey_server.specs.declared.stage.Owed.TheVariants as owes
 use Rattle.monkey_server.specs.Talk.{Ask, start, nameless, version, query, unread_query, terminate, Talk, asks, partial, faulty, unread}
-use Rattle.monkey_server.specs.Replies.{startup_reply, ready_reply, created_reply, inserted_reply, no_row_reply, one_row_reply, error_reply, fatal_reply, fault_state, is_present}
+use Rattle.monkey_server.specs.Replies.{startup_reply, ready_reply, created_reply, inserted_reply, no_row_reply, one_row_reply, error_reply, fatal_reply, is_present}
 
 -- An entry of a session's record. A want of memory says whether it ends the session, and it and a failed write say how many
 -- bytes had been told, so that it is known where they stand.
@@ -98,8 +102,8 @@ on_opened (answers.Opened session) good bad = good session
 on_opened (answers.Refused fault) good bad = bad fault
 on_opened _ good bad = lost
 
-abbrev pub on_looked : Answer → (ℕ → Script) → (BookFault → Script) → Script
-on_looked (answers.Looked tables) good bad = good (length tables)
+abbrev pub on_looked : Answer → (List Table → Script) → (BookFault → Script) → Script
+on_looked (answers.Looked tables) good bad = good tables
 on_looked (answers.Refused fault) good bad = bad fault
 on_looked _ good bad = lost
 
@@ -179,21 +183,21 @@ ending owes.Rollback end = ask calls.Rollback (λ _. closing end)
 
 -- Statements. A message has its own transaction, which is pending from its Begin on.
 
--- why a statement fails whose call was refused
-abbrev pub refusal_fault : BookFault → Fault
-refusal_fault (faults.Full limit) = fails.Full
-refusal_fault faults.Memory = fails.Memory
+-- the code of a statement whose call was refused
+abbrev pub refusal_state : BookFault → SqlState
+refusal_state (faults.Full limit) = states.S54000
+refusal_state faults.Memory = states.S53200
 
 -- the end of a message
 abbrev pub readied : Script → Script
 readied rest = tell ready_reply (closing ends.WriteFault) rest
 
 -- a statement that fails with no transaction pending, and one that fails in its transaction: the rollback first, then the error
-abbrev pub failed : Fault → Script → Script
-failed why rest = tell (error_reply (fault_state why)) (closing ends.WriteFault) (readied rest)
+abbrev pub failed : SqlState → Script → Script
+failed state rest = tell (error_reply state) (closing ends.WriteFault) (readied rest)
 
-abbrev pub undone : Fault → Script → Script
-undone why rest = ask calls.Rollback (λ _. failed why rest)
+abbrev pub undone : SqlState → Script → Script
+undone state rest = ask calls.Rollback (λ _. failed state rest)
 
 -- a statement that succeeds in its transaction, which the end of the message commits
 abbrev pub committed : Script → Script
@@ -202,58 +206,68 @@ committed rest = ask calls.Commit (λ _. readied rest)
 abbrev pub succeeded : List ℕ → Script → Script
 succeeded reply rest = tell reply (ending owes.Rollback ends.WriteFault) (committed rest)
 
--- the cells of a row of the table: whether it is there, and its second column
-abbrev pub presence_of : ℤ → Cell
-presence_of key = Presence 0 (IntKey key)
+-- the cells of a row of a table: whether it is there, and its second column
+abbrev pub presence_of : ℕ → ℤ → Cell
+presence_of table key = Presence table (IntKey key)
 
-abbrev pub field_of : ℤ → Cell
-field_of key = Field 0 (IntKey key) 1
+abbrev pub field_of : ℕ → ℤ → Cell
+field_of table key = Field table (IntKey key) 1
 
 abbrev pub key_of : Access → ℤ
 key_of (Get key) = key
 key_of (Put key value) = key
 
-abbrev pub creates : Script → Script
-creates rest = ask calls.Define (λ a. on_defined a (tell created_reply (closing ends.WriteFault) (readied rest)) (failed fails.TableTaken rest) (λ why. failed (refusal_fault why) rest))
+abbrev pub creates : Table → Script → Script
+creates table rest = ask (calls.Define table) (λ a. on_defined a (tell created_reply (closing ends.WriteFault) (readied rest)) (failed states.S42P07 rest) (λ why. failed (refusal_state why) rest))
 
-abbrev pub fills : ℤ → ℤ → Script → Script
-fills key value rest = ask (calls.Write (field_of key) (Int value)) (λ a. on_written a (succeeded inserted_reply rest) (λ why. undone (refusal_fault why) rest))
+abbrev pub fills : ℕ → ℤ → ℤ → Script → Script
+fills table key value rest = ask (calls.Write (field_of table key) (Int value)) (λ a. on_written a (succeeded inserted_reply rest) (λ why. undone (refusal_state why) rest))
 
-abbrev pub marks : ℤ → ℤ → Script → Script
-marks key value rest = ask (calls.Write (presence_of key) (Flag true)) (λ a. on_written a (fills key value rest) (λ why. undone (refusal_fault why) rest))
+abbrev pub marks : ℕ → ℤ → ℤ → Script → Script
+marks table key value rest = ask (calls.Write (presence_of table key) (Flag true)) (λ a. on_written a (fills table key value rest) (λ why. undone (refusal_state why) rest))
 
 abbrev pub selects : Value → Script → Script
-selects value rest = unless_short false (undone fails.Memory rest) (succeeded (one_row_reply value) rest)
+selects value rest = unless_short false (undone states.S53200 rest) (succeeded (one_row_reply value) rest)
 
-abbrev pub fetches : ℤ → Script → Script
-fetches key rest = ask (calls.Touch (field_of key)) (λ a. on_found a (λ value. selects value rest) (λ why. undone (refusal_fault why) rest))
+abbrev pub fetches : ℕ → ℤ → Script → Script
+fetches table key rest = ask (calls.Touch (field_of table key)) (λ a. on_found a (λ value. selects value rest) (λ why. undone (refusal_state why) rest))
 
 -- the row is there, or not
-abbrev pub checked : Access → Bool → Script → Script
-checked (Get key) true rest = fetches key rest
-checked (Get key) false rest = succeeded no_row_reply rest
-checked (Put key value) true rest = undone fails.DuplicateKey rest
-checked (Put key value) false rest = marks key value rest
+abbrev pub checked : ℕ → Access → Bool → Script → Script
+checked table (Get key) true rest = fetches table key rest
+checked table (Get key) false rest = succeeded no_row_reply rest
+checked table (Put key value) true rest = undone states.S23505 rest
+checked table (Put key value) false rest = marks table key value rest
 
-abbrev pub checks : Access → Script → Script
-checks access rest = ask (calls.Touch (presence_of (key_of access))) (λ a. on_found a (λ value. checked access (is_present value) rest) (λ why. undone (refusal_fault why) rest))
+abbrev pub checks : ℕ → Access → Script → Script
+checks table access rest = ask (calls.Touch (presence_of table (key_of access))) (λ a. on_found a (λ value. checked table access (is_present value) rest) (λ why. undone (refusal_state why) rest))
 
-abbrev pub begins : Access → Script → Script
-begins access rest = ask calls.Begin (λ a. on_begun a (checks access rest) (λ why. failed (refusal_fault why) rest))
+abbrev pub begins : ℕ → Access → Script → Script
+begins table access rest = ask calls.Begin (λ a. on_begun a (checks table access rest) (λ why. failed (refusal_state why) rest))
 
--- the table is the first that is defined; without one there is none. rest is what follows, given how many tables are known
-abbrev pub found : Access → ℕ → (ℕ → Script) → Script
-found access zero rest = failed fails.NoTable (rest zero)
-found access (suc n) rest = begins access (rest (suc n))
+-- a statement that has its types runs where it is an access to a row of the table `t` of two columns, and is refused elsewhere
+abbrev pub runs : Option ℕ → Option Access → Script → Script
+runs (Some table) (Some access) rest = begins table access rest
+runs _ _ rest = failed states.S0A000 rest
 
-abbrev pub looks : Access → ℕ → (ℕ → Script) → Script
-looks access known rest = ask (calls.Look known) (λ a. on_looked a (λ n. found access (known + n) rest) (λ why. failed (refusal_fault why) (rest known)))
+abbrev pub judged : Outcome Typed → Option ℕ → Option Access → Script → Script
+judged (Ok t) table access rest = runs table access rest
+judged (Err code) table access rest = failed code rest
 
-abbrev pub requested : Request → ℕ → (ℕ → Script) → Script
-requested requests.Create known rest = creates (rest known)
-requested (requests.Get key) known rest = looks (Get key) known rest
-requested (requests.Put key value) known rest = looks (Put key value) known rest
-requested (requests.Refused fault) known rest = failed (fails.Query fault) (rest known)
+-- A statement is typed over the tables that are known behind its look. rest is what follows, given the tables that are known. A want of
+-- memory in its typing forgets what the look showed.
+abbrev pub typed_over : Statement → Option Access → List Table → List Table → (List Table → Script) → Script
+typed_over statement access known tables rest =
+    unless_short false (failed states.S53200 (rest known)) (judged (typed (known ++ tables) statement) (number_of_t (known ++ tables)) access (rest (known ++ tables)))
+
+abbrev pub looks : Statement → Option Access → List Table → (List Table → Script) → Script
+looks statement access known rest =
+    ask (calls.Look (length known)) (λ a. on_looked a (λ tables. typed_over statement access known tables rest) (λ why. failed (refusal_state why) (rest known)))
+
+abbrev pub requested : Request → List Table → (List Table → Script) → Script
+requested (requests.Define table) known rest = creates table (rest known)
+requested (requests.Look statement access) known rest = looks statement access known rest
+requested (requests.Refused code) known rest = failed code (rest known)
 
 -- Messages. Whether the session was opened says what it owes.
 
@@ -271,12 +285,12 @@ greets session rest = unless_short true (closing ends.Memory) (tell (startup_rep
 abbrev pub opens : Script → Script
 opens rest = ask calls.Open (λ a. on_opened a (λ session. greets session rest) (λ why. closed (refusal_end why)))
 
-abbrev pub handled : Ask → ℕ → (ℕ → Script) → Script
+abbrev pub handled : Ask → List Table → (List Table → Script) → Script
 handled start known rest = opens (rest known)
 handled nameless known rest = closed (ends.Refused states.S28000)
 handled version known rest = closed (ends.Refused states.S0A000)
 handled (query request) known rest = requested request known rest
-handled unread_query known rest = unless_short false (failed fails.Memory (rest known)) lost
+handled unread_query known rest = unless_short false (failed states.S53200 (rest known)) lost
 handled terminate known rest = closing ends.Terminated
 
 abbrev pub stop_end : Stop → ℕ → End
@@ -293,8 +307,8 @@ waiting opened held said (refused why ∷ entries) = (said, astray)
 waiting opened held said (short final n ∷ entries) = (said, astray)
 waiting opened held said (unsent n ∷ entries) = (said, astray)
 
--- the messages one after another, given whether the session was opened and how many tables it knows
-abbrev pub session : Bool → ℕ → Talk → Script
+-- the messages one after another, given whether the session was opened and which tables it knows
+abbrev pub session : Bool → List Table → Talk → Script
 session opened known (asks ask talk) = unless_short true (ending (owed_by opened) ends.Memory) (handled ask known (λ k. session true k talk))
 session opened known (partial rest) = unless_short true (ending (owed_by opened) ends.Memory) (waiting opened (length rest))
 session opened known (faulty fault) = unless_short true (ending (owed_by opened) ends.Memory) (ending (owed_by opened) (ends.Protocol fault))
@@ -302,4 +316,4 @@ session opened known unread = unless_short true (ending (owed_by opened) ends.Me
 
 -- what a session is told of all that its client says and of its whole record, the calls that it asked, and what comes next
 unfoldable pub told : Talk → List Entry → Said × Next
-told talk entries = session false 0 talk (record { bytes = []; calls = [] }) entries
+told talk entries = session false [] talk (record { bytes = []; calls = [] }) entries

@@ -3,15 +3,13 @@ use cell_base::{Cell, Items, Value};
 use history_core::{BookFault, DefineAnswer};
 use sql_tree::Table;
 
-/// A call of a book.
+/// A call of a book, but for the definition of a table, which the session keeps.
 #[derive(Debug, Drop)]
 pub enum Call {
     Open,
     Close,
     /// The number of tables that the session knows.
     Look(u32),
-    /// Defines the table of the one CREATE TABLE that the server runs.
-    Define,
     Begin,
     /// Reads a cell.
     Touch(Cell),

@@ -4,6 +4,7 @@
 mod call;
 mod command;
 mod end;
+mod errors;
 mod list_words;
 mod prepared;
 mod replies;
@@ -11,6 +12,7 @@ mod run;
 mod serve;
 mod session;
 mod stage;
+mod tables;
 #[cfg(test)]
 mod tests;
 #[cfg(test)]

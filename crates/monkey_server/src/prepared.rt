@@ -1,15 +1,15 @@
 // The replies that a session may need, made before it needs them, so that no want of memory stands between a call and the
 // reply that tells it.
 ghost use Rattle.std.specs.Prelude.{◌≡◌};
-ghost use Rattle.monkey_server.specs.Replies.{ready_reply, created_reply, inserted_reply, no_row_reply, error_reply, fatal_reply};
-ghost use Rattle.monkey_server.specs.Replies.{bytes_of, fault_state, fatal_state};
+ghost use Rattle.monkey_server.specs.Replies.{ready_reply, created_reply, inserted_reply, no_row_reply, fatal_reply};
+ghost use Rattle.monkey_server.specs.Replies.{bytes_of, fatal_state};
 ghost use Rattle.cell_base.specs.declared.sql_state.SqlState.TheVariants as states;
 
-use crate::replies::{append_result, error, fatal};
-use crate::stage::{Fatal, Fault, Reply};
+use crate::errors::Errors;
+use crate::replies::{append_result, fatal};
+use crate::stage::{Fatal, Reply};
 use cell_base::{Memory, SqlState};
 use pg_framing::{TransactionState, append_complete, append_ready};
-use query_request::QueryFault;
 use std::alloc::Global;
 
 /// The replies whose bytes are known beforehand.
@@ -31,29 +31,6 @@ struct Done {
     ghost created_is: { created.items ≡ created_reply },
     ghost inserted_is: { inserted.items ≡ inserted_reply },
     ghost no_row_is: { no_row.items ≡ no_row_reply },
-}
-
-// The replies of statements that fail.
-#[derive(Debug, Drop)]
-struct Errors {
-    not_utf8: Vec<u8>,
-    syntax: Vec<u8>,
-    out_of_range: Vec<u8>,
-    unsupported: Vec<u8>,
-    no_table: Vec<u8>,
-    table_taken: Vec<u8>,
-    duplicate_key: Vec<u8>,
-    full: Vec<u8>,
-    memory: Vec<u8>,
-    ghost not_utf8_is: { not_utf8.items ≡ error_reply states.S22021 },
-    ghost syntax_is: { syntax.items ≡ error_reply states.S42601 },
-    ghost out_of_range_is: { out_of_range.items ≡ error_reply states.S22003 },
-    ghost unsupported_is: { unsupported.items ≡ error_reply states.S0A000 },
-    ghost no_table_is: { no_table.items ≡ error_reply states.S42P01 },
-    ghost table_taken_is: { table_taken.items ≡ error_reply states.S42P07 },
-    ghost duplicate_key_is: { duplicate_key.items ≡ error_reply states.S23505 },
-    ghost full_is: { full.items ≡ error_reply states.S54000 },
-    ghost memory_is: { memory.items ≡ error_reply states.S53200 },
 }
 
 // The replies that end a session.
@@ -90,39 +67,6 @@ impl Done {
     }
 }
 
-impl Errors {
-    fn new(alloc: Global) -> Result<Errors, Memory> {
-        Ok(Errors {
-            not_utf8: error(alloc, SqlState::S22021)?,
-            syntax: error(alloc, SqlState::S42601)?,
-            out_of_range: error(alloc, SqlState::S22003)?,
-            unsupported: error(alloc, SqlState::S0A000)?,
-            no_table: error(alloc, SqlState::S42P01)?,
-            table_taken: error(alloc, SqlState::S42P07)?,
-            duplicate_key: error(alloc, SqlState::S23505)?,
-            full: error(alloc, SqlState::S54000)?,
-            memory: error(alloc, SqlState::S53200)?,
-        })
-    }
-
-    fn bytes(&self, fault: Fault) -> &[u8]
-        ensures { result.now ≡ error_reply (fault_state fault) }
-    {
-        match fault {
-            Fault::Query(QueryFault::NotUtf8) => self.not_utf8.as_slice(),
-            Fault::Query(QueryFault::Syntax) => self.syntax.as_slice(),
-            Fault::Query(QueryFault::OutOfRange) => self.out_of_range.as_slice(),
-            Fault::Query(QueryFault::Unsupported) => self.unsupported.as_slice(),
-            Fault::Query(QueryFault::Limit) => self.full.as_slice(),
-            Fault::NoTable => self.no_table.as_slice(),
-            Fault::TableTaken => self.table_taken.as_slice(),
-            Fault::DuplicateKey => self.duplicate_key.as_slice(),
-            Fault::Full => self.full.as_slice(),
-            Fault::Memory => self.memory.as_slice(),
-        }
-    }
-}
-
 impl Fatals {
     fn new(alloc: Global) -> Result<Fatals, Memory> {
         Ok(Fatals {
@@ -154,7 +98,7 @@ impl Prepared {
             Reply::Inserted => self.done.inserted.as_slice(),
             Reply::NoRow => self.done.no_row.as_slice(),
             Reply::Ready => self.done.ready.as_slice(),
-            Reply::Error(fault) => self.errors.bytes(fault),
+            Reply::Error(state) => self.errors.bytes(state),
         }
     }
 

@@ -1,12 +1,14 @@
 // Serves a session over a link.
-ghost use Rattle.std.specs.Prelude.{◌≡◌, ℕ, ◌+◌, ◌*◌, ◌<◌, ◌≤◌, List, [], ◌∷◌, ◌++◌, length, Option, Some, true, false, IfOk, codes};
+ghost use Rattle.std.specs.Prelude.{◌≡◌, ℕ, ◌+◌, ◌*◌, ◌<◌, ◌≤◌, List, [], ◌∷◌, ◌++◌, length, Option, Some, true, false, IfOk};
+ghost use Rattle.sql_tree.specs.declared.table.Table.{Table as Defined};
+ghost use Rattle.sound_table.specs.Sound.{IsSound};
 ghost use Rattle.history_core.specs.declared.event.Event.{Event};
-ghost use Rattle.history_core.specs.Book.{Past, away};
+ghost use Rattle.history_core.specs.Book.{Past, away, IsSeated};
 ghost use Rattle.link_traits.specs.Traffic.{Sight, sight_of};
-ghost use Rattle.sql_tree.specs.Sound.{first_table};
+ghost use Rattle.monkey_server.specs.Calls.{Call as Asked, call_of};
+ghost use Rattle.monkey_server.specs.Calls as wanted;
 ghost use Rattle.monkey_server.specs.Talk.{Talk};
 ghost use Rattle.monkey_server.specs.Told.{Entry, has_short};
-ghost use Rattle.monkey_server.specs.declared.call.Call.{Call as Asked};
 ghost use Rattle.monkey_server.specs.declared.stage.Stage.TheVariants as stages;
 ghost use Rattle.monkey_server.specs.Sessions.{Stands, work_of};
 ghost use Rattle.monkey_server.specs.Stands.{Fits, wants, IsLast, IsResting, IsOver};
@@ -16,10 +18,10 @@ use crate::call::{Answer, Call};
 use crate::end::{End, Stop};
 use crate::session::Session;
 use crate::want::Want;
-use cell_base::{Items, Memory, SqlType, Text, Value};
+use cell_base::Memory;
 use history_core::Book;
 use link_traits::{Link, Words, send_all};
-use sql_tree::{Column, Table};
+use sql_tree::Table;
 use std::alloc::Global;
 
 /// The greatest number of bytes that are read from a link.
@@ -36,13 +38,27 @@ pub struct Served {
     pub short: bool,
 }
 
-// Makes a call of the book. A word is drawn before a read.
-fn call<B: Book, W: Words>(book: &mut B, words: &mut W, table: &Table, c: Call) -> Answer
-    requires may { MayAsk c (B.past book.old) }
-    requires table { table.now ≡ first_table }
-    ensures fits { Fits c result }
-    ensures plays { (e : Event) × Plays W.gives (B.past book.old) words.old c result e (B.past book.new) words.new }
-    ensures seat { SeatAfter c result (B.past book.old).seat (B.past book.new).seat }
+// Defines a table in the book.
+fn define<B: Book>(book: &mut B, table: &Table) -> Answer
+    requires may { IsSeated (B.past book.old).seat }
+    requires sound { IsSound table.now }
+    ensures fits { Fits (wanted.Define table.now) result }
+    ensures plays { {W : Type 0} (gives : W → ℕ → W → Type 0) (words : W) → (e : Event) × Plays gives (B.past book.old) words (wanted.Define table.now) result e (B.past book.new) words }
+    ensures seat { SeatAfter (wanted.Define table.now) result (B.past book.old).seat (B.past book.new).seat }
+    ensures stays { B.stays book.old book.new }
+{
+    match book.define(table) {
+        Ok(answer) => Answer::Defined(answer),
+        Err(why) => Answer::Refused(why),
+    }
+}
+
+// Makes another call of the book. A word is drawn before a read.
+fn call<B: Book, W: Words>(book: &mut B, words: &mut W, c: Call) -> Answer
+    requires may { MayAsk (call_of c) (B.past book.old) }
+    ensures fits { Fits (call_of c) result }
+    ensures plays { (e : Event) × Plays W.gives (B.past book.old) words.old (call_of c) result e (B.past book.new) words.new }
+    ensures seat { SeatAfter (call_of c) result (B.past book.old).seat (B.past book.new).seat }
     ensures stays { B.stays book.old book.new }
 {
     match c {
@@ -56,10 +72,6 @@ fn call<B: Book, W: Words>(book: &mut B, words: &mut W, table: &Table, c: Call) 
         }
         Call::Look(known) => match book.look(known) {
             Ok(tables) => Answer::Looked(tables),
-            Err(why) => Answer::Refused(why),
-        },
-        Call::Define => match book.define(table) {
-            Ok(answer) => Answer::Defined(answer),
             Err(why) => Answer::Refused(why),
         },
         Call::Begin => match book.begin() {
@@ -88,25 +100,33 @@ fn call<B: Book, W: Words>(book: &mut B, words: &mut W, table: &Table, c: Call) 
     }
 }
 
-// Makes the call that the session wants.
-fn answer_call<B: Book, W: Words>(
-    session: &mut Session,
-    book: &mut B,
-    words: &mut W,
-    table: &Table,
-    c: Call,
-)
-    requires wanted { wants session.old.stage session.old.known ≡ Want.Book c }
-    requires sits { Sits session.old.stage session.old.known (B.past book.old) }
-    requires table { table.now ≡ first_table }
+// Defines the table that the session wants defined.
+fn answer_define<B: Book, W: Words>(session: &mut Session, book: &mut B, words: &W)
+    requires wanted { (table : Defined) × (wants session.old.stage session.old.known.items ≡ wanted.Book (wanted.Define table)) }
+    requires sits { Sits session.old.stage session.old.known.items (B.past book.old) }
     ensures ran { (p : Past) (v : W) (f g : Sight) (many : ℕ) →
-        Ran W.gives p v f session.old (B.past book.old) words.old g many → Ran W.gives p v f session.new (B.past book.new) words.new g many }
-    ensures sits { Sits session.new.stage session.new.known (B.past book.new) }
+        Ran W.gives p v f session.old (B.past book.old) words.now g many → Ran W.gives p v f session.new (B.past book.new) words.now g many }
+    ensures sits { Sits session.new.stage session.new.known.items (B.past book.new) }
     ensures work { work_of session.new < work_of session.old }
     ensures last { IsLast session.old.stage → IsLast session.new.stage }
     ensures stays { B.stays book.old book.new }
 {
-    let answer = call(book, words, table, c);
+    let answer = define(book, session.table());
+    session.answer(answer);
+}
+
+// Makes another call that the session wants.
+fn answer_call<B: Book, W: Words>(session: &mut Session, book: &mut B, words: &mut W, c: Call)
+    requires wanted { wants session.old.stage session.old.known.items ≡ wanted.Book (call_of c) }
+    requires sits { Sits session.old.stage session.old.known.items (B.past book.old) }
+    ensures ran { (p : Past) (v : W) (f g : Sight) (many : ℕ) →
+        Ran W.gives p v f session.old (B.past book.old) words.old g many → Ran W.gives p v f session.new (B.past book.new) words.new g many }
+    ensures sits { Sits session.new.stage session.new.known.items (B.past book.new) }
+    ensures work { work_of session.new < work_of session.old }
+    ensures last { IsLast session.old.stage → IsLast session.new.stage }
+    ensures stays { B.stays book.old book.new }
+{
+    let answer = call(book, words, c);
     session.answer(answer);
 }
 
@@ -116,22 +136,24 @@ fn turn<B: Book, L: Link, W: Words>(
     book: &mut B,
     link: &mut L,
     words: &mut W,
-    table: &Table,
 ) -> bool
-    requires sits { Sits session.old.stage session.old.known (B.past book.old) }
-    requires table { table.now ≡ first_table }
+    requires sits { Sits session.old.stage session.old.known.items (B.past book.old) }
     ensures ran { (p : Past) (v : W) (f : Sight) (many : ℕ) →
         Ran W.gives p v f session.old (B.past book.old) words.old (sight_of L.traffic L.read_faults L.write_faults link.old) many →
         Ran W.gives p v f session.new (B.past book.new) words.new (sight_of L.traffic L.read_faults L.write_faults link.new) many }
-    ensures sits { Sits session.new.stage session.new.known (B.past book.new) }
+    ensures sits { Sits session.new.stage session.new.known.items (B.past book.new) }
     ensures work { result ≡ true → work_of session.new < work_of session.old }
-    ensures rests { result ≡ false → IsResting (wants session.new.stage session.new.known) }
+    ensures rests { result ≡ false → IsResting (wants session.new.stage session.new.known.items) }
     ensures last { IsLast session.old.stage → IsLast session.new.stage }
     ensures stays { B.stays book.old book.new }
 {
     match session.demand() {
+        Want::Define => {
+            answer_define(session, book, words);
+            true
+        }
         Want::Book(c) => {
-            answer_call(session, book, words, table, c);
+            answer_call(session, book, words, c);
             true
         }
         Want::Send => {
@@ -151,19 +173,17 @@ fn drive<B: Book, L: Link, W: Words>(
     book: &mut B,
     link: &mut L,
     words: &mut W,
-    table: &Table,
 )
-    requires sits { Sits session.old.stage session.old.known (B.past book.old) }
-    requires table { table.now ≡ first_table }
+    requires sits { Sits session.old.stage session.old.known.items (B.past book.old) }
     ensures ran { (p : Past) (v : W) (f : Sight) (many : ℕ) →
         Ran W.gives p v f session.old (B.past book.old) words.old (sight_of L.traffic L.read_faults L.write_faults link.old) many →
         Ran W.gives p v f session.new (B.past book.new) words.new (sight_of L.traffic L.read_faults L.write_faults link.new) many }
-    ensures sits { Sits session.new.stage session.new.known (B.past book.new) }
-    ensures rests { IsResting (wants session.new.stage session.new.known) }
+    ensures sits { Sits session.new.stage session.new.known.items (B.past book.new) }
+    ensures rests { IsResting (wants session.new.stage session.new.known.items) }
     ensures last { IsLast session.old.stage → IsLast session.new.stage }
     ensures stays { B.stays book.old book.new }
 {
-    while turn(session, book, link, words, table) {}
+    while turn(session, book, link, words) {}
 }
 
 // Reads a piece of at most so many bytes into the session, or tells it to stop. Answers how many bytes were read.
@@ -175,12 +195,12 @@ fn take_in<B: Book, L: Link, W: Words>(
     room: &mut [u8],
     most: usize,
 ) -> usize
-    requires wanted { wants session.old.stage session.old.known ≡ Want.Bytes }
+    requires wanted { wants session.old.stage session.old.known.items ≡ wanted.Bytes }
     requires room { 0 < length room.old }
     ensures ran { (p : Past) (v : W) (f : Sight) (many : ℕ) → many + most ≡ 1073741824 →
         Ran W.gives p v f session.old (B.past book.now) words.now (sight_of L.traffic L.read_faults L.write_faults link.old) many →
         Ran W.gives p v f session.new (B.past book.now) words.now (sight_of L.traffic L.read_faults L.write_faults link.new) (many + result) }
-    ensures sits { Sits session.old.stage session.old.known (B.past book.now) → Sits session.new.stage session.new.known (B.past book.now) }
+    ensures sits { Sits session.old.stage session.old.known.items (B.past book.now) → Sits session.new.stage session.new.known.items (B.past book.now) }
     ensures within { result ≤ most }
     ensures stopped { result ≡ 0 → IsLast session.new.stage }
 {
@@ -208,8 +228,8 @@ fn take_in<B: Book, L: Link, W: Words>(
 
 // What became of a session that has ended.
 fn finish(session: &Session) -> Served
-    requires { IsOver (wants session.now.stage session.now.known) }
-    ensures end { wants session.now.stage session.now.known ≡ Want.Ended result.end }
+    requires { IsOver (wants session.now.stage session.now.known.items) }
+    ensures end { wants session.now.stage session.now.known.items ≡ wanted.Ended result.end }
     ensures short { (taken : List ℕ) (entries : List Entry) (asked : List Asked) (sent : List ℕ) → Stands session.now taken entries asked sent → result.short ≡ has_short entries }
 {
     let short = session.is_short();
@@ -222,55 +242,17 @@ fn finish(session: &Session) -> Served
 // What a session is served with.
 struct Start {
     session: Session,
-    table: Table,
     room: Vec<u8>,
-}
-
-fn text(alloc: Global, bytes: &[u8]) -> Result<Text, Memory>
-    ensures { IfOk result (λ text. text ≡ bytes.now) }
-{
-    match Text::from_bytes(alloc, bytes) {
-        Ok(text) => Ok(text),
-        Err(_) => Err(Memory),
-    }
-}
-
-fn column(name: Text, not_null: bool) -> Column
-    ensures { result ≡ record { name = name; kind = SqlType.Bigint; not_null = not_null; default = Value.Null } }
-{
-    Column {
-        name,
-        kind: SqlType::Bigint,
-        not_null,
-        default: Value::Null,
-    }
-}
-
-// The table of `CREATE TABLE t (k bigint PRIMARY KEY, v bigint)`.
-fn table(alloc: Global) -> Result<Table, Memory>
-    ensures { IfOk result (λ table. table ≡ first_table) }
-{
-    let mut columns = Items::new(alloc);
-    columns.push(column(text(alloc, b"k")?, true))?;
-    columns.push(column(text(alloc, b"v")?, false))?;
-    Ok(Table {
-        name: text(alloc, b"t")?,
-        columns,
-        key: 0,
-        checks: Items::new(alloc),
-    })
 }
 
 fn begin(alloc: Global) -> Result<Start, Memory>
     ensures empty { IfOk result (λ s. Stands s.session [] [] [] []) }
     ensures stage { IfOk result (λ s. s.session.stage ≡ stages.Waiting false) }
-    ensures known { IfOk result (λ s. s.session.known ≡ 0) }
-    ensures table { IfOk result (λ s. s.table ≡ first_table) }
+    ensures known { IfOk result (λ s. s.session.known.items ≡ []) }
     ensures room { IfOk result (λ s. 0 < length s.room.items) }
 {
     Ok(Start {
         session: Session::new(alloc)?,
-        table: table(alloc)?,
         room: vec![in alloc; 0u8; ROOM]?,
     })
 }
@@ -278,7 +260,6 @@ fn begin(alloc: Global) -> Result<Start, Memory>
 // Serves a session from its beginning on.
 fn run<B: Book, L: Link, W: Words>(
     mut session: Session,
-    table: &Table,
     room: &mut [u8],
     book: &mut B,
     link: &mut L,
@@ -286,8 +267,7 @@ fn run<B: Book, L: Link, W: Words>(
 ) -> Served
     requires empty { Stands session [] [] [] [] }
     requires stage { session.stage ≡ stages.Waiting false }
-    requires known { session.known ≡ 0 }
-    requires table { table.now ≡ first_table }
+    requires known { session.known.items ≡ [] }
     requires room { 0 < length room.old }
     requires away { (B.past book.old).seat ≡ away }
     ensures served { (talk : Talk) × (taken : List ℕ) × (es : List Entry) × (asked : List Asked) × (sent : List ℕ) × (lost : List ℕ) ×
@@ -298,13 +278,13 @@ fn run<B: Book, L: Link, W: Words>(
 {
     let mut left = MOST_READ;
     loop {
-        drive(&mut session, book, link, words, table);
+        drive(&mut session, book, link, words);
         if let Want::Ended(_) = session.demand() {
             return finish(&session);
         }
         let n = take_in(&mut session, book, link, words, room, left);
         if n == 0 {
-            drive(&mut session, book, link, words, table);
+            drive(&mut session, book, link, words);
             return finish(&session);
         }
         left -= n;
@@ -328,13 +308,7 @@ pub fn serve_link<B: Book, L: Link, W: Words>(
     ensures stays { B.stays book.old book.new }
 {
     match begin(alloc) {
-        Ok(
-            Start {
-                session,
-                table,
-                mut room,
-            },
-        ) => run(session, &table, &mut room, book, link, words),
+        Ok(Start { session, mut room }) => run(session, &mut room, book, link, words),
         Err(Memory) => Served {
             end: End::Memory,
             short: true,

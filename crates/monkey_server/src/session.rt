@@ -1,23 +1,27 @@
 // One session as a machine: bytes and answers come in, calls and replies go out. It keeps neither the bytes that it was fed
-// nor what it was answered.
-ghost use Rattle.std.specs.Prelude.{◌≡◌, ◌≢◌, ℕ, ℤ, ◌+◌, ◌*◌, ◌<◌, ◌≤◌, List, [], ◌∷◌, ◌++◌, length, IfOk, ◌||◌, Some, None, Bool, true, false, Option, IsTrue, ◌↔◌};
+// nor what it was answered, but for the tables that it was shown.
+ghost use Rattle.std.specs.Prelude.{◌≡◌, ◌≢◌, ℕ, ℤ, ◌+◌, ◌*◌, ◌^◌, ◌<◌, ◌≤◌, List, [], ◌∷◌, ◌++◌, length, IfOk, ◌||◌, Some, None, Bool, true, false, Option, IsTrue, ◌↔◌};
+ghost use Rattle.sql_tree.specs.declared.table.Table.{Table as Defined};
+ghost use Rattle.sound_table.specs.Sound.{IsSound};
 ghost use Rattle.history_core.specs.declared.event.Event.{Event};
-ghost use Rattle.monkey_server.specs.declared.call.Call.{Call as Asked};
+ghost use Rattle.monkey_server.specs.Calls.{Call as Asked, IsWant};
+ghost use Rattle.monkey_server.specs.Calls as wanted;
 ghost use Rattle.monkey_server.specs.Told.{Entry, unsent, stop as stopped, has_short, owed_by};
-ghost use Rattle.monkey_server.specs.Stands.{Steps, InPhase, IsHolding, NoBuilt, with_short, owed_at, outer, work_at, Lacks, NeedsTable, ComesFrom, wants_memory, Advances, reply_of};
+ghost use Rattle.monkey_server.specs.Stands.{Steps, InPhase, IsHolding, NoBuilt, with_short, owed_at, outer, work_at, Lacks, KnowsTable, DefinesSound, AreNarrowTables, ComesFrom, wants_memory, Advances, reply_of};
 
 use crate::call::Answer;
 use crate::end::{End, Stop};
 use crate::prepared::Prepared;
 use crate::replies::{one_row, startup};
-use crate::stage::{Fatal, Fault, Finish, Owed, Reply, Stage};
+use crate::stage::{Fatal, Finish, Owed, Reply, Stage};
 use crate::turns::{
-    Step, advance, break_off, enter, finish_of, leave, owed_between, resume, want_of,
+    Step, advance, break_off, enter, finish_of, leave, look, owed_between, resume, want_of,
 };
 use crate::want::Want;
-use cell_base::{Memory, Value};
+use cell_base::{Memory, SqlState, Value};
 use history_core::BookFault;
 use pg_framing::{FrameFault, Frames};
+use sql_tree::Table;
 use std::alloc::Global;
 
 /// One session, which was fed some bytes and answered some calls.
@@ -27,23 +31,27 @@ pub struct Session {
     frames: Frames,
     prepared: Prepared,
     built: Vec<u8>,
-    known: u32,
+    known: Vec<Table>,
     stage: Stage,
     short: bool,
     ghost phase: { InPhase stage frames.started },
-    ghost table: { NeedsTable stage → 0 < known },
+    ghost knows: { KnowsTable stage known.items },
+    ghost sound: { DefinesSound stage },
+    ghost few: { length known.items < 2 ^ 32 },
+    ghost narrow: { AreNarrowTables known.items },
 }
 
 // Begins with the next message that is whole, if there is one.
 fn take_step(alloc: Global, frames: &mut Frames, opened: bool) -> Step
     requires { frames.old.started ≡ opened }
-    ensures goes { (known : ℕ) → Steps opened known frames.old result.stage result.wanting frames.new }
+    ensures goes { (known : List Defined) → Steps opened known frames.old result.stage result.wanting frames.new }
     ensures owed { owed_at result.stage ≡ owed_by opened }
     ensures phase { InPhase result.stage frames.new.started }
     ensures outer { outer result.stage ≡ None }
     ensures lacks { Lacks result.stage [] }
     ensures work { work_at result.stage + 16 * length frames.new.rest < 5 + 16 * length frames.old.rest }
-    ensures table { NeedsTable result.stage → ⊥ }
+    ensures knows { (known : List Defined) → KnowsTable result.stage known }
+    ensures sound { DefinesSound result.stage }
     ensures constant { NoBuilt result.stage }
 {
     match frames.next() {
@@ -76,14 +84,15 @@ fn is_memory(fault: FrameFault) -> bool
 
 // Greets the client of a session that was opened.
 fn greet(alloc: Global, session: u32, built: &mut Vec<u8>) -> Step
-    ensures goes { (known : ℕ) → Advances Stage.Opening known (Answer.Opened session) result.stage result.wanting built.new.items known }
+    ensures goes { (known : List Defined) → Advances Stage.Opening known (Answer.Opened session) result.stage result.wanting built.new.items known }
     ensures owed { owed_at result.stage ≡ Owed.Close }
     ensures outer { outer result.stage ≡ None }
     ensures lacks { Lacks result.stage [] }
     ensures work { work_at result.stage < 6 }
     ensures phase { InPhase result.stage true }
     ensures reads { ComesFrom Stage.Opening result.stage }
-    ensures table { NeedsTable result.stage → ⊥ }
+    ensures knows { (known : List Defined) → KnowsTable result.stage known }
+    ensures sound { DefinesSound result.stage }
     ensures some { IsHolding result.stage → 0 < length (reply_of built.new.items result.stage) }
 {
     match startup(alloc, session) {
@@ -103,14 +112,15 @@ fn greet(alloc: Global, session: u32, built: &mut Vec<u8>) -> Step
 
 // Shows the row that was found.
 fn select(alloc: Global, value: &Value, built: &mut Vec<u8>) -> Step
-    ensures goes { (key : ℤ) (known : ℕ) → Advances (Stage.Fetching key) known (Answer.Found value.now) result.stage result.wanting built.new.items known }
+    ensures goes { (table : ℕ) (key : ℤ) (known : List Defined) → Advances (Stage.Fetching table key) known (Answer.Found value.now) result.stage result.wanting built.new.items known }
     ensures owed { owed_at result.stage ≡ Owed.Rollback }
     ensures outer { outer result.stage ≡ None }
     ensures lacks { Lacks result.stage [] }
     ensures work { work_at result.stage < 8 }
     ensures phase { InPhase result.stage true }
-    ensures reads { (key : ℤ) → ComesFrom (Stage.Fetching key) result.stage }
-    ensures table { NeedsTable result.stage → ⊥ }
+    ensures reads { (table : ℕ) (key : ℤ) → ComesFrom (Stage.Fetching table key) result.stage }
+    ensures knows { (known : List Defined) → KnowsTable result.stage known }
+    ensures sound { DefinesSound result.stage }
     ensures some { IsHolding result.stage → 0 < length (reply_of built.new.items result.stage) }
 {
     match one_row(alloc, value) {
@@ -122,7 +132,7 @@ fn select(alloc: Global, value: &Value, built: &mut Vec<u8>) -> Step
             }
         }
         Err(Memory) => Step {
-            stage: Stage::Undoing(Fault::Memory),
+            stage: Stage::Undoing(SqlState::S53200),
             wanting: Some(false),
         },
     }
@@ -144,20 +154,20 @@ fn either(a: bool, b: bool) -> bool
 
 impl Session {
     ghost use Rattle.monkey_server.specs.Sessions.{Stands, StandsShort, work_of};
-    ghost use Rattle.monkey_server.specs.Stands.{Shows, wants, reply_of, entry_for, FitsWant, owed_after, known_after, IsLast, IsStopped};
+    ghost use Rattle.monkey_server.specs.Stands.{Shows, wants, reply_of, entry_for, FitsWant, owed_after, IsKnownAfter, IsLast, IsStopped};
 
     /// A session that was fed nothing.
     pub fn new(alloc: Global) -> Result<Session, Memory>
         ensures empty { IfOk result (λ s. Stands s [] [] [] []) }
         ensures stage { IfOk result (λ s. s.stage ≡ Stage.Waiting false) }
-        ensures known { IfOk result (λ s. s.known ≡ 0) }
+        ensures known { IfOk result (λ s. s.known.items ≡ []) }
     {
         Ok(Session {
             alloc,
             frames: Frames::new(alloc),
             prepared: Prepared::new(alloc)?,
             built: Vec::new(alloc),
-            known: 0,
+            known: Vec::new(alloc),
             stage: Stage::Waiting(false),
             short: false,
         })
@@ -165,12 +175,24 @@ impl Session {
 
     /// What the session wants.
     pub fn demand(&self) -> Want
-        ensures stage { result ≡ wants self.now.stage self.now.known }
+        ensures stage { IsWant result (wants self.now.stage self.now.known.items) }
         ensures holding { result ≡ Want.Send → IsHolding self.now.stage }
         // What was sent and what is wanted is told of all that came in.
-        ensures told { (taken : List ℕ) (entries : List Entry) (asked : List Asked) (sent : List ℕ) → Stands self.now taken entries asked sent → Shows result taken entries asked sent }
+        ensures told { (taken : List ℕ) (entries : List Entry) (asked : List Asked) (sent : List ℕ) → Stands self.now taken entries asked sent → Shows (wants self.now.stage self.now.known.items) taken entries asked sent }
     {
-        want_of(self.stage, self.known)
+        want_of(&self.stage, self.known.len() as u32)
+    }
+
+    /// The table that is to be defined.
+    pub fn table(&self) -> &Table
+        requires { (table : Defined) × (wants self.now.stage self.now.known.items ≡ wanted.Book (wanted.Define table)) }
+        ensures table { wants self.now.stage self.now.known.items ≡ wanted.Book (wanted.Define result.now) }
+        ensures sound { IsSound result.now }
+    {
+        match &self.stage {
+            Stage::Defining(table) => table,
+            _ => unreachable!(),
+        }
     }
 
     /// The reply that is to be sent.
@@ -178,11 +200,11 @@ impl Session {
         requires { IsHolding self.now.stage }
         ensures { result.now ≡ reply_of self.now.built.items self.now.stage }
     {
-        match self.stage {
+        match &self.stage {
             Stage::Telling(_, reply) | Stage::Settling(reply) => {
-                self.prepared.bytes(self.built.as_slice(), reply)
+                self.prepared.bytes(self.built.as_slice(), *reply)
             }
-            Stage::Parting(fatal) => self.prepared.last_bytes(fatal),
+            Stage::Parting(fatal) => self.prepared.last_bytes(*fatal),
             _ => unreachable!(),
         }
     }
@@ -196,17 +218,16 @@ impl Session {
 
     /// Takes a piece of the stream. A want of memory leads to the end by it.
     pub fn feed(&mut self, piece: &[u8])
-        requires { wants self.old.stage self.old.known ≡ Want.Bytes }
+        requires { wants self.old.stage self.old.known.items ≡ wanted.Bytes }
         ensures grown { (taken : List ℕ) (entries : List Entry) (asked : List Asked) (sent : List ℕ) → Stands self.old taken entries asked sent →
             StandsShort self.new (taken ++ piece.now) entries asked sent }
         ensures owed { owed_at self.new.stage ≡ owed_at self.old.stage }
         ensures outer { outer self.new.stage ≡ None }
         ensures lacks { Lacks self.new.stage [] }
-        ensures known { self.new.known ≡ self.old.known }
-        ensures table { NeedsTable self.new.stage → ⊥ }
+        ensures known { self.new.known.items ≡ self.old.known.items }
     {
-        let opened = match self.stage {
-            Stage::Waiting(opened) => opened,
+        let opened = match &self.stage {
+            Stage::Waiting(opened) => *opened,
             _ => unreachable!(),
         };
         match self.frames.feed(piece) {
@@ -224,32 +245,35 @@ impl Session {
 
     /// Takes the answer to the call that is wanted.
     pub fn answer(&mut self, answer: Answer)
-        requires { FitsWant (wants self.old.stage self.old.known) answer }
+        requires { FitsWant (wants self.old.stage self.old.known.items) answer }
         ensures grown { (taken : List ℕ) (entries : List Entry) (asked : List Asked) (sent : List ℕ) (c : Asked) (e : Event) → Stands self.old taken entries asked sent →
-            wants self.old.stage self.old.known ≡ Want.Book c → StandsShort self.new taken (entries ++ entry_for answer e ∷ []) (asked ++ c ∷ []) sent }
-        ensures owed { (c : Asked) → wants self.old.stage self.old.known ≡ Want.Book c → owed_at self.new.stage ≡ owed_after c answer (owed_at self.old.stage) }
+            wants self.old.stage self.old.known.items ≡ wanted.Book c → StandsShort self.new taken (entries ++ entry_for answer e ∷ []) (asked ++ c ∷ []) sent }
+        ensures owed { (c : Asked) → wants self.old.stage self.old.known.items ≡ wanted.Book c → owed_at self.new.stage ≡ owed_after c answer (owed_at self.old.stage) }
         ensures outer { outer self.new.stage ≡ outer self.old.stage }
         ensures lacks { (lost : List ℕ) → Lacks self.old.stage lost → Lacks self.new.stage lost }
         ensures work { work_of self.new < work_of self.old }
         ensures reads { ComesFrom self.old.stage self.new.stage }
-        ensures known { self.new.known ≡ known_after self.old.known answer }
+        ensures known { IsKnownAfter self.old.known.items answer self.new.known.items }
         ensures last { IsLast self.old.stage → IsLast self.new.stage }
     {
-        match (self.stage, answer) {
+        match (&self.stage, answer) {
             (Stage::Opening, Answer::Opened(session)) => {
                 let step = greet(self.alloc, session, &mut self.built);
                 self.stage = step.stage;
                 self.short = either(self.short, step.wanting.is_some());
             }
-            (Stage::Fetching(_), Answer::Found(value)) => {
+            (Stage::Looking(statement, access), Answer::Looked(tables)) => {
+                let step = look(self.alloc, statement, *access, &mut self.known, tables);
+                self.stage = step.stage;
+                self.short = either(self.short, step.wanting.is_some());
+            }
+            (Stage::Fetching(_, _), Answer::Found(value)) => {
                 let step = select(self.alloc, &value, &mut self.built);
                 self.stage = step.stage;
                 self.short = either(self.short, step.wanting.is_some());
             }
-            (_, answer) => {
-                let turn = advance(self.stage, self.known, &answer);
-                self.stage = turn.stage;
-                self.known = turn.known;
+            (stage, answer) => {
+                self.stage = advance(stage, &answer);
                 self.short = either(self.short, is_want(&answer));
             }
         }
@@ -264,18 +288,17 @@ impl Session {
         ensures outer { outer self.new.stage ≡ outer self.old.stage }
         ensures lacks { Lacks self.new.stage [] }
         ensures work { work_of self.new < work_of self.old }
-        ensures known { self.new.known ≡ self.old.known }
-        ensures table { NeedsTable self.new.stage → ⊥ }
+        ensures known { self.new.known.items ≡ self.old.known.items }
         ensures last { IsLast self.old.stage → IsLast self.new.stage }
     {
-        match self.stage {
-            Stage::Telling(pending, reply) => self.stage = resume(pending, reply),
+        match &self.stage {
+            Stage::Telling(pending, reply) => self.stage = resume(*pending, *reply),
             Stage::Settling(_) => {
                 let step = take_step(self.alloc, &mut self.frames, true);
                 self.stage = step.stage;
                 self.short = either(self.short, step.wanting.is_some());
             }
-            Stage::Parting(fatal) => self.stage = Stage::Ended(Finish::Fatal(fatal)),
+            Stage::Parting(fatal) => self.stage = Stage::Ended(Finish::Fatal(*fatal)),
             _ => unreachable!(),
         }
     }
@@ -289,27 +312,25 @@ impl Session {
         ensures outer { outer self.new.stage ≡ Some End.WriteFault }
         ensures lacks { (lost : List ℕ) → Lacks self.new.stage lost }
         ensures work { work_of self.new < work_of self.old }
-        ensures known { self.new.known ≡ self.old.known }
-        ensures table { NeedsTable self.new.stage → ⊥ }
+        ensures known { self.new.known.items ≡ self.old.known.items }
         ensures last { IsLast self.new.stage }
     {
-        self.stage = break_off(self.stage);
+        self.stage = break_off(&self.stage);
     }
 
     /// No more bytes come.
     pub fn stop(&mut self, cause: Stop)
-        requires { wants self.old.stage self.old.known ≡ Want.Bytes }
+        requires { wants self.old.stage self.old.known.items ≡ wanted.Bytes }
         ensures grown { (taken : List ℕ) (entries : List Entry) (asked : List Asked) (sent : List ℕ) → Stands self.old taken entries asked sent →
             Stands self.new taken (entries ++ stopped cause ∷ []) asked sent }
         ensures owed { owed_at self.new.stage ≡ owed_at self.old.stage }
         ensures outer { IsStopped cause (outer self.new.stage) }
         ensures lacks { Lacks self.new.stage [] }
-        ensures known { self.new.known ≡ self.old.known }
-        ensures table { NeedsTable self.new.stage → ⊥ }
+        ensures known { self.new.known.items ≡ self.old.known.items }
         ensures last { IsLast self.new.stage }
     {
-        let opened = match self.stage {
-            Stage::Waiting(opened) => opened,
+        let opened = match &self.stage {
+            Stage::Waiting(opened) => *opened,
             _ => unreachable!(),
         };
         let finish = finish_of(cause, self.frames.rest() == 0);

@@ -1,17 +1,8 @@
 // What a session does next.
-use crate::end::End;
 use cell_base::SqlState;
 use pg_framing::FrameFault;
-use query_request::QueryFault;
-
-/// A statement on one row of the table.
-#[derive(Clone, Copy, Debug, PartialEq, Eq)]
-pub enum Access {
-    /// SELECT of the key.
-    Get(i64),
-    /// INSERT of the key and the value.
-    Put(i64, i64),
-}
+use query_request::Access;
+use sql_tree::{Statement, Table};
 
 /// What a session owes its book before it ends.
 #[derive(Clone, Copy, Debug, PartialEq, Eq)]
@@ -20,19 +11,6 @@ pub enum Owed {
     Close,
     /// A rollback, and then a close.
     Rollback,
-}
-
-/// Why a statement failed.
-#[derive(Clone, Copy, Debug, PartialEq, Eq)]
-pub enum Fault {
-    /// A query that asks for nothing that the server runs.
-    Query(QueryFault),
-    NoTable,
-    TableTaken,
-    DuplicateKey,
-    /// A limit of the history.
-    Full,
-    Memory,
 }
 
 /// An end that a FATAL reply tells.
@@ -67,30 +45,32 @@ pub enum Reply {
     Inserted,
     NoRow,
     Ready,
-    Error(Fault),
+    /// The code of a statement that failed.
+    Error(SqlState),
 }
 
-/// What comes next.
-#[derive(Clone, Copy, Debug, PartialEq, Eq)]
+/// What comes next. The number of a table is that of the row which a statement reads or writes.
+#[derive(Debug, Drop)]
 pub enum Stage {
     /// Bytes are wanted; whether the session was opened.
     Waiting(bool),
     Opening,
-    Defining,
-    /// A statement looks at the tables.
-    Looking(Access),
-    Beginning(Access),
+    /// A CREATE TABLE defines its table.
+    Defining(Table),
+    /// A statement looks at the tables; and the access to one row that it is, where it is one.
+    Looking(Statement, Option<Access>),
+    Beginning(u32, Access),
     /// A statement reads whether its row is there.
-    Checking(Access),
+    Checking(u32, Access),
     /// A SELECT reads its row's second column.
-    Fetching(i64),
+    Fetching(u32, i64),
     /// An INSERT writes that its row is there.
-    Marking(i64, i64),
+    Marking(u32, i64, i64),
     /// An INSERT writes its row's second column.
-    Filling(i64, i64),
+    Filling(u32, i64, i64),
     Committing,
-    /// The rollback of a failed statement.
-    Undoing(Fault),
+    /// The rollback of a statement that failed with this code.
+    Undoing(SqlState),
     /// A statement's reply is held; whether its transaction is pending.
     Telling(bool, Reply),
     /// A reply is held, behind which the next message follows.

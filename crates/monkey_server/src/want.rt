@@ -7,7 +7,9 @@ use crate::end::End;
 pub enum Want {
     /// More bytes of its client.
     Bytes,
-    /// A call of its book.
+    /// Its table defined by its book.
+    Define,
+    /// Another call of its book.
     Book(Call),
     /// Its reply sent.
     Send,

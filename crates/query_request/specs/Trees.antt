@@ -1,12 +1,9 @@
--- The trees of the statements that the server runs.
-use Rattle.std.specs.Prelude.{◌≡◌, ℤ, neg_ℤ, pos, List, [], ◌∷◌, ℕ, codes, Bool, true, false, Option, Some, None}
-use Rattle.cell_base.specs.declared.sql_type.SqlType.TheVariants.{Bigint}
+-- The trees of the statements that read or write one row of the table `t`.
+use Rattle.std.specs.Prelude.{◌≡◌, ℤ, neg_ℤ, pos, List, [], ◌∷◌, ℕ, codes, Option, Some, None}
 use Rattle.sql_tree.specs.declared.expr.Expr.{Expr, out-Expr}
 use Rattle.sql_tree.specs.declared.expr.Expr.TheOpen.{Expr-F}
 use Rattle.sql_tree.specs.declared.expr.Expr.TheVariants as e
 use Rattle.sql_tree.specs.declared.op.Op.TheVariants as op
-use Rattle.sql_tree.specs.declared.statement.ColumnDef.{ColumnDef}
-use Rattle.sql_tree.specs.declared.statement.CreateTable.{CreateTable}
 use Rattle.sql_tree.specs.declared.statement.Item.{Item}
 use Rattle.sql_tree.specs.declared.statement.Item.TheVariants as item
 use Rattle.sql_tree.specs.declared.statement.TableRef.{TableRef}
@@ -14,8 +11,8 @@ use Rattle.sql_tree.specs.declared.statement.Select.{Select}
 use Rattle.sql_tree.specs.declared.statement.Insert.{Insert}
 use Rattle.sql_tree.specs.declared.statement.Statement.{Statement}
 use Rattle.sql_tree.specs.declared.statement.Statement.TheVariants as tree
-use Rattle.query_request.specs.declared.request.Request.{Request}
-use Rattle.query_request.specs.declared.request.Request.TheVariants.{Create, Get, Put, Refused}
+use Rattle.query_request.specs.declared.request.Access.{Access}
+use Rattle.query_request.specs.declared.request.Access.TheVariants.{Get, Put}
 
 -- a column's name without a qualifier
 abbrev pub named : List ℕ → Expr
@@ -34,14 +31,6 @@ IsIntegerNode _ number = ⊥
 -- an integer literal, or one behind a minus sign, and the number
 abbrev pub IsInteger : Expr → ℤ → Type 0
 IsInteger x number = IsIntegerNode (out-Expr x) number
-
--- a column of type bigint
-abbrev pub column_of : List ℕ → Bool → ColumnDef
-column_of name key = record { name = name; kind = Bigint; not_null = false; default = None; key = key }
-
--- CREATE TABLE t (k bigint PRIMARY KEY, v bigint)
-abbrev pub create_tree : CreateTable
-create_tree = record { name = codes "t"; columns = column_of (codes "k") true ∷ column_of (codes "v") false ∷ []; keys = []; checks = [] }
 
 -- SELECT v FROM t WHERE k = key
 
@@ -84,9 +73,13 @@ pub record IsPut (insert : Insert) (key value : ℤ) : Type 0 where
   pub columns : insert.columns ≡ []
   pub rows : ArePair insert.rows key value
 
--- the statement is one that the server runs as this
-abbrev pub Runs : Statement → Request → Type 0
-Runs (tree.Create create) Create = create ≡ create_tree
-Runs (tree.Select select) (Get key) = IsGet select key
-Runs (tree.Insert insert) (Put key value) = IsPut insert key value
-Runs _ _ = ⊥
+-- the statement is this access
+abbrev pub Makes : Statement → Access → Type 0
+Makes (tree.Select select) (Get key) = IsGet select key
+Makes (tree.Insert insert) (Put key value) = IsPut insert key value
+Makes _ _ = ⊥
+
+-- the access that the statement is, or none where it is none
+abbrev pub IsAccess : Statement → Option Access → Type 0
+IsAccess statement (Some access) = Makes statement access
+IsAccess statement None = (access : Access) → ¬ (Makes statement access)

@@ -1,43 +1,100 @@
 // What the bytes of a query ask for.
-ghost use Rattle.std.specs.Prelude.{◌≡◌, ◌≢◌, ◌<◌, ◌^◌, length, IfOk, IfSome, IsNone};
-ghost use Rattle.sql_statements.specs.Faults.{AreStatementsOf, IsFaultOfText};
-ghost use Rattle.query_request.specs.Requests.{fault_of, IsRun, IsRequest};
-ghost use Rattle.query_request.specs.declared.request.Request.{Request as Asked};
+ghost use Rattle.std.specs.Prelude.{◌≡◌, ◌<◌, ◌^◌, length, IfOk, IfSome, ◌≢◌};
 ghost use Rattle.std.specs.Str.{IsUtf8};
+ghost use Rattle.sql_grammar.specs.Limited.{HasNoZero};
+ghost use Rattle.query_request.specs.Requests.{AreAsked, IsAskedBy, IsRequest, Looks, defined, refusal_of, state_of};
+ghost use Rattle.sql_typing.specs.Building.{built};
+ghost use Rattle.sql_typing.specs.Typed.{typed};
 
-use crate::trees::run_of;
-use crate::{QueryFault, Request};
-use cell_base::{Memory, Text, TextFault};
+use crate::trees::access_of;
+use crate::Request;
+use cell_base::{Items, Memory, SqlState, Text, TextFault};
 use sql_lexer::LexFault;
 use sql_statements::{ParseFault, statements};
-use sql_tree::Statement;
+use sql_tree::{CreateTable, Statement};
+use sql_types::{TypeFault, typed};
 use std::alloc::Global;
+use table_schema::{SchemaFault, build};
 
-// The fault of a text by what is wrong with it; none for a want of memory.
-fn fault_of_text(fault: &ParseFault) -> Option<QueryFault>
-    ensures fault { IfSome result (λ it. it ≡ fault_of fault.now) }
+// The code of a text by what is wrong with it; none for a want of memory.
+fn state_of(fault: &ParseFault) -> Option<SqlState>
+    ensures state { IfSome result (λ it. it ≡ state_of fault.now) }
     ensures memory { IfSome result (λ it. fault.now ≢ ParseFault.Memory) }
 {
     match fault {
-        ParseFault::Lex(LexFault::Unsupported(_)) => Some(QueryFault::Unsupported),
-        ParseFault::Lex(LexFault::TooWide(_)) => Some(QueryFault::OutOfRange),
-        ParseFault::Lex(LexFault::NameTooLong(_)) => Some(QueryFault::Limit),
-        ParseFault::Lex(_) => Some(QueryFault::Syntax),
-        ParseFault::TooMany | ParseFault::TooDeep => Some(QueryFault::Limit),
-        ParseFault::Unsupported => Some(QueryFault::Unsupported),
-        ParseFault::Syntax => Some(QueryFault::Syntax),
+        ParseFault::Lex(LexFault::Unsupported(_)) => Some(SqlState::S0A000),
+        ParseFault::Lex(LexFault::TooWide(_)) => Some(SqlState::S22003),
+        ParseFault::Lex(LexFault::NameTooLong(_)) => Some(SqlState::S54000),
+        ParseFault::Lex(_) => Some(SqlState::S42601),
+        ParseFault::TooMany | ParseFault::TooDeep => Some(SqlState::S54000),
+        ParseFault::Unsupported => Some(SqlState::S0A000),
+        ParseFault::Syntax => Some(SqlState::S42601),
         ParseFault::Memory => None,
     }
 }
 
-// What the statements ask for, where they are one that the server runs.
-fn run_of_all(statements: &[Statement]) -> Option<Request>
-    ensures some { IfSome result (IsRun statements.now) }
-    ensures none { IsNone result → (request : Asked) → ¬ (IsRun statements.now request) }
+// The table of a CREATE TABLE, or why it makes none.
+fn table_of(alloc: Global, create: &CreateTable) -> Result<Request, Memory>
+    ensures { IfOk result (λ request. request ≡ defined (built create.now)) }
 {
-    match statements {
-        [statement] => run_of(statement),
-        _ => None,
+    match build(alloc, create) {
+        Ok(table) => Ok(Request::Define(table)),
+        Err(SchemaFault::State(code)) => Ok(Request::Refused(code)),
+        Err(SchemaFault::Memory) => Err(Memory),
+    }
+}
+
+// Why a statement over no tables is refused: by its types, or since the server doesn't run it.
+fn refused_alone(alloc: Global, statement: &Statement) -> Result<Request, Memory>
+    ensures { IfOk result (λ request. request ≡ Request.Refused (refusal_of (typed [] statement.now))) }
+{
+    match typed(alloc, statement, &[]) {
+        Ok(_) => Ok(Request::Refused(SqlState::S0A000)),
+        Err(TypeFault::State(code)) => Ok(Request::Refused(code)),
+        Err(TypeFault::Memory) => Err(Memory),
+    }
+}
+
+// A statement that looks at the tables.
+fn looking(statement: Statement) -> Request
+    ensures { Looks statement result }
+{
+    let access = access_of(&statement);
+    Request::Look(statement, access)
+}
+
+// What a statement asks for.
+fn request_by(alloc: Global, statement: Statement) -> Result<Request, Memory>
+    ensures { IfOk result (IsAskedBy statement) }
+{
+    match &statement {
+        Statement::Create(create) => table_of(alloc, create),
+        Statement::Select(select) => {
+            if select.from.len() == 0 {
+                refused_alone(alloc, &statement)
+            } else {
+                Ok(looking(statement))
+            }
+        }
+        Statement::Insert(_) | Statement::Update(_) | Statement::Delete(_) => Ok(looking(statement)),
+        _ => Ok(Request::Refused(SqlState::S0A000)),
+    }
+}
+
+// What the statements of a query ask for, where they are one.
+fn request_by_all(alloc: Global, statements: Items<Statement>) -> Result<Request, Memory>
+    ensures { IfOk result (AreAsked statements) }
+{
+    let mut statements = statements.into_vec();
+    match statements.pop() {
+        Some(statement) => {
+            if statements.is_empty() {
+                request_by(alloc, statement)
+            } else {
+                Ok(Request::Refused(SqlState::S0A000))
+            }
+        }
+        None => Ok(Request::Refused(SqlState::S0A000)),
     }
 }
 
@@ -48,26 +105,25 @@ fn request_of_text(alloc: Global, text: &Text) -> Result<Request, Memory>
     ensures { IfOk result (λ request. IsRequest text.now request) }
 {
     match statements(alloc, text) {
-        Ok(found) => match run_of_all(found.as_slice()) {
-            Some(request) => Ok(request),
-            None => Ok(Request::Refused(QueryFault::Unsupported)),
-        },
-        Err(fault) => match fault_of_text(&fault) {
-            Some(fault) => Ok(Request::Refused(fault)),
+        Ok(found) => request_by_all(alloc, found),
+        Err(fault) => match state_of(&fault) {
+            Some(code) => Ok(Request::Refused(code)),
             None => Err(Memory),
         },
     }
 }
 
-/// What the bytes of a query ask for, fewer than 4,294,967,296. Bytes that aren't UTF-8 are refused first, then a text that
-/// isn't read, then statements that the server doesn't run.
+/// What the bytes of a query ask for, fewer than 4,294,967,296. Bytes that aren't UTF-8 are refused first (22021), then a text that
+/// isn't read, then one of more statements than one or of none (0A000), then a CREATE TABLE that makes no table and a SELECT without
+/// FROM that has no types, by the code that says why; a SELECT without FROM that has types is 0A000, and so are the other statements
+/// that don't look at the tables.
 pub fn request_of(alloc: Global, text: &[u8]) -> Result<Request, Memory>
     requires { length text.now < 2 ^ 32 }
     ensures { IfOk result (λ request. IsRequest text.now request) }
 {
     match Text::from_bytes(alloc, text) {
         Ok(text) => request_of_text(alloc, &text),
-        Err(TextFault::NotUtf8) => Ok(Request::Refused(QueryFault::NotUtf8)),
+        Err(TextFault::NotUtf8) => Ok(Request::Refused(SqlState::S22021)),
         Err(TextFault::Memory) => Err(Memory),
     }
 }

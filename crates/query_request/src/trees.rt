@@ -1,12 +1,11 @@
-// The trees of the statements that the server runs.
+// The trees of the statements that read or write one row of the table `t`.
 ghost use Rattle.std.specs.Prelude.{◌≡◌, ◌↔◌, ℤ, [], ◌∷◌, None, IfSome, IsNone, IsTrue};
-ghost use Rattle.query_request.specs.Trees.{named, column_of, create_tree, get_items, get_from, IsOpposite, IsInteger, IsPoint, IsValue, ArePair, IsGet, IsPut, Runs};
+ghost use Rattle.query_request.specs.Trees.{named, get_items, get_from, IsOpposite, IsInteger, IsPoint, IsValue, ArePair, IsGet, IsPut, IsAccess};
 ghost use Rattle.sql_tree.specs.declared.expr.Expr.{out-Expr};
-ghost use Rattle.query_request.specs.declared.request.Request.{Request as Asked};
 
-use crate::Request;
-use cell_base::{Items, SqlType, Text};
-use sql_tree::{ColumnDef, CreateTable, Expr, Insert, Item, Op, Select, Statement, TableRef};
+use crate::Access;
+use cell_base::{Items, Text};
+use sql_tree::{Expr, Insert, Item, Op, Select, Statement, TableRef};
 
 // Whether the text is this one.
 fn is_text(text: &Text, bytes: &[u8]) -> bool
@@ -45,32 +44,6 @@ fn negated(expr: &Expr) -> Option<i64>
     match expr {
         Expr::Int(number) if *number >= 0 => Some(-*number),
         _ => None,
-    }
-}
-
-// Whether the column is of type bigint and has this name and nothing but, perhaps, the mark of the primary key.
-fn is_column(column: &ColumnDef, name: &[u8], key: bool) -> bool
-    ensures { IsTrue result ↔ (column.now ≡ column_of name.now key) }
-{
-    is_text(&column.name, name)
-        && column.kind == SqlType::Bigint
-        && !column.not_null
-        && column.default.is_none()
-        && column.key == key
-}
-
-fn is_create(create: &CreateTable) -> bool
-    ensures { IsTrue result ↔ (create.now ≡ create_tree) }
-{
-    match create.columns.as_slice() {
-        [key, value] => {
-            is_text(&create.name, b"t")
-                && is_column(key, b"k", true)
-                && is_column(value, b"v", false)
-                && create.keys.len() == 0
-                && create.checks.len() == 0
-        }
-        _ => false,
     }
 }
 
@@ -184,23 +157,15 @@ fn put(insert: &Insert) -> Option<(i64, i64)>
     pair(insert.rows.as_slice())
 }
 
-/// What the statement asks for, where the server runs it.
-pub fn run_of(statement: &Statement) -> Option<Request>
-    ensures some { IfSome result (Runs statement.now) }
-    ensures none { IsNone result → (request : Asked) → ¬ (Runs statement.now request) }
+/// The access to one row of the table `t` that the statement is, where it is one.
+pub fn access_of(statement: &Statement) -> Option<Access>
+    ensures { IsAccess statement.now result }
 {
     match statement {
-        Statement::Create(create) => {
-            if is_create(create) {
-                Some(Request::Create)
-            } else {
-                None
-            }
-        }
-        Statement::Select(select) => Some(Request::Get(get(select)?)),
+        Statement::Select(select) => Some(Access::Get(get(select)?)),
         Statement::Insert(insert) => {
             let (key, value) = put(insert)?;
-            Some(Request::Put(key, value))
+            Some(Access::Put(key, value))
         }
         _ => None,
     }

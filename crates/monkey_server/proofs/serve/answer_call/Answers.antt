@@ -11,7 +11,7 @@ returns-clause-ran g c = λ p v f seen many ran.
 pub returns-clause-sits : goal.returns-clause-sits
 returns-clause-sits g c =
     let (e, plays) = c.call-answer.ensures.plays in
-    sits_after g.W.Words.gives c.args.session.now.stage c.answer.new.self.stage c.args.session.now.known c.answer.new.self.known (g.B.Book.past c.args.book.now) c.args.words.now c.args.c c.call-answer.result e
+    sits_after g.W.Words.gives c.args.session.now.stage c.answer.new.self.stage c.args.session.now.known.items c.answer.new.self.known.items (g.B.Book.past c.args.book.now) c.args.words.now c.args.c c.call-answer.result e
     (g.B.Book.past c.call-answer.new.book) c.call-answer.new.words c.requires.sits c.requires.wanted
-    (may_ask c.args.session.now.stage c.args.session.now.known (g.B.Book.past c.args.book.now) c.args.c c.requires.sits c.requires.wanted c.args.session.now.table)
+    (may_ask c.args.session.now.stage c.args.session.now.known.items (g.B.Book.past c.args.book.now) c.args.c c.requires.sits c.requires.wanted c.args.session.now.table)
     c.call-answer.ensures.fits plays c.call-answer.ensures.seat (c.answer.ensures.owed c.args.c c.requires.wanted) c.answer.ensures.reads c.answer.ensures.known

@@ -1,7 +1,7 @@
 use Rattle.std.proofs.Common.{refl, ap, Err, length}
 use Rattle.history_core.specs.declared.event.Event.TheVariants.{Close, Look, Begin, Read, Write, Commit, Rollback}
 use Rattle.history_core.specs.Book.{session_of}
-use Rattle.monkey_server.specs.declared.call.Call.TheVariants as calls
+use Rattle.monkey_server.specs.Calls as calls
 use Rattle.monkey_server.specs.declared.call.Answer.TheVariants as answers
 use Rattle.monkey_server.proofs.Playing.{played, declined, defined_plays, look_fits}
 use Rattle.monkey_server.proofs.serve.call.Goals as goal

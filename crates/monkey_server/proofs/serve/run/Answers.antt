@@ -6,7 +6,7 @@ use Rattle.monkey_server.proofs.serve.run.Goals as goal
 pub loop-session-init : goal.loop-session-init
 loop-session-init g c = record {
   ran = (0, omega arith, Ran-new g.W.Words.gives (g.B.Book.past c.args.book.now) c.args.words.now (sight_of g.L.Sides.traffic g.L.Sides.read_faults g.L.Sides.write_faults c.args.link.now) c.args.session c.requires.empty c.requires.stage);
-  sits = sits_new c.args.session.stage c.args.session.known (g.B.Book.past c.args.book.now) c.requires.stage c.requires.known c.requires.away;
+  sits = sits_new c.args.session.stage c.args.session.known.items (g.B.Book.past c.args.book.now) c.requires.stage c.requires.known c.requires.away;
   stays = g.met.B.Book.stays_same c.args.book.now;
   room = c.requires.room;
 }
@@ -28,7 +28,7 @@ returns-then-n-eq0 g c =
           (sight_of g.L.Sides.traffic g.L.Sides.read_faults g.L.Sides.write_faults c.drive-then-n-eq0.new.link) (many + c.take_in-n.result) c.finish-then-n-eq0.ensures.end c.finish-then-n-eq0.ensures.short
           (c.drive-then-n-eq0.ensures.ran (g.B.Book.past c.args.book.now) c.args.words.now f (many + c.take_in-n.result)
           (c.take_in-n.ensures.ran (g.B.Book.past c.args.book.now) c.args.words.now f many c.loop-session.invariant.ran.1 (c.drive.ensures.ran (g.B.Book.past c.args.book.now) c.args.words.now f many c.loop-session.invariant.ran.2)));
-      away = away_over c.drive-then-n-eq0.new.session.stage c.drive-then-n-eq0.new.session.known (g.B.Book.past c.drive-then-n-eq0.new.book) (is_over c.drive-then-n-eq0.new.session.stage c.drive-then-n-eq0.new.session.known c.drive-then-n-eq0.ensures.rests (c.drive-then-n-eq0.ensures.last (c.take_in-n.ensures.stopped c.if-n-eq0.true))) c.drive-then-n-eq0.ensures.sits;
+      away = away_over c.drive-then-n-eq0.new.session.stage c.drive-then-n-eq0.new.session.known.items (g.B.Book.past c.drive-then-n-eq0.new.book) (is_over c.drive-then-n-eq0.new.session.stage c.drive-then-n-eq0.new.session.known.items c.drive-then-n-eq0.ensures.rests (c.drive-then-n-eq0.ensures.last (c.take_in-n.ensures.stopped c.if-n-eq0.true))) c.drive-then-n-eq0.ensures.sits;
       stays = g.met.B.Book.stays_trans _ _ _ (g.met.B.Book.stays_trans _ _ _ c.loop-session.invariant.stays c.drive.ensures.stays) c.drive-then-n-eq0.ensures.stays;
     }
 

@@ -8,7 +8,7 @@ invariant-loop-session g l = record {
   ran : (many : ℕ) × (many + l.left ≡ 1073741824) ×
       Ran g.W.Words.gives (g.B.Book.past l.initial.book) l.initial.words (sight_of g.L.Sides.traffic g.L.Sides.read_faults g.L.Sides.write_faults l.initial.link)
       l.session (g.B.Book.past l.book) l.words (sight_of g.L.Sides.traffic g.L.Sides.read_faults g.L.Sides.write_faults l.link) many;
-  sits : Sits l.session.stage l.session.known (g.B.Book.past l.book);
+  sits : Sits l.session.stage l.session.known.items (g.B.Book.past l.book);
   stays : g.B.Book.stays l.initial.book l.book;
   room : 0 < length l.room;
 }

@@ -13,8 +13,8 @@ returns-in-Telling-clause-grown c =
       [],
       tt,
       (
-        sent_telling c.args.self.now.stage c.resume-self.result c.args.self.now.built.items c.args.self.now.known c.args.self.now.frames taken es asked sent c.in-Telling.pending c.in-Telling.reply c.in-Telling.is s.0
-            (holding-some c.args.self.now.built.items c.resume-self.result c.resume-self.ensures.constant) c.resume-self.ensures.busy (c.resume-self.ensures.goes c.args.self.now.built.items c.args.self.now.known),
+        sent_telling c.args.self.now.stage c.resume-self.result c.args.self.now.built.items c.args.self.now.known.items c.args.self.now.frames taken es asked sent c.in-Telling.pending c.in-Telling.reply c.in-Telling.is s.0
+            (holding-some c.args.self.now.built.items c.resume-self.result c.resume-self.ensures.constant) c.resume-self.ensures.busy (c.resume-self.ensures.goes c.args.self.now.built.items c.args.self.now.known.items),
         flag-same c.args.self.now.short es s.1,
       ),
     )
@@ -26,8 +26,8 @@ returns-in-Settling-clause-grown c =
       with_short c.take_step-step.result.wanting now [],
       IsShort-with_short c.take_step-step.result.wanting now,
       (
-        sent_settling c.args.self.now.stage c.take_step-step.result.stage c.args.self.now.built.items c.args.self.now.known c.args.self.now.frames c.take_step-step.new.frames taken es asked sent c.in-Settling.field-0
-            c.take_step-step.result.wanting c.in-Settling.is s.0 (holding-some c.args.self.now.built.items c.take_step-step.result.stage c.take_step-step.ensures.constant) (c.take_step-step.ensures.goes c.args.self.now.known),
+        sent_settling c.args.self.now.stage c.take_step-step.result.stage c.args.self.now.built.items c.args.self.now.known.items c.args.self.now.frames c.take_step-step.new.frames taken es asked sent c.in-Settling.field-0
+            c.take_step-step.result.wanting c.in-Settling.is s.0 (holding-some c.args.self.now.built.items c.take_step-step.result.stage c.take_step-step.ensures.constant) (c.take_step-step.ensures.goes c.args.self.now.known.items),
         flag-fed c.args.self.now.short c.either-self.result c.take_step-step.result.wanting es now s.1 (c.either-self.ensures ∙ ap (λ (b : Bool). c.args.self.now.short || b) c.is_some.ensures),
       ),
     )
@@ -38,7 +38,7 @@ returns-in-Parting-clause-grown c =
       [],
       tt,
       (
-        sent_parting c.args.self.now.stage c.args.self.now.built.items c.args.self.now.known c.args.self.now.frames taken es asked sent c.in-Parting.fatal c.in-Parting.is s.0,
+        sent_parting c.args.self.now.stage c.args.self.now.built.items c.args.self.now.known.items c.args.self.now.frames taken es asked sent c.in-Parting.fatal c.in-Parting.is s.0,
         flag-same c.args.self.now.short es s.1,
       ),
     )

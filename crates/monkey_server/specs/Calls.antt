@@ -1,0 +1,47 @@
+-- The calls that a session makes of its book, and what it wants next.
+use Rattle.std.specs.Prelude.{◌≡◌, ℕ}
+use Rattle.cell_base.specs.declared.cell.Cell.{Cell}
+use Rattle.cell_base.specs.declared.value.Value.{Value}
+use Rattle.sql_tree.specs.declared.table.Table.{Table}
+use Rattle.monkey_server.specs.declared.call.Call.{Call as Plain}
+use Rattle.monkey_server.specs.declared.call.Call.TheVariants as plain
+use Rattle.monkey_server.specs.declared.end.End.{End}
+use Rattle.monkey_server.specs.declared.want.Want.{Want as Told}
+use Rattle.monkey_server.specs.declared.want.Want.TheVariants as told
+
+pub data Call : Type 0 where
+  Open : Call
+  Close : Call
+  -- how many tables the session knows
+  Look : ℕ → Call
+  Define : Table → Call
+  Begin : Call
+  Touch : Cell → Call
+  Write : Cell → Value → Call
+  Commit : Call
+  Rollback : Call
+
+pub data Want : Type 0 where
+  Bytes : Want
+  Book : Call → Want
+  Send : Want
+  Ended : End → Want
+
+-- a call of the code, which holds no table
+abbrev pub call_of : Plain → Call
+call_of plain.Open = Open
+call_of plain.Close = Close
+call_of (plain.Look known) = Look known
+call_of plain.Begin = Begin
+call_of (plain.Touch cell) = Touch cell
+call_of (plain.Write cell value) = Write cell value
+call_of plain.Commit = Commit
+call_of plain.Rollback = Rollback
+
+-- the code's want is this one; the table of a definition stays with the session
+abbrev pub IsWant : Told → Want → Type 0
+IsWant told.Bytes want = want ≡ Bytes
+IsWant told.Define want = (table : Table) × (want ≡ Book (Define table))
+IsWant (told.Book c) want = want ≡ Book (call_of c)
+IsWant told.Send want = want ≡ Send
+IsWant (told.Ended end) want = want ≡ Ended end
