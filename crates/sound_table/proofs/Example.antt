@@ -1,20 +1,18 @@
 -- The table of the examples is sound.
-use Rattle.std.proofs.Common.{◌≡◌, ℕ, ◌<◌, ◌≤◌, Bool, true, false, List, [], ◌∷◌, length, Some, None, Ok, All, refl, sym, subst, get_or, lit≤, lit<}
-use Rattle.std.specs.Prelude.{◌==◌, codes}
-use Rattle.std.specs.List.{Contains, list_any}
-use Rattle.std.proofs.lemmas.List.Elements.{All-from_recursion, All-contains}
-use Rattle.std.proofs.lemmas.List.Folds.{list_any_at}
+use Rattle.std.proofs.Common.{◌≡◌, ℕ, Bool, true, false, List, [], ◌∷◌, length, Some, None, Ok, refl, ap, sym, ◌∙◌, subst, get_or, lit<}
+use Rattle.std.specs.Prelude.{◌&&◌, ◌==◌, not, nat_le, codes}
+use Rattle.std.specs.List.{list_any, list_all}
+use Rattle.std.proofs.lemmas.List.Folds.{list_any_at, list_all_at}
+use Rattle.std.proofs.lemmas.Bool.{and_parts, false≢true, leb-true, not-true}
 use Rattle.cell_base.specs.declared.sql_type.SqlType.TheVariants.{Bigint}
 use Rattle.sql_tree.specs.declared.statement.CreateTable.{CreateTable}
-use Rattle.sql_tree.specs.declared.statement.Statement.{Statement}
 use Rattle.sql_tree.specs.declared.statement.Statement.TheVariants.{Create}
-use Rattle.sql_tree.specs.declared.table.Table.{Table}
 use Rattle.sql_tree.specs.declared.token.Sign.{Sign}
 use Rattle.sql_tree.specs.declared.token.Sign.TheVariants as s
 use Rattle.sql_tree.specs.declared.token.Token.{Token}
 use Rattle.sql_tree.specs.declared.token.TokenKind.{TokenKind}
 use Rattle.sql_tree.specs.declared.token.TokenKind.TheVariants as t
-use Rattle.sql_grammar.specs.Limited.{IsLimited, IsPlain, IsPlainKind, IsPlainName, HasNoZero, max_depth, max_rows, max_statements}
+use Rattle.sql_grammar.specs.Limited.{IsPlain, IsPlainKind, HasNoZero, max_depth, max_rows, max_statements}
 use Rattle.sql_grammar.specs.Statements.{name, alias, filter, item, tab, join, next_tabs, next_joins, more_from, from, source, direction, term, order, limit, select, cell, row, columns, insert, assignment, update, delete, work, level, mode, next_mode, modes, beginning, begin, commit, rollback, suffix, dotted, value_word, setting_value, setting_values, assigned, transaction_modes, characteristics, session_setting, set, show, constant_word, constant, check, label, constraint_body, next_constraint, constraints, size, sized, type_name, column, key_list, table_constraint, element, create, control, statement, piece, next_piece, message}
 use Rattle.sql_grammar.specs.Steps.{reading, repeat_from}
 use Rattle.sql_grammar.specs.Reading as reader
@@ -63,26 +61,37 @@ no_zero text e at =
     let some : list_any (λ b. b == 0) text ≡ true = list_any_at (λ b. b == 0) text at.0 0 at.1 zero_there in
     cc
 
-plain_word : (text : List ℕ) → length text ≤ 63 → list_any (λ b. b == 0) text ≡ false → IsPlainName text
-plain_word text l e = record { short = l; no_zero = no_zero text e }
+-- whether a word is short and has no zero byte; signs are plain, and other tokens aren't looked at
+is_plain : TokenKind → Bool
+is_plain (t.Word text) = nat_le (length text) 63 && not (list_any (λ b. b == 0) text)
+is_plain (t.Sign mark) = true
+is_plain _ = false
 
-abbrev Plain : Token → Type 0
-Plain token = IsPlainKind token.kind
+plain_kind : (kind : TokenKind) → is_plain kind ≡ true → IsPlainKind kind
+unfolding is_plain
+plain_kind (t.Word text) e =
+    let parts = and_parts (nat_le (length text) 63) (not (list_any (λ b. b == 0) text)) e in
+    record { short = leb-true (length text) 63 parts.0; no_zero = no_zero text (not-true (list_any (λ b. b == 0) text) parts.1) }
+plain_kind (t.Sign mark) e = tt
+plain_kind _ e = absurd (cc)
 
-all_plain : All Plain tokens
-unfolding word sign
-all_plain =
-    All-from_recursion Plain tokens
-    (plain_word (codes "create") (lit≤ tt) refl, (plain_word (codes "table") (lit≤ tt) refl, (plain_word (codes "t") (lit≤ tt) refl, (tt,
-    (plain_word (codes "k") (lit≤ tt) refl, (plain_word (codes "bigint") (lit≤ tt) refl, (plain_word (codes "primary") (lit≤ tt) refl,
-    (plain_word (codes "key") (lit≤ tt) refl, (tt, (plain_word (codes "v") (lit≤ tt) refl, (plain_word (codes "bigint") (lit≤ tt) refl, (tt, tt))))))))))))
+all_plain : list_all (λ token. is_plain token.kind) tokens ≡ true
+unfolding is_plain word sign
+all_plain = refl
+
+tokens_plain : IsPlain tokens
+tokens_plain token at = plain_kind token.kind (by_test (is_plain token.kind) refl)
+  where
+    by_test : (test : Bool) → is_plain token.kind ≡ test → is_plain token.kind ≡ true
+    by_test true e = e
+    by_test false e = absurd (false≢true (sym (list_all_at (λ t. is_plain t.kind) tokens at.0 token at.1 (ap (λ t. is_plain t.kind) at.2 ∙ e)) ∙ all_plain))
 
 -- ---- sound
 
 two_columns_sound : IsSound two_columns
 two_columns_sound = record {
   tokens = tokens;
-  plain = λ token at. All-contains Plain tokens token all_plain at;
+  plain = tokens_plain;
   statements = Create create_t ∷ [];
   read = message_sound max_depth max_rows max_statements (marks tokens) (Create create_t ∷ []) is_read;
   create = create_t;
