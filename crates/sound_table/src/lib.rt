@@ -4,4 +4,4 @@
 
 mod law;
 
-pub use law::two_columns_are_sound;
+pub use law::{sound_is_well_formed, two_columns_are_sound};
