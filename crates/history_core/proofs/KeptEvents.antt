@@ -17,7 +17,7 @@ use Rattle.history_core.specs.declared.txn.Seen.{Seen}
 use Rattle.history_core.specs.declared.txn.Txn.{Txn}
 use Rattle.history_core.specs.Records.{IsRecordOf, seen_of, Saw}
 use Rattle.history_core.specs.Kept.{IsSmall, IsKept, ChangesOne, AddsSeen, AddsWrite, IsUnnoted}
-use Rattle.sql_tree.specs.Sound.{IsSound}
+use Rattle.sound_table.specs.Sound.{IsSound}
 use Rattle.history_core.proofs.TxnLemmas.{IsQuiet, record_goes, seen_same, seen_more, writes_same, writes_more, txns_quiet, txns_change}
 use Rattle.history_core.proofs.SessionLemmas.{IsPlain, sessions_plain}
 use Rattle.history_core.proofs.SmallLemmas.{small_more, load-push}

@@ -16,7 +16,7 @@ use Rattle.history_core.specs.declared.kept.Kept.{Kept}
 use Rattle.history_core.specs.declared.txn.Seen.{Seen}
 use Rattle.history_core.specs.Records.{is_any_end, seen_of}
 use Rattle.history_core.specs.Kept.{StandsForTxns, StandsForSessions, IsSmall, IsKept, owed_by}
-use Rattle.sql_tree.specs.Sound.{IsSound}
+use Rattle.sound_table.specs.Sound.{IsSound}
 use Rattle.history_core.proofs.SessionLemmas.{IsPlain, sessions_plain}
 use Rattle.history_core.proofs.SmallLemmas.{small_more, load-push}
 

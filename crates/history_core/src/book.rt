@@ -9,7 +9,7 @@ use sql_tree::Table;
 /// seen after a call is legal: each read in it was offered exactly what the level permits.
 pub trait Book {
     ghost use Rattle.std.specs.Prelude.{◌≡◌, ◌≢◌, ◌≤◌, ◌<◌, [], ◌∷◌, ◌++◌, ℕ, length, Some, IfOk, OnOk, OnErr, Contains};
-    ghost use Rattle.sql_tree.specs.Sound.{IsSound};
+    ghost use Rattle.sound_table.specs.Sound.{IsSound};
     ghost use Rattle.history_core.specs.declared.event.Event.TheVariants as events;
     ghost use Rattle.history_core.specs.declared.fault.Limit.{Limit};
     ghost use Rattle.history_core.specs.declared.fault.Limit.TheVariants as limits;

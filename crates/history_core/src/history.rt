@@ -1,6 +1,6 @@
 // The history, as callers use it.
 ghost use Rattle.std.specs.Prelude.{◌≡◌, ◌≤◌, ◌<◌, ◌↔◌, ℕ, [], Some, Err, OnOk, OnErr, IsTrue};
-ghost use Rattle.sql_tree.specs.Sound.{IsSound};
+ghost use Rattle.sound_table.specs.Sound.{IsSound};
 ghost use Rattle.history_core.specs.declared.event.Event.{Event};
 ghost use Rattle.history_core.specs.declared.fault.Limit.{Limit};
 ghost use Rattle.history_core.specs.Events.{begun, load_of};

@@ -1,6 +1,6 @@
 // What each event that may be refused changes in what a history keeps.
 ghost use Rattle.std.specs.Prelude.{◌≡◌, ◌+◌, length, Some, OnOk, OnErr};
-ghost use Rattle.sql_tree.specs.Sound.{IsSound};
+ghost use Rattle.sound_table.specs.Sound.{IsSound};
 ghost use Rattle.history_core.specs.declared.event.Event.{Event};
 ghost use Rattle.history_core.specs.Events.{session_in};
 ghost use Rattle.history_core.specs.Transactions.{HasPending};

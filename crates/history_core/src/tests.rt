@@ -1,6 +1,7 @@
 // What no clause says: that the calls succeed with ample memory, and values found by hand.
 ghost use Rattle.std.specs.Prelude.{◌≡◌, pos, [], codes, IfOk, OnOk};
-ghost use Rattle.sql_tree.specs.Sound.{IsSound};
+ghost use Rattle.sound_table.specs.Example.{two_columns};
+ghost use Rattle.sound_table.specs.Sound.{IsSound};
 ghost use Rattle.history_core.specs.WorkedRow.{row_written, row_read};
 
 use crate::{BookFault, Event, History, TxnState};
@@ -83,8 +84,10 @@ fn field() -> Cell
 }
 
 /// The table of `CREATE TABLE t (k bigint PRIMARY KEY, v bigint)`.
+#[tactic(auto, using(sound_table::proofs::Example::sound))]
 fn table(alloc: Global) -> Result<Table, Memory>
-    ensures { IfOk result (λ table. IsSound table) }
+    ensures value { IfOk result (λ table. table ≡ two_columns) }
+    ensures sound { IfOk result IsSound }
 {
     let mut columns = Items::new(alloc);
     columns.push(column(text(alloc, b"k")?, true))?;

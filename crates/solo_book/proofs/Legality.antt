@@ -8,7 +8,7 @@ use Rattle.std.proofs.lemmas.Bool.Decides.{nat_tests}
 use Rattle.cell_base.specs.declared.level.Level.{Level}
 use Rattle.cell_base.specs.declared.cell.Cell.{Cell}
 use Rattle.sql_tree.specs.declared.table.Table.{Table}
-use Rattle.sql_tree.specs.Sound.{IsSound}
+use Rattle.sound_table.specs.Sound.{IsSound}
 use Rattle.history_core.specs.declared.fault.Limit.{Limit}
 use Rattle.history_core.specs.declared.fault.Limit.TheVariants.{Load, Tables}
 use Rattle.history_core.specs.declared.fault.BookFault.{BookFault}

@@ -1,6 +1,6 @@
 // Events that keep a history legal.
 ghost use Rattle.std.specs.Prelude.{◌≡◌, ◌↔◌, ◌<◌, ◌≤◌, Some, Err, OnOk, OnErr, IsTrue};
-ghost use Rattle.sql_tree.specs.Sound.{IsSound};
+ghost use Rattle.sound_table.specs.Sound.{IsSound};
 ghost use Rattle.history_core.specs.declared.fault.Limit.{Limit};
 ghost use Rattle.history_core.specs.Legal.{Follows, IsOffered, full_for};
 ghost use Rattle.history_core.specs.Chronicle.{followed_by, with_table, IsLegalChronicle};

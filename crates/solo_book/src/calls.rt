@@ -1,7 +1,7 @@
 // The calls of a book, on what it keeps.
 ghost use Rattle.std.specs.Prelude.{◌≡◌, ◌≢◌, ◌≤◌, ◌<◌, ◌↔◌, [], ◌∷◌, ◌++◌, ℕ, length, Some, Err, IfOk, OnOk, OnErr, Contains, IsTrue, Any, map};
 ghost use Rattle.sql_tree.specs.declared.table.Table.{Table};
-ghost use Rattle.sql_tree.specs.Sound.{IsSound};
+ghost use Rattle.sound_table.specs.Sound.{IsSound};
 ghost use Rattle.history_core.specs.declared.fault.Limit.{Limit};
 ghost use Rattle.history_core.specs.declared.fault.Limit.TheVariants as limits;
 ghost use Rattle.history_core.specs.Events.{table_of, begun, names};

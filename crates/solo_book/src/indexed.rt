@@ -1,6 +1,6 @@
 // A history with an index of the writers by cell.
 ghost use Rattle.std.specs.Prelude.{◌≡◌, ◌↔◌, ◌≤◌, [], length, Some, Err, OnOk, OnErr, IsTrue};
-ghost use Rattle.sql_tree.specs.Sound.{IsSound};
+ghost use Rattle.sound_table.specs.Sound.{IsSound};
 ghost use Rattle.history_core.specs.declared.event.Event.{Event};
 ghost use Rattle.history_core.specs.declared.fault.Limit.{Limit};
 ghost use Rattle.history_core.specs.Events.{session_in, load_of};

@@ -1,7 +1,7 @@
 // Looks at the tables, and definitions.
 ghost use Rattle.std.specs.Prelude.{◌≡◌, ◌≢◌, ◌<◌, ◌≤◌, ◌↔◌, length, Some, Err, IfOk, OnErr, IsTrue, Any, Contains};
 ghost use Rattle.sql_tree.specs.declared.table.Table.{Table};
-ghost use Rattle.sql_tree.specs.Sound.{IsSound};
+ghost use Rattle.sound_table.specs.Sound.{IsSound};
 ghost use Rattle.history_core.specs.declared.fault.Limit.{Limit};
 ghost use Rattle.history_core.specs.declared.fault.Limit.TheVariants as limits;
 ghost use Rattle.history_core.specs.Events.{names, load_of};

@@ -1,6 +1,6 @@
 // What no clause says: that the calls succeed with ample memory, and offers and values that were found by hand.
 ghost use Rattle.std.specs.Prelude.{◌≡◌, IfOk, OnOk};
-ghost use Rattle.sql_tree.specs.Sound.{IsSound};
+ghost use Rattle.sound_table.specs.Sound.{IsSound};
 ghost use Rattle.history_core.specs.Events.{table_of};
 ghost use Rattle.history_core.specs.Book.{IsIdle, IsStorable};
 ghost use Rattle.solo_book.specs.Seats.{IsReady, IsFresh, IsBusy};
@@ -306,6 +306,7 @@ fn field() -> Cell
 }
 
 /// The table of `CREATE TABLE t (k bigint PRIMARY KEY, v bigint)`.
+#[tactic(auto, using(sound_table::proofs::Example::sound))]
 fn table(alloc: Global) -> Result<Table, Memory>
     ensures { IfOk result IsSound }
 {

@@ -8,6 +8,12 @@ use Rattle.std.specs.List.{Contains}
 use Rattle.solo_book.proofs.Legality.{taken_name, name_taken}
 use Rattle.solo_book.proofs.tables.define_table.Goals as goal
 
+pub append_table-requires-clause-untaken : goal.append_table-requires-clause-untaken
+append_table-requires-clause-untaken c = λ member.
+    let taken = name_taken c.args.desk.now.history c.args.table.now.name c.requires.kept.legal member in
+    false≢true (sym c.if-is_taken.false ∙ c.is_taken.ensures.1
+    (subst (λ (ts : List Table). Any (λ (t : Table). t.name ≡ c.args.table.now.name) ts) (sym c.tables.ensures.items) taken))
+
 pub returns-in-Ok-clause-ok : goal.returns-in-Ok-clause-ok
 returns-in-Ok-clause-ok c = (
   c.in-Ok.ensures.count,

@@ -1,0 +1,5 @@
+pub mod Example
+pub mod Defaults
+pub mod Columns
+pub mod Keys
+pub mod WellFormed
