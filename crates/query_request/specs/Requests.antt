@@ -15,6 +15,7 @@ use Rattle.sql_statements.specs.Faults.{AreStatementsOf, IsFaultOfText}
 use Rattle.sql_typing.specs.Outcome.{Outcome}
 use Rattle.sql_typing.specs.Building.{built}
 use Rattle.sql_typing.specs.Typed.{typed}
+use Rattle.sound_table.specs.Sound.{IsSound}
 use Rattle.query_request.specs.declared.request.Request.{Request}
 use Rattle.query_request.specs.declared.request.Request.TheVariants.{Define, Look, Refused}
 use Rattle.query_request.specs.Trees.{IsAccess}
@@ -73,3 +74,8 @@ pub data IsRequest (text : List ℕ) : Request → Type 0 where
   faulty : (fault : ParseFault) → IsUtf8 text → IsFaultOfText text fault → IsRequest text (Refused (state_of fault))
   -- it is statements
   reads : (xs : List Statement) (request : Request) → IsUtf8 text → AreStatementsOf text xs → AreAsked xs request → IsRequest text request
+
+-- the table that is to be defined is sound
+abbrev pub IsSoundRequest : Request → Type 0
+IsSoundRequest (Define table) = IsSound table
+IsSoundRequest _ = Unit {0}

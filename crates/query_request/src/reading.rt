@@ -1,8 +1,9 @@
 // What the bytes of a query ask for.
-ghost use Rattle.std.specs.Prelude.{◌≡◌, ◌<◌, ◌^◌, length, IfOk, IfSome, ◌≢◌};
+ghost use Rattle.std.specs.Prelude.{◌≡◌, ◌≢◌, ◌<◌, ◌^◌, [], length, IfOk, IfSome, IsNone};
+ghost use Rattle.query_request.specs.declared.request.Request.{Request as Asked};
 ghost use Rattle.std.specs.Str.{IsUtf8};
 ghost use Rattle.sql_grammar.specs.Limited.{HasNoZero};
-ghost use Rattle.query_request.specs.Requests.{AreAsked, IsAskedBy, IsRequest, Looks, defined, refusal_of, state_of};
+ghost use Rattle.query_request.specs.Requests.{AreAsked, IsAskedBy, IsRequest, IsSoundRequest, Looks, defined, refusal_of, state_of};
 ghost use Rattle.sql_typing.specs.Building.{built};
 ghost use Rattle.sql_typing.specs.Typed.{typed};
 
@@ -63,21 +64,29 @@ fn looking(statement: Statement) -> Request
     Request::Look(statement, access)
 }
 
+// What a statement asks for that doesn't look at the tables; none for one that does.
+fn request_alone(alloc: Global, statement: &Statement) -> Result<Option<Request>, Memory>
+    ensures some { IfOk result (λ asked. IfSome asked (IsAskedBy statement.now)) }
+    ensures none { IfOk result (λ asked. IsNone asked → (request : Asked) → Looks statement.now request → IsAskedBy statement.now request) }
+{
+    match statement {
+        Statement::Create(create) => Ok(Some(table_of(alloc, create)?)),
+        Statement::Select(select) => match select.from.as_slice() {
+            [] => Ok(Some(refused_alone(alloc, statement)?)),
+            [_, ..] => Ok(None),
+        },
+        Statement::Insert(_) | Statement::Update(_) | Statement::Delete(_) => Ok(None),
+        _ => Ok(Some(Request::Refused(SqlState::S0A000))),
+    }
+}
+
 // What a statement asks for.
 fn request_by(alloc: Global, statement: Statement) -> Result<Request, Memory>
     ensures { IfOk result (IsAskedBy statement) }
 {
-    match &statement {
-        Statement::Create(create) => table_of(alloc, create),
-        Statement::Select(select) => {
-            if select.from.len() == 0 {
-                refused_alone(alloc, &statement)
-            } else {
-                Ok(looking(statement))
-            }
-        }
-        Statement::Insert(_) | Statement::Update(_) | Statement::Delete(_) => Ok(looking(statement)),
-        _ => Ok(Request::Refused(SqlState::S0A000)),
+    match request_alone(alloc, &statement)? {
+        Some(request) => Ok(request),
+        None => Ok(looking(statement)),
     }
 }
 
@@ -102,7 +111,8 @@ fn request_by_all(alloc: Global, statements: Items<Statement>) -> Result<Request
 fn request_of_text(alloc: Global, text: &Text) -> Result<Request, Memory>
     requires short { length text.now < 2 ^ 32 }
     requires utf8 { IsUtf8 text.now }
-    ensures { IfOk result (λ request. IsRequest text.now request) }
+    ensures request { IfOk result (λ request. IsRequest text.now request) }
+    ensures sound { HasNoZero text.now → IfOk result IsSoundRequest }
 {
     match statements(alloc, text) {
         Ok(found) => request_by_all(alloc, found),
@@ -119,7 +129,8 @@ fn request_of_text(alloc: Global, text: &Text) -> Result<Request, Memory>
 /// that don't look at the tables.
 pub fn request_of(alloc: Global, text: &[u8]) -> Result<Request, Memory>
     requires { length text.now < 2 ^ 32 }
-    ensures { IfOk result (λ request. IsRequest text.now request) }
+    ensures request { IfOk result (λ request. IsRequest text.now request) }
+    ensures sound { HasNoZero text.now → IfOk result IsSoundRequest }
 {
     match Text::from_bytes(alloc, text) {
         Ok(text) => request_of_text(alloc, &text),
