@@ -43,6 +43,16 @@ impl Marks {
         mark(expr, entry, self.marks.as_mut_slice());
     }
 
+    /// Whether a column is marked; one that the table doesn't have isn't.
+    pub fn has(&self, column: u32) -> bool
+        ensures { result ≡ get_or self.now column false }
+    {
+        match self.marks.get(column as usize) {
+            Some(is_marked) => *is_marked,
+            None => false,
+        }
+    }
+
     /// The numbers of the columns that are marked, but for the key, ascending.
     pub fn columns(&self, alloc: Global, key: u32) -> Result<Items<u32>, Memory>
         requires { length self.now < 2 ^ 32 }
