@@ -1,6 +1,6 @@
 -- What the slots of a row hold.
-use Rattle.std.proofs.Common.{◌≡◌, ◌≢◌, ℕ, zero, suc, ◌+◌, ◌<◌, ◌≤◌, ◌==◌, Bool, true, false, ◌||◌, cond, List, [], ◌∷◌, ◌++◌, length, map, set, take, get_or, replicate, Option, Some, None, Ok, Err, refl, ap, sym, ◌∙◌, arith}
-use Rattle.std.proofs.lemmas.Bool.{ne_eqb, eqb-false, eqb-true}
+use Rattle.std.proofs.Common.{◌≡◌, ℕ, zero, suc, ◌+◌, ◌<◌, ◌==◌, Bool, true, false, cond, List, [], ◌∷◌, length, map, set, get_or, replicate, Option, Some, None, Ok, Err, refl, ap, sym, ◌∙◌, arith}
+use Rattle.std.proofs.lemmas.Bool.{eqb-false, eqb-true}
 use Rattle.std.proofs.lemmas.List.{length-set, get_or-set_same, get_or-set_other}
 use Rattle.sql_tree.specs.declared.table.Column.{Column}
 use Rattle.sql_tree.specs.declared.typed_expr.TypedExpr.{TypedExpr}
@@ -8,7 +8,7 @@ use Rattle.sql_typing.specs.Outcome.{Outcome, and_then}
 use Rattle.sql_typing.specs.Tables.{Target, numbered_from, all_targets, is_among}
 use Rattle.sql_typing.specs.Insert.{value_at}
 use Rattle.change_types.specs.Targets.{AreColumns}
-use Rattle.change_types.specs.Rows.{put, value_or, filled, default_value}
+use Rattle.change_types.specs.Rows.{put, value_or, filled}
 use Rattle.change_types.proofs.Numbers.{neither, swapped}
 
 -- the expression that goes to the column of this number

@@ -1,6 +1,5 @@
 -- The columns that a statement gives values to are columns of the table, each once.
-use Rattle.std.proofs.Common.{◌≡◌, ◌≢◌, ℕ, zero, suc, ◌+◌, ◌<◌, ◌≤◌, ◌==◌, Bool, true, false, ◌||◌, cond, List, [], ◌∷◌, ◌++◌, length, map, drop, get_or, Ok, Err, refl, ap, sym, ◌∙◌, add-one, drop-cons, arith}
-use Rattle.std.specs.List.{list_any}
+use Rattle.std.proofs.Common.{◌≡◌, ℕ, suc, ◌+◌, ◌<◌, ◌≤◌, ◌==◌, Bool, true, false, ◌||◌, cond, List, [], ◌∷◌, ◌++◌, length, drop, get_or, Ok, Err, refl, ap, sym, ◌∙◌, add-one, drop-cons, arith}
 use Rattle.std.specs.Str.{bytes_eq}
 use Rattle.std.proofs.lemmas.Bool.{ne_eqb, eqb-false}
 use Rattle.std.proofs.lemmas.List.Folds.{list_any-append}
@@ -11,7 +10,7 @@ use Rattle.sql_tree.specs.declared.table.Column.{Column}
 use Rattle.sql_tree.specs.declared.table.Table.{Table}
 use Rattle.std.specs.Prelude.{Option}
 use Rattle.sql_typing.specs.Outcome.{Outcome, and_then}
-use Rattle.sql_typing.specs.Tables.{Target, target_from, target_named, numbered_from, all_targets, is_among}
+use Rattle.sql_typing.specs.Tables.{Target, target_from, target_named, numbered_from, is_among}
 use Rattle.sql_typing.specs.Insert.{listed_from}
 use Rattle.sql_typing.specs.Changes.{assigned_from}
 use Rattle.change_types.specs.Targets.{AreColumns, assigned_target, targets_or_all}

@@ -1,5 +1,5 @@
 -- A row's values go to the columns of the written list, or to as many of all columns as it has values.
-use Rattle.std.proofs.Common.{◌≡◌, ℕ, zero, suc, ◌≤◌, cond, ◌==◌, List, [], ◌∷◌, length, map, take, Option, Ok, Err, refl, ap, sym, ◌∙◌, arith}
+use Rattle.std.proofs.Common.{◌≡◌, ℕ, zero, suc, ◌≤◌, cond, ◌==◌, List, [], ◌∷◌, length, map, take, Option, Ok, Err, refl, ap, ◌∙◌, arith}
 use Rattle.std.specs.Prelude.{Result}
 use Rattle.expr_types.specs.declared.error.TypeFault.{TypeFault}
 use Rattle.expr_types.specs.Gives.{Gives}

@@ -1,6 +1,6 @@
 -- What an expression is to the search for a point, case by case.
-use Rattle.std.proofs.Common.{◌≡◌, ℕ, Bool, true, false, Option, Ok, Err, refl, ap, sym, ◌∙◌}
-use Rattle.std.specs.Prelude.{Result, IfOk, if◌then◌else◌}
+use Rattle.std.proofs.Common.{◌≡◌, ℕ, true, false, Option, Ok, Err, refl, ap, sym, ◌∙◌}
+use Rattle.std.specs.Prelude.{Result, IfOk}
 use Rattle.cell_base.specs.declared.key.Key.{Key}
 use Rattle.cell_base.specs.declared.memory.Memory.{Memory}
 use Rattle.sql_tree.specs.declared.typed_expr.TypedExpr.{TypedExpr}

@@ -24,7 +24,7 @@ pub marked_then : (a b d : List Bool) (p q : ℕ → Bool) → IsMarked a b p �
 marked_then a b d p q first then = record {
   same = then.same ∙ first.same;
   each = λ c h.
-    then.each c (omega (arith, first.same)) ∙ ap (λ m. m || q c) (first.each c h) ∙ or_assoc (get_or a c false) (p c) (q c);
+      then.each c (omega (arith, first.same)) ∙ ap (λ m. m || q c) (first.each c h) ∙ or_assoc (get_or a c false) (p c) (q c);
 }
 
 -- the same columns in other words

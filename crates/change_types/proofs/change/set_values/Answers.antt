@@ -1,4 +1,4 @@
-use Rattle.std.proofs.Common.{◌≡◌, length, min, ◌++◌, rules, arith}
+use Rattle.std.proofs.Common.{◌≡◌, length, min, rules}
 use Rattle.std.proofs.lemmas.Slice.Zip.{zip_end}
 use Rattle.sql_typing.specs.Changes as spec
 use Rattle.expr_types.specs.Scope.{sources}

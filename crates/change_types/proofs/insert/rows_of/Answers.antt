@@ -1,5 +1,5 @@
-use Rattle.std.proofs.Common.{◌≡◌, length, ap, ◌∙◌}
-use Rattle.change_types.specs.Targets.{targets, targets_or_all, AreColumns}
+use Rattle.std.proofs.Common.{ap, ◌∙◌}
+use Rattle.change_types.specs.Targets.{targets}
 use Rattle.change_types.proofs.Numbers.{given_columns}
 use Rattle.change_types.proofs.Rows.{rows_given}
 use Rattle.change_types.proofs.insert.rows_of.Goals as goal

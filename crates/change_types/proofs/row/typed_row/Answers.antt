@@ -1,4 +1,4 @@
-use Rattle.std.proofs.Common.{◌≡◌, Option, None, Ok, replicate, length, ap, ◌∙◌}
+use Rattle.std.proofs.Common.{length}
 use Rattle.sql_typing.specs.Insert.{cells}
 use Rattle.change_types.specs.Targets.{targets}
 use Rattle.change_types.proofs.Filling.{slots_length, row_done}

@@ -1,4 +1,4 @@
-use Rattle.std.proofs.Common.{◌≡◌, ◌<◌, [], length, Err, rules, arith}
+use Rattle.std.proofs.Common.{◌≡◌, [], Err, rules, arith}
 use Rattle.std.proofs.lemmas.Grind.{common_steps}
 use Rattle.sql_typing.specs.Changes.{assigned_from}
 use Rattle.change_types.specs.Targets.{assigned_target, targets}

@@ -1,4 +1,4 @@
-use Rattle.std.proofs.Common.{◌||◌, sym, subst}
+use Rattle.std.proofs.Common.{◌||◌, sym}
 use Rattle.std.specs.List.{list_any}
 use Rattle.sql_typing.specs.Mentions.{mentions}
 use Rattle.typed_parts.proofs.Marking.{marked_then, marked_as}

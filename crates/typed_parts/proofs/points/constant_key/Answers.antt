@@ -1,4 +1,4 @@
-use Rattle.std.proofs.Common.{◌≡◌, ◌∙◌, sym, ap}
+use Rattle.std.proofs.Common.{◌∙◌, sym, ap}
 use Rattle.sql_typing.specs.Points.{negative_key}
 use Rattle.typed_parts.specs.Readings.{reading}
 use Rattle.typed_parts.proofs.Asking.{constant-neg}

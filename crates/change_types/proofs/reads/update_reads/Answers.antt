@@ -1,7 +1,7 @@
 use Rattle.std.specs.Option.{option_map}
 use Rattle.sql_typing.specs.Changes.{update_reads}
 use Rattle.change_types.proofs.Reading.{columns_answered, update_marked}
-use Rattle.change_types.proofs.reads.columns_read.Goals as goal
+use Rattle.change_types.proofs.reads.update_reads.Goals as goal
 
 pub returns : goal.returns
 returns c =
