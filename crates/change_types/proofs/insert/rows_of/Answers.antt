@@ -11,5 +11,6 @@ typed_rows-requires c =
 
 pub returns : goal.returns
 returns c =
-    rows_given c.args.table.now c.as_slice-columns.result.now (targets c.args.listed) (targets c.as_slice.result.now) c.args.rows.now c.typed_rows.result c.as_slice-columns.ensures
+    rows_given c.args.table.now c.as_slice-columns.result.now (targets c.args.listed) (targets c.as_slice.result.now) c.args.rows.now
+    c.typed_rows.result c.as_slice-columns.ensures
     (ap targets c.as_slice.ensures ∙ c.in_ok-given.ensures) c.typed_rows.ensures

@@ -6,4 +6,5 @@ use Rattle.change_types.specs.Targets.{targets}
 use Rattle.change_types.proofs.row.typed_rows.Given as goal
 
 abbrev pub invariant-loop-row : goal.invariant-loop-row
-invariant-loop-row l = with_rest (row_over l.columns (targets l.given)) l.typed (drop l.row-index l.rows) ≡ all_of (map (row_over l.columns (targets l.given)) l.rows)
+invariant-loop-row l =
+    with_rest (row_over l.columns (targets l.given)) l.typed (drop l.row-index l.rows) ≡ all_of (map (row_over l.columns (targets l.given)) l.rows)

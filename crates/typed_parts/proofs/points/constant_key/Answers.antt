@@ -6,4 +6,5 @@ use Rattle.typed_parts.proofs.points.constant_key.Goals as goal
 
 pub returns-in-Neg : goal.returns-in-Neg
 returns-in-Neg c e k =
-    c.negative_key.ensures e k ∙ ap (λ x. negative_key (reading e k x).literal) c.get.ensures ∙ sym (constant-neg e k c.args.expr.now c.in-Neg.operand c.in-Neg.is)
+    c.negative_key.ensures e k ∙ ap (λ x. negative_key (reading e k x).literal) c.get.ensures
+    ∙ sym (constant-neg e k c.args.expr.now c.in-Neg.operand c.in-Neg.is)
