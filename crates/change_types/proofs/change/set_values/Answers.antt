@@ -1,3 +1,4 @@
+-- Where the columns or the assignments end, all values are typed.
 use Rattle.std.proofs.Common.{◌≡◌, length, min, rules}
 use Rattle.std.proofs.lemmas.Slice.Zip.{zip_end}
 use Rattle.sql_typing.specs.Changes as spec

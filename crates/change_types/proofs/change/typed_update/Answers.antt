@@ -1,3 +1,4 @@
+-- The assigned columns are the table's.
 use Rattle.std.proofs.Common.{length}
 use Rattle.sql_typing.specs.Changes.{own_source}
 use Rattle.change_types.specs.Targets.{targets}

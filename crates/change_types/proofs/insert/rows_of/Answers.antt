@@ -1,3 +1,4 @@
+-- The rows of the INSERT are those over the columns that get values.
 use Rattle.std.proofs.Common.{ap, ◌∙◌}
 use Rattle.change_types.specs.Targets.{targets}
 use Rattle.change_types.proofs.Numbers.{given_columns}

@@ -1,3 +1,4 @@
+-- The columns of a written list are the table's, each once.
 use Rattle.change_types.specs.Targets.{targets}
 use Rattle.change_types.proofs.Numbers.{listed_columns}
 use Rattle.change_types.proofs.insert.typed_insert.Goals as goal

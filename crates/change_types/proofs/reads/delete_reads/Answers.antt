@@ -1,3 +1,4 @@
+-- The columns that a DELETE reads, by one walk.
 use Rattle.std.specs.Option.{option_map}
 use Rattle.sql_typing.specs.Mentions.{in_filter}
 use Rattle.change_types.proofs.Reading.{columns_answered}

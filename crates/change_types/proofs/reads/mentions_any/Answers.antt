@@ -1,3 +1,4 @@
+-- An assigned column is marked where the expression mentions it.
 use Rattle.std.proofs.Common.{◌∙◌}
 use Rattle.sql_typing.specs.Mentions.{mentions}
 use Rattle.change_types.proofs.Reading.{any_marked}

@@ -1,3 +1,4 @@
+-- The columns that an UPDATE reads, by three walks behind one another.
 use Rattle.std.specs.Option.{option_map}
 use Rattle.sql_typing.specs.Changes.{update_reads}
 use Rattle.change_types.proofs.Reading.{columns_answered, update_marked}

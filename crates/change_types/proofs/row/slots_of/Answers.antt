@@ -1,3 +1,4 @@
+-- Where the columns or the values end, all slots are filled.
 use Rattle.std.proofs.Common.{◌≡◌, Option, None, Ok, length, min, replicate, ap, sym, ◌∙◌, rules}
 use Rattle.std.proofs.lemmas.Slice.Zip.{zip_end}
 use Rattle.sql_tree.specs.declared.typed_expr.TypedExpr.{TypedExpr}

@@ -1,3 +1,4 @@
+-- The filled slots are the row.
 use Rattle.std.proofs.Common.{length}
 use Rattle.sql_typing.specs.Insert.{cells}
 use Rattle.change_types.specs.Targets.{targets}

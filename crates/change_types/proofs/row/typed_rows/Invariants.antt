@@ -1,3 +1,4 @@
+-- The rows so far, and what is left.
 use Rattle.std.proofs.Common.{◌≡◌, map, drop}
 use Rattle.expr_types.proofs.Lists.{with_rest}
 use Rattle.sql_typing.specs.Outcome.{all_of}

@@ -1,3 +1,4 @@
+-- A column that can't be assigned ends the list.
 use Rattle.std.proofs.Common.{◌≡◌, [], Err, rules, arith}
 use Rattle.std.proofs.lemmas.Grind.{common_steps}
 use Rattle.sql_typing.specs.Changes.{assigned_from}

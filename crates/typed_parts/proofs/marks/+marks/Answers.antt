@@ -1,3 +1,4 @@
+-- An IN mentions what its left operand and its members mention.
 use Rattle.std.proofs.Common.{◌||◌, sym}
 use Rattle.std.specs.List.{list_any}
 use Rattle.sql_typing.specs.Mentions.{mentions}

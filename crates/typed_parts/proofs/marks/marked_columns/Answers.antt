@@ -1,3 +1,4 @@
+-- A column is kept where it is marked and isn't the key.
 use Rattle.std.proofs.Common.{◌==◌, ◌&&◌, ◌++◌, ◌∷◌, [], Bool, ℕ, false, not, get_or, ap, sym, ◌∙◌}
 use Rattle.typed_parts.proofs.Marking.{kept_more, kept_less}
 use Rattle.typed_parts.proofs.marks.marked_columns.Goals.{then-is_wanted+in_ok-push, else-is_wanted}

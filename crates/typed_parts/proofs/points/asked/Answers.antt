@@ -1,3 +1,4 @@
+-- An equation asks for the constant on the other side of the key.
 use Rattle.std.proofs.Common.{sym, ◌∙◌}
 use Rattle.typed_parts.proofs.Asking.{left_asks, right_asks}
 use Rattle.typed_parts.proofs.points.asked.Goals as goal

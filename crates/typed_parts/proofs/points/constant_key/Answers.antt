@@ -1,3 +1,4 @@
+-- An integer behind a minus sign, as a key.
 use Rattle.std.proofs.Common.{◌∙◌, sym, ap}
 use Rattle.sql_typing.specs.Points.{negative_key}
 use Rattle.typed_parts.specs.Readings.{reading}
