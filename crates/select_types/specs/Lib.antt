@@ -1,0 +1,2 @@
+pub mod GivesBy
+pub mod Outputs

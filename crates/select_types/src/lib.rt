@@ -1,0 +1,9 @@
+//! The types of SELECT: the typed tree, or the code that comes first.
+#![tactic(auto)]
+
+mod aggregates;
+mod items;
+mod joins;
+mod order;
+mod output;
+mod star;

@@ -1,0 +1,104 @@
+// The terms of ORDER BY.
+ghost use Rattle.std.specs.Prelude.{◌≡◌};
+ghost use Rattle.std.specs.Option.{option_map};
+ghost use Rattle.sql_tree.specs.declared.expr.Expr.{out-Expr};
+ghost use Rattle.sql_typing.specs.Outcome.{all_of};
+ghost use Rattle.sql_typing.specs.Select as spec;
+ghost use Rattle.expr_types.specs.Gives.{Gives};
+ghost use Rattle.expr_types.specs.Scope.{IsNarrow, sources};
+ghost use Rattle.select_types.specs.Outputs.{output, outputs};
+
+use crate::output::Output;
+use cell_base::{Items, SqlState, Text};
+use expr_types::{Entry, TypeFault, typed_item};
+use sql_tree::{Expr, OrderTerm, TypedExpr};
+use sql_typing::Place;
+use std::alloc::Global;
+
+/// The first column of the result of this name.
+fn output_named<'a>(outputs: &'a [Output], name: &Text) -> Option<&'a Output>
+    ensures { option_map (λ o. output o.now) result ≡ spec.output_named name.now (outputs outputs.now) }
+{
+    for output in outputs {
+        if output.name.as_str() == name.as_str() {
+            return Some(output);
+        }
+    }
+    None
+}
+
+/// The value at a position, from 1.
+fn at_position(
+    alloc: Global,
+    outputs: &[Output],
+    position: i64,
+) -> Result<TypedExpr, TypeFault>
+    ensures { Gives (spec.at_position (outputs outputs.now) position) result }
+{
+    if position < 1 {
+        return Err(TypeFault::State(SqlState::S42601));
+    }
+    match outputs.get((position - 1) as usize) {
+        Some(output) => Ok(output.expr.copy(alloc)?),
+        None => Err(TypeFault::State(SqlState::S42601)),
+    }
+}
+
+fn term_value(
+    alloc: Global,
+    expr: &Expr,
+    scope: &[Entry<'_>],
+    outputs: &[Output],
+) -> Result<TypedExpr, TypeFault>
+    requires { IsNarrow scope.now }
+    ensures { Gives (spec.term_at (sources scope.now) (outputs outputs.now) expr.now (out-Expr expr.now)) result }
+{
+    match expr {
+        Expr::Int(position) => at_position(alloc, outputs, *position),
+        Expr::Column(None, name) => match output_named(outputs, name) {
+            Some(output) => Ok(output.expr.copy(alloc)?),
+            None => typed_item(alloc, expr, scope, Place::Row),
+        },
+        _ => typed_item(alloc, expr, scope, Place::Row),
+    }
+}
+
+fn terms_of(
+    alloc: Global,
+    terms: &[OrderTerm],
+    scope: &[Entry<'_>],
+    outputs: &[Output],
+) -> Result<Items<(TypedExpr, bool)>, TypeFault>
+    requires { IsNarrow scope.now }
+    ensures { Gives (all_of (map (spec.term_of (sources scope.now) (outputs outputs.now)) terms.now)) result }
+{
+    let mut typed = Items::new(alloc);
+    for term in terms {
+        let value = term_value(alloc, &term.expr, scope, outputs)?;
+        typed.push((value, term.descending))?;
+    }
+    Ok(typed)
+}
+
+/// The terms of ORDER BY, from left to right. A SELECT with an aggregate has none.
+pub fn order_of(
+    alloc: Global,
+    terms: &[OrderTerm],
+    scope: &[Entry<'_>],
+    outputs: &[Output],
+    grouped: bool,
+) -> Result<Items<(TypedExpr, bool)>, TypeFault>
+    requires { IsNarrow scope.now }
+    ensures { Gives (spec.order_of grouped (sources scope.now) (outputs outputs.now) terms.now) result }
+{
+    match terms {
+        [] => Ok(Items::new(alloc)),
+        [_, ..] => {
+            if grouped {
+                Err(TypeFault::State(SqlState::S0A000))
+            } else {
+                terms_of(alloc, terms, scope, outputs)
+            }
+        }
+    }
+}
