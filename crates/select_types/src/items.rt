@@ -1,15 +1,13 @@
 // The columns of a SELECT's result.
-ghost use Rattle.std.specs.Prelude.{◌≡◌, ◌++◌, ◌<◌, ◌≤◌, ◌+◌, ◌^◌, ◌-◌, [], Ok, Err, IfOk, codes, length, min};
-ghost use Rattle.std.specs.Option.{option_map};
+ghost use Rattle.std.specs.Prelude.{◌≡◌, ◌++◌, ◌+◌, ◌^◌, ◌-◌, [], Ok, IfOk, codes, nat_lt, min};
 ghost use Rattle.sql_tree.specs.declared.expr.Expr.{out-Expr};
 ghost use Rattle.sql_typing.specs.Outcome.{and_then};
 ghost use Rattle.sql_typing.specs.Select as spec;
-ghost use Rattle.expr_types.specs.Gives.{Gives};
 ghost use Rattle.expr_types.specs.Scope.{IsNarrow, sources};
 ghost use Rattle.select_types.specs.GivesBy.{GivesBy};
-ghost use Rattle.select_types.specs.Outputs.{output, outputs};
+ghost use Rattle.select_types.specs.Outputs.{outputs};
 
-use crate::output::Output;
+use crate::output::{Output, with_output};
 use crate::star::{width, with_star};
 use cell_base::{Items, Memory, SqlState, Text};
 use expr_types::{Entry, TypeFault, typed_item};
@@ -86,14 +84,6 @@ fn with_item(
             Ok(with_output(before, Output { name, expr: typed })?)
         }
     }
-}
-
-fn with_output(before: Items<Output>, last: Output) -> Result<Items<Output>, Memory>
-    ensures { IfOk result (λ all. all ≡ before ++ last ∷ []) }
-{
-    let mut all = before;
-    all.push(last)?;
-    Ok(all)
 }
 
 /// The columns of the result, from left to right.

@@ -1,5 +1,5 @@
 // The terms of ORDER BY.
-ghost use Rattle.std.specs.Prelude.{◌≡◌};
+ghost use Rattle.std.specs.Prelude.{◌≡◌, map};
 ghost use Rattle.std.specs.Option.{option_map};
 ghost use Rattle.sql_tree.specs.declared.expr.Expr.{out-Expr};
 ghost use Rattle.sql_typing.specs.Outcome.{all_of};
@@ -63,6 +63,19 @@ fn term_value(
     }
 }
 
+fn term_of(
+    alloc: Global,
+    term: &OrderTerm,
+    scope: &[Entry<'_>],
+    outputs: &[Output],
+) -> Result<(TypedExpr, bool), TypeFault>
+    requires { IsNarrow scope.now }
+    ensures { Gives (spec.term_of (sources scope.now) (outputs outputs.now) term.now) result }
+{
+    let value = term_value(alloc, &term.expr, scope, outputs)?;
+    Ok((value, term.descending))
+}
+
 fn terms_of(
     alloc: Global,
     terms: &[OrderTerm],
@@ -74,8 +87,7 @@ fn terms_of(
 {
     let mut typed = Items::new(alloc);
     for term in terms {
-        let value = term_value(alloc, &term.expr, scope, outputs)?;
-        typed.push((value, term.descending))?;
+        typed.push(term_of(alloc, term, scope, outputs)?)?;
     }
     Ok(typed)
 }

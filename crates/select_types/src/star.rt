@@ -1,12 +1,14 @@
 // The columns that `*` stands for.
 ghost use Rattle.std.specs.Prelude.{◌≡◌, ◌<◌, ◌^◌, ◌-◌, ◌++◌, Ok, IfOk, length, min};
+ghost use Rattle.sql_tree.specs.declared.typed_expr.TypedNode.TheVariants as node;
+ghost use Rattle.sql_typing.specs.Expressions.{typed_node};
 ghost use Rattle.sql_typing.specs.Outcome.{and_then};
 ghost use Rattle.sql_typing.specs.Select as spec;
 ghost use Rattle.expr_types.specs.Scope.{IsNarrow, sources};
 ghost use Rattle.select_types.specs.GivesBy.{GivesBy};
-ghost use Rattle.select_types.specs.Outputs.{outputs};
+ghost use Rattle.select_types.specs.Outputs.{output, outputs};
 
-use crate::output::Output;
+use crate::output::{Output, with_output};
 use cell_base::{Items, Memory, SqlState};
 use expr_types::{Entry, TypeFault};
 use sql_tree::{Column, TypedExpr, TypedNode};
@@ -24,6 +26,23 @@ pub fn width(scope: &[Entry<'_>]) -> usize
     width
 }
 
+fn column_output(
+    alloc: Global,
+    entry: u32,
+    number: u32,
+    column: &Column,
+) -> Result<Output, Memory>
+    ensures { IfOk result (λ o. output o ≡ record { name = column.now.name; expr = typed_node column.now.kind (node.Column entry number) }) }
+{
+    Ok(Output {
+        name: column.name.copy(alloc)?,
+        expr: TypedExpr {
+            kind: column.kind,
+            node: TypedNode::Column(entry, number),
+        },
+    })
+}
+
 /// The columns of an entry's table behind those that stand before.
 fn with_columns(
     alloc: Global,
@@ -36,13 +55,7 @@ fn with_columns(
 {
     let mut all = before;
     for (i, column) in columns.iter().enumerate() {
-        all.push(Output {
-            name: column.name.copy(alloc)?,
-            expr: TypedExpr {
-                kind: column.kind,
-                node: TypedNode::Column(entry, i as u32),
-            },
-        })?;
+        all = with_output(all, column_output(alloc, entry, i as u32, column)?)?;
     }
     Ok(all)
 }
