@@ -1,5 +1,5 @@
 -- The columns that `*` stands for, entry by entry.
-use Rattle.std.proofs.Common.{◌≡◌, ℕ, suc, ◌+◌, ◌-◌, ◌^◌, ◌<◌, min, List, [], ◌∷◌, ◌++◌, length, drop, get_or, map, refl, ap, sym, ◌∙◌, add-one, drop-cons, append_assoc, length-append, arith}
+use Rattle.std.proofs.Common.{◌≡◌, ℕ, suc, ◌+◌, ◌-◌, ◌^◌, ◌<◌, ◌≤◌, min, List, [], ◌∷◌, ◌++◌, length, drop, get_or, map, refl, ap, sym, ◌∙◌, add-one, drop-cons, append_assoc, length-append, arith}
 use Rattle.sql_tree.specs.declared.table.Column.{Column}
 use Rattle.expr_types.specs.declared.entry.Entry.{Entry}
 use Rattle.expr_types.specs.Scope.{source, sources}
@@ -50,3 +50,8 @@ stars_more all i x before after within is e =
     ap (λ cs. cs ++ star_outputs (i + 1) (sources (drop (i + 1) all))) e
     ∙ append_assoc (outputs before) (column_outputs i 0 x.table.now.columns) (star_outputs (i + 1) (sources (drop (i + 1) all)))
     ∙ ap (λ es. outputs before ++ star_outputs i (sources es)) (sym (cut all i x within is))
+
+-- so many columns so far, where so many are left of them all
+pub record IsCounted (width left all : ℕ) : Type 0 where
+  pub counted : min (width + left) (2 ^ 64 - 1) ≡ min all (2 ^ 64 - 1)
+  pub fits : width ≤ 2 ^ 64 - 1
