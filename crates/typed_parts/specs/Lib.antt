@@ -1,0 +1,4 @@
+pub mod Narrow
+pub mod Numbered
+pub mod Marked
+pub mod Readings
