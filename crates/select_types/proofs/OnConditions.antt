@@ -6,6 +6,9 @@ use Rattle.sql_tree.specs.declared.expr.Expr.{Expr}
 use Rattle.sql_tree.specs.declared.statement.TableRef.{TableRef}
 use Rattle.sql_tree.specs.declared.typed_expr.TypedExpr.{TypedExpr}
 use Rattle.expr_types.specs.declared.entry.Entry.{Entry}
+use Rattle.expr_types.specs.declared.error.TypeFault.{TypeFault}
+use Rattle.expr_types.specs.declared.error.TypeFault.TheVariants.{State, Memory}
+use Rattle.expr_types.specs.Gives.{Gives}
 use Rattle.expr_types.specs.Scope.{IsNarrow}
 use Rattle.sql_typing.specs.Names.{Source}
 use Rattle.sql_typing.specs.Expressions.{flag}
@@ -16,17 +19,15 @@ use Rattle.sql_typing.specs.Select.{on_before, ons_from, ons_of}
 abbrev pub ons_left : List TypedExpr → List Source → ℕ → List TableRef → Outcome (List TypedExpr)
 ons_left done sources seen more = and_then (ons_from sources seen more) (λ rest. Ok (done ++ rest))
 
-rest_more : (o : Outcome (List TypedExpr)) (done : List TypedExpr) (x : TypedExpr) (after : List TypedExpr) → Ok (done ++ x ∷ []) ≡ Ok {E = SqlState} after
+rest_more : (o : Outcome (List TypedExpr)) (done : List TypedExpr) (x : TypedExpr) (after : List TypedExpr) → done ++ x ∷ [] ≡ after
     → and_then (and_then o (λ xs. Ok (x ∷ xs))) (λ rest. Ok (done ++ rest)) ≡ and_then o (λ rest. Ok (after ++ rest))
-rest_more (Ok xs) done x after e =
-    let same : done ++ x ∷ [] ≡ after = cc in
-    ap Ok (sym (append_assoc done (x ∷ []) xs) ∙ ap (λ ys. ys ++ xs) same)
+rest_more (Ok xs) done x after e = ap Ok (sym (append_assoc done (x ∷ []) xs) ∙ ap (λ ys. ys ++ xs) e)
 rest_more (Err code) done x after e = refl
 
 first_more : (f : Outcome TypedExpr) (o : Outcome (List TypedExpr)) (done after : List TypedExpr)
     → and_then (and_then f (λ x. Ok (x ∷ []))) (λ more. Ok (done ++ more)) ≡ Ok after
     → and_then (and_then f (λ x. and_then o (λ xs. Ok (x ∷ xs)))) (λ rest. Ok (done ++ rest)) ≡ and_then o (λ rest. Ok (after ++ rest))
-first_more (Ok x) o done after e = rest_more o done x after e
+first_more (Ok x) o done after e = let same : done ++ x ∷ [] ≡ after = cc in rest_more o done x after same
 first_more (Err code) o done after e = cc
 
 on_more : (seen : List Source) (on : Option Expr) (o : Outcome (List TypedExpr)) (done after : List TypedExpr)
@@ -76,3 +77,9 @@ take_narrow entries n h = record {
     let here : i < length entries = omega arith in
     rw (get_or-take n entries i d below) (h.narrow i d here)
 }
+
+pub ons_failed : (sources : List Source) (all : List TableRef) (i : ℕ) (r : TableRef) (done : List TypedExpr) (why : TypeFault) (o : Outcome (List TypedExpr)) → i < length all → r ≡ get_or all i r
+    → Gives {A = List TypedExpr} (and_then (on_before (take (i + 1) sources) r.on (Ok [])) (λ more. Ok (done ++ more))) (Err why)
+    → ons_left done sources (i + 1) (drop i all) ≡ o → Gives {A = List TypedExpr} o (Err why)
+ons_failed sources all i r done (State code) o within is e was = ons_fault sources all i r done code o within is e was
+ons_failed sources all i r done Memory o within is e was = tt

@@ -1,12 +1,12 @@
 // The terms of ORDER BY.
-ghost use Rattle.std.specs.Prelude.{◌≡◌, map};
+ghost use Rattle.std.specs.Prelude.{◌≡◌, List, map};
 ghost use Rattle.std.specs.Option.{option_map};
 ghost use Rattle.sql_tree.specs.declared.expr.Expr.{out-Expr};
 ghost use Rattle.sql_typing.specs.Outcome.{all_of};
 ghost use Rattle.sql_typing.specs.Select as spec;
 ghost use Rattle.expr_types.specs.Gives.{Gives};
 ghost use Rattle.expr_types.specs.Scope.{IsNarrow, sources};
-ghost use Rattle.select_types.specs.Outputs.{output, outputs};
+ghost use Rattle.select_types.specs.Outputs as columns;
 
 use crate::output::Output;
 use cell_base::{Items, SqlState, Text};
@@ -17,7 +17,7 @@ use std::alloc::Global;
 
 /// The first column of the result of this name.
 fn output_named<'a>(outputs: &'a [Output], name: &Text) -> Option<&'a Output>
-    ensures { option_map (λ o. output o.now) result ≡ spec.output_named name.now (outputs outputs.now) }
+    ensures { option_map (λ o. columns.output o.now) result ≡ spec.output_named name.now (columns.outputs outputs.now) }
 {
     for output in outputs {
         if output.name.as_str() == name.as_str() {
@@ -27,21 +27,38 @@ fn output_named<'a>(outputs: &'a [Output], name: &Text) -> Option<&'a Output>
     None
 }
 
+/// The place from 0 of a position from 1.
+fn index_of(position: i64) -> Option<usize>
+    ensures { (all : List spec.Output) → spec.at_position all position ≡ columns.at_index all result }
+{
+    usize::try_from(position).ok()?.checked_sub(1)
+}
+
+fn at_index(
+    alloc: Global,
+    outputs: &[Output],
+    index: Option<usize>,
+) -> Result<TypedExpr, TypeFault>
+    ensures { Gives (columns.at_index (columns.outputs outputs.now) index) result }
+{
+    match index {
+        None => Err(TypeFault::State(SqlState::S42601)),
+        Some(index) => match outputs.get(index) {
+            None => Err(TypeFault::State(SqlState::S42601)),
+            Some(output) => Ok(output.expr.copy(alloc)?),
+        },
+    }
+}
+
 /// The value at a position, from 1.
 fn at_position(
     alloc: Global,
     outputs: &[Output],
     position: i64,
 ) -> Result<TypedExpr, TypeFault>
-    ensures { Gives (spec.at_position (outputs outputs.now) position) result }
+    ensures { Gives (spec.at_position (columns.outputs outputs.now) position) result }
 {
-    if position < 1 {
-        return Err(TypeFault::State(SqlState::S42601));
-    }
-    match outputs.get((position - 1) as usize) {
-        Some(output) => Ok(output.expr.copy(alloc)?),
-        None => Err(TypeFault::State(SqlState::S42601)),
-    }
+    at_index(alloc, outputs, index_of(position))
 }
 
 fn term_value(
@@ -51,7 +68,7 @@ fn term_value(
     outputs: &[Output],
 ) -> Result<TypedExpr, TypeFault>
     requires { IsNarrow scope.now }
-    ensures { Gives (spec.term_at (sources scope.now) (outputs outputs.now) expr.now (out-Expr expr.now)) result }
+    ensures { Gives (spec.term_at (sources scope.now) (columns.outputs outputs.now) expr.now (out-Expr expr.now)) result }
 {
     match expr {
         Expr::Int(position) => at_position(alloc, outputs, *position),
@@ -70,7 +87,7 @@ fn term_of(
     outputs: &[Output],
 ) -> Result<(TypedExpr, bool), TypeFault>
     requires { IsNarrow scope.now }
-    ensures { Gives (spec.term_of (sources scope.now) (outputs outputs.now) term.now) result }
+    ensures { Gives (spec.term_of (sources scope.now) (columns.outputs outputs.now) term.now) result }
 {
     let value = term_value(alloc, &term.expr, scope, outputs)?;
     Ok((value, term.descending))
@@ -83,7 +100,7 @@ fn terms_of(
     outputs: &[Output],
 ) -> Result<Items<(TypedExpr, bool)>, TypeFault>
     requires { IsNarrow scope.now }
-    ensures { Gives (all_of (map (spec.term_of (sources scope.now) (outputs outputs.now)) terms.now)) result }
+    ensures { Gives (all_of (map (spec.term_of (sources scope.now) (columns.outputs outputs.now)) terms.now)) result }
 {
     let mut typed = Items::new(alloc);
     for term in terms {
@@ -101,7 +118,7 @@ pub fn order_of(
     grouped: bool,
 ) -> Result<Items<(TypedExpr, bool)>, TypeFault>
     requires { IsNarrow scope.now }
-    ensures { Gives (spec.order_of grouped (sources scope.now) (outputs outputs.now) terms.now) result }
+    ensures { Gives (spec.order_of grouped (sources scope.now) (columns.outputs outputs.now) terms.now) result }
 {
     match terms {
         [] => Ok(Items::new(alloc)),
