@@ -2,6 +2,7 @@
 #![tactic(auto)]
 
 mod aggregates;
+mod from;
 mod items;
 mod joins;
 mod order;

@@ -2,6 +2,7 @@
 use Rattle.std.proofs.Common.{◌≡◌, ℕ, zero, suc, ◌+◌, ◌<◌, ◌≤◌, ◌==◌, Bool, true, false, ◌||◌, ◌&&◌, not, cond, List, [], ◌∷◌, ◌++◌, length, take, get_or, replicate, refl, ap, sym, ◌∙◌, add-one, arith}
 use Rattle.std.specs.List.{list_any}
 use Rattle.std.proofs.Math.Seq.{take-suc}
+use Rattle.std.proofs.lemmas.List.{append-nil}
 use Rattle.sql_tree.specs.declared.table.Table.{Table}
 use Rattle.sql_typing.specs.Mentions.{kept, numbers_from, columns_where}
 use Rattle.typed_parts.specs.Marked.{IsMarked}
@@ -65,3 +66,31 @@ columns_marked t marks p marked =
     rw many (kept_same (λ c. not (c == t.key) && get_or marks c false) (λ c. not (c == t.key) && p c) 0 (length t.columns)
     (λ c h k. ap (λ m. not (c == t.key) && m)
     (marked.each c (omega (arith, length-replicate (length t.columns))) ∙ ap (λ m. m || p c) (none_before (length t.columns) c))))
+
+numbers-append : (i n : ℕ) → numbers_from i (suc n) ≡ numbers_from i n ++ (i + n) ∷ []
+numbers-append i zero = ap (λ k. k ∷ []) (omega arith)
+numbers-append i (suc n) =
+    let same : i + 1 + n ≡ i + suc n = omega arith in
+    ap (λ ks. i ∷ ks) (numbers-append (i + 1) n ∙ ap (λ k. numbers_from (i + 1) n ++ k ∷ []) same)
+
+kept-append : (p : ℕ → Bool) (ns : List ℕ) (n : ℕ) → kept p (ns ++ n ∷ []) ≡ kept p ns ++ cond (p n) (n ∷ []) []
+kept-append p [] n = refl
+kept-append p (m ∷ ms) n = behind (p m) m (kept p (ms ++ n ∷ [])) (kept p ms) (cond (p n) (n ∷ []) []) (kept-append p ms n)
+  where
+    behind : (b : Bool) (m : ℕ) (all before last : List ℕ) → all ≡ before ++ last → cond b (m ∷ all) all ≡ cond b (m ∷ before) before ++ last
+    behind true m all before last e = ap (λ ns. m ∷ ns) e
+    behind false m all before last e = e
+
+kept-step : (p : ℕ → Bool) (n : ℕ) → kept p (numbers_from 0 (n + 1)) ≡ kept p (numbers_from 0 n) ++ cond (p n) (n ∷ []) []
+kept-step p n =
+    let next : 0 + n ≡ n = omega arith in
+    let longer : numbers_from 0 (n + 1) ≡ numbers_from 0 n ++ n ∷ [] = rw add-one (numbers-append 0 n ∙ ap (λ k. numbers_from 0 n ++ k ∷ []) next) in
+    ap (kept p) longer ∙ kept-append p (numbers_from 0 n) n
+
+-- one number more, which is kept
+pub kept_more : (p : ℕ → Bool) (n : ℕ) → p n ≡ true → kept p (numbers_from 0 n) ++ n ∷ [] ≡ kept p (numbers_from 0 (n + 1))
+kept_more p n e = sym (kept-step p n ∙ ap (λ b. kept p (numbers_from 0 n) ++ cond b (n ∷ []) []) e)
+
+-- one number more, which isn't
+pub kept_less : (p : ℕ → Bool) (n : ℕ) → p n ≡ false → kept p (numbers_from 0 n) ≡ kept p (numbers_from 0 (n + 1))
+kept_less p n e = sym (kept-step p n ∙ ap (λ b. kept p (numbers_from 0 n) ++ cond b (n ∷ []) []) e ∙ append-nil (kept p (numbers_from 0 n)))

@@ -43,6 +43,16 @@ impl Marks {
         mark(expr, entry, self.marks.as_mut_slice());
     }
 
+    /// Whether a column is marked; one that the table doesn't have isn't.
+    pub fn has(&self, column: u32) -> bool
+        ensures { result ≡ get_or self.now column false }
+    {
+        match self.marks.get(column as usize) {
+            Some(is_marked) => *is_marked,
+            None => false,
+        }
+    }
+
     /// The numbers of the columns that are marked, but for the key, ascending.
     pub fn columns(&self, alloc: Global, key: u32) -> Result<Items<u32>, Memory>
         requires { length self.now < 2 ^ 32 }
@@ -61,11 +71,17 @@ fn marked_columns(alloc: Global, marks: &[bool], key: u32) -> Result<Items<u32>,
     let mut columns = Items::new(alloc);
     for (i, is_marked) in marks.iter().enumerate() {
         let column = i as u32;
-        if column != key && *is_marked {
+        if is_wanted(column, key, *is_marked) {
             columns.push(column)?;
         }
     }
     Ok(columns)
+}
+
+fn is_wanted(column: u32, key: u32, is_marked: bool) -> bool
+    ensures { result ≡ (not (column == key) && is_marked) }
+{
+    column != key && is_marked
 }
 
 #[cycle(marks)]
@@ -106,7 +122,7 @@ fn mark_each(exprs: &[TypedExpr], entry: u32, marks: &mut [bool])
 fn mark_column(column: u32, marks: &mut [bool])
     ensures { IsMarked marks.old marks.new (λ c. column == c) }
 {
-    if let Some(mark) = marks.get_mut(column as usize) {
-        *mark = true;
+    if (column as usize) < marks.len() {
+        marks[column as usize] = true;
     }
 }

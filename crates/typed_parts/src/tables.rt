@@ -24,7 +24,8 @@ pub struct ColumnAt<'a> {
 /// The table of this name; `S42P01` where none has it (PostgreSQL's documentation, "PostgreSQL Error Codes").
 pub fn table_named<'a>(tables: &'a [Table], name: &Text) -> Result<TableAt<'a>, SqlState>
     requires { length tables.now < 2 ^ 32 }
-    ensures { numbered_or result ≡ spec.table_named tables.now name.now }
+    ensures found { numbered_or result ≡ spec.table_named tables.now name.now }
+    ensures narrow { AreNarrow tables.now → IfOk result (λ t. length t.table.now.columns < 2 ^ 32) }
 {
     for (i, table) in tables.iter().enumerate() {
         if table.name.as_str() == name.as_str() {

@@ -1,9 +1,9 @@
-use Rattle.std.proofs.Common.{rules, ◌≡◌, ℕ}
-use Rattle.sql_typing.specs.Points as spec
+use Rattle.std.proofs.Common.{◌≡◌, ◌∙◌, sym, ap}
+use Rattle.sql_typing.specs.Points.{negative_key}
 use Rattle.typed_parts.specs.Readings.{reading}
+use Rattle.typed_parts.proofs.Asking.{constant-neg}
 use Rattle.typed_parts.proofs.points.constant_key.Goals as goal
 
 pub returns-in-Neg : goal.returns-in-Neg
 returns-in-Neg c e k =
-    let same : c.negative_key.result ≡ spec.negative_key (reading e k c.get.result.now).literal = c.negative_key.ensures e k in
-    rw (same, c.get.ensures) (search rules)
+    c.negative_key.ensures e k ∙ ap (λ x. negative_key (reading e k x).literal) c.get.ensures ∙ sym (constant-neg e k c.args.expr.now c.in-Neg.operand c.in-Neg.is)

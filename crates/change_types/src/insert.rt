@@ -1,0 +1,41 @@
+// The types of INSERT.
+ghost use Rattle.sql_typing.specs.Insert as spec;
+ghost use Rattle.expr_types.specs.Gives.{Gives};
+ghost use Rattle.typed_parts.specs.Narrow.{AreNarrow};
+
+use crate::lengths::has_lengths;
+use crate::row::typed_rows;
+use crate::targets::{columns_or_all, listed_columns};
+use cell_base::SqlState;
+use expr_types::TypeFault;
+use sql_tree::{Insert, Table, TypedInsert};
+use std::alloc::Global;
+use typed_parts::table_named;
+
+/// The typed tree of an INSERT: for each row one expression for each column of the table, in order of declaration.
+///
+/// The code that comes first answers: a table that isn't there (`S42P01`); then a listed column that isn't there (`S42703`)
+/// or stands twice (`S42701`); then a row with another number of values than the list or the first row, or with more than
+/// the table has columns (`S42601`); then what the conversion of each expression to its column's type gives, row by row
+/// (PostgreSQL's documentation, "INSERT").
+#[tactic(auto, unfolding(sql_typing::specs::Insert::typed_insert))]
+pub fn typed_insert(
+    alloc: Global,
+    insert: &Insert,
+    tables: &[Table],
+) -> Result<TypedInsert, TypeFault>
+    requires { AreNarrow tables.now }
+    ensures { Gives (spec.typed_insert tables.now insert.now) result }
+{
+    let found = table_named(tables, &insert.table)?;
+    let columns = found.table.columns.as_slice();
+    let listed = listed_columns(alloc, columns, insert.columns.as_slice())?;
+    if !has_lengths(found.table, listed.as_slice(), insert.rows.as_slice()) {
+        return Err(TypeFault::State(SqlState::S42601));
+    }
+    let given = columns_or_all(alloc, columns, listed)?;
+    Ok(TypedInsert {
+        table: found.number,
+        rows: typed_rows(alloc, columns, given.as_slice(), insert.rows.as_slice())?,
+    })
+}

@@ -1,0 +1,50 @@
+-- The entries of FROM, one by one.
+use Rattle.std.proofs.Common.{◌≡◌, ℕ, zero, suc, ◌+◌, ◌<◌, ◌≤◌, ◌^◌, Bool, true, false, cond, List, [], ◌∷◌, ◌++◌, length, take, drop, get_or, map, Ok, Err, refl, ap, sym, ◌∙◌, add-one, drop-cons, arith}
+use Rattle.std.specs.List.{list_any}
+use Rattle.std.specs.Str.{bytes_eq}
+use Rattle.std.proofs.lemmas.List.{map-append, length-map}
+use Rattle.cell_base.specs.declared.sql_state.SqlState.{SqlState}
+use Rattle.cell_base.specs.declared.sql_state.SqlState.TheVariants.{S42712}
+use Rattle.sql_tree.specs.declared.statement.TableRef.{TableRef}
+use Rattle.sql_tree.specs.declared.table.Table.{Table}
+use Rattle.sql_typing.specs.Outcome.{Outcome, and_then}
+use Rattle.sql_typing.specs.Tables.{Numbered, table_named, table_from}
+use Rattle.sql_typing.specs.Select.{Entry, name_or, entries_from, entries_of}
+use Rattle.typed_parts.specs.Narrow.{AreNarrow}
+use Rattle.select_types.specs.declared.from.FromEntry.{FromEntry}
+use Rattle.select_types.specs.Entries.{entry, entries, entry_of}
+
+chosen : (b : Bool) (e : Entry) (f : Entry → Outcome (List Entry))
+    → cond {A = Outcome (List Entry)} b (Err S42712) (f e) ≡ and_then (cond {A = Outcome Entry} b (Err S42712) (Ok e)) f
+chosen true e f = refl
+chosen false e f = refl
+
+by_table : (o : Outcome Numbered) (b : Bool) (name : List ℕ) (f : Entry → Outcome (List Entry))
+    → and_then o (λ t. cond {A = Outcome (List Entry)} b (Err S42712) (f (record { name = name; found = t })))
+    ≡ and_then (and_then o (λ t. cond {A = Outcome Entry} b (Err S42712) (Ok (record { name = name; found = t })))) f
+by_table (Ok t) b name f = chosen b (record { name = name; found = t }) f
+by_table (Err code) b name f = refl
+
+-- one entry, and then the others
+entries_cons : (tables : List Table) (before : List Entry) (r : TableRef) (rs : List TableRef)
+    → entries_from tables before (r ∷ rs) ≡ and_then (entry_of tables before r) (λ e. entries_from tables (before ++ e ∷ []) rs)
+entries_cons tables before r rs =
+    by_table (table_named tables r.name) (list_any (λ (e : Entry). bytes_eq e.name (name_or r.name r.alias)) before) (name_or r.name r.alias) (λ e. entries_from tables (before ++ e ∷ []) rs)
+
+cut : {A : Type 0} (all : List A) (i : ℕ) (x : A) → i < length all → x ≡ get_or all i x → drop i all ≡ x ∷ drop (i + 1) all
+cut all i x within is = rw add-one (drop-cons all i x within ∙ ap (λ z. z ∷ drop (suc i) all) (sym is))
+
+pub entries_more : (tables : List Table) (all : List TableRef) (i : ℕ) (r : TableRef) (before : List FromEntry) (e : FromEntry) (o : Outcome (List Entry)) → i < length all → r ≡ get_or all i r
+    → entry_of tables (entries before) r ≡ Ok (entry e) → entries_from tables (entries before) (drop i all) ≡ o
+    → entries_from tables (entries (before ++ e ∷ [])) (drop (i + 1) all) ≡ o
+entries_more tables all i r before e o within is found was =
+    let one : entries_from tables (entries before) (r ∷ drop (i + 1) all) ≡ entries_from tables (entries before ++ entry e ∷ []) (drop (i + 1) all) =
+    entries_cons tables (entries before) r (drop (i + 1) all) ∙ ap (λ o. and_then o (λ x. entries_from tables (entries before ++ x ∷ []) (drop (i + 1) all))) found in
+    ap (λ es. entries_from tables es (drop (i + 1) all)) (map-append entry before (e ∷ []))
+    ∙ sym one ∙ ap (entries_from tables (entries before)) (sym (cut all i r within is)) ∙ was
+
+pub entries_fault : (tables : List Table) (all : List TableRef) (i : ℕ) (r : TableRef) (before : List FromEntry) (code : SqlState) (o : Outcome (List Entry)) → i < length all → r ≡ get_or all i r
+    → entry_of tables (entries before) r ≡ Err code → entries_from tables (entries before) (drop i all) ≡ o → o ≡ Err code
+entries_fault tables all i r before code o within is found was =
+    sym was ∙ ap (entries_from tables (entries before)) (cut all i r within is) ∙ entries_cons tables (entries before) r (drop (i + 1) all)
+    ∙ ap (λ o. and_then o (λ x. entries_from tables (entries before ++ x ∷ []) (drop (i + 1) all))) found
