@@ -34,17 +34,36 @@ entries_cons tables before r rs =
 cut : {A : Type 0} (all : List A) (i : ℕ) (x : A) → i < length all → x ≡ get_or all i x → drop i all ≡ x ∷ drop (i + 1) all
 cut all i x within is = rw add-one (drop-cons all i x within ∙ ap (λ z. z ∷ drop (suc i) all) (sym is))
 
-pub entries_more : (tables : List Table) (all : List TableRef) (i : ℕ) (r : TableRef) (before : List FromEntry) (e : FromEntry) (o : Outcome (List Entry)) → i < length all → r ≡ get_or all i r
-    → entry_of tables (entries before) r ≡ Ok (entry e) → entries_from tables (entries before) (drop i all) ≡ o
-    → entries_from tables (entries (before ++ e ∷ [])) (drop (i + 1) all) ≡ o
-entries_more tables all i r before e o within is found was =
-    let one : entries_from tables (entries before) (r ∷ drop (i + 1) all) ≡ entries_from tables (entries before ++ entry e ∷ []) (drop (i + 1) all) =
-    entries_cons tables (entries before) r (drop (i + 1) all) ∙ ap (λ o. and_then o (λ x. entries_from tables (entries before ++ x ∷ []) (drop (i + 1) all))) found in
-    ap (λ es. entries_from tables es (drop (i + 1) all)) (map-append entry before (e ∷ []))
-    ∙ sym one ∙ ap (entries_from tables (entries before)) (sym (cut all i r within is)) ∙ was
+by_entry : (tables : List Table) (before after : List Entry) (rs : List TableRef) (o : Outcome Entry) → and_then o (λ e. Ok (before ++ e ∷ [])) ≡ Ok after
+    → and_then o (λ e. entries_from tables (before ++ e ∷ []) rs) ≡ entries_from tables after rs
+by_entry tables before after rs (Ok e) h = let same : before ++ e ∷ [] ≡ after = cc in ap (λ es. entries_from tables es rs) same
+by_entry tables before after rs (Err code) h = cc
+
+by_fault : (tables : List Table) (before : List Entry) (rs : List TableRef) (o : Outcome Entry) (code : SqlState) → and_then o (λ e. Ok (before ++ e ∷ [])) ≡ Err code
+    → and_then o (λ e. entries_from tables (before ++ e ∷ []) rs) ≡ Err code
+by_fault tables before rs (Ok e) code h = cc
+by_fault tables before rs (Err other) code h = cc
+
+pub entries_more : (tables : List Table) (all : List TableRef) (i : ℕ) (r : TableRef) (before after : List FromEntry) (o : Outcome (List Entry)) → i < length all → r ≡ get_or all i r
+    → and_then (entry_of tables (entries before) r) (λ e. Ok (entries before ++ e ∷ [])) ≡ Ok (entries after) → entries_from tables (entries before) (drop i all) ≡ o
+    → entries_from tables (entries after) (drop (i + 1) all) ≡ o
+entries_more tables all i r before after o within is found was =
+    let one : entries_from tables (entries before) (r ∷ drop (i + 1) all) ≡ entries_from tables (entries after) (drop (i + 1) all) =
+    entries_cons tables (entries before) r (drop (i + 1) all) ∙ by_entry tables (entries before) (entries after) (drop (i + 1) all) (entry_of tables (entries before) r) found in
+    sym one ∙ ap (entries_from tables (entries before)) (sym (cut all i r within is)) ∙ was
 
 pub entries_fault : (tables : List Table) (all : List TableRef) (i : ℕ) (r : TableRef) (before : List FromEntry) (code : SqlState) (o : Outcome (List Entry)) → i < length all → r ≡ get_or all i r
-    → entry_of tables (entries before) r ≡ Err code → entries_from tables (entries before) (drop i all) ≡ o → o ≡ Err code
+    → and_then (entry_of tables (entries before) r) (λ e. Ok (entries before ++ e ∷ [])) ≡ Err code → entries_from tables (entries before) (drop i all) ≡ o → o ≡ Err code
 entries_fault tables all i r before code o within is found was =
     sym was ∙ ap (entries_from tables (entries before)) (cut all i r within is) ∙ entries_cons tables (entries before) r (drop (i + 1) all)
-    ∙ ap (λ o. and_then o (λ x. entries_from tables (entries before ++ x ∷ []) (drop (i + 1) all))) found
+    ∙ by_fault tables (entries before) (drop (i + 1) all) (entry_of tables (entries before) r) code found
+
+-- ---- one entry
+
+pub entry_seen : (tables : List Table) (before : List Entry) (r : TableRef) (t : Numbered) (name : List ℕ) → Ok t ≡ table_named tables r.name → name ≡ name_or r.name r.alias
+    → list_any (λ (e : Entry). bytes_eq e.name name) before ≡ true → Err S42712 ≡ entry_of tables before r
+entry_seen tables before r t name found named b = rw (← found, ← named, b) refl
+
+pub entry_new : (tables : List Table) (before : List Entry) (r : TableRef) (t : Numbered) (name : List ℕ) → Ok t ≡ table_named tables r.name → name ≡ name_or r.name r.alias
+    → list_any (λ (e : Entry). bytes_eq e.name name) before ≡ false → Ok (record { name = name; found = t }) ≡ entry_of tables before r
+entry_new tables before r t name found named b = rw (← found, ← named, b) refl

@@ -1,7 +1,8 @@
 // The entries of FROM.
-ghost use Rattle.std.specs.Prelude.{◌≡◌, [], IfOk, map};
+ghost use Rattle.std.specs.Prelude.{◌≡◌, ◌++◌, [], ◌∷◌, Ok, IfOk, map};
 ghost use Rattle.std.specs.List.{list_any};
 ghost use Rattle.std.specs.Str.{bytes_eq};
+ghost use Rattle.sql_typing.specs.Outcome.{and_then};
 ghost use Rattle.sql_typing.specs.Select as spec;
 ghost use Rattle.typed_parts.specs.Narrow.{AreNarrow};
 ghost use Rattle.select_types.specs.Entries as shown;
@@ -62,6 +63,20 @@ fn entry_of<'a>(
     Ok(FromEntry { name, found })
 }
 
+fn with_entry<'a>(
+    before: Items<FromEntry<'a>>,
+    tables: &'a [Table],
+    written: &'a TableRef,
+) -> Result<Items<FromEntry<'a>>, TypeFault>
+    requires { AreNarrow tables.now }
+    ensures { GivesBy shown.entries (and_then (shown.entry_of tables.now (shown.entries before.entry) written.now) (λ e. Ok (shown.entries before.entry ++ e ∷ []))) result }
+{
+    let entry = entry_of(tables, before.as_slice(), written)?;
+    let mut all = before;
+    all.push(entry)?;
+    Ok(all)
+}
+
 fn entries_from<'a>(
     alloc: Global,
     tables: &'a [Table],
@@ -72,8 +87,7 @@ fn entries_from<'a>(
 {
     let mut entries = Items::new(alloc);
     for written in from {
-        let entry = entry_of(tables, entries.as_slice(), written)?;
-        entries.push(entry)?;
+        entries = with_entry(entries, tables, written)?;
     }
     Ok(entries)
 }
