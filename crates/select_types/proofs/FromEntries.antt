@@ -11,6 +11,9 @@ use Rattle.sql_typing.specs.Outcome.{Outcome, and_then}
 use Rattle.sql_typing.specs.Tables.{Numbered, table_named, table_from}
 use Rattle.sql_typing.specs.Select.{Entry, name_or, entries_from, entries_of}
 use Rattle.typed_parts.specs.Narrow.{AreNarrow}
+use Rattle.expr_types.specs.declared.error.TypeFault.{TypeFault}
+use Rattle.expr_types.specs.declared.error.TypeFault.TheVariants.{State, Memory}
+use Rattle.select_types.specs.GivesBy.{GivesBy}
 use Rattle.select_types.specs.declared.from.FromEntry.{FromEntry}
 use Rattle.select_types.specs.Entries.{entry, entries, entry_of}
 
@@ -67,3 +70,9 @@ entry_seen tables before r t name found named b = rw (← found, ← named, b) r
 pub entry_new : (tables : List Table) (before : List Entry) (r : TableRef) (t : Numbered) (name : List ℕ) → Ok t ≡ table_named tables r.name → name ≡ name_or r.name r.alias
     → list_any (λ (e : Entry). bytes_eq e.name name) before ≡ false → Ok (record { name = name; found = t }) ≡ entry_of tables before r
 entry_new tables before r t name found named b = rw (← found, ← named, b) refl
+
+pub entries_failed : (tables : List Table) (all : List TableRef) (i : ℕ) (r : TableRef) (before : List FromEntry) (why : TypeFault) (o : Outcome (List Entry)) → i < length all → r ≡ get_or all i r
+    → GivesBy entries (and_then (entry_of tables (entries before) r) (λ e. Ok (entries before ++ e ∷ []))) (Err why) → entries_from tables (entries before) (drop i all) ≡ o
+    → GivesBy entries o (Err why)
+entries_failed tables all i r before (State code) o within is found was = entries_fault tables all i r before code o within is found was
+entries_failed tables all i r before Memory o within is found was = tt

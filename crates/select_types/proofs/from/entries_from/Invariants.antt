@@ -1,7 +1,6 @@
 use Rattle.std.proofs.Common.{◌≡◌, [], drop}
 use Rattle.sql_typing.specs.Select.{entries_from}
 use Rattle.select_types.specs.Entries.{entries}
-use Rattle.select_types.proofs.FromEntries.{entries_more, entries_fault}
 use Rattle.select_types.proofs.from.entries_from.Given as goal
 
 abbrev pub invariant-loop-written : goal.invariant-loop-written
