@@ -1,3 +1,4 @@
 pub mod Entries
 pub mod GivesBy
 pub mod Outputs
+pub mod Read

@@ -7,4 +7,6 @@ mod items;
 mod joins;
 mod order;
 mod output;
+mod points;
+mod reads;
 mod star;
