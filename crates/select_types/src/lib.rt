@@ -9,4 +9,7 @@ mod order;
 mod output;
 mod points;
 mod reads;
+mod select;
 mod star;
+
+pub use select::typed_select;
