@@ -72,10 +72,10 @@ pub take_narrow : (entries : List Entry) (n : ℕ) → IsNarrow entries → IsNa
 take_narrow entries n h = record {
   few = let e = length-take n entries in let few = h.few in omega arith;
   narrow = λ i d within.
-    let e = length-take n entries in
-    let below : i < n = omega arith in
-    let here : i < length entries = omega arith in
-    rw (get_or-take n entries i d below) (h.narrow i d here)
+      let e = length-take n entries in
+      let below : i < n = omega arith in
+      let here : i < length entries = omega arith in
+      rw (get_or-take n entries i d below) (h.narrow i d here);
 }
 
 pub ons_failed : (sources : List Source) (all : List TableRef) (i : ℕ) (r : TableRef) (done : List TypedExpr) (why : TypeFault) (o : Outcome (List TypedExpr)) → i < length all → r ≡ get_or all i r

@@ -109,10 +109,7 @@ pub fn entries_of<'a>(
 }
 
 /// The entries as names are looked up in them.
-pub fn scope_of<'a>(
-    alloc: Global,
-    entries: &[FromEntry<'a>],
-) -> Result<Items<Entry<'a>>, Memory>
+pub fn scope_of<'a>(alloc: Global, entries: &[FromEntry<'a>]) -> Result<Items<Entry<'a>>, Memory>
     ensures { IfOk result (λ scope. scope ≡ map shown.seen entries.now) }
 {
     let mut scope = Items::new(alloc);

@@ -34,11 +34,7 @@ fn index_of(position: i64) -> Option<usize>
     usize::try_from(position).ok()?.checked_sub(1)
 }
 
-fn at_index(
-    alloc: Global,
-    outputs: &[Output],
-    index: Option<usize>,
-) -> Result<TypedExpr, TypeFault>
+fn at_index(alloc: Global, outputs: &[Output], index: Option<usize>) -> Result<TypedExpr, TypeFault>
     ensures { Gives (columns.at_index (columns.outputs outputs.now) index) result }
 {
     match index {
@@ -51,11 +47,7 @@ fn at_index(
 }
 
 /// The value at a position, from 1.
-fn at_position(
-    alloc: Global,
-    outputs: &[Output],
-    position: i64,
-) -> Result<TypedExpr, TypeFault>
+fn at_position(alloc: Global, outputs: &[Output], position: i64) -> Result<TypedExpr, TypeFault>
     ensures { Gives (spec.at_position (columns.outputs outputs.now) position) result }
 {
     at_index(alloc, outputs, index_of(position))

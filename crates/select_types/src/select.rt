@@ -53,7 +53,13 @@ fn parts_of(
     let ons = ons_of(alloc, select.from.as_slice(), scope)?;
     let filter = typed_filter(alloc, select.filter.as_ref(), scope)?;
     let outputs = outputs_of(alloc, select.items.as_slice(), scope, place_of(grouped))?;
-    let order = order_of(alloc, select.order.as_slice(), scope, outputs.as_slice(), grouped)?;
+    let order = order_of(
+        alloc,
+        select.order.as_slice(),
+        scope,
+        outputs.as_slice(),
+        grouped,
+    )?;
     Ok(Parts {
         ons,
         filter,

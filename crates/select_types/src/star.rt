@@ -26,12 +26,7 @@ pub fn width(scope: &[Entry<'_>]) -> usize
     width
 }
 
-fn column_output(
-    alloc: Global,
-    entry: u32,
-    number: u32,
-    column: &Column,
-) -> Result<Output, Memory>
+fn column_output(alloc: Global, entry: u32, number: u32, column: &Column) -> Result<Output, Memory>
     ensures { IfOk result (λ o. output o ≡ record { name = column.now.name; expr = typed_node column.now.kind (node.Column entry number) }) }
 {
     Ok(Output {

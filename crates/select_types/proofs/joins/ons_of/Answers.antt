@@ -9,7 +9,7 @@ pub returns-in_err-conditions : goal.returns-in_err-conditions
 returns-in_err-conditions c =
     let why = c.in_err-conditions.field-0.0 in
     let e = ons_failed (sources c.args.scope.now) c.args.from.now c.loop-i.i c.index-from-i.result c.loop-i.conditions why (ons_of (sources c.args.scope.now) c.args.from.now)
-        (omega arith) c.index-from-i.is c.in_err-conditions.ensures c.loop-i.invariant in
+    (omega arith) c.index-from-i.is c.in_err-conditions.ensures c.loop-i.invariant in
     first_of (search (rules, e), grind (arith, common_steps, e))
 
 pub loop-i-preserved : goal.loop-i-preserved

@@ -7,5 +7,5 @@ use Rattle.select_types.proofs.output.columns_of.Given as goal
 abbrev pub invariant-loop-output : goal.invariant-loop-output
 invariant-loop-output l = record {
   fields : l.fields ++ map field_of (outputs (into_iter_items l.output-iterator)) ≡ map field_of (outputs l.fn.all);
-  items : l.items ++ map (λ (o : Output). o.expr) (outputs (into_iter_items l.output-iterator)) ≡ map (λ (o : Output). o.expr) (outputs l.fn.all)
+  items : l.items ++ map (λ (o : Output). o.expr) (outputs (into_iter_items l.output-iterator)) ≡ map (λ (o : Output). o.expr) (outputs l.fn.all);
 }

@@ -9,8 +9,11 @@ pub loop-entry-preserved : goal.loop-entry-preserved
 loop-entry-preserved c =
     let n : c.len.result ≡ length c.entry-item.result.table.now.columns = c.len.ensures in
     let e : c.saturating_add-width.result ≡ min (c.loop-entry.width + length c.entry-item.result.table.now.columns) (2 ^ 64 - 1) = omega arith in
-    record { fits = omega arith; counted = width_more c.args.scope.now c.loop-entry.entry-index c.entry-item.result c.loop-entry.width c.saturating_add-width.result (2 ^ 64 - 1) (omega arith) c.entry-item.is e
-    ∙ c.loop-entry.invariant.counted }
+    record {
+      fits = omega arith;
+      counted = width_more c.args.scope.now c.loop-entry.entry-index c.entry-item.result c.loop-entry.width c.saturating_add-width.result (2 ^ 64 - 1) (omega arith) c.entry-item.is e
+          ∙ c.loop-entry.invariant.counted;
+    }
 
 pub returns : goal.returns
 returns c =
