@@ -1,5 +1,5 @@
 -- Whether an aggregate is called in an IN.
-use Rattle.std.proofs.Common.{◌≡◌, Bool, true, false, ◌||◌, List, [], ◌∷◌, map, refl, ap, ◌∙◌, rules, arith}
+use Rattle.std.proofs.Common.{◌≡◌, Bool, ◌||◌, List, [], ◌∷◌, map, refl, ap, ◌∙◌, rules, arith}
 use Rattle.std.specs.List.{list_any}
 use Rattle.sql_tree.specs.declared.expr.Expr.{Expr, the_lemmas}
 use Rattle.sql_tree.specs.declared.expr.Expr.TheVariants.{In}

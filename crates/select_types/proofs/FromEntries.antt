@@ -1,21 +1,19 @@
 -- The entries of FROM, one by one.
-use Rattle.std.proofs.Common.{◌≡◌, ℕ, zero, suc, ◌+◌, ◌<◌, ◌≤◌, ◌^◌, Bool, true, false, cond, List, [], ◌∷◌, ◌++◌, length, take, drop, get_or, map, Ok, Err, refl, ap, sym, ◌∙◌, add-one, drop-cons, arith}
+use Rattle.std.proofs.Common.{◌≡◌, ℕ, suc, ◌+◌, ◌<◌, Bool, true, false, cond, List, [], ◌∷◌, ◌++◌, length, drop, get_or, Ok, Err, refl, ap, sym, ◌∙◌, add-one, drop-cons}
 use Rattle.std.specs.List.{list_any}
 use Rattle.std.specs.Str.{bytes_eq}
-use Rattle.std.proofs.lemmas.List.{map-append, length-map}
 use Rattle.cell_base.specs.declared.sql_state.SqlState.{SqlState}
 use Rattle.cell_base.specs.declared.sql_state.SqlState.TheVariants.{S42712}
 use Rattle.sql_tree.specs.declared.statement.TableRef.{TableRef}
 use Rattle.sql_tree.specs.declared.table.Table.{Table}
 use Rattle.sql_typing.specs.Outcome.{Outcome, and_then}
-use Rattle.sql_typing.specs.Tables.{Numbered, table_named, table_from}
-use Rattle.sql_typing.specs.Select.{Entry, name_or, entries_from, entries_of}
-use Rattle.typed_parts.specs.Narrow.{AreNarrow}
+use Rattle.sql_typing.specs.Tables.{Numbered, table_named}
+use Rattle.sql_typing.specs.Select.{Entry, name_or, entries_from}
 use Rattle.expr_types.specs.declared.error.TypeFault.{TypeFault}
 use Rattle.expr_types.specs.declared.error.TypeFault.TheVariants.{State, Memory}
 use Rattle.select_types.specs.GivesBy.{GivesBy}
 use Rattle.select_types.specs.declared.from.FromEntry.{FromEntry}
-use Rattle.select_types.specs.Entries.{entry, entries, entry_of}
+use Rattle.select_types.specs.Entries.{entries, entry_of}
 
 chosen : (b : Bool) (e : Entry) (f : Entry → Outcome (List Entry))
     → cond {A = Outcome (List Entry)} b (Err S42712) (f e) ≡ and_then (cond {A = Outcome Entry} b (Err S42712) (Ok e)) f

@@ -1,11 +1,10 @@
 -- The entries of FROM are as many as were written, and their tables as narrow as all tables.
-use Rattle.std.proofs.Common.{◌≡◌, ℕ, zero, suc, ◌+◌, ◌<◌, ◌≤◌, ◌^◌, Bool, true, false, cond, List, [], ◌∷◌, ◌++◌, length, get_or, map, Ok, Err, refl, ap, sym, subst, ◌∙◌, lit<, arith}
+use Rattle.std.proofs.Common.{◌≡◌, ℕ, zero, suc, ◌+◌, ◌<◌, ◌≤◌, ◌^◌, Bool, true, false, cond, List, [], ◌∷◌, ◌++◌, length, get_or, map, Ok, Err, refl, ap, sym, subst, ◌∙◌, arith}
 use Rattle.std.specs.Prelude.{nat_lt}
 use Rattle.std.specs.List.{list_any}
 use Rattle.std.specs.Str.{bytes_eq}
 use Rattle.std.proofs.lemmas.Bool.{ltb-false}
 use Rattle.std.proofs.lemmas.List.{length-map, length_push}
-use Rattle.cell_base.specs.declared.sql_state.SqlState.{SqlState}
 use Rattle.cell_base.specs.declared.sql_state.SqlState.TheVariants.{S42712, S54000}
 use Rattle.sql_tree.specs.declared.statement.TableRef.{TableRef}
 use Rattle.sql_tree.specs.declared.table.Table.{Table}
@@ -13,7 +12,7 @@ use Rattle.sql_typing.specs.Outcome.{Outcome, and_then}
 use Rattle.sql_typing.specs.Tables.{Numbered, table_named, table_from}
 use Rattle.sql_typing.specs.Select.{Entry, name_or, entries_from, entries_of, entry_source, entry_sources}
 use Rattle.expr_types.specs.declared.entry.Entry.{Entry as Seen}
-use Rattle.expr_types.specs.Scope.{IsNarrow, source, sources}
+use Rattle.expr_types.specs.Scope.{IsNarrow, sources}
 use Rattle.typed_parts.specs.Narrow.{AreNarrow}
 use Rattle.select_types.specs.declared.from.FromEntry.{FromEntry}
 use Rattle.select_types.specs.Entries.{entry, entries, seen}

@@ -1,5 +1,5 @@
 -- The conditions of JOIN, entry by entry.
-use Rattle.std.proofs.Common.{◌≡◌, ℕ, suc, ◌+◌, ◌<◌, ◌≤◌, List, [], ◌∷◌, ◌++◌, length, take, drop, get_or, Option, Some, None, Ok, Err, refl, ap, sym, ◌∙◌, add-one, drop-cons, append_assoc, arith}
+use Rattle.std.proofs.Common.{◌≡◌, ℕ, suc, ◌+◌, ◌<◌, List, [], ◌∷◌, ◌++◌, length, take, drop, get_or, Option, Some, None, Ok, Err, refl, ap, sym, ◌∙◌, add-one, drop-cons, append_assoc, arith}
 use Rattle.std.proofs.lemmas.List.{append-nil, length-take, get_or-take}
 use Rattle.cell_base.specs.declared.sql_state.SqlState.{SqlState}
 use Rattle.sql_tree.specs.declared.expr.Expr.{Expr}
@@ -13,7 +13,7 @@ use Rattle.expr_types.specs.Scope.{IsNarrow}
 use Rattle.sql_typing.specs.Names.{Source}
 use Rattle.sql_typing.specs.Expressions.{flag}
 use Rattle.sql_typing.specs.Outcome.{Outcome, and_then}
-use Rattle.sql_typing.specs.Select.{on_before, ons_from, ons_of}
+use Rattle.sql_typing.specs.Select.{on_before, ons_from}
 
 -- what is typed, and then what is left
 abbrev pub ons_left : List TypedExpr → List Source → ℕ → List TableRef → Outcome (List TypedExpr)

@@ -1,15 +1,15 @@
 -- The columns that `*` stands for, entry by entry.
-use Rattle.std.proofs.Common.{◌≡◌, ℕ, suc, ◌+◌, ◌-◌, ◌^◌, ◌<◌, ◌≤◌, min, List, [], ◌∷◌, ◌++◌, length, drop, get_or, map, refl, ap, sym, ◌∙◌, add-one, drop-cons, append_assoc, length-append, arith}
+use Rattle.std.proofs.Common.{◌≡◌, ℕ, suc, ◌+◌, ◌-◌, ◌^◌, ◌<◌, ◌≤◌, min, List, [], ◌∷◌, ◌++◌, length, drop, get_or, refl, ap, sym, ◌∙◌, add-one, drop-cons, append_assoc, length-append, arith}
 use Rattle.sql_tree.specs.declared.table.Column.{Column}
 use Rattle.expr_types.specs.declared.entry.Entry.{Entry}
-use Rattle.expr_types.specs.Scope.{source, sources}
+use Rattle.expr_types.specs.Scope.{sources}
 use Rattle.select_types.specs.declared.output.Output.{Output}
 use Rattle.select_types.specs.Outputs.{output, outputs}
 use Rattle.sql_tree.specs.declared.typed_expr.TypedNode.TheVariants as node
 use Rattle.sql_typing.specs.Expressions.{typed_node}
 use Rattle.select_types.proofs.Outputs.{outputs_more}
 use Rattle.sql_typing.specs.Names.{Source}
-use Rattle.sql_typing.specs.Select.{Output as Named, column_outputs, star_outputs}
+use Rattle.sql_typing.specs.Select.{column_outputs, star_outputs}
 
 many_columns : (e c : ℕ) (xs : List Column) → length (column_outputs e c xs) ≡ length xs
 many_columns e c [] = refl

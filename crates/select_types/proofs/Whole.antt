@@ -11,7 +11,6 @@ use Rattle.sql_typing.specs.Changes.{filter_of}
 use Rattle.sql_typing.specs.Names.{Source}
 use Rattle.sql_typing.specs.Outcome.{Outcome, and_then}
 use Rattle.sql_typing.specs.Select.{Entry, entries_of, entry_sources, ons_of, items_from, place_of, order_of, has_aggregate, typed_select}
-use Rattle.select_types.specs.declared.select.Parts.{Parts}
 use Rattle.select_types.specs.GivesBy.{GivesBy}
 use Rattle.select_types.specs.Parts.{Part, part, parts_of, whole}
 

@@ -1,5 +1,5 @@
 -- The entries of FROM, as the definitions name them.
-use Rattle.std.specs.Prelude.{ℕ, List, map, Result, Ok, Err, if◌then◌else◌}
+use Rattle.std.specs.Prelude.{List, map, Result, Ok, Err, if◌then◌else◌}
 use Rattle.std.specs.List.{list_any}
 use Rattle.std.specs.Str.{bytes_eq}
 use Rattle.cell_base.specs.declared.sql_state.SqlState.{SqlState}

@@ -1,5 +1,5 @@
 -- The columns of a result, as the definitions name them.
-use Rattle.std.specs.Prelude.{ℕ, List, map, slice_get, Option, Some, None, Ok, Err}
+use Rattle.std.specs.Prelude.{ℕ, List, map, slice_get, Option, Some, None, Err}
 use Rattle.cell_base.specs.declared.sql_state.SqlState.TheVariants.{S42601}
 use Rattle.sql_tree.specs.declared.typed_expr.TypedExpr.{TypedExpr}
 use Rattle.select_types.specs.declared.output.Output.{Output}

@@ -11,5 +11,7 @@ mod points;
 mod reads;
 mod select;
 mod star;
+#[cfg(test)]
+mod tests;
 
 pub use select::typed_select;

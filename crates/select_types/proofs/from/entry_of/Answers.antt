@@ -1,5 +1,4 @@
-use Rattle.std.proofs.Common.{◌≡◌, Ok, sym, ◌∙◌, rules}
-use Rattle.sql_typing.specs.Tables.{table_named}
+use Rattle.std.proofs.Common.{sym, ◌∙◌}
 use Rattle.typed_parts.specs.Numbered.{numbered}
 use Rattle.select_types.specs.Entries.{entries}
 use Rattle.select_types.proofs.FromEntries.{entry_seen, entry_new}

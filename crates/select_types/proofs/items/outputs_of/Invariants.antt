@@ -2,7 +2,6 @@ use Rattle.std.proofs.Common.{◌≡◌, [], drop}
 use Rattle.sql_typing.specs.Select.{items_from}
 use Rattle.expr_types.specs.Scope.{sources}
 use Rattle.select_types.specs.Outputs.{outputs}
-use Rattle.select_types.proofs.Outputs.{items_more}
 use Rattle.select_types.proofs.items.outputs_of.Given as goal
 
 abbrev pub invariant-loop-item : goal.invariant-loop-item

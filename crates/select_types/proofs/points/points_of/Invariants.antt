@@ -2,7 +2,6 @@ use Rattle.std.proofs.Common.{◌≡◌, ◌++◌, drop}
 use Rattle.std.specs.Option.{option_map}
 use Rattle.sql_typing.specs.Select.{points_from}
 use Rattle.select_types.specs.Entries.{entries}
-use Rattle.select_types.proofs.ReadColumns.{points_more}
 use Rattle.select_types.proofs.points.points_of.Given as goal
 
 abbrev pub invariant-loop-at : goal.invariant-loop-at

@@ -1,4 +1,4 @@
-use Rattle.std.proofs.Common.{◌≡◌, ◌+◌, ◌≤◌, drop}
+use Rattle.std.proofs.Common.{◌≡◌, ◌+◌, drop}
 use Rattle.sql_typing.specs.Select.{times_mentioned}
 use Rattle.select_types.specs.Entries.{entries}
 use Rattle.select_types.proofs.points.times_mentioned.Given as goal

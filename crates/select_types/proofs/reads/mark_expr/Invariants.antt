@@ -2,7 +2,6 @@ use Rattle.std.proofs.Common.{take}
 use Rattle.sql_typing.specs.Select.{mentions_table}
 use Rattle.typed_parts.specs.Marked.{IsMarked}
 use Rattle.select_types.specs.Entries.{entries}
-use Rattle.select_types.proofs.ReadColumns.{marked_entry}
 use Rattle.select_types.proofs.reads.mark_expr.Given as goal
 
 abbrev pub invariant-loop-at : goal.invariant-loop-at

@@ -3,7 +3,6 @@ use Rattle.std.specs.List.{list_any}
 use Rattle.sql_typing.specs.Select.{mentions_table}
 use Rattle.typed_parts.specs.Marked.{IsMarked}
 use Rattle.select_types.specs.Entries.{entries}
-use Rattle.select_types.proofs.ReadColumns.{marked_expr}
 use Rattle.select_types.proofs.reads.mark_exprs.Given as goal
 
 abbrev pub invariant-loop-expr : goal.invariant-loop-expr

@@ -1,7 +1,6 @@
-use Rattle.std.proofs.Common.{◌≡◌, ℕ, Bool, false, List, subst, ◌==◌, ◌&&◌, length, get_or, replicate, rules, arith}
-use Rattle.std.specs.Prelude.{not, IfOk}
+use Rattle.std.proofs.Common.{◌≡◌, ℕ, Bool, false, List, subst, length, replicate}
+use Rattle.std.specs.Prelude.{IfOk}
 use Rattle.std.specs.List.{list_any}
-use Rattle.sql_typing.specs.Mentions.{kept, numbers_from, columns_where}
 use Rattle.sql_typing.specs.Select.{mentions_table}
 use Rattle.typed_parts.specs.Marked.{IsMarked}
 use Rattle.typed_parts.proofs.Marking.{columns_marked}

@@ -1,7 +1,7 @@
-use Rattle.std.proofs.Common.{◌≡◌, ◌∙◌, sym, ap, map, length, Bool, Ok, Err, subst, rules, arith}
+use Rattle.std.proofs.Common.{◌≡◌, ◌∙◌, sym, ap, map, Bool, Ok, Err, subst, rules, arith}
 use Rattle.std.proofs.lemmas.Grind.{common_steps}
-use Rattle.sql_typing.specs.Select.{entries_of, entry_sources, has_aggregate}
-use Rattle.expr_types.specs.Scope.{IsNarrow, sources}
+use Rattle.sql_typing.specs.Select.{entry_sources}
+use Rattle.expr_types.specs.Scope.{sources}
 use Rattle.select_types.specs.Entries.{entries, seen}
 use Rattle.select_types.specs.GivesBy.{GivesBy}
 use Rattle.select_types.specs.Parts.{part, parts_of, whole}

@@ -1,4 +1,4 @@
-use Rattle.std.proofs.Common.{◌≡◌, ◌+◌, ◌-◌, ◌^◌, ◌∙◌, sym, ap, min, length, drop, [], arith, rules}
+use Rattle.std.proofs.Common.{◌≡◌, ◌+◌, ◌-◌, ◌^◌, ◌∙◌, ap, min, length, drop, [], arith}
 use Rattle.std.proofs.lemmas.List.{drop_all}
 use Rattle.expr_types.specs.Scope.{sources}
 use Rattle.sql_typing.specs.Select.{star_outputs}

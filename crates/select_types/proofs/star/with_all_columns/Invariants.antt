@@ -2,7 +2,6 @@ use Rattle.std.proofs.Common.{◌≡◌, ◌++◌, drop}
 use Rattle.sql_typing.specs.Select.{star_outputs}
 use Rattle.expr_types.specs.Scope.{sources}
 use Rattle.select_types.specs.Outputs.{outputs}
-use Rattle.select_types.proofs.Stars.{stars_more}
 use Rattle.select_types.proofs.star.with_all_columns.Given as goal
 
 abbrev pub invariant-loop-i : goal.invariant-loop-i

@@ -1,7 +1,6 @@
 use Rattle.std.proofs.Common.{◌≡◌, ◌++◌, drop}
 use Rattle.sql_typing.specs.Select.{column_outputs}
 use Rattle.select_types.specs.Outputs.{outputs}
-use Rattle.select_types.proofs.Stars.{columns_more}
 use Rattle.select_types.proofs.star.with_columns.Given as goal
 
 abbrev pub invariant-loop-i : goal.invariant-loop-i
