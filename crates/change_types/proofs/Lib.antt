@@ -1,0 +1,5 @@
+pub mod Numbers
+pub mod Filling
+pub mod Ending
+pub mod Reading
+pub mod Rows

@@ -1,5 +1,5 @@
 -- The columns that UPDATE assigns.
-use Rattle.std.specs.Prelude.{◌<◌, ◌×◌, ℕ, List, [], ◌∷◌}
+use Rattle.std.specs.Prelude.{◌<◌, ℕ, List, [], ◌∷◌}
 use Rattle.sql_tree.specs.declared.typed_expr.TypedExpr.{TypedExpr}
 
 -- numbers of columns of which there are so many

@@ -1,5 +1,5 @@
 -- The columns that a statement gives values to.
-use Rattle.std.specs.Prelude.{◌≡◌, ◌==◌, ◌<◌, ◌×◌, ℕ, false, if◌then◌else◌, List, [], ◌∷◌, map, Result, Ok, Err}
+use Rattle.std.specs.Prelude.{◌≡◌, ◌==◌, ◌<◌, ℕ, false, if◌then◌else◌, List, [], ◌∷◌, map, Result, Ok, Err}
 use Rattle.cell_base.specs.declared.sql_state.SqlState.TheVariants.{S0A000, S42601}
 use Rattle.expr_types.specs.declared.error.TypeFault.{TypeFault}
 use Rattle.expr_types.specs.declared.error.TypeFault.TheVariants.{State, Memory}

@@ -1,16 +1,19 @@
 // The types of INSERT.
+ghost use Rattle.std.specs.Prelude.{◌<◌, ◌^◌, length, map};
 ghost use Rattle.sql_typing.specs.Insert as spec;
+ghost use Rattle.sql_typing.specs.Outcome.{all_of};
 ghost use Rattle.expr_types.specs.Gives.{Gives};
 ghost use Rattle.typed_parts.specs.Narrow.{AreNarrow};
+ghost use Rattle.change_types.specs.Targets.{AreColumns, targets};
 
 use crate::lengths::has_lengths;
 use crate::row::typed_rows;
 use crate::targets::{columns_or_all, listed_columns};
-use cell_base::SqlState;
+use cell_base::{Items, SqlState};
 use expr_types::TypeFault;
-use sql_tree::{Insert, Table, TypedInsert};
+use sql_tree::{Expr, Insert, Table, TypedExpr, TypedInsert};
 use std::alloc::Global;
-use typed_parts::table_named;
+use typed_parts::{ColumnAt, table_named};
 
 /// The typed tree of an INSERT: for each row one expression for each column of the table, in order of declaration.
 ///
@@ -33,9 +36,24 @@ pub fn typed_insert(
     if !has_lengths(found.table, listed.as_slice(), insert.rows.as_slice()) {
         return Err(TypeFault::State(SqlState::S42601));
     }
-    let given = columns_or_all(alloc, columns, listed)?;
     Ok(TypedInsert {
         table: found.number,
-        rows: typed_rows(alloc, columns, given.as_slice(), insert.rows.as_slice())?,
+        rows: rows_of(alloc, found.table, listed, insert.rows.as_slice())?,
     })
+}
+
+/// One expression for each column in each row, where these are the columns of a written list.
+fn rows_of<'a>(
+    alloc: Global,
+    table: &'a Table,
+    listed: Items<ColumnAt<'a>>,
+    rows: &[Items<Option<Expr>>],
+) -> Result<Items<Items<TypedExpr>>, TypeFault>
+    requires narrow { length table.now.columns < 2 ^ 32 }
+    requires columns { AreColumns (length table.now.columns) (targets listed) }
+    ensures { Gives (all_of (map (spec.typed_row table.now (targets listed.entry)) rows.now)) result }
+{
+    let columns = table.columns.as_slice();
+    let given = columns_or_all(alloc, columns, listed)?;
+    typed_rows(alloc, columns, given.as_slice(), rows)
 }

@@ -67,8 +67,9 @@ fn filled(
     ensures { IfOk result (λ row. row ≡ spec.filled slots columns.now) }
 {
     let mut row = Items::new(alloc);
-    for (i, slot) in slots.into_vec().into_iter().enumerate() {
-        row.push(value_or(alloc, &columns[i], slot)?)?;
+    for slot in slots.into_vec() {
+        let column = &columns[row.len()];
+        row.push(value_or(alloc, column, slot)?)?;
     }
     Ok(row)
 }

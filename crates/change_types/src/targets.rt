@@ -64,7 +64,7 @@ pub fn columns_or_all<'a>(
     listed: Items<ColumnAt<'a>>,
 ) -> Result<Items<ColumnAt<'a>>, Memory>
     requires { length columns.now < 2 ^ 32 }
-    ensures { IfOk result (λ all. targets all ≡ targets_or_all columns.now (targets listed)) }
+    ensures { IfOk result (λ all. targets all ≡ targets_or_all columns.now (targets listed.entry)) }
 {
     match listed.as_slice() {
         [] => all_columns(alloc, columns),

@@ -58,14 +58,17 @@ length-replicate : (n : ℕ) → length (replicate {A = Bool} n false) ≡ n
 length-replicate zero = refl
 length-replicate (suc n) = ap suc (length-replicate n)
 
+-- a column that was marked on marks of so many columns
+pub marked_at : (n : ℕ) (marks : List Bool) (p : ℕ → Bool) (c : ℕ) → IsMarked (replicate {A = Bool} n false) marks p → c < n → get_or marks c false ≡ p c
+marked_at n marks p c marked within = marked.each c (omega (arith, length-replicate n)) ∙ ap (λ m. m || p c) (none_before n c)
+
 -- the columns that were marked on marks of a table's columns
 pub columns_marked : (t : Table) (marks : List Bool) (p : ℕ → Bool) → IsMarked (replicate {A = Bool} (length t.columns) false) marks p
     → kept (λ c. not (c == t.key) && get_or marks c false) (numbers_from 0 (length marks)) ≡ columns_where t p
 columns_marked t marks p marked =
     let many : length marks ≡ length t.columns = marked.same ∙ length-replicate (length t.columns) in
     rw many (kept_same (λ c. not (c == t.key) && get_or marks c false) (λ c. not (c == t.key) && p c) 0 (length t.columns)
-    (λ c h k. ap (λ m. not (c == t.key) && m)
-    (marked.each c (omega (arith, length-replicate (length t.columns))) ∙ ap (λ m. m || p c) (none_before (length t.columns) c))))
+    (λ c h k. ap (λ m. not (c == t.key) && m) (marked_at (length t.columns) marks p c marked (omega arith))))
 
 numbers-append : (i n : ℕ) → numbers_from i (suc n) ≡ numbers_from i n ++ (i + n) ∷ []
 numbers-append i zero = ap (λ k. k ∷ []) (omega arith)

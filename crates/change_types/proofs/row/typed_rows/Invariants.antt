@@ -1,0 +1,9 @@
+use Rattle.std.proofs.Common.{◌≡◌, map, drop}
+use Rattle.expr_types.proofs.Lists.{with_rest}
+use Rattle.sql_typing.specs.Outcome.{all_of}
+use Rattle.change_types.specs.Rows.{row_over}
+use Rattle.change_types.specs.Targets.{targets}
+use Rattle.change_types.proofs.row.typed_rows.Given as goal
+
+abbrev pub invariant-loop-row : goal.invariant-loop-row
+invariant-loop-row l = with_rest (row_over l.columns (targets l.given)) l.typed (drop l.row-index l.rows) ≡ all_of (map (row_over l.columns (targets l.given)) l.rows)
