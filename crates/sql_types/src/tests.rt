@@ -1,0 +1,1 @@
+// The public call once for each kind of statement.
