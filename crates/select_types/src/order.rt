@@ -1,6 +1,5 @@
 // The terms of ORDER BY.
 ghost use Rattle.std.specs.Prelude.{◌≡◌, List, map};
-ghost use Rattle.std.specs.Option.{option_map};
 ghost use Rattle.sql_tree.specs.declared.expr.Expr.{out-Expr};
 ghost use Rattle.sql_typing.specs.Outcome.{all_of};
 ghost use Rattle.sql_typing.specs.Select as spec;
@@ -8,24 +7,12 @@ ghost use Rattle.expr_types.specs.Gives.{Gives};
 ghost use Rattle.expr_types.specs.Scope.{IsNarrow, sources};
 ghost use Rattle.select_types.specs.Outputs as columns;
 
-use crate::output::Output;
-use cell_base::{Items, SqlState, Text};
+use crate::output::{Output, output_named};
+use cell_base::{Items, SqlState};
 use expr_types::{Entry, TypeFault, typed_item};
 use sql_tree::{Expr, OrderTerm, TypedExpr};
 use sql_typing::Place;
 use std::alloc::Global;
-
-/// The first column of the result of this name.
-fn output_named<'a>(outputs: &'a [Output], name: &Text) -> Option<&'a Output>
-    ensures { option_map (λ o. columns.output o.now) result ≡ spec.output_named name.now (columns.outputs outputs.now) }
-{
-    for output in outputs {
-        if output.name.as_str() == name.as_str() {
-            return Some(output);
-        }
-    }
-    None
-}
 
 /// The place from 0 of a position from 1.
 fn index_of(position: i64) -> Option<usize>

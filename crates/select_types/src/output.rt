@@ -1,7 +1,8 @@
 // The columns of a SELECT's result: their names and values.
 ghost use Rattle.std.specs.Prelude.{◌≡◌, ◌++◌, [], ◌∷◌, IfOk, map};
+ghost use Rattle.std.specs.Option.{option_map};
 ghost use Rattle.sql_typing.specs.Select as spec;
-ghost use Rattle.select_types.specs.Outputs.{outputs};
+ghost use Rattle.select_types.specs.Outputs.{output, outputs};
 
 use cell_base::{Items, Memory, Text};
 use sql_tree::{OutField, TypedExpr};
@@ -28,6 +29,18 @@ pub fn with_output(before: Items<Output>, last: Output) -> Result<Items<Output>,
     let mut all = before;
     all.push(last)?;
     Ok(all)
+}
+
+/// The first column of the result of this name.
+pub fn output_named<'a>(all: &'a [Output], name: &Text) -> Option<&'a Output>
+    ensures { option_map (λ o. output o.now) result ≡ spec.output_named name.now (outputs all.now) }
+{
+    for output in all {
+        if output.name.as_str() == name.as_str() {
+            return Some(output);
+        }
+    }
+    None
 }
 
 /// The fields and the values of the columns.
