@@ -1,0 +1,7 @@
+use Rattle.std.proofs.Common.{◌≡◌, drop}
+use Rattle.std.specs.List.{list_any}
+use Rattle.sql_typing.specs.Select.{calls_aggregate}
+use Rattle.select_types.proofs.aggregates.+calls.Given as goal
+
+abbrev pub invariant-any_calls-loop-expr : goal.invariant-any_calls-loop-expr
+invariant-any_calls-loop-expr l = list_any calls_aggregate (drop l.expr-index l.exprs) ≡ list_any calls_aggregate l.exprs

@@ -1,0 +1,10 @@
+use Rattle.std.proofs.Common.{◌≡◌, drop}
+use Rattle.std.specs.List.{list_any}
+use Rattle.std.specs.Str.{bytes_eq}
+use Rattle.sql_typing.specs.Select.{Entry}
+use Rattle.select_types.specs.Entries.{entries}
+use Rattle.select_types.proofs.from.is_seen.Given as goal
+
+abbrev pub invariant-loop-entry : goal.invariant-loop-entry
+invariant-loop-entry l =
+    list_any (λ (e : Entry). bytes_eq e.name l.name) (entries (drop l.entry-index l.entries)) ≡ list_any (λ (e : Entry). bytes_eq e.name l.name) (entries l.entries)

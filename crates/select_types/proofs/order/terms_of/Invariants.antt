@@ -1,0 +1,11 @@
+use Rattle.std.proofs.Common.{◌≡◌, drop, map}
+use Rattle.expr_types.proofs.Lists.{with_rest}
+use Rattle.expr_types.specs.Scope.{sources}
+use Rattle.sql_typing.specs.Outcome.{all_of}
+use Rattle.sql_typing.specs.Select.{term_of}
+use Rattle.select_types.specs.Outputs.{outputs}
+use Rattle.select_types.proofs.order.terms_of.Given as goal
+
+abbrev pub invariant-loop-term : goal.invariant-loop-term
+invariant-loop-term l =
+    with_rest (term_of (sources l.scope) (outputs l.outputs)) l.typed (drop l.term-index l.terms) ≡ all_of (map (term_of (sources l.scope) (outputs l.outputs)) l.terms)

@@ -1,0 +1,11 @@
+use Rattle.std.proofs.Common.{◌≡◌, ◌++◌, map}
+use Rattle.std.specs.Vec.Iter.{into_iter_items}
+use Rattle.sql_typing.specs.Select.{Output, field_of}
+use Rattle.select_types.specs.Outputs.{outputs}
+use Rattle.select_types.proofs.output.columns_of.Given as goal
+
+abbrev pub invariant-loop-output : goal.invariant-loop-output
+invariant-loop-output l = record {
+  fields : l.fields ++ map field_of (outputs (into_iter_items l.output-iterator)) ≡ map field_of (outputs l.fn.all);
+  items : l.items ++ map (λ (o : Output). o.expr) (outputs (into_iter_items l.output-iterator)) ≡ map (λ (o : Output). o.expr) (outputs l.fn.all);
+}

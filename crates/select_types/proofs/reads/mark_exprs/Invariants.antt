@@ -1,0 +1,9 @@
+use Rattle.std.proofs.Common.{take}
+use Rattle.std.specs.List.{list_any}
+use Rattle.sql_typing.specs.Select.{mentions_table}
+use Rattle.typed_parts.specs.Marked.{IsMarked}
+use Rattle.select_types.specs.Entries.{entries}
+use Rattle.select_types.proofs.reads.mark_exprs.Given as goal
+
+abbrev pub invariant-loop-expr : goal.invariant-loop-expr
+invariant-loop-expr l = IsMarked l.initial.marks l.marks (λ c. list_any (mentions_table l.number c 0 (entries l.entries)) (take l.expr-index l.exprs))

@@ -1,0 +1,332 @@
+// The public call on statements whose answers were worked out by hand, over t (k integer key, v text, n integer) and
+// u (k integer key, v text).
+ghost use Rattle.std.specs.Prelude.{◌≡◌, true};
+ghost use Rattle.typed_parts.specs.Narrow.{AreNarrow};
+
+use crate::typed_select;
+use cell_base::{Boxed, Items, Key, SqlState, SqlType, Text, Value};
+use expr_types::TypeFault;
+use sql_tree::{
+    Column, Expr, Item, Op, OrderTerm, Select, Table, TableRef, TypedExpr, TypedNode, TypedSelect,
+};
+use std::alloc::Global;
+use std::test::Fail;
+
+// ---- tables
+
+fn text_of(alloc: Global, text: &str) -> Result<Text, Fail> {
+    Ok(Text::from_bytes(alloc, text.as_bytes())?)
+}
+
+fn column_of(alloc: Global, name: &str, kind: SqlType) -> Result<Column, Fail> {
+    Ok(Column {
+        name: text_of(alloc, name)?,
+        kind,
+        not_null: false,
+        default: Value::Null,
+    })
+}
+
+fn table_of(alloc: Global, name: &str) -> Result<Table, Fail> {
+    let mut columns = Items::new(alloc);
+    columns.push(column_of(alloc, "k", SqlType::Integer)?)?;
+    columns.push(column_of(alloc, "v", SqlType::Text)?)?;
+    if name == "t" {
+        columns.push(column_of(alloc, "n", SqlType::Integer)?)?;
+    }
+    Ok(Table {
+        name: text_of(alloc, name)?,
+        columns,
+        key: 0,
+        checks: Items::new(alloc),
+    })
+}
+
+fn tables_of(alloc: Global) -> Result<Items<Table>, Fail> {
+    let mut tables = Items::new(alloc);
+    tables.push(table_of(alloc, "t")?)?;
+    tables.push(table_of(alloc, "u")?)?;
+    Ok(tables)
+}
+
+fn are_narrow(tables: &[Table]) -> bool
+    ensures { result ≡ true → AreNarrow tables.now }
+{
+    for table in tables {
+        if table.columns.len() > 32 {
+            return false;
+        }
+    }
+    tables.len() <= 64
+}
+
+// ---- statements
+
+fn name(alloc: Global, name: &str) -> Result<Expr, Fail> {
+    Ok(Expr::Column(None, text_of(alloc, name)?))
+}
+
+fn qualified(alloc: Global, table: &str, name: &str) -> Result<Expr, Fail> {
+    Ok(Expr::Column(Some(text_of(alloc, table)?), text_of(alloc, name)?))
+}
+
+fn equals(alloc: Global, left: Expr, right: Expr) -> Result<Expr, Fail> {
+    Ok(Expr::Binary(Op::Eq, Boxed::new(alloc, left)?, Boxed::new(alloc, right)?))
+}
+
+fn written(alloc: Global, name: &str, on: Option<Expr>) -> Result<TableRef, Fail> {
+    Ok(TableRef {
+        name: text_of(alloc, name)?,
+        alias: None,
+        on,
+    })
+}
+
+fn aliased(alloc: Global, name: &str, alias: &str) -> Result<TableRef, Fail> {
+    Ok(TableRef {
+        name: text_of(alloc, name)?,
+        alias: Some(text_of(alloc, alias)?),
+        on: None,
+    })
+}
+
+/// SELECT of these items from t, where k is 7.
+fn from_one(alloc: Global, items: Items<Item>) -> Result<Select, Fail> {
+    let mut from = Items::new(alloc);
+    from.push(written(alloc, "t", None)?)?;
+    Ok(Select {
+        items,
+        from,
+        filter: Some(equals(alloc, name(alloc, "k")?, Expr::Int(7))?),
+        order: Items::new(alloc),
+        limit: None,
+        offset: None,
+    })
+}
+
+/// SELECT *, t.v AS w FROM t JOIN u ON t.k = u.k WHERE t.k = 7 ORDER BY 1 DESC, w LIMIT 5 OFFSET 2
+fn joined(alloc: Global) -> Result<Select, Fail> {
+    let mut items = Items::new(alloc);
+    items.push(Item::Star)?;
+    items.push(Item::Expr(qualified(alloc, "t", "v")?, Some(text_of(alloc, "w")?)))?;
+    let mut from = Items::new(alloc);
+    from.push(written(alloc, "t", None)?)?;
+    let on = equals(
+        alloc,
+        qualified(alloc, "t", "k")?,
+        qualified(alloc, "u", "k")?,
+    )?;
+    from.push(written(alloc, "u", Some(on))?)?;
+    let mut order = Items::new(alloc);
+    order.push(OrderTerm {
+        expr: Expr::Int(1),
+        descending: true,
+    })?;
+    order.push(OrderTerm {
+        expr: name(alloc, "w")?,
+        descending: false,
+    })?;
+    Ok(Select {
+        items,
+        from,
+        filter: Some(equals(alloc, qualified(alloc, "t", "k")?, Expr::Int(7))?),
+        order,
+        limit: Some(5),
+        offset: Some(2),
+    })
+}
+
+/// SELECT 1 FROM t AS a, t AS b WHERE a.k = 7
+fn with_itself(alloc: Global) -> Result<Select, Fail> {
+    let mut items = Items::new(alloc);
+    items.push(Item::Expr(Expr::Int(1), None))?;
+    let mut from = Items::new(alloc);
+    from.push(aliased(alloc, "t", "a")?)?;
+    from.push(aliased(alloc, "t", "b")?)?;
+    Ok(Select {
+        items,
+        from,
+        filter: Some(equals(alloc, qualified(alloc, "a", "k")?, Expr::Int(7))?),
+        order: Items::new(alloc),
+        limit: None,
+        offset: None,
+    })
+}
+
+// ---- answers
+
+fn is_column(expr: &TypedExpr, entry: u32, column: u32) -> bool {
+    match &expr.node {
+        TypedNode::Column(e, c) => *e == entry && *c == column,
+        _ => false,
+    }
+}
+
+fn is_seven(key: &Option<Key>) -> bool {
+    matches!(key, Some(Key::Int(7)))
+}
+
+fn are(numbers: &Items<u32>, want: &[u32]) -> bool {
+    numbers.as_slice() == want
+}
+
+fn are_joined_columns(typed: &TypedSelect) -> bool {
+    match typed.items.as_slice() {
+        [a, b, c, d, e, f] => {
+            is_column(a, 0, 0)
+                && is_column(b, 0, 1)
+                && is_column(c, 0, 2)
+                && is_column(d, 1, 0)
+                && is_column(e, 1, 1)
+                && is_column(f, 0, 1)
+        }
+        _ => false,
+    }
+}
+
+fn has_last_name(typed: &TypedSelect, name: &str) -> bool {
+    match typed.fields.as_slice() {
+        [.., last] => last.name.as_str() == name,
+        [] => false,
+    }
+}
+
+fn is_joined_order(typed: &TypedSelect) -> bool {
+    match typed.order.as_slice() {
+        [(first, descending), (second, ascending)] => {
+            is_column(first, 0, 0) && *descending && is_column(second, 0, 1) && !*ascending
+        }
+        _ => false,
+    }
+}
+
+fn reads_joined(typed: &TypedSelect) -> bool {
+    match (typed.points.as_slice(), typed.mentioned.as_slice()) {
+        ([first, second], [t, u]) => {
+            is_seven(first) && second.is_none() && are(&t, &[1, 2]) && are(&u, &[1])
+        }
+        _ => false,
+    }
+}
+
+fn is_joined(typed: &TypedSelect) -> bool {
+    are_joined_columns(typed)
+        && has_last_name(typed, "w")
+        && is_joined_order(typed)
+        && reads_joined(typed)
+        && are(&typed.tables, &[0, 1])
+        && typed.conditions.len() == 2
+        && !typed.aggregate
+        && typed.limit == Some(5)
+        && typed.offset == 2
+}
+
+fn types_joined(alloc: Global, select: &Select, tables: &[Table]) -> bool {
+    if !are_narrow(tables) {
+        return false;
+    }
+    match typed_select(alloc, select, tables) {
+        Ok(typed) => is_joined(&typed),
+        Err(_) => false,
+    }
+}
+
+#[test]
+fn types_a_join(rt: HostRuntime) -> Result<(), Fail> {
+    let alloc = rt.alloc();
+    assert!(rt; types_joined(alloc, &joined(alloc)?, tables_of(alloc)?.as_slice()));
+    Ok(())
+}
+
+fn reads_no_key(typed: &TypedSelect) -> bool {
+    match typed.points.as_slice() {
+        [first, second] => {
+            first.is_none() && second.is_none() && has_last_name(typed, "?column?")
+        }
+        _ => false,
+    }
+}
+
+fn scans_twice(alloc: Global, select: &Select, tables: &[Table]) -> bool {
+    if !are_narrow(tables) {
+        return false;
+    }
+    match typed_select(alloc, select, tables) {
+        Ok(typed) => reads_no_key(&typed),
+        Err(_) => false,
+    }
+}
+
+#[test]
+fn scans_a_table_that_stands_twice(rt: HostRuntime) -> Result<(), Fail> {
+    let alloc = rt.alloc();
+    assert!(rt; scans_twice(alloc, &with_itself(alloc)?, tables_of(alloc)?.as_slice()));
+    Ok(())
+}
+
+/// count(*), sum(n)
+fn aggregates(alloc: Global) -> Result<Items<Item>, Fail> {
+    let mut items = Items::new(alloc);
+    items.push(Item::Expr(Expr::Call(text_of(alloc, "count")?, None), None))?;
+    let operand = Boxed::new(alloc, name(alloc, "n")?)?;
+    items.push(Item::Expr(Expr::Call(text_of(alloc, "sum")?, Some(operand)), None))?;
+    Ok(items)
+}
+
+fn reads_aggregates(typed: &TypedSelect) -> bool {
+    match (typed.points.as_slice(), typed.mentioned.as_slice()) {
+        ([point], [columns]) => is_seven(point) && are(&columns, &[2]),
+        _ => false,
+    }
+}
+
+fn is_aggregate(typed: &TypedSelect) -> bool {
+    has_last_name(typed, "sum")
+        && reads_aggregates(typed)
+        && typed.aggregate
+        && typed.limit.is_none()
+        && typed.offset == 0
+}
+
+fn types_aggregates(alloc: Global, select: &Select, tables: &[Table]) -> bool {
+    if !are_narrow(tables) {
+        return false;
+    }
+    match typed_select(alloc, select, tables) {
+        Ok(typed) => is_aggregate(&typed),
+        Err(_) => false,
+    }
+}
+
+#[test]
+fn types_an_aggregate(rt: HostRuntime) -> Result<(), Fail> {
+    let alloc = rt.alloc();
+    let select = from_one(alloc, aggregates(alloc)?)?;
+    assert!(rt; types_aggregates(alloc, &select, tables_of(alloc)?.as_slice()));
+    Ok(())
+}
+
+fn is_refused(alloc: Global, select: &Select, tables: &[Table], want: SqlState) -> bool {
+    if !are_narrow(tables) {
+        return false;
+    }
+    match typed_select(alloc, select, tables) {
+        Ok(_) => false,
+        Err(fault) => fault == TypeFault::State(want),
+    }
+}
+
+#[test]
+fn refuses_what_has_no_type(rt: HostRuntime) -> Result<(), Fail> {
+    let alloc = rt.alloc();
+    let tables = tables_of(alloc)?;
+    let mut mixed = aggregates(alloc)?;
+    mixed.push(Item::Expr(name(alloc, "v")?, None))?;
+    let select = from_one(alloc, mixed)?;
+    assert!(rt; is_refused(alloc, &select, tables.as_slice(), SqlState::S42803));
+    let mut unknown = Items::new(alloc);
+    unknown.push(Item::Expr(name(alloc, "nosuch")?, None))?;
+    let select = from_one(alloc, unknown)?;
+    assert!(rt; is_refused(alloc, &select, tables.as_slice(), SqlState::S42703));
+    Ok(())
+}

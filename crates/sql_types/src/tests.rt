@@ -1,0 +1,185 @@
+// The public call once for each kind of statement, over t (k integer key, n integer); the answers were worked out by hand.
+ghost use Rattle.std.specs.Prelude.{◌≡◌, true};
+ghost use Rattle.typed_parts.specs.Narrow.{AreNarrow};
+
+use crate::{TypeFault, typed};
+use cell_base::{Boxed, Items, Key, SqlState, SqlType, Text, Value};
+use sql_tree::{
+    Column, Delete, Expr, Insert, Item, Op, Select, Statement, Table, TableRef, Typed, TypedChange,
+    TypedInsert, TypedSelect, Update,
+};
+use std::alloc::Global;
+use std::test::Fail;
+
+// ---- the table and the statements
+
+fn text_of(alloc: Global, text: &str) -> Result<Text, Fail> {
+    Ok(Text::from_bytes(alloc, text.as_bytes())?)
+}
+
+fn column_of(alloc: Global, name: &str) -> Result<Column, Fail> {
+    Ok(Column {
+        name: text_of(alloc, name)?,
+        kind: SqlType::Integer,
+        not_null: false,
+        default: Value::Null,
+    })
+}
+
+fn tables_of(alloc: Global) -> Result<Items<Table>, Fail> {
+    let mut columns = Items::new(alloc);
+    columns.push(column_of(alloc, "k")?)?;
+    columns.push(column_of(alloc, "n")?)?;
+    let mut tables = Items::new(alloc);
+    tables.push(Table {
+        name: text_of(alloc, "t")?,
+        columns,
+        key: 0,
+        checks: Items::new(alloc),
+    })?;
+    Ok(tables)
+}
+
+fn are_narrow(tables: &[Table]) -> bool
+    ensures { result ≡ true → AreNarrow tables.now }
+{
+    for table in tables {
+        if table.columns.len() > 32 {
+            return false;
+        }
+    }
+    tables.len() <= 64
+}
+
+/// k = 7
+fn filter(alloc: Global) -> Result<Expr, Fail> {
+    Ok(Expr::Binary(
+        Op::Eq,
+        Boxed::new(alloc, Expr::Column(None, text_of(alloc, "k")?))?,
+        Boxed::new(alloc, Expr::Int(7))?,
+    ))
+}
+
+/// SELECT n FROM t WHERE k = 7
+fn select(alloc: Global) -> Result<Statement, Fail> {
+    let mut items = Items::new(alloc);
+    items.push(Item::Expr(Expr::Column(None, text_of(alloc, "n")?), None))?;
+    let mut from = Items::new(alloc);
+    from.push(TableRef {
+        name: text_of(alloc, "t")?,
+        alias: None,
+        on: None,
+    })?;
+    Ok(Statement::Select(Select {
+        items,
+        from,
+        filter: Some(filter(alloc)?),
+        order: Items::new(alloc),
+        limit: None,
+        offset: None,
+    }))
+}
+
+/// INSERT INTO t VALUES (7, 1)
+fn insert(alloc: Global) -> Result<Statement, Fail> {
+    let mut row = Items::new(alloc);
+    row.push(Some(Expr::Int(7)))?;
+    row.push(Some(Expr::Int(1)))?;
+    let mut rows = Items::new(alloc);
+    rows.push(row)?;
+    Ok(Statement::Insert(Insert {
+        table: text_of(alloc, "t")?,
+        columns: Items::new(alloc),
+        rows,
+    }))
+}
+
+/// UPDATE t SET n = 1 WHERE k = 7
+fn update(alloc: Global) -> Result<Statement, Fail> {
+    let mut set = Items::new(alloc);
+    set.push((text_of(alloc, "n")?, Some(Expr::Int(1))))?;
+    Ok(Statement::Update(Update {
+        table: text_of(alloc, "t")?,
+        set,
+        filter: Some(filter(alloc)?),
+    }))
+}
+
+/// DELETE FROM t WHERE k = 7
+fn delete(alloc: Global) -> Result<Statement, Fail> {
+    Ok(Statement::Delete(Delete {
+        table: text_of(alloc, "t")?,
+        filter: Some(filter(alloc)?),
+    }))
+}
+
+// ---- the answers
+
+fn is_seven(key: &Option<Key>) -> bool {
+    matches!(key, Some(Key::Int(7)))
+}
+
+fn is_selected(typed: &TypedSelect) -> bool {
+    match typed.points.as_slice() {
+        [point] => is_seven(point) && typed.items.len() == 1,
+        _ => false,
+    }
+}
+
+fn is_inserted(typed: &TypedInsert) -> bool {
+    match typed.rows.as_slice() {
+        [row] => row.len() == 2 && typed.table == 0,
+        _ => false,
+    }
+}
+
+fn is_updated(typed: &TypedChange) -> bool {
+    is_seven(&typed.point) && typed.set.len() == 1 && !typed.delete
+}
+
+fn is_deleted(typed: &TypedChange) -> bool {
+    is_seven(&typed.point) && typed.set.len() == 0 && typed.delete
+}
+
+/// Whether the typed statement is the one that was wanted of a statement of its kind.
+fn is_wanted(statement: &Statement, typed: &Typed) -> bool {
+    match (statement, typed) {
+        (Statement::Select(_), Typed::Select(typed)) => is_selected(typed),
+        (Statement::Insert(_), Typed::Insert(typed)) => is_inserted(typed),
+        (Statement::Update(_), Typed::Change(typed)) => is_updated(typed),
+        (Statement::Delete(_), Typed::Change(typed)) => is_deleted(typed),
+        _ => false,
+    }
+}
+
+fn types_it(alloc: Global, statement: &Statement, tables: &[Table]) -> bool {
+    if !are_narrow(tables) {
+        return false;
+    }
+    match typed(alloc, statement, tables) {
+        Ok(typed) => is_wanted(statement, &typed),
+        Err(_) => false,
+    }
+}
+
+fn is_refused(alloc: Global, statement: &Statement, tables: &[Table]) -> bool {
+    if !are_narrow(tables) {
+        return false;
+    }
+    match typed(alloc, statement, tables) {
+        Ok(_) => false,
+        Err(fault) => fault == TypeFault::State(SqlState::S0A000),
+    }
+}
+
+#[test]
+fn types_each_kind_of_statement(rt: HostRuntime) -> Result<(), Fail> {
+    let alloc = rt.alloc();
+    let tables = tables_of(alloc)?;
+    assert!(rt; types_it(alloc, &select(alloc)?, tables.as_slice()));
+    assert!(rt; types_it(alloc, &insert(alloc)?, tables.as_slice()));
+    assert!(rt; types_it(alloc, &update(alloc)?, tables.as_slice()));
+    assert!(rt; types_it(alloc, &delete(alloc)?, tables.as_slice()));
+    assert!(rt; is_refused(alloc, &Statement::Commit, tables.as_slice()));
+    Ok(())
+}
