@@ -4,10 +4,11 @@ use Rattle.sql_statements.specs.Faults.{IsFaultOfText}
 use Rattle.query_request.specs.declared.request.Request.TheVariants.{Refused}
 use Rattle.query_request.specs.Requests.{IsRequest, faulty, reads}
 use Rattle.query_request.proofs.Faults.{is_fault}
+use Rattle.query_request.proofs.Sounds.{of_text}
 use Rattle.query_request.proofs.reading.request_of_text.Goals as goal
 
-pub returns-in-Some : goal.returns-in-Some
-returns-in-Some c =
+pub returns-in-Some-clause-request : goal.returns-in-Some-clause-request
+returns-in-Some-clause-request c =
     let fault = c.in-Some.ensures in
     subst (λ (code : SqlState). IsRequest c.args.text.now (Refused code)) (sym fault.state)
     (faulty c.in-Err.fault c.requires.utf8 (is_fault (IsFaultOfText c.args.text.now) c.in-Err.fault fault.memory c.in-Err.ensures.fault))
