@@ -133,9 +133,12 @@ mark_plain (t.Sign sign) h = tt
 
 marks_plain : (tokens : List Token) → IsPlain tokens → ArePlain (marks tokens)
 marks_plain tokens h m at =
-    let each : All (λ (token : Token). IsPlainMark (mark token.kind)) tokens = λ k d within. mark_plain _ (h (get_or tokens k d) (Contains-get_or tokens k d within)) in
+    let each : All (λ (token : Token). IsPlainMark (mark token.kind)) tokens =
+    λ k d within. mark_plain _ (h (get_or tokens k d) (Contains-get_or tokens k d within)) in
     All-contains IsPlainMark (marks tokens) m (All-map IsPlainMark (λ (token : Token). mark token.kind) tokens each) at
 
-pub create_named : (tokens : List Token) (statements : List Statement) (create : CreateTable) → IsPlain tokens → IsLimited (marks tokens) statements → Contains statements (tree.Create create) → HasPlainNames create
+pub create_named : (tokens : List Token) (statements : List Statement) (create : CreateTable)
+    → IsPlain tokens → IsLimited (marks tokens) statements → Contains statements (tree.Create create) → HasPlainNames create
 create_named tokens statements create h s at =
-    All-contains IsPlainStatement statements (tree.Create create) ((message_plain max_depth max_rows max_statements).each (marks tokens) statements (marks_plain tokens h) s) at
+    All-contains IsPlainStatement statements (tree.Create create)
+    ((message_plain max_depth max_rows max_statements).each (marks tokens) statements (marks_plain tokens h) s) at

@@ -35,7 +35,8 @@ source name columns = record { name = name; columns = columns } ∷ []
 checks_are : (create : CreateTable) (columns : List Column) → Holds (All (IsCondition (column_types (source create.name columns)))) (checks_of create columns)
 unfolding checks_of
 checks_are create columns =
-    each_holds (IsCondition (column_types (source create.name columns))) (flag (source create.name columns)) (flag_sound (source create.name columns)) create.checks
+    each_holds (IsCondition (column_types (source create.name columns))) (flag (source create.name columns))
+    (flag_sound (source create.name columns)) create.checks
 
 -- ---- names
 
@@ -43,8 +44,11 @@ unmapped : {A B : Type 0} (P : B → Type 0) (f : A → B) (xs : List A) → All
 unmapped P f [] h = All-nil (λ x. P (f x))
 unmapped P f (x ∷ xs) h = All-cons (λ x. P (f x)) x xs (All-head P (f x) (map f xs) h) (unmapped P f xs (All-tail P (f x) (map f xs) h))
 
-names_are : (cs : List Column) (ds : List ColumnDef) → map (λ (c : Column). c.name) cs ≡ map (λ (d : ColumnDef). d.name) ds → All IsNamed ds → All HasPlainName cs
-names_are cs ds same h = unmapped IsPlainName (λ (c : Column). c.name) cs (subst (All IsPlainName) (sym same) (All-map IsPlainName (λ (d : ColumnDef). d.name) ds h))
+names_are : (cs : List Column) (ds : List ColumnDef)
+    → map (λ (c : Column). c.name) cs ≡ map (λ (d : ColumnDef). d.name) ds → All IsNamed ds → All HasPlainName cs
+names_are cs ds same h =
+    unmapped IsPlainName (λ (c : Column). c.name) cs
+    (subst (All IsPlainName) (sym same) (All-map IsPlainName (λ (d : ColumnDef). d.name) ds h))
 
 -- ---- the table
 
@@ -55,7 +59,8 @@ within_list : (cs : List Column) (at : ℕ) (c : Column) → slice_get cs at ≡
 within_list [] at c e = absurd (cc)
 within_list (x ∷ xs) at c e = omega arith
 
-well_formed : (create : CreateTable) (columns : List Column) (key : ℕ) (checks : List TypedExpr) → HasPlainNames create → length create.columns ≤ 32 → AreAdded [] create.columns columns → IsKeyOf 0 columns key
+well_formed : (create : CreateTable) (columns : List Column) (key : ℕ) (checks : List TypedExpr)
+    → HasPlainNames create → length create.columns ≤ 32 → AreAdded [] create.columns columns → IsKeyOf 0 columns key
     → All (IsCondition (column_types (source create.name columns))) checks → IsWellFormed (table_of create columns key checks)
 well_formed create columns key checks plain few cs k conditions =
     let long = keyed_long key 0 columns in
@@ -68,7 +73,12 @@ well_formed create columns key checks plain few cs k conditions =
       few = omega (arith, long, cs.long);
       apart = apart [] (keyed key columns) (keyed_new [] key 0 columns cs.new);
       columns = keyed_all IsColumn (λ c is. record { width = is.width; default = is.default }) key 0 columns cs.columns;
-      key = record { column = record k.column { not_null = true }; there = subst (λ n. slice_get (keyed key columns) n ≡ Some (record k.column { not_null = true })) at_key there; filled = refl; ordered = k.ordered };
+      key = record {
+        column = record k.column { not_null = true };
+        there = subst (λ n. slice_get (keyed key columns) n ≡ Some (record k.column { not_null = true })) at_key there;
+        filled = refl;
+        ordered = k.ordered;
+      };
       checks = subst (λ kinds. All (IsCondition (kinds ∷ [])) checks) (sym (keyed_kinds key 0 columns)) conditions;
     }
 
@@ -77,7 +87,8 @@ unfolding built
 built_well create plain =
     cond_both (nat_le (length create.columns) 32) _ (Err S54000) (Holds IsWellFormed)
     (λ few. then_holds (AreAdded [] create.columns) IsWellFormed (columns_from [] create.columns) _ (columns_are [] create.columns)
-    (λ columns cs. then_holds (IsKeyOf 0 columns) IsWellFormed (key_of columns (marked create.columns ++ create.keys)) _ (key_is columns (marked create.columns ++ create.keys))
+    (λ columns cs. then_holds (IsKeyOf 0 columns) IsWellFormed (key_of columns (marked create.columns ++ create.keys)) _
+    (key_is columns (marked create.columns ++ create.keys))
     (λ key k. then_holds (All (IsCondition (column_types (source create.name columns)))) IsWellFormed (checks_of create columns) _ (checks_are create columns)
     (λ checks conditions. well_formed create columns key checks plain (leb-true (length create.columns) 32 few) cs k conditions))))
     (λ _. tt)

@@ -49,7 +49,10 @@ a_name = record { each = λ ts text h s. named_plain s.mark text s.reads (subst 
 
 pub both : {A B : Type 0} {P : A → Type 0} {Q : B → Type 0} {a : Syntax A} {b : Syntax B} → Yields a P → Yields b Q → Yields (a ⨟ b) (λ p. P p.0 × Q p.1)
 both f g = record {
-  each = λ ts x h s. (f.each s.front x.0 (front_plain ts s.front s.rest s.splits h) s.first, g.each s.rest x.1 (rest_plain ts s.front s.rest s.splits h) s.second);
+  each = λ ts x h s. (
+    f.each s.front x.0 (front_plain ts s.front s.rest s.splits h) s.first,
+    g.each s.rest x.1 (rest_plain ts s.front s.rest s.splits h) s.second,
+  );
 }
 
 pub made : {A B : Type 0} {P : A → Type 0} {Q : B → Type 0} {f : A → B} {a : Syntax A} → Yields a P → ((x : A) → P x → Q (f x)) → Yields (map f a) Q
@@ -68,7 +71,8 @@ chosen f g ts x h (syntax.right s) = g.each ts x h s
 pub one_of : {A : Type 0} {P : A → Type 0} {a b : Syntax A} → Yields a P → Yields b P → Yields (either a b) P
 one_of f g = record { each = chosen f g }
 
-further : {A : Type 0} (P : A → Type 0) {b : Syntax (List A)} → Yields b (All P) → {ts : List Mark} {xs : List A} → ArePlain ts → Repeats (spells b) ts xs → All P xs
+further : {A : Type 0} (P : A → Type 0) {b : Syntax (List A)} → Yields b (All P) → {ts : List Mark} {xs : List A}
+    → ArePlain ts → Repeats (spells b) ts xs → All P xs
 further P g h Repeats.none = All-nil P
 further P g h (Repeats.more {ts = ts} {us = us} {xs = xs} {ys = ys} o os) =
     All-append P xs ys (g.each ts xs (front_plain (ts ++ us) ts us refl h) o) (further P g (rest_plain (ts ++ us) ts us refl h) os)
@@ -78,7 +82,8 @@ repeated P f g = record {
   each = λ ts zs h s.
       let p = s.parts in
       subst (All P) (sym s.all)
-      (All-append P s.xs s.ys (f.each p.front s.xs (front_plain ts p.front p.rest p.splits h) p.first) (further P g (rest_plain ts p.front p.rest p.splits h) p.second));
+      (All-append P s.xs s.ys
+      (f.each p.front s.xs (front_plain ts p.front p.rest p.splits h) p.first) (further P g (rest_plain ts p.front p.rest p.splits h) p.second));
 }
 
 -- ---- rules made of these
