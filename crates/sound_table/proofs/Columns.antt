@@ -27,7 +27,8 @@ abbrev pub AreNew : List (List ℕ) → List Column → Type 0
 AreNew before [] = Unit {0}
 AreNew before (c ∷ cs) = (has_name before c.name ≡ false) × AreNew (before ++ c.name ∷ []) cs
 
-without_last : (before : List (List ℕ)) (more : List (List ℕ)) (name : List ℕ) → has_name (before ++ more) name ≡ false → (has_name before name ≡ false) × (has_name more name ≡ false)
+without_last : (before : List (List ℕ)) (more : List (List ℕ)) (name : List ℕ) → has_name (before ++ more) name ≡ false
+    → (has_name before name ≡ false) × (has_name more name ≡ false)
 without_last before more name e =
     or_parts (has_name before name) (has_name more name) (sym (list_any-append (λ n. bytes_eq n name) before more) ∙ e)
 
@@ -37,7 +38,8 @@ new_at before (x ∷ xs) zero c h e = let same : x ≡ c = cc in subst (λ (c : 
 new_at before (x ∷ xs) (suc j) c h e = (without_last before (x.name ∷ []) c.name (new_at (before ++ x.name ∷ []) xs j c h.1 e)).0
 
 -- what stands behind a column has another name
-other_name : (before : List (List ℕ)) (x : Column) (xs : List Column) (j : ℕ) (c : Column) → AreNew before (x ∷ xs) → slice_get xs j ≡ Some c → x.name ≡ c.name → ⊥
+other_name : (before : List (List ℕ)) (x : Column) (xs : List Column) (j : ℕ) (c : Column)
+    → AreNew before (x ∷ xs) → slice_get xs j ≡ Some c → x.name ≡ c.name → ⊥
 other_name before x xs j c h e same =
     let none = (without_last before (x.name ∷ []) c.name (new_at (before ++ x.name ∷ []) xs j c h.1 e)).1 in
     let differs = (or_parts (bytes_eq x.name c.name) false none).0 in
@@ -46,8 +48,10 @@ other_name before x xs j c h e same =
 pub apart : (before : List (List ℕ)) (cs : List Column) → AreNew before cs → AreApart cs
 apart before [] h i j a b e f same = absurd (cc)
 apart before (x ∷ xs) h zero zero a b e f same = refl
-apart before (x ∷ xs) h zero (suc j) a b e f same = let here : x ≡ a = cc in absurd (other_name before x xs j b h f (ap (λ (c : Column). c.name) here ∙ same))
-apart before (x ∷ xs) h (suc i) zero a b e f same = let here : x ≡ b = cc in absurd (other_name before x xs i a h e (ap (λ (c : Column). c.name) here ∙ sym same))
+apart before (x ∷ xs) h zero (suc j) a b e f same =
+    let here : x ≡ a = cc in absurd (other_name before x xs j b h f (ap (λ (c : Column). c.name) here ∙ same))
+apart before (x ∷ xs) h (suc i) zero a b e f same =
+    let here : x ≡ b = cc in absurd (other_name before x xs i a h e (ap (λ (c : Column). c.name) here ∙ sym same))
 apart before (x ∷ xs) h (suc i) (suc j) a b e f same = ap suc (apart (before ++ x.name ∷ []) xs h.1 i j a b e f same)
 
 -- ---- columns
@@ -71,29 +75,30 @@ column_is before d =
 pub record AreAdded (before : List (List ℕ)) (ds : List ColumnDef) (cs : List Column) : Type 0 where
   pub new : AreNew before cs
   pub long : length cs ≡ length ds
+  pub named : map (λ (c : Column). c.name) cs ≡ map (λ (d : ColumnDef). d.name) ds
   pub columns : All IsColumn cs
 
-added : (before : List (List ℕ)) (d : ColumnDef) (ds : List ColumnDef) (c : Column) (cs : List Column) → IsAdded before d c → AreAdded (before ++ d.name ∷ []) ds cs → AreAdded before (d ∷ ds) (c ∷ cs)
+added : (before : List (List ℕ)) (d : ColumnDef) (ds : List ColumnDef) (c : Column) (cs : List Column)
+    → IsAdded before d c → AreAdded (before ++ d.name ∷ []) ds cs → AreAdded before (d ∷ ds) (c ∷ cs)
 added before d ds c cs h more = record {
   new = (subst (λ n. has_name before n ≡ false) (sym h.named) h.new, subst (λ n. AreNew (before ++ n ∷ []) cs) (sym h.named) more.new);
   long = ap suc more.long;
+  named = let one = h.named in let others = more.named in cc;
   columns = All-cons IsColumn c cs h.column more.columns;
 }
 
 pub columns_are : (before : List (List ℕ)) (ds : List ColumnDef) → Holds (AreAdded before ds) (columns_from before ds)
-columns_are before [] = record { new = tt; long = refl; columns = All-nil IsColumn }
+columns_are before [] = record { new = tt; long = refl; named = refl; columns = All-nil IsColumn }
 columns_are before (d ∷ ds) =
     then_holds (IsAdded before d) (AreAdded before (d ∷ ds)) (column_of before d) _ (column_is before d)
-    (λ c h. then_holds (AreAdded (before ++ d.name ∷ []) ds) (AreAdded before (d ∷ ds)) (columns_from (before ++ d.name ∷ []) ds) _ (columns_are (before ++ d.name ∷ []) ds)
+    (λ c h. then_holds (AreAdded (before ++ d.name ∷ []) ds) (AreAdded before (d ∷ ds)) (columns_from (before ++ d.name ∷ []) ds) _
+    (columns_are (before ++ d.name ∷ []) ds)
     (λ cs more. added before d ds c cs h more))
 
 -- ---- the column of the key, which is marked as never null
 
-abbrev filled : Column → Column
+abbrev pub filled : Column → Column
 filled c = record c { not_null = true }
-
-marked_as : (test : Bool) (c : Column) → Column
-marked_as test c = cond test (filled c) c
 
 pub keyed_new : (before : List (List ℕ)) (key i : ℕ) (cs : List Column) → AreNew before cs → AreNew before (keyed_from key i cs)
 keyed_new before key i [] h = tt
@@ -101,12 +106,12 @@ keyed_new before key i (c ∷ cs) h =
     cond_both (i == key) (filled c) c (λ (x : Column). AreNew before (x ∷ keyed_from key (i + 1) cs))
     (λ _. (h.0, keyed_new (before ++ c.name ∷ []) key (i + 1) cs h.1)) (λ _. (h.0, keyed_new (before ++ c.name ∷ []) key (i + 1) cs h.1))
 
-pub keyed_columns : (key i : ℕ) (cs : List Column) → All IsColumn cs → All IsColumn (keyed_from key i cs)
-keyed_columns key i [] h = All-nil IsColumn
-keyed_columns key i (c ∷ cs) h =
-    let is = All-head IsColumn c cs h in
-    let head = cond_both (i == key) (filled c) c IsColumn (λ _. record { width = is.width; default = is.default }) (λ _. is) in
-    All-cons IsColumn _ (keyed_from key (i + 1) cs) head (keyed_columns key (i + 1) cs (All-tail IsColumn c cs h))
+-- what holds of each column, and of each that is marked
+pub keyed_all : (P : Column → Type 0) → ((c : Column) → P c → P (filled c)) → (key i : ℕ) (cs : List Column) → All P cs → All P (keyed_from key i cs)
+keyed_all P f key i [] h = All-nil P
+keyed_all P f key i (c ∷ cs) h =
+    let is = All-head P c cs h in
+    All-cons P _ (keyed_from key (i + 1) cs) (cond_both (i == key) (filled c) c P (λ _. f c is) (λ _. is)) (keyed_all P f key (i + 1) cs (All-tail P c cs h))
 
 pub keyed_long : (key i : ℕ) (cs : List Column) → length (keyed_from key i cs) ≡ length cs
 keyed_long key i [] = refl

@@ -35,7 +35,8 @@ null_is Numeric = record { typed = refl; short = tt; small = tt }
 
 -- ---- texts
 
-stored_is : (kind : SqlType) (text : List ℕ) → is_null_or_of kind (value.Text text) ≡ true → IsShort kind (value.Text text) → Holds (IsDefault kind) (stored_text text)
+stored_is : (kind : SqlType) (text : List ℕ)
+    → is_null_or_of kind (value.Text text) ≡ true → IsShort kind (value.Text text) → Holds (IsDefault kind) (stored_text text)
 stored_is kind text typed short =
     cond_both (nat_le (length text) 65536) (Ok (value.Text text)) (Err S54000) (Holds (IsDefault kind))
     (λ e. record { typed = typed; short = short; small = leb-true (length text) 65536 e }) (λ _. tt)
@@ -54,7 +55,8 @@ limited_is limit text =
     let P : Outcome Value → Type 0 = Holds (IsDefault (Varchar limit)) in
     let left = encode_utf8_all (take limit (chars text)) in
     cond_both (limit == 0 || nat_le (length (chars text)) limit) _ _ P (λ e. stored_is (Varchar limit) text refl (λ u. e))
-    (λ _. cond_both (are_spaces (drop limit (chars text))) (stored_text left) (Err S22001) P (λ _. stored_is (Varchar limit) left refl (shortened limit text)) (λ _. tt))
+    (λ _. cond_both (are_spaces (drop limit (chars text))) (stored_text left) (Err S22001) P
+    (λ _. stored_is (Varchar limit) left refl (shortened limit text)) (λ _. tt))
 
 -- ---- values
 
@@ -81,10 +83,14 @@ small_value (value.Text text) (inr e) = absurd (false≢true e)
 small_value _ e = tt
 
 integer_text : (text : List ℕ) → Holds (IsDefault Integer) (quoted Integer text)
-integer_text text = holds_more (IsConstant Integer) (IsDefault Integer) (quoted Integer text) (λ v h. plain_value Integer v h.typed tt (small_value v (inl h.typed))) (quoted_is Integer text)
+integer_text text =
+    holds_more (IsConstant Integer) (IsDefault Integer) (quoted Integer text)
+    (λ v h. plain_value Integer v h.typed tt (small_value v (inl h.typed))) (quoted_is Integer text)
 
 bigint_text : (text : List ℕ) → Holds (IsDefault Bigint) (quoted Bigint text)
-bigint_text text = holds_more (IsConstant Bigint) (IsDefault Bigint) (quoted Bigint text) (λ v h. plain_value Bigint v h.typed tt (small_value v (inr h.typed))) (quoted_is Bigint text)
+bigint_text text =
+    holds_more (IsConstant Bigint) (IsDefault Bigint) (quoted Bigint text)
+    (λ v h. plain_value Bigint v h.typed tt (small_value v (inr h.typed))) (quoted_is Bigint text)
 
 text_is : (kind : SqlType) (text : List ℕ) → Holds (IsDefault kind) (text_as kind text)
 text_is Boolean text = tt
@@ -96,7 +102,8 @@ text_is Numeric text = tt
 
 negative_is : (kind : SqlType) (n : ℤ) → Holds (IsDefault kind) (negative_as kind n)
 negative_is kind n =
-    cond_both (fits Bigint (neg_ℤ n)) (assigned kind (value.Int (neg_ℤ n))) (Err S22003) (Holds (IsDefault kind)) (λ _. assigned_is kind (value.Int (neg_ℤ n))) (λ _. tt)
+    cond_both (fits Bigint (neg_ℤ n)) (assigned kind (value.Int (neg_ℤ n))) (Err S22003) (Holds (IsDefault kind))
+    (λ _. assigned_is kind (value.Int (neg_ℤ n))) (λ _. tt)
 
 negated_is : (kind : SqlType) (e : Expr-F Expr) → Holds (IsDefault kind) (negative_at kind e)
 negated_is kind (Expr-F.Int n) = negative_is kind n

@@ -27,7 +27,8 @@ named_key name i [] = tt
 named_key name i (c ∷ cs) =
     let P : Outcome ℕ → Type 0 = Holds (IsKeyOf i (c ∷ cs)) in
     cond_both (bytes_eq c.name name) _ _ P
-    (λ _. cond_both (is_boolean c.kind) (Err S0A000) (Ok i) P (λ _. tt) (λ ordered. record { at = 0; number = omega arith; column = c; there = refl; ordered = ordered }))
+    (λ _. cond_both (is_boolean c.kind) (Err S0A000) (Ok i) P (λ _. tt)
+    (λ ordered. record { at = 0; number = omega arith; column = c; there = refl; ordered = ordered }))
     (λ _. holds_more (IsKeyOf (i + 1) cs) (IsKeyOf i (c ∷ cs)) (key_from name (i + 1) cs) (later i c cs) (named_key name (i + 1) cs))
 
 pub key_is : (cs : List Column) (names : List (List ℕ)) → Holds (IsKeyOf 0 cs) (key_of cs names)

@@ -1,4 +1,6 @@
 pub mod Example
+pub mod Yields
+pub mod Names
 pub mod Defaults
 pub mod Columns
 pub mod Keys

@@ -1,4 +1,5 @@
--- What holds of the columns, the key and the CHECKs of each sound table.
+-- What holds of the names, the columns, the key and the CHECKs of each sound table.
+-- (PostgreSQL's documentation, "CREATE TABLE" and "Character Types".)
 use Rattle.std.specs.Prelude.{◌≡◌, ◌≤◌, ℕ, true, false, ◌||◌, ◌==◌, nat_le, List, length, slice_get, chars, Some}
 use Rattle.std.specs.List.{All}
 use Rattle.std.specs.Str.{IsUtf8}
@@ -8,6 +9,7 @@ use Rattle.cell_base.specs.declared.value.Value.{Value}
 use Rattle.cell_base.specs.declared.value.Value.TheVariants as value
 use Rattle.sql_tree.specs.declared.table.Column.{Column}
 use Rattle.sql_tree.specs.declared.table.Table.{Table}
+use Rattle.sql_grammar.specs.Limited.{IsPlainName}
 use Rattle.sql_typing.specs.Building.{has_length}
 use Rattle.sql_typing.specs.Changes.{own_source}
 use Rattle.sql_typing.specs.Kinds.{is_boolean, is_null_or_of}
@@ -39,6 +41,10 @@ pub record IsColumn (c : Column) : Type 0 where
   pub width : has_length c.kind ≡ true
   pub default : IsDefault c.kind c.default
 
+-- a name of at most 63 bytes, without a zero byte
+abbrev pub HasPlainName : Column → Type 0
+HasPlainName c = IsPlainName c.name
+
 -- no two columns have one name
 abbrev pub AreApart : List Column → Type 0
 AreApart columns = (i j : ℕ) (a b : Column) → slice_get columns i ≡ Some a → slice_get columns j ≡ Some b → a.name ≡ b.name → i ≡ j
@@ -51,6 +57,8 @@ pub record HasKey (table : Table) : Type 0 where
   pub ordered : is_boolean column.kind ≡ false
 
 pub record IsWellFormed (table : Table) : Type 0 where
+  pub named : IsPlainName table.name
+  pub names : All HasPlainName table.columns
   pub some : 1 ≤ length table.columns
   pub few : length table.columns ≤ 32
   pub apart : AreApart table.columns

@@ -8,7 +8,8 @@ pub fn two_columns_are_sound()
 {}
 
 /// A sound table has from 1 to 32 columns of different names, whose defaults are null or of their column's type. Its key is one of
-/// them, which is never null and isn't boolean, and each CHECK is a condition over its columns.
+/// them, which is never null and isn't boolean, and each CHECK is a condition over its columns. The names of the table and of its
+/// columns have at most 63 bytes and no zero byte.
 pub fn sound_is_well_formed()
     ensures { SoundIsWellFormed }
 {}
