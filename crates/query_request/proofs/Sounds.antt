@@ -1,5 +1,6 @@
 -- The table that a query defines is sound.
-use Rattle.std.proofs.Common.{◌≡◌, ℕ, List, [], ◌∷◌, Ok, Err, refl, sym, subst, arith}
+use Rattle.std.proofs.Common.{◌≡◌, ℕ, List, [], ◌∷◌, Result, Ok, Err, IfOk, refl, sym, subst, arith}
+use Rattle.cell_base.specs.declared.memory.Memory.{Memory}
 use Rattle.std.specs.List.{Contains}
 use Rattle.sound_text.proofs.Plain.{built_sound}
 use Rattle.cell_base.specs.declared.sql_state.SqlState.{SqlState}
@@ -59,3 +60,8 @@ of_text text xs request no_zero are asked =
     (λ x create t e f b.
     built_sound text xs create t no_zero are (subst (λ (ys : List Statement). Contains ys (tree.Create create)) (sym e) (subst (λ (y : Statement). Contains (y ∷ []) (tree.Create create)) (sym f) (0, omega arith, refl))) b)
     asked
+
+-- a weaker fact of what was answered
+pub weaker : {P Q : Request → Type 0} (r : Result Request Memory) → ((request : Request) → P request → Q request) → IfOk r P → IfOk r Q
+weaker (Ok request) f h = f request h
+weaker (Err e) f h = h
