@@ -59,9 +59,8 @@ is_short-entry answers.Committed e = refl
 is_short-entry answers.RolledBack e = refl
 
 -- an answer, and a want of memory that may stand behind it
-pub flag-answered : (flag now : Bool) (w : Option Bool) (es : List Entry) (a : Answer) (e : Event) (sent : List ℕ) → flag ≡ has_short es → now ≡ (flag || is_some w) → wants_memory a ≡ false →
-    now ≡ has_short ((es ++ entry_for a e ∷ []) ++ with_short w sent [])
-flag-answered flag now w es a e sent f g none = flag-fed flag now w (es ++ entry_for a e ∷ []) sent (flag-kept flag es (entry_for a e) f (is_short-entry a e ∙ none)) g
-
-pub flag-plain : (flag now b : Bool) (es : List Entry) (a : Answer) (e : Event) → flag ≡ has_short es → now ≡ (flag || b) → b ≡ wants_memory a → now ≡ has_short ((es ++ entry_for a e ∷ []) ++ [])
-flag-plain flag now b es a e f g h = flag-same now (es ++ entry_for a e ∷ []) (flag-one flag now b es (entry_for a e) f g (is_short-entry a e ∙ sym h))
+pub flag-answered : (flag now both a_wants : Bool) (w : Option Bool) (es : List Entry) (a : Answer) (e : Event) (sent : List ℕ) → flag ≡ has_short es → now ≡ (flag || both) → both ≡ (a_wants || is_some w) →
+    a_wants ≡ wants_memory a → now ≡ has_short ((es ++ entry_for a e ∷ []) ++ with_short w sent [])
+flag-answered flag now both a_wants w es a e sent f g h k =
+    flag-fed (flag || a_wants) now w (es ++ entry_for a e ∷ []) sent (flag-one flag (flag || a_wants) a_wants es (entry_for a e) f refl (is_short-entry a e ∙ sym k))
+    (g ∙ ap (λ b. flag || b) h ∙ sym (or_assoc flag a_wants (is_some w)))

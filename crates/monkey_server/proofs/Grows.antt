@@ -22,7 +22,6 @@ use Rattle.monkey_server.specs.declared.stage.Finish.TheVariants as finishes
 use Rattle.monkey_server.specs.declared.stage.Reply.{Reply}
 use Rattle.monkey_server.specs.declared.stage.Stage.{Stage}
 use Rattle.monkey_server.specs.declared.stage.Stage.TheVariants as stages
-use Rattle.monkey_server.specs.Calls as wanted
 use Rattle.monkey_server.specs.Replies.{fatal_reply, fatal_state, bytes_of}
 use Rattle.monkey_server.specs.Talk.{Talk, asks, partial, faulty, unread, IsTalk}
 use Rattle.monkey_server.specs.Told.{Entry, short, unsent, stop, Said, Next, more, call, ended, done, lost, closing, ending, owed_by, session, stop_end, waiting, handled, told}
@@ -130,7 +129,7 @@ IsFrom-entry l n (answers.Refused why) e es = tt
 IsFrom-entry l n _ e es = tt
 
 pub StandsFor-answered : (stage next : Stage) (built now_built : List ℕ) (known now_known : List Table) (held : Held) (taken : List ℕ) (es : List Entry) (asked : List Call) (sent : List ℕ) (c : Call) (a : Answer) (e : Event) (w : Option Bool) →
-    StandsFor stage built known held taken es asked sent → Advances stage known a next w now_built now_known → wants stage known ≡ wanted.Book c →
+    StandsFor stage built known held taken es asked sent → Advances stage known a next w now_built now_known → wants stage known ≡ calls.Book c →
     (IsHolding next → 0 < length (reply_of now_built next)) →
     StandsFor next now_built now_known held taken ((es ++ entry_for a e ∷ []) ++ with_short w sent []) (asked ++ c ∷ []) sent
 StandsFor-answered stage next built now_built known now_known held taken es asked sent c a e w s adv wants_c some = record {

@@ -1,11 +1,13 @@
 -- The calls of a book, and where they leave its session.
-use Rattle.std.proofs.Common.{◌≡◌, ◌<◌, ◌≤◌, ◌+◌, ℕ, List, [], length, refl, sym, ◌∙◌, ap, subst, arith, Some, length-append, ◌++◌, inl, inr}
+use Rattle.std.proofs.Common.{◌≡◌, ◌<◌, ◌≤◌, ◌+◌, ℕ, List, [], ◌∷◌, length, refl, sym, ◌∙◌, ap, subst, arith, Some, length-append, ◌++◌, inl, inr}
+use Rattle.std.proofs.lemmas.List.Elements.{All-tail, All-weaker}
 use Rattle.std.specs.Prelude.{◌≢◌, ◌⊎◌, All, true}
 use Rattle.cell_base.specs.declared.cell.Cell.{Cell}
 use Rattle.cell_base.specs.declared.value.Value.{Value}
 use Rattle.cell_base.specs.declared.value.Value.TheVariants.{Flag, Int}
 use Rattle.sql_tree.specs.declared.table.Table.{Table}
 use Rattle.sound_table.specs.Sound.{IsSound}
+use Rattle.sound_table.proofs.WellFormed.{sound_well}
 use Rattle.history_core.specs.declared.event.Event.{Event}
 use Rattle.history_core.specs.declared.event.Event.TheVariants.{Open, Define, Look}
 use Rattle.history_core.specs.declared.fault.Limit.{Limit}
@@ -23,10 +25,9 @@ use Rattle.solo_book.proofs.Legality.{tables_few}
 use Rattle.monkey_server.specs.declared.stage.Owed.TheVariants as owes
 use Rattle.monkey_server.specs.declared.stage.Stage.{Stage}
 use Rattle.monkey_server.specs.declared.stage.Stage.TheVariants as stages
-use Rattle.monkey_server.specs.Calls as wanted
 use Rattle.monkey_server.specs.Told.{refused, key_of, presence_of, field_of}
 use Rattle.monkey_server.specs.Record.{Draws, Happens, may_be_refused, limit_for}
-use Rattle.monkey_server.specs.Stands.{Fits, wants, KnowsTable, DefinesSound, AreNarrowTables, IsReading, ComesFrom, owed_at, owed_after, IsKnownAfter}
+use Rattle.monkey_server.specs.Stands.{Fits, FitsWant, IsPlain, wants, KnowsTable, DefinesSound, AreNarrowTables, IsReading, ComesFrom, owed_at, owed_after, IsKnownAfter}
 use Rattle.monkey_server.specs.Serve.{Plays, MayAsk, SeatAfter, Sits, owed_of}
 use Rattle.monkey_server.proofs.Lawfuls.{Happens-leaves, Declines-goes}
 
@@ -49,9 +50,19 @@ defined_plays gives p v table (defines.Taken n) q h = (Look (session_of p.seat) 
 known_all : (p q : Past) (known : ℕ) (tables : List Table) → AnswersTables p known tables q → known + length tables ≡ length q.seen.tables
 known_all p q known tables a = sym (ap length a.whole ∙ length-append a.before tables ∙ ap (λ n. n + length tables) a.known_is)
 
+sound_behind : (before tables : List Table) → All IsSound (before ++ tables) → All IsSound tables
+sound_behind [] tables h = h
+sound_behind (b ∷ bs) tables h = sound_behind bs tables (All-tail IsSound b (bs ++ tables) h)
+
+narrow_shown : (before tables : List Table) → All IsSound (before ++ tables) → AreNarrowTables tables
+narrow_shown before tables sound = All-weaker IsSound (λ (t : Table). length t.columns < 4294967296) (λ t s. omega (arith, (sound_well t s).few)) tables (sound_behind before tables sound)
+
 pub look_fits : (c : Call) (p q : Past) (known : ℕ) (tables : List Table) → c ≡ calls.Look known → AnswersTables p known tables q → IsLegalChronicle q.seen → Fits c (answers.Looked tables)
 look_fits c p q known tables is a legal =
-    subst (λ (x : Call). Fits x (answers.Looked tables)) (sym is) (omega (arith, known_all p q known tables a, tables_few q.seen legal))
+    subst (λ (x : Call). Fits x (answers.Looked tables)) (sym is) (
+      omega (arith, known_all p q known tables a, tables_few q.seen legal),
+      narrow_shown a.before tables (subst (λ (ts : List Table). All IsSound ts) a.whole legal.tables.sound),
+    )
 
 in_transaction : (seat : Seat) → owed_of seat ≡ owes.Rollback → IsInTransaction seat
 in_transaction away h = absurd (cc h)
@@ -81,7 +92,7 @@ none_away (pending s ws) h = absurd (cc h)
 unwritten_of : (cell : Cell) (seat : Seat) → writes_of seat ≡ [] → IsUnwritten cell seat
 unwritten_of cell seat e = subst (λ (ws : List (Cell × Value)). All (λ w. w.0 ≢ cell) ws) (sym e) (λ k w lt. absurd (omega (arith, lt)))
 
-book_of : (d c : Call) → wanted.Book d ≡ wanted.Book c → d ≡ c
+book_of : (d c : Call) → calls.Book d ≡ calls.Book c → d ≡ c
 book_of d c h = cc h
 
 rollback_of : (seat : Seat) → IsInTransaction seat → owed_of seat ≡ owes.Rollback
@@ -110,28 +121,28 @@ touched_silent p c cell a t none is f h =
     subst P is (touched_seat p cell a t none) f h
 
 -- what a stage asks may be asked where the book sits
-pub may_ask : (stage : Stage) (known : List Table) (past : Past) (c : Call) → Sits stage known past → wants stage known ≡ wanted.Book c → KnowsTable stage known → DefinesSound stage → MayAsk c past
-may_ask (stages.Waiting o) known past c s w t d = absurd (cc w)
-may_ask stages.Opening known past c s w t d = subst (λ (x : Call). MayAsk x past) (book_of calls.Open c w) (none_away past.seat s.owed)
-may_ask (stages.Defining m) known past c s w t d = subst (λ (x : Call). MayAsk x past) (book_of (calls.Define m) c w) (idle_seated past.seat (idle past.seat s.owed), d)
-may_ask (stages.Looking q a) known past c s w t d = subst (λ (x : Call). MayAsk x past) (book_of (calls.Look (length known)) c w) (idle_seated past.seat (idle past.seat s.owed), s.known_tables)
-may_ask (stages.Beginning n a) known past c s w t d = subst (λ (x : Call). MayAsk x past) (book_of calls.Begin c w) (idle past.seat s.owed)
-may_ask (stages.Checking n a) known past c s w t d =
-    subst (λ (x : Call). MayAsk x past) (book_of (calls.Touch (presence_of n (key_of a))) c w) (in_transaction past.seat s.owed, unwritten_of (presence_of n (key_of a)) past.seat (s.unwritten tt), omega (arith, t, s.known_tables))
-may_ask (stages.Fetching n k) known past c s w t d =
-    subst (λ (x : Call). MayAsk x past) (book_of (calls.Touch (field_of n k)) c w) (in_transaction past.seat s.owed, unwritten_of (field_of n k) past.seat (s.unwritten tt), omega (arith, t, s.known_tables))
-may_ask (stages.Marking n k v) known past c s w t d =
-    subst (λ (x : Call). MayAsk x past) (book_of (calls.Write (presence_of n k) (Flag true)) c w) (in_transaction past.seat s.owed, (λ e. cc e, λ m e. cc e), omega (arith, t, s.known_tables))
-may_ask (stages.Filling n k v) known past c s w t d =
-    subst (λ (x : Call). MayAsk x past) (book_of (calls.Write (field_of n k) (Int v)) c w) (in_transaction past.seat s.owed, (λ e. cc e, λ m e. cc e), omega (arith, t, s.known_tables))
-may_ask stages.Committing known past c s w t d = subst (λ (x : Call). MayAsk x past) (book_of calls.Commit c w) (in_transaction past.seat s.owed)
-may_ask (stages.Undoing f) known past c s w t d = subst (λ (x : Call). MayAsk x past) (book_of calls.Rollback c w) (in_transaction past.seat s.owed)
-may_ask (stages.Telling p r) known past c s w t d = absurd (cc w)
-may_ask (stages.Settling r) known past c s w t d = absurd (cc w)
-may_ask (stages.Leaving f) known past c s w t d = subst (λ (x : Call). MayAsk x past) (book_of calls.Rollback c w) (in_transaction past.seat s.owed)
-may_ask (stages.Closing f) known past c s w t d = subst (λ (x : Call). MayAsk x past) (book_of calls.Close c w) (idle past.seat s.owed)
-may_ask (stages.Parting f) known past c s w t d = absurd (cc w)
-may_ask (stages.Ended f) known past c s w t d = absurd (cc w)
+pub may_ask : (stage : Stage) (known : List Table) (past : Past) (c : Call) → Sits stage known past → wants stage known ≡ calls.Book c → MayAsk c past
+may_ask (stages.Waiting o) known past c s w = absurd (cc w)
+may_ask stages.Opening known past c s w = subst (λ (x : Call). MayAsk x past) (book_of calls.Open c w) (none_away past.seat s.owed)
+may_ask (stages.Defining m) known past c s w = subst (λ (x : Call). MayAsk x past) (book_of (calls.Define m) c w) (idle_seated past.seat (idle past.seat s.owed), s.sound)
+may_ask (stages.Looking q a) known past c s w = subst (λ (x : Call). MayAsk x past) (book_of (calls.Look (length known)) c w) (idle_seated past.seat (idle past.seat s.owed), s.known_tables)
+may_ask (stages.Beginning n a) known past c s w = subst (λ (x : Call). MayAsk x past) (book_of calls.Begin c w) (idle past.seat s.owed)
+may_ask (stages.Checking n a) known past c s w =
+    subst (λ (x : Call). MayAsk x past) (book_of (calls.Touch (presence_of n (key_of a))) c w) (in_transaction past.seat s.owed, unwritten_of (presence_of n (key_of a)) past.seat (s.unwritten tt), omega (arith, s.knows, s.known_tables))
+may_ask (stages.Fetching n k) known past c s w =
+    subst (λ (x : Call). MayAsk x past) (book_of (calls.Touch (field_of n k)) c w) (in_transaction past.seat s.owed, unwritten_of (field_of n k) past.seat (s.unwritten tt), omega (arith, s.knows, s.known_tables))
+may_ask (stages.Marking n k v) known past c s w =
+    subst (λ (x : Call). MayAsk x past) (book_of (calls.Write (presence_of n k) (Flag true)) c w) (in_transaction past.seat s.owed, (λ e. cc e, λ m e. cc e), omega (arith, s.knows, s.known_tables))
+may_ask (stages.Filling n k v) known past c s w =
+    subst (λ (x : Call). MayAsk x past) (book_of (calls.Write (field_of n k) (Int v)) c w) (in_transaction past.seat s.owed, (λ e. cc e, λ m e. cc e), omega (arith, s.knows, s.known_tables))
+may_ask stages.Committing known past c s w = subst (λ (x : Call). MayAsk x past) (book_of calls.Commit c w) (in_transaction past.seat s.owed)
+may_ask (stages.Undoing f) known past c s w = subst (λ (x : Call). MayAsk x past) (book_of calls.Rollback c w) (in_transaction past.seat s.owed)
+may_ask (stages.Telling p r) known past c s w = absurd (cc w)
+may_ask (stages.Settling r) known past c s w = absurd (cc w)
+may_ask (stages.Leaving f) known past c s w = subst (λ (x : Call). MayAsk x past) (book_of calls.Rollback c w) (in_transaction past.seat s.owed)
+may_ask (stages.Closing f) known past c s w = subst (λ (x : Call). MayAsk x past) (book_of calls.Close c w) (idle past.seat s.owed)
+may_ask (stages.Parting f) known past c s w = absurd (cc w)
+may_ask (stages.Ended f) known past c s w = absurd (cc w)
 
 seat_owed : (p : Past) (c : Call) (a : Answer) (t : Seat) → MayAsk c p → Fits c a → SeatAfter c a p.seat t → owed_of t ≡ owed_after c a (owed_of p.seat)
 seat_owed p calls.Open (answers.Opened s) t m f h = ap owed_of h
@@ -152,9 +163,9 @@ seat_owed p calls.Rollback answers.RolledBack t m f h = ap owed_of h
 seat_owed p _ _ t m f h = absurd f
 
 -- the stages of statements that read
-seat_reading : (stage next : Stage) (known : List Table) (p : Past) (c : Call) (a : Answer) (t : Seat) → Sits stage known p → wants stage known ≡ wanted.Book c → Fits c a → SeatAfter c a p.seat t → ComesFrom stage next → IsReading next → writes_of t ≡ []
+seat_reading : (stage next : Stage) (known : List Table) (p : Past) (c : Call) (a : Answer) (t : Seat) → Sits stage known p → wants stage known ≡ calls.Book c → Fits c a → SeatAfter c a p.seat t → ComesFrom stage next → IsReading next → writes_of t ≡ []
 seat_reading stage (stages.Checking n b) known p c a t s w f h (m, from, is) r =
-    let P : Stage → Type 0 = λ x. (Sits x known p → wants x known ≡ wanted.Book c → writes_of t ≡ []) in
+    let P : Stage → Type 0 = λ x. (Sits x known p → wants x known ≡ calls.Book c → writes_of t ≡ []) in
     subst P (sym is) (λ s2 w2. begun_silent p c a t (idle_silent p.seat s2.owed) (book_of calls.Begin c w2) f h) s w
 seat_reading (stages.Checking n b) (stages.Fetching m k) known p c a t s w f h from r = touched_silent p c (presence_of n (key_of b)) a t (s.unwritten tt) (book_of (calls.Touch (presence_of n (key_of b))) c w) f h
 seat_reading (stages.Fetching n b) (stages.Fetching m k) known p c a t s w f h from r = touched_silent p c (field_of n b) a t (s.unwritten tt) (book_of (calls.Touch (field_of n b)) c w) f h
@@ -166,7 +177,7 @@ abbrev pub LooksFrom : Call → ℕ → Type 0
 LooksFrom (calls.Look n) known = n ≡ known
 LooksFrom _ known = Unit {0}
 
-wants_look : (stage : Stage) (known : List Table) (c : Call) → wants stage known ≡ wanted.Book c → LooksFrom c (length known)
+wants_look : (stage : Stage) (known : List Table) (c : Call) → wants stage known ≡ calls.Book c → LooksFrom c (length known)
 wants_look (stages.Looking q a) known c w = subst (λ (x : Call). LooksFrom x (length known)) (book_of (calls.Look (length known)) c w) refl
 wants_look stages.Opening known c w = subst (λ (x : Call). LooksFrom x (length known)) (book_of calls.Open c w) tt
 wants_look (stages.Defining m) known c w = subst (λ (x : Call). LooksFrom x (length known)) (book_of (calls.Define m) c w) tt
@@ -211,10 +222,34 @@ tables_after gives p v c answers.Committed e q w known after h k l is = same_tab
 tables_after gives p v c answers.RolledBack e q w known after h k l is = same_tables known after (length p.seen.tables) (length q.seen.tables) k (Happens-leaves p c answers.RolledBack e q h.0).tables is
 
 pub sits_after : {W : Type 0} (gives : W → ℕ → W → Type 0) (stage next : Stage) (known after : List Table) (p : Past) (v : W) (c : Call) (a : Answer) (e : Event) (q : Past) (w : W) →
-    Sits stage known p → wants stage known ≡ wanted.Book c → MayAsk c p → Fits c a → Plays gives p v c a e q w → SeatAfter c a p.seat q.seat →
-    owed_at next ≡ owed_after c a (owed_at stage) → ComesFrom stage next → IsKnownAfter known a after → Sits next after q
-sits_after gives stage next known after p v c a e q w s wants_c may fits plays seat owed from after_is = record {
+    Sits stage known p → wants stage known ≡ calls.Book c → MayAsk c p → Fits c a → Plays gives p v c a e q w → SeatAfter c a p.seat q.seat →
+    owed_at next ≡ owed_after c a (owed_at stage) → ComesFrom stage next → IsKnownAfter known a after → (KnowsTable stage known → KnowsTable next after) → DefinesSound next → Sits next after q
+sits_after gives stage next known after p v c a e q w s wants_c may fits plays seat owed from after_is knows sound = record {
   owed = seat_owed p c a q.seat may fits seat ∙ ap (owed_after c a) s.owed ∙ sym owed;
   unwritten = seat_reading stage next known p c a q.seat s wants_c fits seat from;
   known_tables = tables_after gives p v c a e q w known after plays s.known_tables (wants_look stage known c wants_c) after_is;
+  knows = knows s.knows;
+  sound = sound;
 }
+
+-- an answer that fits a stage fits it whatever is known, where it needs no memory
+pub fits_bare : (stage : Stage) (known : List Table) (a : Answer) → IsPlain stage a → FitsWant (wants stage known) a → FitsWant (wants stage []) a
+fits_bare (stages.Looking q c) known (answers.Looked tables) plain fits = absurd plain
+fits_bare (stages.Looking q c) known (answers.Refused why) plain fits = tt
+fits_bare (stages.Looking q c) known _ plain fits = absurd fits
+fits_bare (stages.Waiting o) known a plain fits = fits
+fits_bare stages.Opening known a plain fits = fits
+fits_bare (stages.Defining m) known a plain fits = fits
+fits_bare (stages.Beginning n c) known a plain fits = fits
+fits_bare (stages.Checking n c) known a plain fits = fits
+fits_bare (stages.Fetching n k) known a plain fits = fits
+fits_bare (stages.Marking n k v) known a plain fits = fits
+fits_bare (stages.Filling n k v) known a plain fits = fits
+fits_bare stages.Committing known a plain fits = fits
+fits_bare (stages.Undoing f) known a plain fits = fits
+fits_bare (stages.Telling p r) known a plain fits = fits
+fits_bare (stages.Settling r) known a plain fits = fits
+fits_bare (stages.Leaving f) known a plain fits = fits
+fits_bare (stages.Closing f) known a plain fits = fits
+fits_bare (stages.Parting f) known a plain fits = fits
+fits_bare (stages.Ended f) known a plain fits = fits

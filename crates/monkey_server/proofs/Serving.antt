@@ -7,7 +7,7 @@ use Rattle.link_traits.specs.Faults.{Rose}
 use Rattle.link_traits.specs.Traffic.{Traffic, Took, Wrote, Both, Sight}
 use Rattle.history_core.specs.declared.event.Event.{Event}
 use Rattle.history_core.specs.Book.{Past, Seat, away, seated, pending, writes_of}
-use Rattle.monkey_server.specs.Calls.{Call}
+use Rattle.monkey_server.specs.Calls.{Call, Want}
 use Rattle.monkey_server.specs.declared.call.Answer.{Answer}
 use Rattle.monkey_server.specs.declared.end.End.{End}
 use Rattle.monkey_server.specs.declared.end.End.TheVariants as ends
@@ -18,12 +18,11 @@ use Rattle.monkey_server.specs.declared.stage.Owed.TheVariants as owes
 use Rattle.monkey_server.specs.declared.stage.Stage.{Stage}
 use Rattle.monkey_server.specs.declared.stage.Stage.TheVariants as stages
 use Rattle.monkey_server.specs.declared.session.Session.{Session}
-use Rattle.monkey_server.specs.Calls.{Want}
-use Rattle.monkey_server.specs.Calls as wanted
+use Rattle.monkey_server.specs.Calls as calls
 use Rattle.monkey_server.specs.Talk.{Talk, IsTalk, unread}
 use Rattle.monkey_server.specs.Told.{Entry, ended, short, unsent, stop, more, told, has_short}
 use Rattle.monkey_server.specs.Sessions.{Stands, StandsShort}
-use Rattle.monkey_server.specs.Stands.{Lacks, LacksBy, owed_at, outer_end, IsStopped, outer, end_of, wants, IsHolding, entry_for, Shows, IsResting, IsLast, IsOver}
+use Rattle.monkey_server.specs.Stands.{KnowsTable, DefinesSound, Lacks, LacksBy, owed_at, outer_end, IsStopped, outer, end_of, wants, IsHolding, entry_for, Shows, IsResting, IsLast, IsOver}
 use Rattle.monkey_server.specs.Serve.{Plays, Carries, IsAtEnd, Blames, Ran, Serves, Sits, owed_of, most_read}
 use Rattle.monkey_server.proofs.Grows.{Shows-stands}
 use Rattle.monkey_server.proofs.Lawfuls.{Lawful-plays, Lawful-short, Lawful-quiet, own_events}
@@ -61,7 +60,7 @@ Lacks-holding (stages.Telling p a) lost w l = l
 Lacks-holding (stages.Settling a) lost w l = l
 Lacks-holding _ lost w l = absurd w
 
-pub Lacks-bytes : (stage : Stage) (known : List Table) (lost : List ℕ) → wants stage known ≡ wanted.Bytes → Lacks stage lost → lost ≡ []
+pub Lacks-bytes : (stage : Stage) (known : List Table) (lost : List ℕ) → wants stage known ≡ calls.Bytes → Lacks stage lost → lost ≡ []
 Lacks-bytes (stages.Waiting o) known lost w l = l
 Lacks-bytes _ known lost w l = absurd (cc w)
 
@@ -119,7 +118,7 @@ Ran-unsent gives p v f s r q w g h many reply part lost grown holds outer_is lac
       },
     )
 
-shows_more : (s : Session) (taken : List ℕ) (es : List Entry) (asked : List Call) (sent : List ℕ) → wants s.stage s.known.items ≡ wanted.Bytes → Stands s taken es asked sent →
+shows_more : (s : Session) (taken : List ℕ) (es : List Entry) (asked : List Call) (sent : List ℕ) → wants s.stage s.known.items ≡ calls.Bytes → Stands s taken es asked sent →
     (talk : Talk) × IsTalk false taken talk × (told talk es ≡ (record { bytes = sent; calls = asked }, more))
 shows_more s taken es asked sent w st = subst (λ (x : Want). Shows x taken es asked sent) w (Shows-stands s.stage s.built.items s.known.items s.frames taken es asked sent st.0)
 
@@ -139,7 +138,7 @@ Blames-stopped _ _ f g taken i k = absurd i
 -- a stop, behind a read that gave nothing
 pub Ran-stopped : {W : Type 0} (gives : W → ℕ → W → Type 0) (p : Past) (v : W) (f : Sight) (s r : Session) (q : Past) (w : W) (g h : Sight) (many : ℕ) (cause : Stop) →
     ((taken : List ℕ) (es : List Entry) (asked : List Call) (sent : List ℕ) → Stands s taken es asked sent → Stands r taken (es ++ stop cause ∷ []) asked sent) →
-    wants s.stage s.known.items ≡ wanted.Bytes → IsStopped cause (outer r.stage) → Lacks r.stage [] →
+    wants s.stage s.known.items ≡ calls.Bytes → IsStopped cause (outer r.stage) → Lacks r.stage [] →
     Both (Took []) g.traffic h.traffic → g.read_faults ≤ h.read_faults → h.write_faults ≡ g.write_faults → ((taken : List ℕ) → length taken ≡ many → f.read_faults ≤ g.read_faults → IsCause cause f h taken) →
     Ran gives p v f s q w g many → Ran gives p v f r q w h (many + 0)
 Ran-stopped gives p v f s r q w g h many cause grown bytes outer_is lacks took more_reads same_writes why ran =
@@ -167,7 +166,7 @@ Ran-stopped gives p v f s r q w g h many cause grown bytes outer_is lacks took m
 -- a stop where the link told nothing new: no read, or one that failed
 pub Ran-halted : {W : Type 0} (gives : W → ℕ → W → Type 0) (p : Past) (v : W) (f : Sight) (s r : Session) (q : Past) (w : W) (g h : Sight) (many : ℕ) (cause : Stop) →
     ((taken : List ℕ) (es : List Entry) (asked : List Call) (sent : List ℕ) → Stands s taken es asked sent → Stands r taken (es ++ stop cause ∷ []) asked sent) →
-    wants s.stage s.known.items ≡ wanted.Bytes → IsStopped cause (outer r.stage) → Lacks r.stage [] →
+    wants s.stage s.known.items ≡ calls.Bytes → IsStopped cause (outer r.stage) → Lacks r.stage [] →
     h.traffic ≡ g.traffic → g.read_faults ≤ h.read_faults → h.write_faults ≡ g.write_faults → ((taken : List ℕ) → length taken ≡ many → f.read_faults ≤ g.read_faults → IsCause cause f h taken) →
     Ran gives p v f s q w g many → Ran gives p v f r q w h (many + 0)
 Ran-halted gives p v f s r q w g h many cause grown bytes outer_is lacks same more_reads same_writes why ran =
@@ -194,7 +193,7 @@ Ran-halted gives p v f s r q w g h many cause grown bytes outer_is lacks same mo
 -- a piece
 pub Ran-fed : {W : Type 0} (gives : W → ℕ → W → Type 0) (p : Past) (v : W) (f : Sight) (s r : Session) (q : Past) (w : W) (g h : Sight) (many : ℕ) (piece : List ℕ) (n : ℕ) →
     ((taken : List ℕ) (es : List Entry) (asked : List Call) (sent : List ℕ) → Stands s taken es asked sent → StandsShort r (taken ++ piece) es asked sent) →
-    wants s.stage s.known.items ≡ wanted.Bytes → outer r.stage ≡ None → Lacks r.stage [] →
+    wants s.stage s.known.items ≡ calls.Bytes → outer r.stage ≡ None → Lacks r.stage [] →
     Both (Took piece) g.traffic h.traffic → g.read_faults ≤ h.read_faults → h.write_faults ≡ g.write_faults → length piece ≡ n →
     Ran gives p v f s q w g many → Ran gives p v f r q w h (many + n)
 Ran-fed gives p v f s r q w g h many piece n grown bytes outer_is lacks took more_reads same_writes size ran =
@@ -224,17 +223,17 @@ take-size n s h = grind (arith, common_steps)
 
 -- the whole run
 
-pub stage_over : (stage : Stage) (known : List Table) (end : End) → wants stage known ≡ wanted.Ended end → (finish : Finish) × (stage ≡ stages.Ended finish) × (end_of finish ≡ end)
+pub stage_over : (stage : Stage) (known : List Table) (end : End) → wants stage known ≡ calls.Ended end → (finish : Finish) × (stage ≡ stages.Ended finish) × (end_of finish ≡ end)
 stage_over (stages.Ended e) known end w = (e, refl, cc w)
 stage_over _ known end w = absurd (cc w)
 
 pub Serves-ran : {W : Type 0} (gives : W → ℕ → W → Type 0) (p : Past) (v : W) (f : Sight) (s : Session) (end : End) (wanting : Bool) (q : Past) (w : W) (g : Sight) (many : ℕ) →
-    wants s.stage s.known.items ≡ wanted.Ended end → ((taken : List ℕ) (es : List Entry) (asked : List Call) (sent : List ℕ) → Stands s taken es asked sent → wanting ≡ has_short es) → Ran gives p v f s q w g many →
+    wants s.stage s.known.items ≡ calls.Ended end → ((taken : List ℕ) (es : List Entry) (asked : List Call) (sent : List ℕ) → Stands s taken es asked sent → wanting ≡ has_short es) → Ran gives p v f s q w g many →
     (talk : Talk) × (taken : List ℕ) × (es : List Entry) × (asked : List Call) × (sent : List ℕ) × (lost : List ℕ) × Serves gives p v f end wanting q w g talk taken es asked sent lost
 Serves-ran gives p v f s end wanting q w g many over flag ran =
     let (taken, es, asked, sent, lost, many_is, run) = ran in
     let (finish, is, end_is) = stage_over s.stage s.known.items end over in
-    let shows : Shows (wanted.Ended end) taken es asked sent = subst (λ (x : Want). Shows x taken es asked sent) over (Shows-stands s.stage s.built.items s.known.items s.frames taken es asked sent run.stands.0) in (
+    let shows : Shows (calls.Ended end) taken es asked sent = subst (λ (x : Want). Shows x taken es asked sent) over (Shows-stands s.stage s.built.items s.known.items s.frames taken es asked sent run.stands.0) in (
       shows.0,
       taken,
       es,
@@ -277,7 +276,7 @@ Ran-new gives p v f s st is = (
   },
 )
 
-pub wants_bytes : (stage : Stage) (known : List Table) → IsResting (wants stage known) → ((end : End) → wants stage known ≡ wanted.Ended end → ⊥) → wants stage known ≡ wanted.Bytes
+pub wants_bytes : (stage : Stage) (known : List Table) → IsResting (wants stage known) → ((end : End) → wants stage known ≡ calls.Ended end → ⊥) → wants stage known ≡ calls.Bytes
 wants_bytes (stages.Waiting o) known r n = refl
 wants_bytes (stages.Ended e) known r n = absurd (n (end_of e) refl)
 wants_bytes _ known r n = absurd r
@@ -300,6 +299,8 @@ sits_new stage known p is none seat = record {
   owed = ap owed_of seat ∙ sym (ap owed_at is);
   unwritten = λ _. ap writes_of seat;
   known_tables = omega (arith, ap length none);
+  knows = subst (λ (x : Stage). KnowsTable x known) (sym is) tt;
+  sound = subst DefinesSound (sym is) tt;
 }
 
 is_away : (seat : Seat) → owed_of seat ≡ owes.Nothing → seat ≡ away

@@ -6,7 +6,7 @@ use Rattle.sql_tree.specs.declared.table.OutField.{OutField}
 use Rattle.pg_framing.specs.Replies.{framed, auth_ok, ready, row_description, command_complete, error_response}
 use Rattle.monkey_server.specs.declared.stage.Reply.{Reply}
 use Rattle.monkey_server.specs.declared.stage.Reply.TheVariants as replies
-use Rattle.monkey_server.specs.Replies.{startup_reply, ready_reply, created_reply, inserted_reply, no_row_reply, one_row_reply, error_reply, fatal_reply, fault_state, bytes_of}
+use Rattle.monkey_server.specs.Replies.{startup_reply, ready_reply, created_reply, inserted_reply, no_row_reply, one_row_reply, error_reply, fatal_reply, bytes_of}
 
 framed-some : (kind : ℕ) (body : List ℕ) → 0 < length (framed kind body)
 unfolding framed
@@ -70,4 +70,4 @@ bytes_of-some built replies.Created other = created-some
 bytes_of-some built replies.Inserted other = inserted-some
 bytes_of-some built replies.NoRow other = no_row-some
 bytes_of-some built replies.Ready other = ready-some
-bytes_of-some built (replies.Error fault) other = error-some (fault_state fault)
+bytes_of-some built (replies.Error state) other = error-some state

@@ -5,6 +5,7 @@ use Rattle.pg_framing.specs.declared.front.Front.{Front}
 use Rattle.pg_framing.specs.declared.front.FrameFault.{FrameFault}
 use Rattle.pg_framing.specs.Spelling.{spelling, phase_after}
 use Rattle.pg_framing.specs.Fronts.{Held, TakesFront, IsPartial, HasFault}
+use Rattle.sql_tree.specs.declared.table.Table.{Table}
 use Rattle.monkey_server.specs.declared.end.End.TheVariants as ends
 use Rattle.monkey_server.specs.declared.stage.Stage.{Stage}
 use Rattle.monkey_server.specs.declared.stage.Stage.TheVariants as stages
@@ -14,7 +15,7 @@ use Rattle.monkey_server.specs.Stands.{least, IsFrom, IsBusy, LeadsTo, Enters, S
 use Rattle.monkey_server.proofs.Passes.{busy-last, least-busy, unless_short-passes, unless_short-over, IsFed-last}
 use Rattle.monkey_server.proofs.Grows.{session-short}
 
-pub Steps-partial : (opened : Bool) (known : ℕ) (before after : Held) → after ≡ before → IsPartial before.started before.rest → Steps opened known before (stages.Waiting opened) None after
+pub Steps-partial : (opened : Bool) (known : List Table) (before after : Held) → after ≡ before → IsPartial before.started before.rest → Steps opened known before (stages.Waiting opened) None after
 Steps-partial opened known before after is partial = record {
   turns = λ talk. talk;
   heard = λ bytes talk fed h. subst (λ (x : Held). IsTalk x.started (x.rest ++ bytes) talk) is h;
@@ -27,7 +28,7 @@ Steps-partial opened known before after is partial = record {
 at_one : (stage : Stage) (n : ℕ) (es : List Entry) → IsBusy stage → IsFrom (least stage) n es → IsFrom 1 n es
 at_one stage n es busy from = subst (λ (k : ℕ). IsFrom k n es) (least-busy stage busy) from
 
-pub Steps-front : (opened : Bool) (known : ℕ) (before after : Held) (front : Front) (stage : Stage) (wanting : Option Bool) → TakesFront before.started before.rest front after.rest →
+pub Steps-front : (opened : Bool) (known : List Table) (before after : Held) (front : Front) (stage : Stage) (wanting : Option Bool) → TakesFront before.started before.rest front after.rest →
     after.started ≡ phase_after before.started front → Enters front known stage wanting → Steps opened known before stage wanting after
 Steps-front opened known before after front stage wanting takes started enters = record {
   turns = asks enters.ask;
@@ -45,7 +46,7 @@ Steps-front opened known before after front stage wanting takes started enters =
   waits = λ o is. absurd (subst IsBusy is enters.busy);
 }
 
-pub Steps-faulty : (opened : Bool) (known : ℕ) (before after : Held) (fault : FrameFault) (stage : Stage) → after.started ≡ before.started → after.rest ≡ before.rest →
+pub Steps-faulty : (opened : Bool) (known : List Table) (before after : Held) (fault : FrameFault) (stage : Stage) → after.started ≡ before.started → after.rest ≡ before.rest →
     HasFault before.started before.rest fault → LeadsTo stage (ending (owed_by opened) (ends.Protocol fault)) → Steps opened known before stage None after
 Steps-faulty opened known before after fault stage same_phase same_rest has leads = record {
   turns = λ talk. faulty fault;
@@ -59,7 +60,7 @@ Steps-faulty opened known before after fault stage same_phase same_rest has lead
   waits = λ o is. absurd (subst IsBusy is (busy-last stage leads.0));
 }
 
-pub Steps-memory : (opened : Bool) (known : ℕ) (before after : Held) (stage : Stage) → after ≡ before →
+pub Steps-memory : (opened : Bool) (known : List Table) (before after : Held) (stage : Stage) → after ≡ before →
     LeadsTo stage (ending (owed_by opened) ends.Memory) → Steps opened known before stage (Some true) after
 Steps-memory opened known before after stage is leads = record {
   turns = λ talk. talk;

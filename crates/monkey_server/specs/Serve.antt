@@ -21,7 +21,7 @@ use Rattle.monkey_server.specs.Talk.{Talk, IsTalk}
 use Rattle.monkey_server.specs.Told.{Entry, did, refused, more, ended, told, has_short}
 use Rattle.monkey_server.specs.Record.{Happens, Declines, Draws, Lawful, events_of}
 use Rattle.monkey_server.specs.Sessions.{Stands}
-use Rattle.monkey_server.specs.Stands.{Lacks, LacksBy, outer, outer_end, owed_at, IsReading}
+use Rattle.monkey_server.specs.Stands.{Lacks, LacksBy, outer, outer_end, owed_at, IsReading, KnowsTable, DefinesSound}
 
 -- the greatest number of bytes that are read from a link
 abbrev pub most_read : ℕ
@@ -64,6 +64,8 @@ pub record Sits (stage : Stage) (known : List Table) (past : Past) : Type 0 wher
   pub owed : owed_of past.seat ≡ owed_at stage
   pub unwritten : IsReading stage → writes_of past.seat ≡ []
   pub known_tables : length known ≤ length past.seen.tables
+  pub knows : KnowsTable stage known
+  pub sound : DefinesSound stage
 
 -- A mark, counted from where the link was: what had been sent before the read is told of what had been taken and of a prefix of the
 -- record, and more was wanted.

@@ -9,7 +9,7 @@ use Rattle.pg_framing.specs.declared.front.Front.{Front}
 use Rattle.pg_framing.specs.declared.front.Front.TheVariants.{Query}
 use Rattle.pg_framing.specs.Fronts.{Held, HasNoFront, HasFault}
 use Rattle.pg_framing.specs.declared.front.FrameFault.{FrameFault}
-use Rattle.monkey_server.specs.Calls.{Call}
+use Rattle.monkey_server.specs.Calls.{Call, Want}
 use Rattle.monkey_server.specs.Calls as calls
 use Rattle.monkey_server.specs.declared.call.Answer.{Answer}
 use Rattle.monkey_server.specs.declared.call.Answer.TheVariants as answers
@@ -29,8 +29,6 @@ use Rattle.monkey_server.specs.declared.stage.Finish.TheVariants as finishes
 use Rattle.monkey_server.specs.declared.stage.Reply.TheVariants as replies
 use Rattle.monkey_server.specs.declared.stage.Stage.{Stage}
 use Rattle.monkey_server.specs.declared.stage.Stage.TheVariants as stages
-use Rattle.monkey_server.specs.Calls.{Want}
-use Rattle.monkey_server.specs.Calls as wanted
 use Rattle.monkey_server.specs.Talk.{Ask, Says, Talk, IsTalk}
 use Rattle.monkey_server.specs.Replies.{fatal_reply, fatal_state, bytes_of}
 use Rattle.monkey_server.specs.Told.{Entry, did, refused, short, unsent, stop, Said, Script, more, call, ended, with_call, tell, done, lost, closing, ending, owed_by, readied, undone, committed, creates, fills, marks, fetches, checks, begins, looks, opens, handled, session, told, key_of, presence_of, field_of}
@@ -164,23 +162,23 @@ InPhase stage started = phase_fits stage started ≡ true
 
 -- what a stage wants, given the tables known
 abbrev pub wants : Stage → List Table → Want
-wants (stages.Waiting opened) known = wanted.Bytes
-wants stages.Opening known = wanted.Book calls.Open
-wants (stages.Defining table) known = wanted.Book (calls.Define table)
-wants (stages.Looking statement access) known = wanted.Book (calls.Look (length known))
-wants (stages.Beginning table access) known = wanted.Book calls.Begin
-wants (stages.Checking table access) known = wanted.Book (calls.Touch (presence_of table (key_of access)))
-wants (stages.Fetching table key) known = wanted.Book (calls.Touch (field_of table key))
-wants (stages.Marking table key value) known = wanted.Book (calls.Write (presence_of table key) (Flag true))
-wants (stages.Filling table key value) known = wanted.Book (calls.Write (field_of table key) (Int value))
-wants stages.Committing known = wanted.Book calls.Commit
-wants (stages.Undoing state) known = wanted.Book calls.Rollback
-wants (stages.Telling pending reply) known = wanted.Send
-wants (stages.Settling reply) known = wanted.Send
-wants (stages.Leaving finish) known = wanted.Book calls.Rollback
-wants (stages.Closing finish) known = wanted.Book calls.Close
-wants (stages.Parting fatal) known = wanted.Send
-wants (stages.Ended finish) known = wanted.Ended (end_of finish)
+wants (stages.Waiting opened) known = calls.Bytes
+wants stages.Opening known = calls.Book calls.Open
+wants (stages.Defining table) known = calls.Book (calls.Define table)
+wants (stages.Looking statement access) known = calls.Book (calls.Look (length known))
+wants (stages.Beginning table access) known = calls.Book calls.Begin
+wants (stages.Checking table access) known = calls.Book (calls.Touch (presence_of table (key_of access)))
+wants (stages.Fetching table key) known = calls.Book (calls.Touch (field_of table key))
+wants (stages.Marking table key value) known = calls.Book (calls.Write (presence_of table key) (Flag true))
+wants (stages.Filling table key value) known = calls.Book (calls.Write (field_of table key) (Int value))
+wants stages.Committing known = calls.Book calls.Commit
+wants (stages.Undoing state) known = calls.Book calls.Rollback
+wants (stages.Telling pending reply) known = calls.Send
+wants (stages.Settling reply) known = calls.Send
+wants (stages.Leaving finish) known = calls.Book calls.Rollback
+wants (stages.Closing finish) known = calls.Book calls.Close
+wants (stages.Parting fatal) known = calls.Send
+wants (stages.Ended finish) known = calls.Ended (end_of finish)
 
 -- the entries with a want of memory before them, where there was one
 abbrev pub with_short : Option Bool → List ℕ → List Entry → List Entry
@@ -221,7 +219,7 @@ pub record Steps (opened : Bool) (known : List Table) (before : Held) (stage : S
 
 -- An answer to a stage's call leads on, with a want of memory behind it where there was one.
 pub record Advances (stage : Stage) (known : List Table) (answer : Answer) (next : Stage) (wanting : Option Bool) (built : List ℕ) (after : List Table) : Type 0 where
-  pub goes : (c : Call) (before : List ℕ) (talk : Talk) (said : Said) (es : List Entry) (e : Event) → wants stage known ≡ wanted.Book c → IsFrom 1 (length said.bytes) es →
+  pub goes : (c : Call) (before : List ℕ) (talk : Talk) (said : Said) (es : List Entry) (e : Event) → wants stage known ≡ calls.Book c → IsFrom 1 (length said.bytes) es →
       goes_on stage before known talk said (entry_for answer e ∷ with_short wanting said.bytes es) ≡ goes_on next built after talk (with_call said c) es
   pub busy : IsBusy next
   pub last : IsLast stage → IsLast next
@@ -238,10 +236,14 @@ IsShort sent (stop cause ∷ es) = ⊥
 
 -- What a want says of all that came in and went out, given that the session wants it.
 abbrev pub Shows : Want → List ℕ → List Entry → List Call → List ℕ → Type 0
-Shows wanted.Bytes taken es asked sent = (talk : Talk) × IsTalk false taken talk × (told talk es ≡ (record { bytes = sent; calls = asked }, more))
-Shows (wanted.Book c) taken es asked sent = (talk : Talk) × IsTalk false taken talk × (told talk es ≡ (record { bytes = sent; calls = asked }, call c))
-Shows wanted.Send taken es asked sent = Unit {0}
-Shows (wanted.Ended end) taken es asked sent = (talk : Talk) × IsTalk false taken talk × (told talk es ≡ (record { bytes = sent; calls = asked }, ended end))
+Shows calls.Bytes taken es asked sent = (talk : Talk) × IsTalk false taken talk × (told talk es ≡ (record { bytes = sent; calls = asked }, more))
+Shows (calls.Book c) taken es asked sent = (talk : Talk) × IsTalk false taken talk × (told talk es ≡ (record { bytes = sent; calls = asked }, call c))
+Shows calls.Send taken es asked sent = Unit {0}
+Shows (calls.Ended end) taken es asked sent = (talk : Talk) × IsTalk false taken talk × (told talk es ≡ (record { bytes = sent; calls = asked }, ended end))
+
+-- a table has fewer columns than there are numbers of 32 bits
+abbrev pub AreNarrowTables : List Table → Type 0
+AreNarrowTables tables = All (λ table. length table.columns < 4294967296) tables
 
 -- the answer is one of the call's name, or a refusal where the call may be refused
 abbrev pub Fits : Call → Answer → Type 0
@@ -263,7 +265,7 @@ Fits calls.Rollback answers.RolledBack = Unit {0}
 Fits _ _ = ⊥
 
 abbrev pub FitsWant : Want → Answer → Type 0
-FitsWant (wanted.Book c) a = Fits c a
+FitsWant (calls.Book c) a = Fits c a
 FitsWant _ a = ⊥
 
 -- the answer is a want of memory of the book
@@ -331,10 +333,6 @@ KnowsTable _ known = Unit {0}
 abbrev pub DefinesSound : Stage → Type 0
 DefinesSound (stages.Defining table) = IsSound table
 DefinesSound _ = Unit {0}
-
--- a table has fewer columns than there are numbers of 32 bits
-abbrev pub AreNarrowTables : List Table → Type 0
-AreNarrowTables tables = All (λ table. length table.columns < 4294967296) tables
 
 -- a reading stage comes of a Begin, or of a read in a reading stage
 abbrev pub ComesFrom : Stage → Stage → Type 0
@@ -407,11 +405,11 @@ IsStopped _ _ = ⊥
 
 -- bytes are wanted, or the end is there
 abbrev pub IsResting : Want → Type 0
-IsResting wanted.Bytes = Unit {0}
-IsResting (wanted.Ended end) = Unit {0}
-IsResting (wanted.Book c) = ⊥
-IsResting wanted.Send = ⊥
+IsResting calls.Bytes = Unit {0}
+IsResting (calls.Ended end) = Unit {0}
+IsResting (calls.Book c) = ⊥
+IsResting calls.Send = ⊥
 
 abbrev pub IsOver : Want → Type 0
-IsOver (wanted.Ended end) = Unit {0}
+IsOver (calls.Ended end) = Unit {0}
 IsOver _ = ⊥

@@ -6,7 +6,7 @@ ghost use Rattle.history_core.specs.declared.event.Event.{Event};
 ghost use Rattle.history_core.specs.Book.{Past, away, IsSeated};
 ghost use Rattle.link_traits.specs.Traffic.{Sight, sight_of};
 ghost use Rattle.monkey_server.specs.Calls.{Call as Asked, call_of};
-ghost use Rattle.monkey_server.specs.Calls as wanted;
+ghost use Rattle.monkey_server.specs.Calls as calls;
 ghost use Rattle.monkey_server.specs.Talk.{Talk};
 ghost use Rattle.monkey_server.specs.Told.{Entry, has_short};
 ghost use Rattle.monkey_server.specs.declared.stage.Stage.TheVariants as stages;
@@ -42,9 +42,9 @@ pub struct Served {
 fn define<B: Book>(book: &mut B, table: &Table) -> Answer
     requires may { IsSeated (B.past book.old).seat }
     requires sound { IsSound table.now }
-    ensures fits { Fits (wanted.Define table.now) result }
-    ensures plays { {W : Type 0} (gives : W → ℕ → W → Type 0) (words : W) → (e : Event) × Plays gives (B.past book.old) words (wanted.Define table.now) result e (B.past book.new) words }
-    ensures seat { SeatAfter (wanted.Define table.now) result (B.past book.old).seat (B.past book.new).seat }
+    ensures fits { Fits (calls.Define table.now) result }
+    ensures plays { {W : Type 0} (gives : W → ℕ → W → Type 0) (words : W) → (e : Event) × Plays gives (B.past book.old) words (calls.Define table.now) result e (B.past book.new) words }
+    ensures seat { SeatAfter (calls.Define table.now) result (B.past book.old).seat (B.past book.new).seat }
     ensures stays { B.stays book.old book.new }
 {
     match book.define(table) {
@@ -102,7 +102,7 @@ fn call<B: Book, W: Words>(book: &mut B, words: &mut W, c: Call) -> Answer
 
 // Defines the table that the session wants defined.
 fn answer_define<B: Book, W: Words>(session: &mut Session, book: &mut B, words: &W)
-    requires wanted { (table : Defined) × (wants session.old.stage session.old.known.items ≡ wanted.Book (wanted.Define table)) }
+    requires wanted { (table : Defined) × (wants session.old.stage session.old.known.items ≡ calls.Book (calls.Define table)) }
     requires sits { Sits session.old.stage session.old.known.items (B.past book.old) }
     ensures ran { (p : Past) (v : W) (f g : Sight) (many : ℕ) →
         Ran W.gives p v f session.old (B.past book.old) words.now g many → Ran W.gives p v f session.new (B.past book.new) words.now g many }
@@ -117,7 +117,7 @@ fn answer_define<B: Book, W: Words>(session: &mut Session, book: &mut B, words: 
 
 // Makes another call that the session wants.
 fn answer_call<B: Book, W: Words>(session: &mut Session, book: &mut B, words: &mut W, c: Call)
-    requires wanted { wants session.old.stage session.old.known.items ≡ wanted.Book (call_of c) }
+    requires wanted { wants session.old.stage session.old.known.items ≡ calls.Book (call_of c) }
     requires sits { Sits session.old.stage session.old.known.items (B.past book.old) }
     ensures ran { (p : Past) (v : W) (f g : Sight) (many : ℕ) →
         Ran W.gives p v f session.old (B.past book.old) words.old g many → Ran W.gives p v f session.new (B.past book.new) words.new g many }
@@ -195,7 +195,7 @@ fn take_in<B: Book, L: Link, W: Words>(
     room: &mut [u8],
     most: usize,
 ) -> usize
-    requires wanted { wants session.old.stage session.old.known.items ≡ wanted.Bytes }
+    requires wanted { wants session.old.stage session.old.known.items ≡ calls.Bytes }
     requires room { 0 < length room.old }
     ensures ran { (p : Past) (v : W) (f : Sight) (many : ℕ) → many + most ≡ 1073741824 →
         Ran W.gives p v f session.old (B.past book.now) words.now (sight_of L.traffic L.read_faults L.write_faults link.old) many →
@@ -229,7 +229,7 @@ fn take_in<B: Book, L: Link, W: Words>(
 // What became of a session that has ended.
 fn finish(session: &Session) -> Served
     requires { IsOver (wants session.now.stage session.now.known.items) }
-    ensures end { wants session.now.stage session.now.known.items ≡ wanted.Ended result.end }
+    ensures end { wants session.now.stage session.now.known.items ≡ calls.Ended result.end }
     ensures short { (taken : List ℕ) (entries : List Entry) (asked : List Asked) (sent : List ℕ) → Stands session.now taken entries asked sent → result.short ≡ has_short entries }
 {
     let short = session.is_short();

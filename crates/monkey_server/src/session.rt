@@ -5,9 +5,9 @@ ghost use Rattle.sql_tree.specs.declared.table.Table.{Table as Defined};
 ghost use Rattle.sound_table.specs.Sound.{IsSound};
 ghost use Rattle.history_core.specs.declared.event.Event.{Event};
 ghost use Rattle.monkey_server.specs.Calls.{Call as Asked, IsWant};
-ghost use Rattle.monkey_server.specs.Calls as wanted;
+ghost use Rattle.monkey_server.specs.Calls as calls;
 ghost use Rattle.monkey_server.specs.Told.{Entry, unsent, stop as stopped, has_short, owed_by};
-ghost use Rattle.monkey_server.specs.Stands.{Steps, InPhase, IsHolding, NoBuilt, with_short, owed_at, outer, work_at, Lacks, KnowsTable, DefinesSound, AreNarrowTables, ComesFrom, wants_memory, Advances, reply_of};
+ghost use Rattle.monkey_server.specs.Stands.{wants, FitsWant, owed_after, IsKnownAfter, Steps, InPhase, IsHolding, NoBuilt, with_short, owed_at, outer, work_at, Lacks, KnowsTable, DefinesSound, AreNarrowTables, ComesFrom, wants_memory, Advances, reply_of};
 
 use crate::call::Answer;
 use crate::end::{End, Stop};
@@ -35,8 +35,6 @@ pub struct Session {
     stage: Stage,
     short: bool,
     ghost phase: { InPhase stage frames.started },
-    ghost knows: { KnowsTable stage known.items },
-    ghost sound: { DefinesSound stage },
     ghost few: { length known.items < 2 ^ 32 },
     ghost narrow: { AreNarrowTables known.items },
 }
@@ -145,6 +143,45 @@ fn is_want(answer: &Answer) -> bool
     matches!(answer, Answer::Refused(BookFault::Memory))
 }
 
+// The step behind the answer to a stage's call.
+#[tactic(auto, using(crate::proofs::Playing::fits_bare))]
+fn answered(
+    alloc: Global,
+    stage: &Stage,
+    known: &mut Vec<Table>,
+    built: &mut Vec<u8>,
+    answer: Answer,
+) -> Step
+    requires fits { FitsWant (wants stage.now known.old.items) answer }
+    requires few { length known.old.items < 2 ^ 32 }
+    requires narrow { AreNarrowTables known.old.items }
+    ensures goes { Advances stage.now known.old.items answer result.stage result.wanting built.new.items known.new.items }
+    ensures owed { (c : Asked) → wants stage.now known.old.items ≡ calls.Book c → owed_at result.stage ≡ owed_after c answer (owed_at stage.now) }
+    ensures outer { outer result.stage ≡ outer stage.now }
+    ensures lacks { (lost : List ℕ) → Lacks stage.now lost → Lacks result.stage lost }
+    ensures work { work_at result.stage < work_at stage.now }
+    ensures reads { ComesFrom stage.now result.stage }
+    ensures known { IsKnownAfter known.old.items answer known.new.items }
+    ensures knows { KnowsTable stage.now known.old.items → KnowsTable result.stage known.new.items }
+    ensures sound { DefinesSound result.stage }
+    ensures few { length known.new.items < 2 ^ 32 }
+    ensures narrow { AreNarrowTables known.new.items }
+    ensures phase { (started : Bool) → InPhase stage.now started → InPhase result.stage started }
+    ensures some { IsHolding result.stage → 0 < length (reply_of built.new.items result.stage) }
+{
+    match (stage, answer) {
+        (Stage::Opening, Answer::Opened(session)) => greet(alloc, session, built),
+        (Stage::Looking(statement, access), Answer::Looked(tables)) => {
+            look(alloc, statement, *access, known, tables)
+        }
+        (Stage::Fetching(_, _), Answer::Found(value)) => select(alloc, &value, built),
+        (stage, answer) => Step {
+            stage: advance(stage, &answer),
+            wanting: None,
+        },
+    }
+}
+
 // Either of the two, as `||`.
 fn either(a: bool, b: bool) -> bool
     ensures { result ≡ (a || b) }
@@ -154,7 +191,7 @@ fn either(a: bool, b: bool) -> bool
 
 impl Session {
     ghost use Rattle.monkey_server.specs.Sessions.{Stands, StandsShort, work_of};
-    ghost use Rattle.monkey_server.specs.Stands.{Shows, wants, reply_of, entry_for, FitsWant, owed_after, IsKnownAfter, IsLast, IsStopped};
+    ghost use Rattle.monkey_server.specs.Stands.{Shows, entry_for, IsLast, IsStopped};
 
     /// A session that was fed nothing.
     pub fn new(alloc: Global) -> Result<Session, Memory>
@@ -185,8 +222,9 @@ impl Session {
 
     /// The table that is to be defined.
     pub fn table(&self) -> &Table
-        requires { (table : Defined) × (wants self.now.stage self.now.known.items ≡ wanted.Book (wanted.Define table)) }
-        ensures table { wants self.now.stage self.now.known.items ≡ wanted.Book (wanted.Define result.now) }
+        requires wanted { (table : Defined) × (wants self.now.stage self.now.known.items ≡ calls.Book (calls.Define table)) }
+        requires sound { DefinesSound self.now.stage }
+        ensures table { wants self.now.stage self.now.known.items ≡ calls.Book (calls.Define result.now) }
         ensures sound { IsSound result.now }
     {
         match &self.stage {
@@ -218,13 +256,15 @@ impl Session {
 
     /// Takes a piece of the stream. A want of memory leads to the end by it.
     pub fn feed(&mut self, piece: &[u8])
-        requires { wants self.old.stage self.old.known.items ≡ wanted.Bytes }
+        requires { wants self.old.stage self.old.known.items ≡ calls.Bytes }
         ensures grown { (taken : List ℕ) (entries : List Entry) (asked : List Asked) (sent : List ℕ) → Stands self.old taken entries asked sent →
             StandsShort self.new (taken ++ piece.now) entries asked sent }
         ensures owed { owed_at self.new.stage ≡ owed_at self.old.stage }
         ensures outer { outer self.new.stage ≡ None }
         ensures lacks { Lacks self.new.stage [] }
         ensures known { self.new.known.items ≡ self.old.known.items }
+        ensures knows { KnowsTable self.new.stage self.new.known.items }
+        ensures sound { DefinesSound self.new.stage }
     {
         let opened = match &self.stage {
             Stage::Waiting(opened) => *opened,
@@ -243,40 +283,31 @@ impl Session {
         }
     }
 
-    /// Takes the answer to the call that is wanted.
+    /// Takes the answer to the call that is calls.
     pub fn answer(&mut self, answer: Answer)
         requires { FitsWant (wants self.old.stage self.old.known.items) answer }
         ensures grown { (taken : List ℕ) (entries : List Entry) (asked : List Asked) (sent : List ℕ) (c : Asked) (e : Event) → Stands self.old taken entries asked sent →
-            wants self.old.stage self.old.known.items ≡ wanted.Book c → StandsShort self.new taken (entries ++ entry_for answer e ∷ []) (asked ++ c ∷ []) sent }
-        ensures owed { (c : Asked) → wants self.old.stage self.old.known.items ≡ wanted.Book c → owed_at self.new.stage ≡ owed_after c answer (owed_at self.old.stage) }
+            wants self.old.stage self.old.known.items ≡ calls.Book c → StandsShort self.new taken (entries ++ entry_for answer e ∷ []) (asked ++ c ∷ []) sent }
+        ensures owed { (c : Asked) → wants self.old.stage self.old.known.items ≡ calls.Book c → owed_at self.new.stage ≡ owed_after c answer (owed_at self.old.stage) }
         ensures outer { outer self.new.stage ≡ outer self.old.stage }
         ensures lacks { (lost : List ℕ) → Lacks self.old.stage lost → Lacks self.new.stage lost }
         ensures work { work_of self.new < work_of self.old }
         ensures reads { ComesFrom self.old.stage self.new.stage }
         ensures known { IsKnownAfter self.old.known.items answer self.new.known.items }
+        ensures knows { KnowsTable self.old.stage self.old.known.items → KnowsTable self.new.stage self.new.known.items }
+        ensures sound { DefinesSound self.new.stage }
         ensures last { IsLast self.old.stage → IsLast self.new.stage }
     {
-        match (&self.stage, answer) {
-            (Stage::Opening, Answer::Opened(session)) => {
-                let step = greet(self.alloc, session, &mut self.built);
-                self.stage = step.stage;
-                self.short = either(self.short, step.wanting.is_some());
-            }
-            (Stage::Looking(statement, access), Answer::Looked(tables)) => {
-                let step = look(self.alloc, statement, *access, &mut self.known, tables);
-                self.stage = step.stage;
-                self.short = either(self.short, step.wanting.is_some());
-            }
-            (Stage::Fetching(_, _), Answer::Found(value)) => {
-                let step = select(self.alloc, &value, &mut self.built);
-                self.stage = step.stage;
-                self.short = either(self.short, step.wanting.is_some());
-            }
-            (stage, answer) => {
-                self.stage = advance(stage, &answer);
-                self.short = either(self.short, is_want(&answer));
-            }
-        }
+        let wants = is_want(&answer);
+        let step = answered(
+            self.alloc,
+            &self.stage,
+            &mut self.known,
+            &mut self.built,
+            answer,
+        );
+        self.short = either(self.short, either(wants, step.wanting.is_some()));
+        self.stage = step.stage;
     }
 
     /// The reply was sent.
@@ -289,6 +320,8 @@ impl Session {
         ensures lacks { Lacks self.new.stage [] }
         ensures work { work_of self.new < work_of self.old }
         ensures known { self.new.known.items ≡ self.old.known.items }
+        ensures knows { KnowsTable self.new.stage self.new.known.items }
+        ensures sound { DefinesSound self.new.stage }
         ensures last { IsLast self.old.stage → IsLast self.new.stage }
     {
         match &self.stage {
@@ -313,6 +346,8 @@ impl Session {
         ensures lacks { (lost : List ℕ) → Lacks self.new.stage lost }
         ensures work { work_of self.new < work_of self.old }
         ensures known { self.new.known.items ≡ self.old.known.items }
+        ensures knows { KnowsTable self.new.stage self.new.known.items }
+        ensures sound { DefinesSound self.new.stage }
         ensures last { IsLast self.new.stage }
     {
         self.stage = break_off(&self.stage);
@@ -320,13 +355,15 @@ impl Session {
 
     /// No more bytes come.
     pub fn stop(&mut self, cause: Stop)
-        requires { wants self.old.stage self.old.known.items ≡ wanted.Bytes }
+        requires { wants self.old.stage self.old.known.items ≡ calls.Bytes }
         ensures grown { (taken : List ℕ) (entries : List Entry) (asked : List Asked) (sent : List ℕ) → Stands self.old taken entries asked sent →
             Stands self.new taken (entries ++ stopped cause ∷ []) asked sent }
         ensures owed { owed_at self.new.stage ≡ owed_at self.old.stage }
         ensures outer { IsStopped cause (outer self.new.stage) }
         ensures lacks { Lacks self.new.stage [] }
         ensures known { self.new.known.items ≡ self.old.known.items }
+        ensures knows { KnowsTable self.new.stage self.new.known.items }
+        ensures sound { DefinesSound self.new.stage }
         ensures last { IsLast self.new.stage }
     {
         let opened = match &self.stage {

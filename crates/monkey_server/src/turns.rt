@@ -3,15 +3,14 @@ ghost use Rattle.std.specs.Prelude.{◌≡◌, ℕ, ◌<◌, ◌≤◌, ◌^◌,
 ghost use Rattle.sql_tree.specs.declared.table.Table.{Table as Defined};
 ghost use Rattle.sql_typing.specs.Typed.{typed};
 ghost use Rattle.sql_grammar.specs.Limited.{HasNoZero};
-ghost use Rattle.monkey_server.specs.Calls.{Call as Asked};
-ghost use Rattle.monkey_server.specs.Calls as wanted;
+ghost use Rattle.monkey_server.specs.Calls as calls;
 ghost use Rattle.monkey_server.specs.Tables.{number_of_t};
 ghost use Rattle.monkey_server.specs.Talk.{Talk};
 ghost use Rattle.query_request.specs.Requests.{IsSoundRequest};
 ghost use Rattle.pg_framing.specs.Spelling.{IsFront, phase_after};
 ghost use Rattle.monkey_server.specs.Told.{Said, Entry, closed, ending, owed_by, refusal_state, checked, runs, judged, session, key_of, presence_of, field_of, stop_end, requested};
 ghost use Rattle.monkey_server.specs.Stands.{LeadsTo, Advances, FitsWant, IsPlain, InPhase, owed_at, owed_after, outer, outer_end, end_of, wants, work_at, Lacks, LacksBy, ComesFrom, KnowsTable, DefinesSound, AreNarrowTables, IsKnownAfter, goes_on, IsBusy, IsReading, broken, IsStopped, IsHolding, NoBuilt, Enters, resumed, owed_in, IsLast, IsNoQuery};
-ghost use Rattle.monkey_server.specs.Calls.{IsWant};
+ghost use Rattle.monkey_server.specs.Calls.{Call as Asked, IsWant};
 
 use crate::call::{Answer, Call};
 use crate::end::{End, Stop};
@@ -55,6 +54,8 @@ pub fn part(finish: Finish) -> Stage
     ensures work { work_at result ≤ 1 }
     ensures lacks { (lost : List ℕ) → LacksBy (end_of finish) lost → lost ≡ [] → Lacks result lost }
     ensures phase { (started : Bool) → InPhase result started }
+    ensures knows { (known : List Defined) → KnowsTable result known }
+    ensures sound { DefinesSound result }
     ensures constant { NoBuilt result }
 {
     match finish {
@@ -76,6 +77,8 @@ pub fn leave(owed: Owed, finish: Finish) -> Stage
     ensures work { work_at result ≤ 3 }
     ensures lacks { (lost : List ℕ) → LacksBy (end_of finish) lost → lost ≡ [] → Lacks result lost }
     ensures phase { (started : Bool) → InPhase result started }
+    ensures knows { (known : List Defined) → KnowsTable result known }
+    ensures sound { DefinesSound result }
     ensures constant { NoBuilt result }
 {
     match owed {
@@ -130,7 +133,7 @@ pub fn advance(stage: &Stage, answer: &Answer) -> Stage
     requires fits { FitsWant (wants stage.now []) answer.now }
     requires plain { IsPlain stage.now answer.now }
     ensures goes { (built : List ℕ) (known : List Defined) → Advances stage.now known answer.now result None built known }
-    ensures owed { (c : Asked) (known : List Defined) → wants stage.now known ≡ wanted.Book c → owed_at result ≡ owed_after c answer.now (owed_at stage.now) }
+    ensures owed { (c : Asked) (known : List Defined) → wants stage.now known ≡ calls.Book c → owed_at result ≡ owed_after c answer.now (owed_at stage.now) }
     ensures outer { outer result ≡ outer stage.now }
     ensures lacks { (lost : List ℕ) → Lacks stage.now lost → Lacks result lost }
     ensures work { work_at result < work_at stage.now }
@@ -341,6 +344,8 @@ pub fn break_off(stage: &Stage) -> Stage
     ensures lacks { (lost : List ℕ) → Lacks result lost }
     ensures silent { IsHolding result → ⊥ }
     ensures phase { (started : Bool) → InPhase result started }
+    ensures knows { (known : List Defined) → KnowsTable result known }
+    ensures sound { DefinesSound result }
     ensures constant { NoBuilt result }
 {
     match stage {
