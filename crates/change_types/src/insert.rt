@@ -33,17 +33,13 @@ pub fn typed_insert(
     let found = table_named(tables, &insert.table)?;
     let columns = found.table.columns.as_slice();
     let listed = listed_columns(alloc, columns, insert.columns.as_slice())?;
-    if !has_lengths(found.table, listed.as_slice(), insert.rows.as_slice()) {
+    let rows = insert.rows.as_slice();
+    if !has_lengths(found.table, listed.as_slice(), rows) {
         return Err(TypeFault::State(SqlState::S42601));
     }
     Ok(TypedInsert {
         table: found.number,
-        rows: rows_of(
-            alloc,
-            found.table,
-            listed.as_slice(),
-            insert.rows.as_slice(),
-        )?,
+        rows: rows_of(alloc, found.table, listed.as_slice(), rows)?,
     })
 }
 
