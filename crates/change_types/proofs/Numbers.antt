@@ -10,10 +10,10 @@ use Rattle.sql_tree.specs.declared.table.Column.{Column}
 use Rattle.sql_tree.specs.declared.table.Table.{Table}
 use Rattle.std.specs.Prelude.{Option}
 use Rattle.sql_typing.specs.Outcome.{Outcome, and_then}
-use Rattle.sql_typing.specs.Tables.{Target, target_from, target_named, numbered_from, is_among}
+use Rattle.sql_typing.specs.Tables.{Target, target_from, target_named, numbered_from, all_targets, is_among}
 use Rattle.sql_typing.specs.Insert.{listed_from}
 use Rattle.sql_typing.specs.Changes.{assigned_from}
-use Rattle.change_types.specs.Targets.{AreColumns, assigned_target, targets_or_all}
+use Rattle.change_types.specs.Targets.{AreColumns, assigned_target}
 
 pub swapped : (a b : ℕ) → (a == b) ≡ false → (b == a) ≡ false
 swapped a b e = ne_eqb b a (λ f. eqb-false a b e (sym f))
@@ -76,6 +76,10 @@ listed_are columns before (name ∷ names) after are e =
     (λ t h k l.
     listed_are columns (before ++ t ∷ []) names after (columns_snoc (length columns) before t are (named_within columns name t h) k) l) e
 
+pub listed_columns : (columns : List Column) (names : List (List ℕ)) (listed : List Target) → listed_from columns [] names ≡ Ok listed
+    → AreColumns (length columns) listed
+listed_columns columns names listed e = listed_are columns [] names listed tt e
+
 -- ---- all columns
 
 behind_all : (n i : ℕ) (columns : List Column) → n < i → is_among n (numbered_from i columns) ≡ false
@@ -86,19 +90,8 @@ all_are : (count i : ℕ) (columns : List Column) → i + length columns ≤ cou
 all_are count i [] h = tt
 all_are count i (c ∷ cs) h = (omega arith, (behind_all i (i + 1) cs (omega arith), all_are count (i + 1) cs (omega arith)))
 
-given_are : (columns : List Column) (listed : List Target) → AreColumns (length columns) listed
-    → AreColumns (length columns) (targets_or_all columns listed)
-given_are columns [] are = all_are (length columns) 0 columns (omega arith)
-given_are columns (t ∷ ts) are = are
-
-pub listed_columns : (columns : List Column) (names : List (List ℕ)) (listed : List Target) → listed_from columns [] names ≡ Ok listed
-    → AreColumns (length columns) listed
-listed_columns columns names listed e = listed_are columns [] names listed tt e
-
--- the columns that rows give values to
-pub given_columns : (columns : List Column) (listed given : List Target) → AreColumns (length columns) listed
-    → given ≡ targets_or_all columns listed → AreColumns (length columns) given
-given_columns columns listed given are is = rw is (given_are columns listed are)
+pub all_columns : (columns : List Column) (all : List Target) → all ≡ all_targets columns → AreColumns (length columns) all
+all_columns columns all is = rw is (all_are (length columns) 0 columns (omega arith))
 
 -- ---- assigned columns
 

@@ -5,4 +5,5 @@ use Rattle.change_types.proofs.insert.typed_insert.Goals as goal
 
 pub rows_of-requires-clause-columns : goal.rows_of-requires-clause-columns
 rows_of-requires-clause-columns c =
-    rw (← c.as_slice-columns.ensures) (listed_columns c.as_slice-columns.result.now c.as_slice.result.now (targets c.in_ok-listed.listed) c.in_ok-listed.ensures)
+    rw (← c.as_slice-columns.ensures, c.as_slice-3.ensures)
+    (listed_columns c.as_slice-columns.result.now c.as_slice.result.now (targets c.in_ok-listed.listed) c.in_ok-listed.ensures)
