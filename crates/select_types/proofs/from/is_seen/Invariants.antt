@@ -7,4 +7,5 @@ use Rattle.select_types.proofs.from.is_seen.Given as goal
 
 abbrev pub invariant-loop-entry : goal.invariant-loop-entry
 invariant-loop-entry l =
-    list_any (λ (e : Entry). bytes_eq e.name l.name) (entries (drop l.entry-index l.entries)) ≡ list_any (λ (e : Entry). bytes_eq e.name l.name) (entries l.entries)
+    list_any (λ (e : Entry). bytes_eq e.name l.name) (entries (drop l.entry-index l.entries))
+    ≡ list_any (λ (e : Entry). bytes_eq e.name l.name) (entries l.entries)

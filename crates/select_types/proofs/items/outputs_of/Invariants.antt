@@ -5,4 +5,5 @@ use Rattle.select_types.specs.Outputs.{outputs}
 use Rattle.select_types.proofs.items.outputs_of.Given as goal
 
 abbrev pub invariant-loop-item : goal.invariant-loop-item
-invariant-loop-item l = items_from l.place (sources l.scope) (outputs l.outputs) (drop l.item-index l.items) ≡ items_from l.place (sources l.scope) [] l.items
+invariant-loop-item l = items_from l.place (sources l.scope) (outputs l.outputs) (drop l.item-index l.items)
+    ≡ items_from l.place (sources l.scope) [] l.items

@@ -8,4 +8,5 @@ use Rattle.select_types.proofs.order.terms_of.Given as goal
 
 abbrev pub invariant-loop-term : goal.invariant-loop-term
 invariant-loop-term l =
-    with_rest (term_of (sources l.scope) (outputs l.outputs)) l.typed (drop l.term-index l.terms) ≡ all_of (map (term_of (sources l.scope) (outputs l.outputs)) l.terms)
+    with_rest (term_of (sources l.scope) (outputs l.outputs)) l.typed (drop l.term-index l.terms)
+    ≡ all_of (map (term_of (sources l.scope) (outputs l.outputs)) l.terms)

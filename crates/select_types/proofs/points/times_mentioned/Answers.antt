@@ -8,5 +8,6 @@ use Rattle.select_types.proofs.points.times_mentioned.Goals as goal
 pub overflow_add-times : goal.overflow_add-times
 overflow_add-times c =
     let within : c.loop-entry.times ≤ length c.args.entries.now =
-    times_fit c.args.number c.loop-entry.times (times_mentioned c.args.number (entries (drop c.loop-entry.entry-index c.args.entries.now))) c.args.entries.now c.loop-entry.invariant in
+    times_fit c.args.number c.loop-entry.times (times_mentioned c.args.number (entries (drop c.loop-entry.entry-index c.args.entries.now)))
+    c.args.entries.now c.loop-entry.invariant in
     omega arith

@@ -8,4 +8,5 @@ use Rattle.select_types.proofs.reads.mark_terms.Given as goal
 
 abbrev pub invariant-loop-expr : goal.invariant-loop-expr
 invariant-loop-expr l =
-    IsMarked l.initial.marks l.marks (λ c. list_any (λ (t : TypedExpr × Bool). mentions_table l.number c 0 (entries l.entries) t.0) (take l.expr-index l.terms))
+    IsMarked l.initial.marks l.marks (λ c. list_any (λ (t : TypedExpr × Bool). mentions_table l.number c 0 (entries l.entries) t.0)
+    (take l.expr-index l.terms))

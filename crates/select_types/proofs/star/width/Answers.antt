@@ -11,7 +11,8 @@ loop-entry-preserved c =
     let e : c.saturating_add-width.result ≡ min (c.loop-entry.width + length c.entry-item.result.table.now.columns) (2 ^ 64 - 1) = omega arith in
     record {
       fits = omega arith;
-      counted = width_more c.args.scope.now c.loop-entry.entry-index c.entry-item.result c.loop-entry.width c.saturating_add-width.result (2 ^ 64 - 1) (omega arith) c.entry-item.is e
+      counted = width_more c.args.scope.now c.loop-entry.entry-index c.entry-item.result c.loop-entry.width c.saturating_add-width.result
+          (2 ^ 64 - 1) (omega arith) c.entry-item.is e
           ∙ c.loop-entry.invariant.counted;
     }
 
