@@ -173,13 +173,36 @@ fn is_refused(alloc: Global, statement: &Statement, tables: &[Table]) -> bool {
 }
 
 #[test]
-fn types_each_kind_of_statement(rt: HostRuntime) -> Result<(), Fail> {
+fn types_a_select(rt: HostRuntime) -> Result<(), Fail> {
     let alloc = rt.alloc();
-    let tables = tables_of(alloc)?;
-    assert!(rt; types_it(alloc, &select(alloc)?, tables.as_slice()));
-    assert!(rt; types_it(alloc, &insert(alloc)?, tables.as_slice()));
-    assert!(rt; types_it(alloc, &update(alloc)?, tables.as_slice()));
-    assert!(rt; types_it(alloc, &delete(alloc)?, tables.as_slice()));
-    assert!(rt; is_refused(alloc, &Statement::Commit, tables.as_slice()));
+    assert!(rt; types_it(alloc, &select(alloc)?, tables_of(alloc)?.as_slice()));
+    Ok(())
+}
+
+#[test]
+fn types_an_insert(rt: HostRuntime) -> Result<(), Fail> {
+    let alloc = rt.alloc();
+    assert!(rt; types_it(alloc, &insert(alloc)?, tables_of(alloc)?.as_slice()));
+    Ok(())
+}
+
+#[test]
+fn types_an_update(rt: HostRuntime) -> Result<(), Fail> {
+    let alloc = rt.alloc();
+    assert!(rt; types_it(alloc, &update(alloc)?, tables_of(alloc)?.as_slice()));
+    Ok(())
+}
+
+#[test]
+fn types_a_delete(rt: HostRuntime) -> Result<(), Fail> {
+    let alloc = rt.alloc();
+    assert!(rt; types_it(alloc, &delete(alloc)?, tables_of(alloc)?.as_slice()));
+    Ok(())
+}
+
+#[test]
+fn refuses_another_kind_of_statement(rt: HostRuntime) -> Result<(), Fail> {
+    let alloc = rt.alloc();
+    assert!(rt; is_refused(alloc, &Statement::Commit, tables_of(alloc)?.as_slice()));
     Ok(())
 }
