@@ -152,57 +152,34 @@ fn is_wanted(statement: &Statement, typed: &Typed) -> bool {
     }
 }
 
+/// Whether a statement without types, and that alone, has the code of those.
+fn is_refused(statement: &Statement, fault: TypeFault) -> bool {
+    matches!(statement, Statement::Commit) && fault == TypeFault::State(SqlState::S0A000)
+}
+
 fn types_it(alloc: Global, statement: &Statement, tables: &[Table]) -> bool {
     if !are_narrow(tables) {
         return false;
     }
     match typed(alloc, statement, tables) {
         Ok(typed) => is_wanted(statement, &typed),
-        Err(_) => false,
+        Err(fault) => is_refused(statement, fault),
     }
 }
 
-fn is_refused(alloc: Global, statement: &Statement, tables: &[Table]) -> bool {
-    if !are_narrow(tables) {
-        return false;
-    }
-    match typed(alloc, statement, tables) {
-        Ok(_) => false,
-        Err(fault) => fault == TypeFault::State(SqlState::S0A000),
-    }
+/// Takes the statement whole, so that each test has it let go at one place.
+fn types(alloc: Global, statement: Statement) -> Result<bool, Fail> {
+    let tables = tables_of(alloc)?;
+    Ok(types_it(alloc, &statement, tables.as_slice()))
 }
 
 #[test]
-fn types_a_select(rt: HostRuntime) -> Result<(), Fail> {
+fn types_each_kind_of_statement(rt: HostRuntime) -> Result<(), Fail> {
     let alloc = rt.alloc();
-    assert!(rt; types_it(alloc, &select(alloc)?, tables_of(alloc)?.as_slice()));
-    Ok(())
-}
-
-#[test]
-fn types_an_insert(rt: HostRuntime) -> Result<(), Fail> {
-    let alloc = rt.alloc();
-    assert!(rt; types_it(alloc, &insert(alloc)?, tables_of(alloc)?.as_slice()));
-    Ok(())
-}
-
-#[test]
-fn types_an_update(rt: HostRuntime) -> Result<(), Fail> {
-    let alloc = rt.alloc();
-    assert!(rt; types_it(alloc, &update(alloc)?, tables_of(alloc)?.as_slice()));
-    Ok(())
-}
-
-#[test]
-fn types_a_delete(rt: HostRuntime) -> Result<(), Fail> {
-    let alloc = rt.alloc();
-    assert!(rt; types_it(alloc, &delete(alloc)?, tables_of(alloc)?.as_slice()));
-    Ok(())
-}
-
-#[test]
-fn refuses_another_kind_of_statement(rt: HostRuntime) -> Result<(), Fail> {
-    let alloc = rt.alloc();
-    assert!(rt; is_refused(alloc, &Statement::Commit, tables_of(alloc)?.as_slice()));
+    assert!(rt; types(alloc, select(alloc)?)?);
+    assert!(rt; types(alloc, insert(alloc)?)?);
+    assert!(rt; types(alloc, update(alloc)?)?);
+    assert!(rt; types(alloc, delete(alloc)?)?);
+    assert!(rt; types(alloc, Statement::Commit)?);
     Ok(())
 }
