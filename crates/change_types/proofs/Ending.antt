@@ -1,5 +1,5 @@
 -- Loops over columns and the expressions that go to them: where one of both lists ends, nothing is left.
-use Rattle.std.proofs.Common.{◌≡◌, ℕ, zero, suc, ◌<◌, min, List, [], ◌∷◌, ◌++◌, length, map, drop, replicate, Option, Some, None, Ok, Err, refl, ap, sym, ◌∙◌, arith}
+use Rattle.std.proofs.Common.{◌≡◌, ℕ, zero, suc, min, List, [], ◌∷◌, ◌++◌, length, drop, Option, Ok, refl, ap, sym, ◌∙◌, arith}
 use Rattle.std.proofs.lemmas.List.{append-nil}
 use Rattle.sql_tree.specs.declared.expr.Expr.{Expr}
 use Rattle.sql_tree.specs.declared.typed_expr.TypedExpr.{TypedExpr}
@@ -12,7 +12,8 @@ use Rattle.change_types.specs.Targets.{targets}
 use Rattle.change_types.specs.Rows.{put}
 use Rattle.change_types.proofs.Filling.{put_none}
 
-cells_end : (n : ℕ) (cs : List ColumnAt) (row : List (Option Expr)) → n ≡ min (length cs) (length row) → cells (targets (drop n cs)) (drop n row) ≡ Ok []
+cells_end : (n : ℕ) (cs : List ColumnAt) (row : List (Option Expr)) → n ≡ min (length cs) (length row)
+    → cells (targets (drop n cs)) (drop n row) ≡ Ok []
 cells_end zero [] row e = refl
 cells_end (suc n) [] row e = refl
 cells_end zero (c ∷ cs) [] e = refl
@@ -30,13 +31,17 @@ set_end sources zero (c ∷ cs) (x ∷ set) e = absurd (omega arith)
 set_end sources (suc n) (c ∷ cs) (x ∷ set) e = set_end sources n cs set (omega arith)
 
 -- all slots are filled
-pub slots_end : (n : ℕ) (cs : List ColumnAt) (row : List (Option Expr)) (slots : List (Option TypedExpr)) (o : Outcome (List (Option TypedExpr))) → n ≡ min (length cs) (length row)
+pub slots_end : (n : ℕ) (cs : List ColumnAt) (row : List (Option Expr)) (slots : List (Option TypedExpr)) (o : Outcome (List (Option TypedExpr)))
+    → n ≡ min (length cs) (length row)
     → and_then (cells (targets (drop n cs)) (drop n row)) (λ es. Ok (put slots (targets (drop n cs)) es)) ≡ o → o ≡ Ok slots
 slots_end n cs row slots o e is =
-    sym is ∙ ap (λ o. and_then o (λ es. Ok (put slots (targets (drop n cs)) es))) (cells_end n cs row e) ∙ ap Ok (put_none slots (targets (drop n cs)))
+    sym is ∙ ap (λ o. and_then o (λ es. Ok (put slots (targets (drop n cs)) es))) (cells_end n cs row e)
+    ∙ ap Ok (put_none slots (targets (drop n cs)))
 
 -- all assignments are typed
-pub values_end : (sources : List Source) (n : ℕ) (cs : List ColumnAt) (set : List (List ℕ × Option Expr)) (values : List (ℕ × TypedExpr)) (o : Outcome (List (ℕ × TypedExpr)))
-    → n ≡ min (length cs) (length set) → and_then (set_values sources (targets (drop n cs)) (drop n set)) (λ rest. Ok (values ++ rest)) ≡ o → o ≡ Ok values
+pub values_end : (sources : List Source) (n : ℕ) (cs : List ColumnAt) (set : List (List ℕ × Option Expr)) (values : List (ℕ × TypedExpr))
+    (o : Outcome (List (ℕ × TypedExpr)))
+    → n ≡ min (length cs) (length set) → and_then (set_values sources (targets (drop n cs)) (drop n set)) (λ rest. Ok (values ++ rest)) ≡ o
+    → o ≡ Ok values
 values_end sources n cs set values o e is =
     sym is ∙ ap (λ o. and_then o (λ rest. Ok (values ++ rest))) (set_end sources n cs set e) ∙ ap Ok (append-nil values)

@@ -1,6 +1,6 @@
 -- What the slots of a row hold.
-use Rattle.std.proofs.Common.{◌≡◌, ◌≢◌, ℕ, zero, suc, ◌+◌, ◌<◌, ◌≤◌, ◌==◌, Bool, true, false, ◌||◌, cond, List, [], ◌∷◌, ◌++◌, length, map, set, take, get_or, replicate, Option, Some, None, Ok, Err, refl, ap, sym, ◌∙◌, arith}
-use Rattle.std.proofs.lemmas.Bool.{ne_eqb, eqb-false, eqb-true}
+use Rattle.std.proofs.Common.{◌≡◌, ℕ, zero, suc, ◌+◌, ◌<◌, ◌==◌, Bool, true, false, cond, List, [], ◌∷◌, length, map, set, get_or, replicate, Option, Some, None, Ok, Err, refl, ap, sym, ◌∙◌, arith}
+use Rattle.std.proofs.lemmas.Bool.{eqb-false, eqb-true}
 use Rattle.std.proofs.lemmas.List.{length-set, get_or-set_same, get_or-set_other}
 use Rattle.sql_tree.specs.declared.table.Column.{Column}
 use Rattle.sql_tree.specs.declared.typed_expr.TypedExpr.{TypedExpr}
@@ -8,7 +8,7 @@ use Rattle.sql_typing.specs.Outcome.{Outcome, and_then}
 use Rattle.sql_typing.specs.Tables.{Target, numbered_from, all_targets, is_among}
 use Rattle.sql_typing.specs.Insert.{value_at}
 use Rattle.change_types.specs.Targets.{AreColumns}
-use Rattle.change_types.specs.Rows.{put, value_or, filled, default_value}
+use Rattle.change_types.specs.Rows.{put, value_or, filled}
 use Rattle.change_types.proofs.Numbers.{neither, swapped}
 
 -- the expression that goes to the column of this number
@@ -46,7 +46,8 @@ put_at slots (t ∷ ts) (e ∷ es) k are within =
     put_at (set slots t.number (Some e)) ts es k (rw same are.1.1) (omega (arith, same)) ∙ here (k == t.number) refl
   where
     here : (b : Bool) → (k == t.number) ≡ b
-        → or_else (slot k ts es) (get_or (set slots t.number (Some e)) k None) ≡ or_else (cond (k == t.number) (Some e) (slot k ts es)) (get_or slots k None)
+        → or_else (slot k ts es) (get_or (set slots t.number (Some e)) k None)
+        ≡ or_else (cond (k == t.number) (Some e) (slot k ts es)) (get_or slots k None)
     here true is =
         let number : k ≡ t.number = eqb-true k t.number is in
         let none : slot k ts es ≡ None = slot_none k ts es (rw number are.1.0) in
@@ -54,7 +55,8 @@ put_at slots (t ∷ ts) (e ∷ es) k are within =
         ap (λ n. get_or (set slots t.number (Some e)) n None) number ∙ get_or-set_same slots t.number (Some e) None are.0 in
         rw (is, none) now
     here false is =
-        let other : get_or (set slots t.number (Some e)) k None ≡ get_or slots k None = get_or-set_other slots t.number k (Some e) None (eqb-false k t.number is) in
+        let other : get_or (set slots t.number (Some e)) k None ≡ get_or slots k None =
+        get_or-set_other slots t.number k (Some e) None (eqb-false k t.number is) in
         rw (is) (ap (or_else (slot k ts es)) other)
 
 empty_at : (n k : ℕ) → get_or (replicate {A = Option TypedExpr} n None) k None ≡ None
@@ -76,7 +78,8 @@ filling_at count ts es k are within =
     put_at (replicate {A = Option TypedExpr} count None) ts es k (rw (length-empty count) are) (omega (arith, length-empty count))
     ∙ ap (or_else (slot k ts es)) (empty_at count k) ∙ or_none (slot k ts es)
 
-by_test : (b : Bool) (c : Column) (e : TypedExpr) (o : Option TypedExpr) (rest : TypedExpr) → rest ≡ value_or c o → cond b e rest ≡ value_or c (cond b (Some e) o)
+by_test : (b : Bool) (c : Column) (e : TypedExpr) (o : Option TypedExpr) (rest : TypedExpr) → rest ≡ value_or c o
+    → cond b e rest ≡ value_or c (cond b (Some e) o)
 by_test true c e o rest h = refl
 by_test false c e o rest h = h
 
@@ -85,13 +88,16 @@ value_in_slot c [] es = refl
 value_in_slot c (t ∷ ts) [] = refl
 value_in_slot c (t ∷ ts) (e ∷ es) = by_test (c.number == t.number) c.column e (slot c.number ts es) (value_at c ts es) (value_in_slot c ts es)
 
-filled_is : (i : ℕ) (slots : List (Option TypedExpr)) (columns : List Column) (ts : List Target) (es : List TypedExpr) → length slots ≡ length columns
-    → ((k : ℕ) → k < length columns → get_or slots k None ≡ slot (i + k) ts es) → filled slots columns ≡ map (λ c. value_at c ts es) (numbered_from i columns)
+filled_is : (i : ℕ) (slots : List (Option TypedExpr)) (columns : List Column) (ts : List Target) (es : List TypedExpr)
+    → length slots ≡ length columns
+    → ((k : ℕ) → k < length columns → get_or slots k None ≡ slot (i + k) ts es)
+    → filled slots columns ≡ map (λ c. value_at c ts es) (numbered_from i columns)
 filled_is i slots [] ts es many each = refl
 filled_is i [] (c ∷ cs) ts es many each = absurd (omega arith)
 filled_is i (s ∷ ss) (c ∷ cs) ts es many each =
     let here : s ≡ slot i ts es = each 0 (omega arith) ∙ ap (λ n. slot n ts es) (omega arith) in
-    let value : value_or c s ≡ value_at (record { number = i; column = c }) ts es = ap (value_or c) here ∙ sym (value_in_slot (record { number = i; column = c }) ts es) in
+    let value : value_or c s ≡ value_at (record { number = i; column = c }) ts es = ap (value_or c) here
+    ∙ sym (value_in_slot (record { number = i; column = c }) ts es) in
     let more : filled ss cs ≡ map (λ c. value_at c ts es) (numbered_from (i + 1) cs) =
     filled_is (i + 1) ss cs ts es (omega arith) (λ k h. each (suc k) (omega arith) ∙ ap (λ n. slot n ts es) (omega arith)) in
     ap (λ x. x ∷ filled ss cs) value ∙ ap (λ xs. value_at (record { number = i; column = c }) ts es ∷ xs) more
@@ -104,7 +110,8 @@ slots_length (Ok es) count ts slots e =
     sym (ap length is) ∙ length-put (replicate {A = Option TypedExpr} count None) ts es ∙ length-empty count
 
 -- the row, where its slots are filled
-pub row_done : (o : Outcome (List TypedExpr)) (columns : List Column) (ts : List Target) (slots : List (Option TypedExpr)) (row : List TypedExpr) → AreColumns (length columns) ts
+pub row_done : (o : Outcome (List TypedExpr)) (columns : List Column) (ts : List Target) (slots : List (Option TypedExpr)) (row : List TypedExpr)
+    → AreColumns (length columns) ts
     → and_then o (λ es. Ok (put (replicate {A = Option TypedExpr} (length columns) None) ts es)) ≡ Ok slots → row ≡ filled slots columns
     → and_then o (λ es. Ok (map (λ c. value_at c ts es) (all_targets columns))) ≡ Ok row
 row_done (Err code) columns ts slots row are e is = cc

@@ -1,5 +1,5 @@
 -- A row's values go to the columns of the written list, or to as many of all columns as it has values.
-use Rattle.std.proofs.Common.{◌≡◌, ℕ, zero, suc, ◌≤◌, cond, ◌==◌, List, [], ◌∷◌, length, map, take, Option, Ok, Err, refl, ap, sym, ◌∙◌, arith}
+use Rattle.std.proofs.Common.{◌≡◌, ℕ, zero, suc, ◌<◌, ◌≤◌, cond, ◌==◌, List, [], ◌∷◌, length, map, take, Option, Ok, Err, refl, ap, ◌∙◌, arith}
 use Rattle.std.specs.Prelude.{Result}
 use Rattle.expr_types.specs.declared.error.TypeFault.{TypeFault}
 use Rattle.expr_types.specs.Gives.{Gives}
@@ -11,8 +11,10 @@ use Rattle.sql_typing.specs.Outcome.{Outcome, and_then, all_of}
 use Rattle.sql_typing.specs.Given.{cell}
 use Rattle.sql_typing.specs.Tables.{Target, all_targets}
 use Rattle.sql_typing.specs.Insert.{cells, value_at, typed_row}
+use Rattle.typed_parts.specs.declared.tables.ColumnAt.{ColumnAt}
+use Rattle.typed_parts.specs.Numbered.{target}
 use Rattle.change_types.specs.Rows.{row_over}
-use Rattle.change_types.specs.Targets.{targets_or_all}
+use Rattle.change_types.specs.Targets.{targets}
 
 cells_cut : (ts : List Target) (row : List (Option Expr)) → cells (take (length row) ts) row ≡ cells ts row
 cells_cut [] [] = refl
@@ -28,11 +30,14 @@ value_cut c (t ∷ ts) zero (e ∷ es) h = absurd (omega arith)
 value_cut c (t ∷ ts) (suc n) [] h = refl
 value_cut c (t ∷ ts) (suc n) (e ∷ es) h = ap (λ rest. cond (c.number == t.number) e rest) (value_cut c ts n es (omega arith))
 
-values_cut : (cs ts : List Target) (n : ℕ) (es : List TypedExpr) → length es ≤ n → map (λ c. value_at c (take n ts) es) cs ≡ map (λ c. value_at c ts es) cs
+values_cut : (cs ts : List Target) (n : ℕ) (es : List TypedExpr) → length es ≤ n
+    → map (λ c. value_at c (take n ts) es) cs ≡ map (λ c. value_at c ts es) cs
 values_cut [] ts n es h = refl
-values_cut (c ∷ cs) ts n es h = ap (λ v. v ∷ map (λ c. value_at c (take n ts) es) cs) (value_cut c ts n es h) ∙ ap (λ vs. value_at c ts es ∷ vs) (values_cut cs ts n es h)
+values_cut (c ∷ cs) ts n es h = ap (λ v. v ∷ map (λ c. value_at c (take n ts) es) cs) (value_cut c ts n es h)
+    ∙ ap (λ vs. value_at c ts es ∷ vs) (values_cut cs ts n es h)
 
-one_more : (n : ℕ) (x : Outcome TypedExpr) (more : Outcome (List TypedExpr)) (es : List TypedExpr) → ((ys : List TypedExpr) → more ≡ Ok ys → length ys ≤ n)
+one_more : (n : ℕ) (x : Outcome TypedExpr) (more : Outcome (List TypedExpr)) (es : List TypedExpr)
+    → ((ys : List TypedExpr) → more ≡ Ok ys → length ys ≤ n)
     → and_then x (λ y. and_then more (λ ys. Ok (y ∷ ys))) ≡ Ok es → length es ≤ suc n
 one_more n (Err code) more es h e = cc
 one_more n (Ok y) (Err code) es h e = cc
@@ -43,28 +48,41 @@ no_more [] row es e = let none : [] ≡ es = cc in omega (arith, ap length none)
 no_more (t ∷ ts) [] es e = let none : [] ≡ es = cc in omega (arith, ap length none)
 no_more (t ∷ ts) (x ∷ row) es e = one_more (length row) (cell [] t.column x) (cells ts row) es (λ ys h. no_more ts row ys h) e
 
-for_each : (o : Outcome (List TypedExpr)) (f g : List TypedExpr → List TypedExpr) → ((es : List TypedExpr) → o ≡ Ok es → f es ≡ g es) → and_then o (λ es. Ok (f es)) ≡ and_then o (λ es. Ok (g es))
+for_each : (o : Outcome (List TypedExpr)) (f g : List TypedExpr → List TypedExpr) → ((es : List TypedExpr) → o ≡ Ok es → f es ≡ g es)
+    → and_then o (λ es. Ok (f es)) ≡ and_then o (λ es. Ok (g es))
 for_each (Err code) f g same = refl
 for_each (Ok es) f g same = ap Ok (same es refl)
 
-row_cut : (columns : List Column) (row : List (Option Expr)) → row_over columns (take (length row) (all_targets columns)) row ≡ row_over columns (all_targets columns) row
+row_cut : (columns : List Column) (row : List (Option Expr))
+    → row_over columns (take (length row) (all_targets columns)) row ≡ row_over columns (all_targets columns) row
 row_cut columns row =
-    ap (λ o. and_then o (λ es. Ok (map (λ c. value_at c (take (length row) (all_targets columns)) es) (all_targets columns)))) (cells_cut (all_targets columns) row)
+    ap (λ o. and_then o (λ es. Ok (map (λ c. value_at c (take (length row) (all_targets columns)) es) (all_targets columns))))
+    (cells_cut (all_targets columns) row)
     ∙ for_each (cells (all_targets columns) row) (λ es. map (λ c. value_at c (take (length row) (all_targets columns)) es) (all_targets columns))
     (λ es. map (λ c. value_at c (all_targets columns) es) (all_targets columns))
     (λ es h. values_cut (all_targets columns) (all_targets columns) (length row) es (no_more (all_targets columns) row es h))
 
-row_same : (t : Table) (listed : List Target) (row : List (Option Expr)) → typed_row t listed row ≡ row_over t.columns (targets_or_all t.columns listed) row
-row_same t [] row = row_cut t.columns row
-row_same t (l ∷ ls) row = refl
+rows_cut : (t : Table) (rows : List (List (Option Expr))) → map (typed_row t []) rows ≡ map (row_over t.columns (all_targets t.columns)) rows
+rows_cut t [] = refl
+rows_cut t (row ∷ rows) =
+    ap (λ o. o ∷ map (typed_row t []) rows) (row_cut t.columns row)
+    ∙ ap (λ os. row_over t.columns (all_targets t.columns) row ∷ os) (rows_cut t rows)
 
--- the rows, typed over the columns that they give values to
-pub rows_same : (t : Table) (listed : List Target) (rows : List (List (Option Expr))) → map (typed_row t listed) rows ≡ map (row_over t.columns (targets_or_all t.columns listed)) rows
-rows_same t listed [] = refl
-rows_same t listed (row ∷ rows) =
-    ap (λ o. o ∷ map (typed_row t listed) rows) (row_same t listed row) ∙ ap (λ os. row_over t.columns (targets_or_all t.columns listed) row ∷ os) (rows_same t listed rows)
+rows_listed : (t : Table) (l : Target) (ls : List Target) (rows : List (List (Option Expr)))
+    → map (typed_row t (l ∷ ls)) rows ≡ map (row_over t.columns (l ∷ ls)) rows
+rows_listed t l ls [] = refl
+rows_listed t l ls (row ∷ rows) = ap (λ os. row_over t.columns (l ∷ ls) row ∷ os) (rows_listed t l ls rows)
 
--- where the columns that rows give values to are known, the rows of the INSERT are typed over them
-pub rows_given : (t : Table) (columns : List Column) (listed given : List Target) (rows : List (List (Option Expr))) (r : Result (List (List TypedExpr)) TypeFault) → columns ≡ t.columns
-    → given ≡ targets_or_all columns listed → Gives (all_of (map (row_over columns given) rows)) r → Gives (all_of (map (typed_row t listed) rows)) r
-rows_given t columns listed given rows r of_table same h = rw (rows_same t listed rows, ← of_table, ← same) h
+-- without a written list, rows are typed over all columns
+pub all_given : (t : Table) (columns : List Column) (listed : List ColumnAt) (given : List Target) (rows : List (List (Option Expr)))
+    (r : Result (List (List TypedExpr)) TypeFault) → length listed < 1 → columns ≡ t.columns → given ≡ all_targets columns
+    → Gives (all_of (map (row_over columns given) rows)) r → Gives (all_of (map (typed_row t (targets listed)) rows)) r
+all_given t columns [] given rows r none of_table same h = rw (rows_cut t rows, ← of_table, ← same) h
+all_given t columns (c ∷ cs) given rows r none of_table same h = absurd (omega arith)
+
+-- with one, over its columns
+pub listed_given : (t : Table) (columns : List Column) (listed : List ColumnAt) (rows : List (List (Option Expr)))
+    (r : Result (List (List TypedExpr)) TypeFault) → 1 ≤ length listed → columns ≡ t.columns
+    → Gives (all_of (map (row_over columns (targets listed)) rows)) r → Gives (all_of (map (typed_row t (targets listed)) rows)) r
+listed_given t columns [] rows r some of_table h = absurd (omega arith)
+listed_given t columns (c ∷ cs) rows r some of_table h = rw (rows_listed t (target c) (targets cs) rows, ← of_table) h

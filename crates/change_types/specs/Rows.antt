@@ -1,5 +1,5 @@
 -- The row of an INSERT: a slot for each column, which takes its expression.
-use Rattle.std.specs.Prelude.{ℕ, List, [], ◌∷◌, map, set, Option, Some, None, Ok}
+use Rattle.std.specs.Prelude.{List, [], ◌∷◌, map, set, Option, Some, None, Ok}
 use Rattle.sql_tree.specs.declared.expr.Expr.{Expr}
 use Rattle.sql_tree.specs.declared.table.Column.{Column}
 use Rattle.sql_tree.specs.declared.typed_expr.TypedExpr.{TypedExpr}

@@ -3,10 +3,9 @@ use Rattle.std.specs.Prelude.{◌≡◌, ◌==◌, ◌<◌, ℕ, false, if◌the
 use Rattle.cell_base.specs.declared.sql_state.SqlState.TheVariants.{S0A000, S42601}
 use Rattle.expr_types.specs.declared.error.TypeFault.{TypeFault}
 use Rattle.expr_types.specs.declared.error.TypeFault.TheVariants.{State, Memory}
-use Rattle.sql_tree.specs.declared.table.Column.{Column}
 use Rattle.sql_tree.specs.declared.table.Table.{Table}
 use Rattle.sql_typing.specs.Outcome.{Outcome, and_then}
-use Rattle.sql_typing.specs.Tables.{Target, target_named, all_targets, is_among}
+use Rattle.sql_typing.specs.Tables.{Target, target_named, is_among}
 use Rattle.typed_parts.specs.declared.tables.ColumnAt.{ColumnAt}
 use Rattle.typed_parts.specs.Numbered.{target}
 
@@ -23,11 +22,6 @@ Finds outcome (Err Memory) = Unit {0}
 abbrev pub AreColumns : ℕ → List Target → Type 0
 AreColumns count [] = Unit {0}
 AreColumns count (t ∷ ts) = (t.number < count) × ((is_among t.number ts ≡ false) × AreColumns count ts)
-
--- the columns that rows give values to: those of the written list, and else all
-abbrev pub targets_or_all : List Column → List Target → List Target
-targets_or_all columns [] = all_targets columns
-targets_or_all columns (t ∷ ts) = t ∷ ts
 
 -- a column that is assigned behind these
 abbrev pub assigned_target : Table → List Target → List ℕ → Outcome Target

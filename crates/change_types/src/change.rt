@@ -7,7 +7,7 @@ ghost use Rattle.typed_parts.specs.Narrow.{AreNarrow};
 ghost use Rattle.change_types.specs.Targets.{targets};
 
 use crate::cell::cell;
-use crate::reads::{columns_read, delete_reads};
+use crate::reads::{delete_reads, update_reads};
 use crate::targets::assigned_columns;
 use cell_base::{Items, Text};
 use expr_types::{Entry, TypeFault};
@@ -58,7 +58,7 @@ pub fn typed_update(
     Ok(TypedChange {
         table: found.number,
         point: point_of(alloc, filter.as_ref(), 0, table.key)?,
-        mentioned: columns_read(alloc, table, set.as_slice(), filter.as_ref())?,
+        mentioned: update_reads(alloc, table, set.as_slice(), filter.as_ref())?,
         filter,
         set,
         delete: false,

@@ -8,7 +8,7 @@ ghost use Rattle.change_types.specs.Targets.{AreColumns, targets};
 
 use crate::lengths::has_lengths;
 use crate::row::typed_rows;
-use crate::targets::{columns_or_all, listed_columns};
+use crate::targets::{all_columns, listed_columns};
 use cell_base::{Items, SqlState};
 use expr_types::TypeFault;
 use sql_tree::{Expr, Insert, Table, TypedExpr, TypedInsert};
@@ -33,27 +33,33 @@ pub fn typed_insert(
     let found = table_named(tables, &insert.table)?;
     let columns = found.table.columns.as_slice();
     let listed = listed_columns(alloc, columns, insert.columns.as_slice())?;
-    if !has_lengths(found.table, listed.as_slice(), insert.rows.as_slice()) {
+    let rows = insert.rows.as_slice();
+    if !has_lengths(found.table, listed.as_slice(), rows) {
         return Err(TypeFault::State(SqlState::S42601));
     }
     Ok(TypedInsert {
         table: found.number,
-        rows: rows_of(alloc, found.table, listed, insert.rows.as_slice())?,
+        rows: rows_of(alloc, found.table, listed.as_slice(), rows)?,
     })
 }
 
-/// One expression for each column in each row, where these are the columns of a written list.
-fn rows_of<'a>(
+/// One expression for each column in each row. Without a written list values go to the columns in order of declaration.
+fn rows_of(
     alloc: Global,
-    table: &'a Table,
-    listed: Items<ColumnAt<'a>>,
+    table: &Table,
+    listed: &[ColumnAt<'_>],
     rows: &[Items<Option<Expr>>],
 ) -> Result<Items<Items<TypedExpr>>, TypeFault>
     requires narrow { length table.now.columns < 2 ^ 32 }
-    requires columns { AreColumns (length table.now.columns) (targets listed) }
-    ensures { Gives (all_of (map (spec.typed_row table.now (targets listed.entry)) rows.now)) result }
+    requires columns { AreColumns (length table.now.columns) (targets listed.now) }
+    ensures { Gives (all_of (map (spec.typed_row table.now (targets listed.now)) rows.now)) result }
 {
     let columns = table.columns.as_slice();
-    let given = columns_or_all(alloc, columns, listed)?;
-    typed_rows(alloc, columns, given.as_slice(), rows)
+    match listed {
+        [] => {
+            let all = all_columns(alloc, columns)?;
+            typed_rows(alloc, columns, all.as_slice(), rows)
+        }
+        [_, ..] => typed_rows(alloc, columns, listed, rows),
+    }
 }

@@ -41,11 +41,7 @@ fn first_length(rows: &[Items<Option<Expr>>]) -> usize
 
 /// Whether each row has as many values as the written list has columns, and without a list as many as the first row, and no
 /// more than the table has columns.
-pub fn has_lengths(
-    table: &Table,
-    listed: &[ColumnAt<'_>],
-    rows: &[Items<Option<Expr>>],
-) -> bool
+pub fn has_lengths(table: &Table, listed: &[ColumnAt<'_>], rows: &[Items<Option<Expr>>]) -> bool
     ensures { result ≡ spec.has_lengths table.now (targets listed.now) rows.now }
 {
     match listed {

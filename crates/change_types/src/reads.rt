@@ -2,7 +2,7 @@
 ghost use Rattle.std.specs.Prelude.{◌≡◌, ◌<◌, ◌^◌, ◌&&◌, false, get_or, length, IfOk, OnOk};
 ghost use Rattle.std.specs.List.{list_any};
 ghost use Rattle.std.specs.Option.{option_map};
-ghost use Rattle.sql_typing.specs.Changes.{update_reads};
+ghost use Rattle.sql_typing.specs.Changes as changes;
 ghost use Rattle.sql_typing.specs.Mentions.{columns_where, in_filter, mentions};
 ghost use Rattle.typed_parts.specs.Marked.{IsMarked};
 ghost use Rattle.change_types.specs.Reads.{AreWithin};
@@ -28,7 +28,7 @@ pub fn delete_reads(
 }
 
 /// The columns that an UPDATE reads: those that a right side, WHERE, or a CHECK over an assigned column mentions.
-pub fn columns_read(
+pub fn update_reads(
     alloc: Global,
     table: &Table,
     set: &[(u32, TypedExpr)],
@@ -37,7 +37,7 @@ pub fn columns_read(
     requires narrow { length table.now.columns < 2 ^ 32 }
     requires within { AreWithin (length table.now.columns) set.now }
     ensures { IfOk result (λ columns.
-        columns ≡ columns_where table.now (update_reads table.now set.now (option_map (λ f. f.now) filter.entry))) }
+        columns ≡ columns_where table.now (changes.update_reads table.now set.now (option_map (λ f. f.now) filter.entry))) }
 {
     let mut marks = Marks::new(alloc, table.columns.len())?;
     mark_values(set, &mut marks);

@@ -44,11 +44,7 @@ fn slots_of(
     Ok(Items::from_vec(slots))
 }
 
-fn value_or(
-    alloc: Global,
-    column: &Column,
-    slot: Option<TypedExpr>,
-) -> Result<TypedExpr, Memory>
+fn value_or(alloc: Global, column: &Column, slot: Option<TypedExpr>) -> Result<TypedExpr, Memory>
     ensures { IfOk result (λ value. value ≡ spec.value_or column.now slot) }
 {
     match slot {

@@ -3,7 +3,7 @@ ghost use Rattle.std.specs.Prelude.{◌≡◌, ◌<◌, ◌^◌, [], length, IfO
 ghost use Rattle.sql_typing.specs.Changes.{assigned_from};
 ghost use Rattle.sql_typing.specs.Insert.{listed_from};
 ghost use Rattle.sql_typing.specs.Tables as spec;
-ghost use Rattle.change_types.specs.Targets.{Finds, assigned_target, targets, targets_or_all};
+ghost use Rattle.change_types.specs.Targets.{Finds, assigned_target, targets};
 ghost use Rattle.typed_parts.specs.Numbered.{target_or};
 
 use cell_base::{Items, Memory, SqlState, Text};
@@ -43,7 +43,8 @@ pub fn listed_columns<'a>(
     Ok(listed)
 }
 
-fn all_columns<'a>(alloc: Global, columns: &'a [Column]) -> Result<Items<ColumnAt<'a>>, Memory>
+/// All columns of a table, in order of declaration.
+pub fn all_columns<'a>(alloc: Global, columns: &'a [Column]) -> Result<Items<ColumnAt<'a>>, Memory>
     requires { length columns.now < 2 ^ 32 }
     ensures { IfOk result (λ all. targets all ≡ spec.all_targets columns.now) }
 {
@@ -55,21 +56,6 @@ fn all_columns<'a>(alloc: Global, columns: &'a [Column]) -> Result<Items<ColumnA
         })?;
     }
     Ok(all)
-}
-
-/// The columns that rows give values to: those of the written list, and all where none is written.
-pub fn columns_or_all<'a>(
-    alloc: Global,
-    columns: &'a [Column],
-    listed: Items<ColumnAt<'a>>,
-) -> Result<Items<ColumnAt<'a>>, Memory>
-    requires { length columns.now < 2 ^ 32 }
-    ensures { IfOk result (λ all. targets all ≡ targets_or_all columns.now (targets listed.entry)) }
-{
-    match listed.as_slice() {
-        [] => all_columns(alloc, columns),
-        [_, ..] => Ok(listed),
-    }
 }
 
 /// The column of an assignment behind others: `S42703` where no column has the name, `S42601` where it is assigned before,

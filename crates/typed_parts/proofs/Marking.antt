@@ -24,7 +24,7 @@ pub marked_then : (a b d : List Bool) (p q : ℕ → Bool) → IsMarked a b p �
 marked_then a b d p q first then = record {
   same = then.same ∙ first.same;
   each = λ c h.
-    then.each c (omega (arith, first.same)) ∙ ap (λ m. m || q c) (first.each c h) ∙ or_assoc (get_or a c false) (p c) (q c);
+      then.each c (omega (arith, first.same)) ∙ ap (λ m. m || q c) (first.each c h) ∙ or_assoc (get_or a c false) (p c) (q c);
 }
 
 -- the same columns in other words
@@ -36,7 +36,8 @@ list_any-append p [] x = or_none (p x)
 list_any-append p (y ∷ ys) x = ap (λ m. p y || m) (list_any-append p ys x) ∙ sym (or_assoc (p y) (list_any p ys) (p x))
 
 -- one item more of which one may be such
-pub any_more : {A : Type 0} (p : A → Bool) (all : List A) (i : ℕ) (x : A) → i < length all → x ≡ get_or all i x → list_any p (take (i + 1) all) ≡ (list_any p (take i all) || p x)
+pub any_more : {A : Type 0} (p : A → Bool) (all : List A) (i : ℕ) (x : A) → i < length all → x ≡ get_or all i x
+    → list_any p (take (i + 1) all) ≡ (list_any p (take i all) || p x)
 any_more p all i x within is =
     let longer : take (i + 1) all ≡ take i all ++ x ∷ [] = rw add-one (take-suc all i x within ∙ ap (λ z. take i all ++ z ∷ []) (sym is)) in
     ap (list_any p) longer ∙ list_any-append p (take i all) x
@@ -47,7 +48,8 @@ kept_one p q n ns ms e f = rw (e, f) refl
 kept_same : (p q : ℕ → Bool) (i n : ℕ) → ((c : ℕ) → i ≤ c → c < i + n → p c ≡ q c) → kept p (numbers_from i n) ≡ kept q (numbers_from i n)
 kept_same p q i zero same = refl
 kept_same p q i (suc n) same =
-    kept_one p q i (numbers_from (i + 1) n) (numbers_from (i + 1) n) (same i (omega arith) (omega arith)) (kept_same p q (i + 1) n (λ c h k. same c (omega arith) (omega arith)))
+    kept_one p q i (numbers_from (i + 1) n) (numbers_from (i + 1) n) (same i (omega arith) (omega arith))
+    (kept_same p q (i + 1) n (λ c h k. same c (omega arith) (omega arith)))
 
 none_before : (n c : ℕ) → get_or (replicate {A = Bool} n false) c false ≡ false
 none_before zero c = refl
@@ -59,7 +61,8 @@ length-replicate zero = refl
 length-replicate (suc n) = ap suc (length-replicate n)
 
 -- a column that was marked on marks of so many columns
-pub marked_at : (n : ℕ) (marks : List Bool) (p : ℕ → Bool) (c : ℕ) → IsMarked (replicate {A = Bool} n false) marks p → c < n → get_or marks c false ≡ p c
+pub marked_at : (n : ℕ) (marks : List Bool) (p : ℕ → Bool) (c : ℕ) → IsMarked (replicate {A = Bool} n false) marks p → c < n
+    → get_or marks c false ≡ p c
 marked_at n marks p c marked within = marked.each c (omega (arith, length-replicate n)) ∙ ap (λ m. m || p c) (none_before n c)
 
 -- the columns that were marked on marks of a table's columns
@@ -87,7 +90,8 @@ kept-append p (m ∷ ms) n = behind (p m) m (kept p (ms ++ n ∷ [])) (kept p ms
 kept-step : (p : ℕ → Bool) (n : ℕ) → kept p (numbers_from 0 (n + 1)) ≡ kept p (numbers_from 0 n) ++ cond (p n) (n ∷ []) []
 kept-step p n =
     let next : 0 + n ≡ n = omega arith in
-    let longer : numbers_from 0 (n + 1) ≡ numbers_from 0 n ++ n ∷ [] = rw add-one (numbers-append 0 n ∙ ap (λ k. numbers_from 0 n ++ k ∷ []) next) in
+    let longer : numbers_from 0 (n + 1) ≡ numbers_from 0 n ++ n ∷ [] =
+    rw add-one (numbers-append 0 n ∙ ap (λ k. numbers_from 0 n ++ k ∷ []) next) in
     ap (kept p) longer ∙ kept-append p (numbers_from 0 n) n
 
 -- one number more, which is kept

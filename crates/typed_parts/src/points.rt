@@ -25,12 +25,7 @@ pub fn point_of(
 }
 
 #[cycle(points)]
-fn point_in(
-    alloc: Global,
-    expr: &TypedExpr,
-    entry: u32,
-    column: u32,
-) -> Result<Option<Key>, Memory>
+fn point_in(alloc: Global, expr: &TypedExpr, entry: u32, column: u32) -> Result<Option<Key>, Memory>
     ensures { IfOk result (λ key. key ≡ (reading entry column expr.now).point) }
 {
     match &expr.node {

@@ -1,4 +1,5 @@
-use Rattle.std.proofs.Common.{◌≡◌, length, min, ◌++◌, rules, arith}
+-- Where the columns or the assignments end, all values are typed.
+use Rattle.std.proofs.Common.{◌≡◌, length, min, rules}
 use Rattle.std.proofs.lemmas.Slice.Zip.{zip_end}
 use Rattle.sql_typing.specs.Changes as spec
 use Rattle.expr_types.specs.Scope.{sources}
@@ -9,7 +10,8 @@ use Rattle.change_types.proofs.change.set_values.Goals as goal
 pub returns : goal.returns
 returns c =
     let many : length c.loop-at.yielded ≡ min (length c.args.columns.now) (length c.args.set.now) =
-    zip_end c.args.columns.now c.args.set.now c.loop-at.yielded c.into_iter-at-iterator.result c.loop-at.at-iterator c.next.new.self c.next.result (search rules) (search rules) c.loop-at.yielded_by
+    zip_end c.args.columns.now c.args.set.now c.loop-at.yielded c.into_iter-at-iterator.result c.loop-at.at-iterator c.next.new.self c.next.result
+    (search rules) (search rules) c.loop-at.yielded_by
     c.in-None.is c.next.ensures.steps in
     values_end (sources c.args.scope.now) (length c.loop-at.yielded) c.args.columns.now c.args.set.now c.loop-at.values
     (spec.set_values (sources c.args.scope.now) (targets c.args.columns.now) c.args.set.now) many c.loop-at.invariant.0

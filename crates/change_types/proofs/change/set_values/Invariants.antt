@@ -1,3 +1,4 @@
+-- The values so far, and what is left.
 use Rattle.std.proofs.Common.{◌≡◌, ◌++◌, Ok, drop, length}
 use Rattle.expr_types.specs.Scope.{sources}
 use Rattle.sql_typing.specs.Changes.{set_values}

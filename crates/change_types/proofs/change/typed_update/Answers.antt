@@ -1,12 +1,13 @@
-use Rattle.std.proofs.Common.{◌≡◌, length, Ok, rules}
+-- The assigned columns are the table's.
+use Rattle.std.proofs.Common.{length}
 use Rattle.sql_typing.specs.Changes.{own_source}
 use Rattle.change_types.specs.Targets.{targets}
 use Rattle.change_types.proofs.Numbers.{assigned_are}
 use Rattle.change_types.proofs.Reading.{set_within}
 use Rattle.change_types.proofs.change.typed_update.Goals as goal
 
-pub columns_read-requires-clause-within : goal.columns_read-requires-clause-within
-columns_read-requires-clause-within c =
+pub update_reads-requires-clause-within : goal.update_reads-requires-clause-within
+update_reads-requires-clause-within c =
     rw c.as_slice-4.ensures
     (set_within (own_source c.in_ok-found.found.table.now) (length c.in_ok-found.found.table.now.columns) (targets c.as_slice-2.result.now) c.as_slice-3.result.now c.in_ok-set.set
     (rw c.as_slice-2.ensures (assigned_are c.in_ok-found.found.table.now c.as_slice.result.now (targets c.in_ok-columns.columns) c.in_ok-columns.ensures))

@@ -1,3 +1,4 @@
+-- The rows that are left decide.
 use Rattle.std.proofs.Common.{◌≡◌, ◌==◌, drop, length}
 use Rattle.std.specs.List.{list_all}
 use Rattle.change_types.proofs.lengths.are_of_length.Given as goal

@@ -1,3 +1,4 @@
+-- The rows that are left decide.
 use Rattle.std.proofs.Common.{◌≡◌, ◌==◌, ◌&&◌, drop, length}
 use Rattle.std.specs.Prelude.{nat_le}
 use Rattle.std.specs.List.{list_all}
@@ -5,4 +6,5 @@ use Rattle.change_types.proofs.lengths.are_of_length_within.Given as goal
 
 abbrev pub invariant-loop-row : goal.invariant-loop-row
 invariant-loop-row l =
-    list_all (λ row. length row == l.wanted && nat_le (length row) l.most) (drop l.row-index l.rows) ≡ list_all (λ row. length row == l.wanted && nat_le (length row) l.most) l.rows
+    list_all (λ row. length row == l.wanted && nat_le (length row) l.most) (drop l.row-index l.rows)
+    ≡ list_all (λ row. length row == l.wanted && nat_le (length row) l.most) l.rows

@@ -1,3 +1,4 @@
+-- A column is marked among those that are left, or none.
 use Rattle.std.proofs.Common.{◌≡◌, false, drop, get_or}
 use Rattle.std.specs.List.{list_any}
 use Rattle.change_types.proofs.reads.has_any.Given as goal

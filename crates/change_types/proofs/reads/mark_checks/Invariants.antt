@@ -1,3 +1,4 @@
+-- The columns of the CHECKs so far are marked.
 use Rattle.std.proofs.Common.{◌&&◌, take}
 use Rattle.std.specs.List.{list_any}
 use Rattle.sql_typing.specs.Mentions.{mentions}

@@ -1,3 +1,4 @@
+-- An assigned column is marked where the expression mentions it.
 use Rattle.std.proofs.Common.{◌∙◌}
 use Rattle.sql_typing.specs.Mentions.{mentions}
 use Rattle.change_types.proofs.Reading.{any_marked}
@@ -6,4 +7,5 @@ use Rattle.change_types.proofs.reads.mentions_any.Goals as goal
 pub returns : goal.returns
 returns c =
     c.has_any.ensures
-    ∙ any_marked c.args.columns c.add.new.self (λ k. mentions 0 k c.args.expr.now) c.args.set.now c.requires (rw c.in_ok-marks.ensures at c.add.ensures)
+    ∙ any_marked c.args.columns c.add.new.self (λ k. mentions 0 k c.args.expr.now) c.args.set.now c.requires
+    (rw c.in_ok-marks.ensures at c.add.ensures)

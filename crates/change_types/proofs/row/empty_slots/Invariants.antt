@@ -1,3 +1,4 @@
+-- There are as many empty slots as turns.
 use Rattle.std.proofs.Common.{◌≡◌, Option, None, replicate}
 use Rattle.sql_tree.specs.declared.typed_expr.TypedExpr.{TypedExpr}
 use Rattle.change_types.proofs.row.empty_slots.Given as goal

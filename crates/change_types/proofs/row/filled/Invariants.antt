@@ -1,3 +1,4 @@
+-- The slots that are left fill the columns that are left.
 use Rattle.std.proofs.Common.{◌≡◌, ◌++◌, ◌+◌, drop, length}
 use Rattle.std.specs.Vec.Iter.{into_iter_items}
 use Rattle.change_types.specs.Rows.{filled}

@@ -1,3 +1,4 @@
+-- What is left goes to the slots over what stands there, and each column is one of the table's.
 use Rattle.std.proofs.Common.{◌≡◌, Option, None, Ok, replicate, drop, length}
 use Rattle.sql_tree.specs.declared.typed_expr.TypedExpr.{TypedExpr}
 use Rattle.sql_typing.specs.Insert.{cells}

@@ -1,4 +1,5 @@
-use Rattle.std.proofs.Common.{◌≡◌, Option, None, Ok, replicate, length, ap, ◌∙◌}
+-- The filled slots are the row.
+use Rattle.std.proofs.Common.{length}
 use Rattle.sql_typing.specs.Insert.{cells}
 use Rattle.change_types.specs.Targets.{targets}
 use Rattle.change_types.proofs.Filling.{slots_length, row_done}
@@ -6,9 +7,11 @@ use Rattle.change_types.proofs.row.typed_row.Goals as goal
 
 pub filled-requires : goal.filled-requires
 filled-requires c =
-    slots_length (cells (targets c.args.given.now) c.args.row.now) (length c.args.columns.now) (targets c.args.given.now) c.in_ok-slots.slots c.in_ok-slots.ensures
+    slots_length (cells (targets c.args.given.now) c.args.row.now) (length c.args.columns.now) (targets c.args.given.now) c.in_ok-slots.slots
+    c.in_ok-slots.ensures
 
 pub returns : goal.returns
 returns c =
-    row_done (cells (targets c.args.given.now) c.args.row.now) c.args.columns.now (targets c.args.given.now) c.in_ok-slots.slots c.in_ok-filled.field-0 c.requires c.in_ok-slots.ensures
+    row_done (cells (targets c.args.given.now) c.args.row.now) c.args.columns.now (targets c.args.given.now) c.in_ok-slots.slots
+    c.in_ok-filled.field-0 c.requires c.in_ok-slots.ensures
     c.in_ok-filled.ensures

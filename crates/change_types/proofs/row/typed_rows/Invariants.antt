@@ -1,3 +1,4 @@
+-- The rows so far, and what is left.
 use Rattle.std.proofs.Common.{◌≡◌, map, drop}
 use Rattle.expr_types.proofs.Lists.{with_rest}
 use Rattle.sql_typing.specs.Outcome.{all_of}
@@ -6,4 +7,5 @@ use Rattle.change_types.specs.Targets.{targets}
 use Rattle.change_types.proofs.row.typed_rows.Given as goal
 
 abbrev pub invariant-loop-row : goal.invariant-loop-row
-invariant-loop-row l = with_rest (row_over l.columns (targets l.given)) l.typed (drop l.row-index l.rows) ≡ all_of (map (row_over l.columns (targets l.given)) l.rows)
+invariant-loop-row l =
+    with_rest (row_over l.columns (targets l.given)) l.typed (drop l.row-index l.rows) ≡ all_of (map (row_over l.columns (targets l.given)) l.rows)

@@ -1,3 +1,4 @@
+-- The columns so far, and what is left.
 use Rattle.std.proofs.Common.{◌≡◌, ◌++◌, drop}
 use Rattle.sql_typing.specs.Tables.{numbered_from, all_targets}
 use Rattle.change_types.specs.Targets.{targets}

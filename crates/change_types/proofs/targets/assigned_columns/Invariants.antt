@@ -1,3 +1,4 @@
+-- The assignments that are left, behind the columns so far.
 use Rattle.std.proofs.Common.{◌≡◌, [], drop}
 use Rattle.sql_typing.specs.Changes.{assigned_from}
 use Rattle.change_types.specs.Targets.{targets}

@@ -1,3 +1,4 @@
+-- The number is among the columns that are left, or none.
 use Rattle.std.proofs.Common.{◌≡◌, drop}
 use Rattle.sql_typing.specs.Tables.{is_among}
 use Rattle.change_types.specs.Targets.{targets}

@@ -1,3 +1,4 @@
+-- The names that are left, behind the columns so far.
 use Rattle.std.proofs.Common.{◌≡◌, [], drop}
 use Rattle.sql_typing.specs.Insert.{listed_from}
 use Rattle.change_types.specs.Targets.{targets}

@@ -1,4 +1,5 @@
-use Rattle.std.proofs.Common.{◌||◌, sym, subst}
+-- An IN mentions what its left operand and its members mention.
+use Rattle.std.proofs.Common.{◌||◌, sym}
 use Rattle.std.specs.List.{list_any}
 use Rattle.sql_typing.specs.Mentions.{mentions}
 use Rattle.typed_parts.proofs.Marking.{marked_then, marked_as}

@@ -1,3 +1,4 @@
+-- The columns so far that are marked are kept.
 use Rattle.std.proofs.Common.{◌≡◌, ◌==◌, ◌&&◌, not, false, get_or}
 use Rattle.sql_typing.specs.Mentions.{kept, numbers_from}
 use Rattle.typed_parts.proofs.marks.marked_columns.Given as goal

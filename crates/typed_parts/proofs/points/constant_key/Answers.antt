@@ -1,4 +1,5 @@
-use Rattle.std.proofs.Common.{◌≡◌, ◌∙◌, sym, ap}
+-- An integer behind a minus sign, as a key.
+use Rattle.std.proofs.Common.{◌∙◌, sym, ap}
 use Rattle.sql_typing.specs.Points.{negative_key}
 use Rattle.typed_parts.specs.Readings.{reading}
 use Rattle.typed_parts.proofs.Asking.{constant-neg}
@@ -6,4 +7,5 @@ use Rattle.typed_parts.proofs.points.constant_key.Goals as goal
 
 pub returns-in-Neg : goal.returns-in-Neg
 returns-in-Neg c e k =
-    c.negative_key.ensures e k ∙ ap (λ x. negative_key (reading e k x).literal) c.get.ensures ∙ sym (constant-neg e k c.args.expr.now c.in-Neg.operand c.in-Neg.is)
+    c.negative_key.ensures e k ∙ ap (λ x. negative_key (reading e k x).literal) c.get.ensures
+    ∙ sym (constant-neg e k c.args.expr.now c.in-Neg.operand c.in-Neg.is)

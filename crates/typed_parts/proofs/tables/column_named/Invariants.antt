@@ -1,3 +1,4 @@
+-- The column is found among those that are left.
 use Rattle.std.proofs.Common.{◌≡◌, drop}
 use Rattle.sql_typing.specs.Tables.{target_from}
 use Rattle.typed_parts.proofs.tables.column_named.Given as goal

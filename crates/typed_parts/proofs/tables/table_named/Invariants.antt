@@ -1,3 +1,4 @@
+-- The table is found among those that are left.
 use Rattle.std.proofs.Common.{◌≡◌, drop}
 use Rattle.sql_typing.specs.Tables.{table_from}
 use Rattle.typed_parts.proofs.tables.table_named.Given as goal
