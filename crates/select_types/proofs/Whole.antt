@@ -12,7 +12,7 @@ use Rattle.sql_typing.specs.Names.{Source}
 use Rattle.sql_typing.specs.Outcome.{Outcome, and_then}
 use Rattle.sql_typing.specs.Select.{Entry, entries_of, entry_sources, ons_of, items_from, place_of, order_of, has_aggregate, typed_select}
 use Rattle.select_types.specs.GivesBy.{GivesBy}
-use Rattle.select_types.specs.Parts.{Part, part, parts_of, whole}
+use Rattle.select_types.specs.Parts.{SelectParts, select_parts, parts_of, whole}
 
 under : {A B : Type 0} (o : Outcome A) (f g : A → Outcome B) → ((a : A) → f a ≡ g a) → and_then o f ≡ and_then o g
 under (Ok a) f g h = h a
@@ -23,7 +23,7 @@ assoc (Ok a) f g = refl
 assoc (Err code) f g = refl
 
 -- what follows from the parts follows from each of them
-parts_then : {B : Type 0} (sources : List Source) (s : Select) (grouped : Bool) (k : Part → Outcome B)
+parts_then : {B : Type 0} (sources : List Source) (s : Select) (grouped : Bool) (k : SelectParts → Outcome B)
     → and_then (parts_of sources s grouped) k
     ≡ and_then (ons_of sources s.from) (λ ons.
     and_then (filter_of sources s.filter) (λ filter.
@@ -44,7 +44,7 @@ unfolding typed_select
 select_is tables s = under (entries_of tables s.from) _ _ (λ es. sym
     (parts_then (entry_sources es) s (has_aggregate s) (λ p. Ok (whole es s (has_aggregate s) p))))
 
-pub select_ok : (tables : List Table) (s : Select) (es : List Entry) (sources : List Source) (p : Part) → entries_of tables s.from ≡ Ok es
+pub select_ok : (tables : List Table) (s : Select) (es : List Entry) (sources : List Source) (p : SelectParts) → entries_of tables s.from ≡ Ok es
     → sources ≡ entry_sources es
     → parts_of sources s (has_aggregate s) ≡ Ok p → typed_select tables s ≡ Ok (whole es s (has_aggregate s) p)
 select_ok tables s es sources p e f g =
@@ -64,6 +64,6 @@ select_err tables s es sources code e f g =
 
 pub select_failed : (tables : List Table) (s : Select) (es : List Entry) (sources : List Source) (why : TypeFault)
     → entries_of tables s.from ≡ Ok es → sources ≡ entry_sources es
-    → GivesBy part (parts_of sources s (has_aggregate s)) (Err why) → Gives {A = TypedSelect} (typed_select tables s) (Err why)
+    → GivesBy select_parts (parts_of sources s (has_aggregate s)) (Err why) → Gives {A = TypedSelect} (typed_select tables s) (Err why)
 select_failed tables s es sources (State code) e f g = select_err tables s es sources code e f g
 select_failed tables s es sources Memory e f g = tt

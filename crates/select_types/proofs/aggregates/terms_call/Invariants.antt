@@ -1,3 +1,4 @@
+-- Whether an aggregate is called is the same of the terms that are left.
 use Rattle.std.proofs.Common.{◌≡◌, drop}
 use Rattle.std.specs.List.{list_any}
 use Rattle.sql_tree.specs.declared.statement.OrderTerm.{OrderTerm}

@@ -1,3 +1,4 @@
+-- An entry more, and an entry that is refused.
 use Rattle.std.proofs.Common.{[], rules, arith}
 use Rattle.std.proofs.lemmas.Grind.{common_steps}
 use Rattle.sql_typing.specs.Select.{entries_from}

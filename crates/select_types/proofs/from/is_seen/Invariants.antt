@@ -1,3 +1,4 @@
+-- Whether an entry is seen by the name is the same of those that are left.
 use Rattle.std.proofs.Common.{◌≡◌, drop}
 use Rattle.std.specs.List.{list_any}
 use Rattle.std.specs.Str.{bytes_eq}

@@ -1,3 +1,4 @@
+-- What is left of the items, behind the columns so far.
 use Rattle.std.proofs.Common.{◌≡◌, [], drop}
 use Rattle.sql_typing.specs.Select.{items_from}
 use Rattle.expr_types.specs.Scope.{sources}

@@ -1,3 +1,4 @@
+-- The first entries are those of the first sources.
 use Rattle.std.proofs.Common.{◌≡◌, map, take}
 use Rattle.std.proofs.lemmas.List.{take-map}
 use Rattle.expr_types.specs.Scope.{source}

@@ -1,3 +1,4 @@
+-- A condition more, and a condition that is refused.
 use Rattle.std.proofs.Common.{rules, arith}
 use Rattle.std.proofs.lemmas.Grind.{common_steps}
 use Rattle.expr_types.specs.Scope.{sources}

@@ -1,3 +1,4 @@
+-- The terms so far, and what is left.
 use Rattle.std.proofs.Common.{◌≡◌, drop, map}
 use Rattle.expr_types.proofs.Lists.{with_rest}
 use Rattle.expr_types.specs.Scope.{sources}

@@ -1,3 +1,4 @@
+-- A table stands at most as often as there are entries.
 use Rattle.std.proofs.Common.{◌≤◌, length, arith}
 use Rattle.select_types.proofs.ReadColumns.{times_fit}
 use Rattle.select_types.specs.Entries.{entries}

@@ -1,3 +1,4 @@
+-- One entry more.
 use Rattle.std.proofs.Common.{arith}
 use Rattle.select_types.proofs.ReadColumns.{marked_entry}
 use Rattle.select_types.proofs.reads.mark_expr.Goals as goal

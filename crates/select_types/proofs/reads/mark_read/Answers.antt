@@ -1,3 +1,4 @@
+-- Three walks, one behind another.
 use Rattle.std.proofs.Common.{Bool}
 use Rattle.sql_tree.specs.declared.typed_expr.TypedExpr.{TypedExpr}
 use Rattle.sql_typing.specs.Select.{mentions_table}

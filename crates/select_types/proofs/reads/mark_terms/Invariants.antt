@@ -1,3 +1,4 @@
+-- What the terms so far mention is marked.
 use Rattle.std.proofs.Common.{take, Bool}
 use Rattle.std.specs.List.{list_any}
 use Rattle.sql_tree.specs.declared.typed_expr.TypedExpr.{TypedExpr}

@@ -1,3 +1,4 @@
+-- The columns that were marked are those that are mentioned.
 use Rattle.std.proofs.Common.{◌≡◌, ℕ, Bool, false, List, subst, length, replicate}
 use Rattle.std.specs.Prelude.{IfOk}
 use Rattle.std.specs.List.{list_any}

@@ -1,3 +1,4 @@
+-- One entry more, and none left.
 use Rattle.std.proofs.Common.{◌≡◌, ◌+◌, ◌-◌, ◌^◌, ◌∙◌, ap, min, length, drop, [], arith}
 use Rattle.std.proofs.lemmas.List.{drop_all}
 use Rattle.expr_types.specs.Scope.{sources}
