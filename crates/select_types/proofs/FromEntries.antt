@@ -1,5 +1,5 @@
 -- The entries of FROM, one by one.
-use Rattle.std.proofs.Common.{◌≡◌, ℕ, suc, ◌+◌, ◌<◌, Bool, true, false, cond, List, [], ◌∷◌, ◌++◌, length, drop, get_or, Ok, Err, refl, ap, sym, ◌∙◌, add-one, drop-cons}
+use Rattle.std.proofs.Common.{◌≡◌, ℕ, ◌+◌, ◌<◌, Bool, true, false, cond, List, [], ◌∷◌, ◌++◌, length, drop, get_or, Ok, Err, refl, ap, sym, ◌∙◌}
 use Rattle.std.specs.List.{list_any}
 use Rattle.std.specs.Str.{bytes_eq}
 use Rattle.cell_base.specs.declared.sql_state.SqlState.{SqlState}
@@ -14,6 +14,7 @@ use Rattle.expr_types.specs.declared.error.TypeFault.TheVariants.{State, Memory}
 use Rattle.select_types.specs.GivesBy.{GivesBy}
 use Rattle.select_types.specs.declared.from.FromEntry.{FromEntry}
 use Rattle.select_types.specs.Entries.{entries, entry_of}
+use Rattle.select_types.proofs.Steps.{cut}
 
 chosen : (b : Bool) (e : Entry) (f : Entry → Outcome (List Entry))
     → cond {A = Outcome (List Entry)} b (Err S42712) (f e) ≡ and_then (cond {A = Outcome Entry} b (Err S42712) (Ok e)) f
@@ -30,47 +31,56 @@ by_table (Err code) b name f = refl
 entries_cons : (tables : List Table) (before : List Entry) (r : TableRef) (rs : List TableRef)
     → entries_from tables before (r ∷ rs) ≡ and_then (entry_of tables before r) (λ e. entries_from tables (before ++ e ∷ []) rs)
 entries_cons tables before r rs =
-    by_table (table_named tables r.name) (list_any (λ (e : Entry). bytes_eq e.name (name_or r.name r.alias)) before) (name_or r.name r.alias) (λ e. entries_from tables (before ++ e ∷ []) rs)
+    by_table (table_named tables r.name) (list_any (λ (e : Entry). bytes_eq e.name (name_or r.name r.alias)) before) (name_or r.name r.alias)
+    (λ e. entries_from tables (before ++ e ∷ []) rs)
 
-cut : {A : Type 0} (all : List A) (i : ℕ) (x : A) → i < length all → x ≡ get_or all i x → drop i all ≡ x ∷ drop (i + 1) all
-cut all i x within is = rw add-one (drop-cons all i x within ∙ ap (λ z. z ∷ drop (suc i) all) (sym is))
-
-by_entry : (tables : List Table) (before after : List Entry) (rs : List TableRef) (o : Outcome Entry) → and_then o (λ e. Ok (before ++ e ∷ [])) ≡ Ok after
+by_entry : (tables : List Table) (before after : List Entry) (rs : List TableRef) (o : Outcome Entry)
+    → and_then o (λ e. Ok (before ++ e ∷ [])) ≡ Ok after
     → and_then o (λ e. entries_from tables (before ++ e ∷ []) rs) ≡ entries_from tables after rs
 by_entry tables before after rs (Ok e) h = let same : before ++ e ∷ [] ≡ after = cc in ap (λ es. entries_from tables es rs) same
 by_entry tables before after rs (Err code) h = cc
 
-by_fault : (tables : List Table) (before : List Entry) (rs : List TableRef) (o : Outcome Entry) (code : SqlState) → and_then o (λ e. Ok (before ++ e ∷ [])) ≡ Err code
+by_fault : (tables : List Table) (before : List Entry) (rs : List TableRef) (o : Outcome Entry) (code : SqlState)
+    → and_then o (λ e. Ok (before ++ e ∷ [])) ≡ Err code
     → and_then o (λ e. entries_from tables (before ++ e ∷ []) rs) ≡ Err code
 by_fault tables before rs (Ok e) code h = cc
 by_fault tables before rs (Err other) code h = cc
 
-pub entries_more : (tables : List Table) (all : List TableRef) (i : ℕ) (r : TableRef) (before after : List FromEntry) (o : Outcome (List Entry)) → i < length all → r ≡ get_or all i r
-    → and_then (entry_of tables (entries before) r) (λ e. Ok (entries before ++ e ∷ [])) ≡ Ok (entries after) → entries_from tables (entries before) (drop i all) ≡ o
+pub entries_more : (tables : List Table) (all : List TableRef) (i : ℕ) (r : TableRef) (before after : List FromEntry) (o : Outcome (List Entry))
+    → i < length all → r ≡ get_or all i r
+    → and_then (entry_of tables (entries before) r) (λ e. Ok (entries before ++ e ∷ [])) ≡ Ok (entries after)
+    → entries_from tables (entries before) (drop i all) ≡ o
     → entries_from tables (entries after) (drop (i + 1) all) ≡ o
 entries_more tables all i r before after o within is found was =
     let one : entries_from tables (entries before) (r ∷ drop (i + 1) all) ≡ entries_from tables (entries after) (drop (i + 1) all) =
-    entries_cons tables (entries before) r (drop (i + 1) all) ∙ by_entry tables (entries before) (entries after) (drop (i + 1) all) (entry_of tables (entries before) r) found in
+    entries_cons tables (entries before) r (drop (i + 1) all)
+    ∙ by_entry tables (entries before) (entries after) (drop (i + 1) all) (entry_of tables (entries before) r) found in
     sym one ∙ ap (entries_from tables (entries before)) (sym (cut all i r within is)) ∙ was
 
-pub entries_fault : (tables : List Table) (all : List TableRef) (i : ℕ) (r : TableRef) (before : List FromEntry) (code : SqlState) (o : Outcome (List Entry)) → i < length all → r ≡ get_or all i r
-    → and_then (entry_of tables (entries before) r) (λ e. Ok (entries before ++ e ∷ [])) ≡ Err code → entries_from tables (entries before) (drop i all) ≡ o → o ≡ Err code
+pub entries_fault : (tables : List Table) (all : List TableRef) (i : ℕ) (r : TableRef) (before : List FromEntry) (code : SqlState)
+    (o : Outcome (List Entry)) → i < length all → r ≡ get_or all i r
+    → and_then (entry_of tables (entries before) r) (λ e. Ok (entries before ++ e ∷ [])) ≡ Err code
+    → entries_from tables (entries before) (drop i all) ≡ o → o ≡ Err code
 entries_fault tables all i r before code o within is found was =
     sym was ∙ ap (entries_from tables (entries before)) (cut all i r within is) ∙ entries_cons tables (entries before) r (drop (i + 1) all)
     ∙ by_fault tables (entries before) (drop (i + 1) all) (entry_of tables (entries before) r) code found
 
 -- ---- one entry
 
-pub entry_seen : (tables : List Table) (before : List Entry) (r : TableRef) (t : Numbered) (name : List ℕ) → Ok t ≡ table_named tables r.name → name ≡ name_or r.name r.alias
+pub entry_seen : (tables : List Table) (before : List Entry) (r : TableRef) (t : Numbered) (name : List ℕ) → Ok t ≡ table_named tables r.name
+    → name ≡ name_or r.name r.alias
     → list_any (λ (e : Entry). bytes_eq e.name name) before ≡ true → Err S42712 ≡ entry_of tables before r
 entry_seen tables before r t name found named b = rw (← found, ← named, b) refl
 
-pub entry_new : (tables : List Table) (before : List Entry) (r : TableRef) (t : Numbered) (name : List ℕ) → Ok t ≡ table_named tables r.name → name ≡ name_or r.name r.alias
+pub entry_new : (tables : List Table) (before : List Entry) (r : TableRef) (t : Numbered) (name : List ℕ) → Ok t ≡ table_named tables r.name
+    → name ≡ name_or r.name r.alias
     → list_any (λ (e : Entry). bytes_eq e.name name) before ≡ false → Ok (record { name = name; found = t }) ≡ entry_of tables before r
 entry_new tables before r t name found named b = rw (← found, ← named, b) refl
 
-pub entries_failed : (tables : List Table) (all : List TableRef) (i : ℕ) (r : TableRef) (before : List FromEntry) (why : TypeFault) (o : Outcome (List Entry)) → i < length all → r ≡ get_or all i r
-    → GivesBy entries (and_then (entry_of tables (entries before) r) (λ e. Ok (entries before ++ e ∷ []))) (Err why) → entries_from tables (entries before) (drop i all) ≡ o
+pub entries_failed : (tables : List Table) (all : List TableRef) (i : ℕ) (r : TableRef) (before : List FromEntry) (why : TypeFault)
+    (o : Outcome (List Entry)) → i < length all → r ≡ get_or all i r
+    → GivesBy entries (and_then (entry_of tables (entries before) r) (λ e. Ok (entries before ++ e ∷ []))) (Err why)
+    → entries_from tables (entries before) (drop i all) ≡ o
     → GivesBy entries o (Err why)
 entries_failed tables all i r before (State code) o within is found was = entries_fault tables all i r before code o within is found was
 entries_failed tables all i r before Memory o within is found was = tt

@@ -20,12 +20,16 @@ use Rattle.select_types.specs.Entries.{entry, entries, seen}
 abbrev pub TablesNarrow : List Table → Type 0
 TablesNarrow ts = (k : ℕ) (d : Table) → k < length ts → length (get_or ts k d).columns < 2 ^ 32
 
-by_name : (b : Bool) (i : ℕ) (x : Table) (rest : Outcome Numbered) (t : Numbered) → length x.columns < 2 ^ 32 → (rest ≡ Ok t → length t.table.columns < 2 ^ 32)
+by_name : (b : Bool) (i : ℕ) (x : Table) (rest : Outcome Numbered) (t : Numbered) → length x.columns < 2 ^ 32
+    → (rest ≡ Ok t → length t.table.columns < 2 ^ 32)
     → cond {A = Outcome Numbered} b (Ok (record { number = i; table = x })) rest ≡ Ok t → length t.table.columns < 2 ^ 32
-by_name true i x rest t h later e = let same : record { number = i; table = x } ≡ t = cc in rw (ap (λ (n : Numbered). length n.table.columns) same) at h
+by_name true i x rest t h later e =
+    let same : record { number = i; table = x } ≡ t = cc in
+    rw (ap (λ (n : Numbered). length n.table.columns) same) at h
 by_name false i x rest t h later e = later e
 
-table_narrow : (name : List ℕ) (i : ℕ) (ts : List Table) (t : Numbered) → TablesNarrow ts → table_from name i ts ≡ Ok t → length t.table.columns < 2 ^ 32
+table_narrow : (name : List ℕ) (i : ℕ) (ts : List Table) (t : Numbered) → TablesNarrow ts → table_from name i ts ≡ Ok t
+    → length t.table.columns < 2 ^ 32
 table_narrow name i [] t h e = cc
 table_narrow name i (x ∷ xs) t h e =
     by_name (bytes_eq x.name name) i x (table_from name (i + 1) xs) t (h 0 x (omega arith))
@@ -45,11 +49,13 @@ record IsKept (many : ℕ) (all : List Entry) : Type 0 where
   pub as_many : length all ≡ many
   pub narrow : EntriesNarrow all
 
-by_seen : (b : Bool) (rest : Outcome (List Entry)) (all : List Entry) (many : ℕ) → (rest ≡ Ok all → IsKept many all) → cond {A = Outcome (List Entry)} b (Err S42712) rest ≡ Ok all → IsKept many all
+by_seen : (b : Bool) (rest : Outcome (List Entry)) (all : List Entry) (many : ℕ) → (rest ≡ Ok all → IsKept many all)
+    → cond {A = Outcome (List Entry)} b (Err S42712) rest ≡ Ok all → IsKept many all
 by_seen true rest all many h e = cc
 by_seen false rest all many h e = h e
 
-by_table : (o : Outcome Numbered) (f : Numbered → Outcome (List Entry)) (all : List Entry) (many : ℕ) → ((t : Numbered) → o ≡ Ok t → f t ≡ Ok all → IsKept many all)
+by_table : (o : Outcome Numbered) (f : Numbered → Outcome (List Entry)) (all : List Entry) (many : ℕ)
+    → ((t : Numbered) → o ≡ Ok t → f t ≡ Ok all → IsKept many all)
     → and_then o f ≡ Ok all → IsKept many all
 by_table (Ok t) f all many h e = h t refl e
 by_table (Err code) f all many h e = cc
@@ -57,25 +63,30 @@ by_table (Err code) f all many h e = cc
 longer : (before : List Entry) (x : Entry) (n : ℕ) → length (before ++ x ∷ []) + n ≡ length before + suc n
 longer before x n = omega (arith, length_push before x)
 
-kept_from : (tables : List Table) (before : List Entry) (rs : List TableRef) (all : List Entry) → TablesNarrow tables → EntriesNarrow before → entries_from tables before rs ≡ Ok all
+kept_from : (tables : List Table) (before : List Entry) (rs : List TableRef) (all : List Entry) → TablesNarrow tables → EntriesNarrow before
+    → entries_from tables before rs ≡ Ok all
     → IsKept (length before + length rs) all
 kept_from tables before [] all n h e =
     let same : before ≡ all = cc in
     record { as_many = omega (arith, ap length same); narrow = subst EntriesNarrow same h }
 kept_from tables before (r ∷ rs) all n h e =
-    by_table (table_named tables r.name) (λ t. cond {A = Outcome (List Entry)} (list_any (λ (x : Entry). bytes_eq x.name (name_or r.name r.alias)) before) (Err S42712)
+    by_table (table_named tables r.name) (λ t. cond {A = Outcome (List Entry)}
+    (list_any (λ (x : Entry). bytes_eq x.name (name_or r.name r.alias)) before) (Err S42712)
     (entries_from tables (before ++ record { name = name_or r.name r.alias; found = t } ∷ []) rs)) all (length before + length (r ∷ rs))
-    (λ t is f. by_seen (list_any (λ (x : Entry). bytes_eq x.name (name_or r.name r.alias)) before) (entries_from tables (before ++ record { name = name_or r.name r.alias; found = t } ∷ []) rs) all
+    (λ t is f. by_seen (list_any (λ (x : Entry). bytes_eq x.name (name_or r.name r.alias)) before)
+    (entries_from tables (before ++ record { name = name_or r.name r.alias; found = t } ∷ []) rs) all
     (length before + length (r ∷ rs))
     (λ g. let more = kept_from tables (before ++ record { name = name_or r.name r.alias; found = t } ∷ []) rs all n
     (narrow-push before (record { name = name_or r.name r.alias; found = t }) h (table_narrow r.name 0 tables t n is)) g in
     record { as_many = more.as_many ∙ longer before (record { name = name_or r.name r.alias; found = t }) (length rs); narrow = more.narrow }) f) e
 
-by_number : (b : Bool) (rest : Outcome (List Entry)) (all : List Entry) (many : ℕ) → (rest ≡ Ok all → b ≡ false → IsKept many all) → cond {A = Outcome (List Entry)} b (Err S54000) rest ≡ Ok all → IsKept many all
+by_number : (b : Bool) (rest : Outcome (List Entry)) (all : List Entry) (many : ℕ) → (rest ≡ Ok all → b ≡ false → IsKept many all)
+    → cond {A = Outcome (List Entry)} b (Err S54000) rest ≡ Ok all → IsKept many all
 by_number true rest all many h e = cc
 by_number false rest all many h e = h e refl
 
-kept : (tables : List Table) (from : List TableRef) (all : List Entry) → TablesNarrow tables → entries_of tables from ≡ Ok all → IsKept (length from) all
+kept : (tables : List Table) (from : List TableRef) (all : List Entry) → TablesNarrow tables → entries_of tables from ≡ Ok all
+    → IsKept (length from) all
 unfolding entries_of
 kept tables from all n e =
     by_number (nat_lt 4 (length from)) (entries_from tables [] from) all (length from) (λ f _.
@@ -89,7 +100,8 @@ few_by false rest all e = refl
 lt_few : (n : ℕ) → n ≤ 4 → n < 2 ^ 32
 lt_few n h = omega arith
 
-seen_narrow : (es : List FromEntry) → EntriesNarrow (entries es) → (i : ℕ) (d : Seen) → i < length es → length (get_or (map seen es) i d).table.now.columns < 2 ^ 32
+seen_narrow : (es : List FromEntry) → EntriesNarrow (entries es) → (i : ℕ) (d : Seen) → i < length es
+    → length (get_or (map seen es) i d).table.now.columns < 2 ^ 32
 seen_narrow [] h i d within = absurd (omega arith)
 seen_narrow (e ∷ es) h zero d within = h 0 (entry e) (omega arith)
 seen_narrow (e ∷ es) h (suc i) d within = seen_narrow es (λ k x w. h (suc k) x (omega arith)) i d (omega arith)
@@ -100,10 +112,12 @@ few_entries tables from all e = ltb-false 4 (length from) (few_by (nat_lt 4 (len
 
 -- ---- the scope of the entries
 
-pub scope_many : (tables : List Table) (from : List TableRef) (es : List FromEntry) → AreNarrow tables → entries_of tables from ≡ Ok (entries es) → length (map seen es) ≡ length from
+pub scope_many : (tables : List Table) (from : List TableRef) (es : List FromEntry) → AreNarrow tables → entries_of tables from ≡ Ok (entries es)
+    → length (map seen es) ≡ length from
 scope_many tables from es n e = length-map es seen ∙ sym (length-map es entry) ∙ (kept tables from (entries es) n.narrow e).as_many
 
-pub scope_narrow : (tables : List Table) (from : List TableRef) (es : List FromEntry) → AreNarrow tables → entries_of tables from ≡ Ok (entries es) → IsNarrow (map seen es)
+pub scope_narrow : (tables : List Table) (from : List TableRef) (es : List FromEntry) → AreNarrow tables → entries_of tables from ≡ Ok (entries es)
+    → IsNarrow (map seen es)
 scope_narrow tables from es n e =
     let few : length from ≤ 4 = few_entries tables from (entries es) e in
     let many : length (map seen es) ≡ length from = scope_many tables from es n e in

@@ -1,5 +1,5 @@
 -- The conditions of JOIN, entry by entry.
-use Rattle.std.proofs.Common.{◌≡◌, ℕ, suc, ◌+◌, ◌<◌, List, [], ◌∷◌, ◌++◌, length, take, drop, get_or, Option, Some, None, Ok, Err, refl, ap, sym, ◌∙◌, add-one, drop-cons, append_assoc, arith}
+use Rattle.std.proofs.Common.{◌≡◌, ℕ, ◌+◌, ◌<◌, List, [], ◌∷◌, ◌++◌, length, take, drop, get_or, Option, Some, None, Ok, Err, refl, ap, sym, ◌∙◌, append_assoc, arith}
 use Rattle.std.proofs.lemmas.List.{append-nil, length-take, get_or-take}
 use Rattle.cell_base.specs.declared.sql_state.SqlState.{SqlState}
 use Rattle.sql_tree.specs.declared.expr.Expr.{Expr}
@@ -14,6 +14,7 @@ use Rattle.sql_typing.specs.Names.{Source}
 use Rattle.sql_typing.specs.Expressions.{flag}
 use Rattle.sql_typing.specs.Outcome.{Outcome, and_then}
 use Rattle.sql_typing.specs.Select.{on_before, ons_from}
+use Rattle.select_types.proofs.Steps.{cut}
 
 -- what is typed, and then what is left
 abbrev pub ons_left : List TypedExpr → List Source → ℕ → List TableRef → Outcome (List TypedExpr)
@@ -50,17 +51,16 @@ on_fault : (seen : List Source) (on : Option Expr) (o : Outcome (List TypedExpr)
 on_fault seen None o done code e = cc
 on_fault seen (Some x) o done code e = first_fault (flag seen x) o done code e
 
-cut : {A : Type 0} (all : List A) (i : ℕ) (x : A) → i < length all → x ≡ get_or all i x → drop i all ≡ x ∷ drop (i + 1) all
-cut all i x within is = rw add-one (drop-cons all i x within ∙ ap (λ z. z ∷ drop (suc i) all) (sym is))
-
-pub ons_more : (sources : List Source) (all : List TableRef) (i : ℕ) (r : TableRef) (done after : List TypedExpr) (o : Outcome (List TypedExpr)) → i < length all → r ≡ get_or all i r
+pub ons_more : (sources : List Source) (all : List TableRef) (i : ℕ) (r : TableRef) (done after : List TypedExpr) (o : Outcome (List TypedExpr))
+    → i < length all → r ≡ get_or all i r
     → and_then (on_before (take (i + 1) sources) r.on (Ok [])) (λ more. Ok (done ++ more)) ≡ Ok after
     → ons_left done sources (i + 1) (drop i all) ≡ o → ons_left after sources (i + 1 + 1) (drop (i + 1) all) ≡ o
 ons_more sources all i r done after o within is e was =
     sym (on_more (take (i + 1) sources) r.on (ons_from sources (i + 1 + 1) (drop (i + 1) all)) done after e)
     ∙ ap (ons_left done sources (i + 1)) (sym (cut all i r within is)) ∙ was
 
-pub ons_fault : (sources : List Source) (all : List TableRef) (i : ℕ) (r : TableRef) (done : List TypedExpr) (code : SqlState) (o : Outcome (List TypedExpr)) → i < length all → r ≡ get_or all i r
+pub ons_fault : (sources : List Source) (all : List TableRef) (i : ℕ) (r : TableRef) (done : List TypedExpr) (code : SqlState)
+    (o : Outcome (List TypedExpr)) → i < length all → r ≡ get_or all i r
     → and_then (on_before (take (i + 1) sources) r.on (Ok [])) (λ more. Ok (done ++ more)) ≡ Err code
     → ons_left done sources (i + 1) (drop i all) ≡ o → o ≡ Err code
 ons_fault sources all i r done code o within is e was =
@@ -78,7 +78,8 @@ take_narrow entries n h = record {
       rw (get_or-take n entries i d below) (h.narrow i d here);
 }
 
-pub ons_failed : (sources : List Source) (all : List TableRef) (i : ℕ) (r : TableRef) (done : List TypedExpr) (why : TypeFault) (o : Outcome (List TypedExpr)) → i < length all → r ≡ get_or all i r
+pub ons_failed : (sources : List Source) (all : List TableRef) (i : ℕ) (r : TableRef) (done : List TypedExpr) (why : TypeFault)
+    (o : Outcome (List TypedExpr)) → i < length all → r ≡ get_or all i r
     → Gives {A = List TypedExpr} (and_then (on_before (take (i + 1) sources) r.on (Ok [])) (λ more. Ok (done ++ more))) (Err why)
     → ons_left done sources (i + 1) (drop i all) ≡ o → Gives {A = List TypedExpr} o (Err why)
 ons_failed sources all i r done (State code) o within is e was = ons_fault sources all i r done code o within is e was

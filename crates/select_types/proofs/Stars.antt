@@ -1,5 +1,5 @@
 -- The columns that `*` stands for, entry by entry.
-use Rattle.std.proofs.Common.{◌≡◌, ℕ, suc, ◌+◌, ◌-◌, ◌^◌, ◌<◌, ◌≤◌, min, List, [], ◌∷◌, ◌++◌, length, drop, get_or, refl, ap, sym, ◌∙◌, add-one, drop-cons, append_assoc, length-append, arith}
+use Rattle.std.proofs.Common.{◌≡◌, ℕ, suc, ◌+◌, ◌-◌, ◌^◌, ◌<◌, ◌≤◌, min, List, [], ◌∷◌, ◌++◌, length, drop, get_or, refl, ap, sym, ◌∙◌, append_assoc, length-append, arith}
 use Rattle.sql_tree.specs.declared.table.Column.{Column}
 use Rattle.expr_types.specs.declared.entry.Entry.{Entry}
 use Rattle.expr_types.specs.Scope.{sources}
@@ -10,6 +10,7 @@ use Rattle.sql_typing.specs.Expressions.{typed_node}
 use Rattle.select_types.proofs.Outputs.{outputs_more}
 use Rattle.sql_typing.specs.Names.{Source}
 use Rattle.sql_typing.specs.Select.{column_outputs, star_outputs}
+use Rattle.select_types.proofs.Steps.{cut}
 
 many_columns : (e c : ℕ) (xs : List Column) → length (column_outputs e c xs) ≡ length xs
 many_columns e c [] = refl
@@ -22,29 +23,30 @@ star_width (s ∷ ss) = length s.columns + star_width ss
 
 pub many_stars : (e : ℕ) (ss : List Source) → length (star_outputs e ss) ≡ star_width ss
 many_stars e [] = refl
-many_stars e (s ∷ ss) = length-append (column_outputs e 0 s.columns) (star_outputs (e + 1) ss) ∙ ap (λ n. n + length (star_outputs (e + 1) ss)) (many_columns e 0 s.columns) ∙ ap (λ n. length s.columns + n) (many_stars (e + 1) ss)
-
-cut : {A : Type 0} (all : List A) (i : ℕ) (x : A) → i < length all → x ≡ get_or all i x → drop i all ≡ x ∷ drop (i + 1) all
-cut all i x within is = rw add-one (drop-cons all i x within ∙ ap (λ z. z ∷ drop (suc i) all) (sym is))
+many_stars e (s ∷ ss) = length-append (column_outputs e 0 s.columns) (star_outputs (e + 1) ss)
+    ∙ ap (λ n. n + length (star_outputs (e + 1) ss)) (many_columns e 0 s.columns) ∙ ap (λ n. length s.columns + n) (many_stars (e + 1) ss)
 
 capped_step : (w n m top a : ℕ) → a ≡ min (w + n) top → min (a + m) top ≡ min (w + (n + m)) top
 capped_step w n m top a e = omega arith
 
 -- one entry more
-pub width_more : (all : List Entry) (i : ℕ) (x : Entry) (w a top : ℕ) → i < length all → x ≡ get_or all i x → a ≡ min (w + length x.table.now.columns) top
+pub width_more : (all : List Entry) (i : ℕ) (x : Entry) (w a top : ℕ) → i < length all → x ≡ get_or all i x
+    → a ≡ min (w + length x.table.now.columns) top
     → min (a + star_width (sources (drop (i + 1) all))) top ≡ min (w + star_width (sources (drop i all))) top
 width_more all i x w a top within is e =
     capped_step w (length x.table.now.columns) (star_width (sources (drop (i + 1) all))) top a e
     ∙ ap (λ es. min (w + star_width (sources es)) top) (sym (cut all i x within is))
 
-pub columns_more : (all : List Column) (i : ℕ) (x : Column) (e : ℕ) (before : List Output) (o : Output) → i < length all → x ≡ get_or all i x → output o ≡ record { name = x.name; expr = typed_node x.kind (node.Column e i) }
+pub columns_more : (all : List Column) (i : ℕ) (x : Column) (e : ℕ) (before : List Output) (o : Output) → i < length all → x ≡ get_or all i x
+    → output o ≡ record { name = x.name; expr = typed_node x.kind (node.Column e i) }
     → outputs (before ++ o ∷ []) ++ column_outputs e (i + 1) (drop (i + 1) all) ≡ outputs before ++ column_outputs e i (drop i all)
 columns_more all i x e before o within is named =
     outputs_more before o (column_outputs e (i + 1) (drop (i + 1) all))
     ∙ ap (λ c. outputs before ++ c ∷ column_outputs e (i + 1) (drop (i + 1) all)) named
     ∙ ap (λ cs. outputs before ++ column_outputs e i cs) (sym (cut all i x within is))
 
-pub stars_more : (all : List Entry) (i : ℕ) (x : Entry) (before after : List Output) → i < length all → x ≡ get_or all i x → outputs after ≡ outputs before ++ column_outputs i 0 x.table.now.columns
+pub stars_more : (all : List Entry) (i : ℕ) (x : Entry) (before after : List Output) → i < length all → x ≡ get_or all i x
+    → outputs after ≡ outputs before ++ column_outputs i 0 x.table.now.columns
     → outputs after ++ star_outputs (i + 1) (sources (drop (i + 1) all)) ≡ outputs before ++ star_outputs i (sources (drop i all))
 stars_more all i x before after within is e =
     ap (λ cs. cs ++ star_outputs (i + 1) (sources (drop (i + 1) all))) e

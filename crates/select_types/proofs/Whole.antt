@@ -12,7 +12,7 @@ use Rattle.sql_typing.specs.Names.{Source}
 use Rattle.sql_typing.specs.Outcome.{Outcome, and_then}
 use Rattle.sql_typing.specs.Select.{Entry, entries_of, entry_sources, ons_of, items_from, place_of, order_of, has_aggregate, typed_select}
 use Rattle.select_types.specs.GivesBy.{GivesBy}
-use Rattle.select_types.specs.Parts.{Part, part, parts_of, whole}
+use Rattle.select_types.specs.Parts.{SelectParts, select_parts, parts_of, whole}
 
 under : {A B : Type 0} (o : Outcome A) (f g : A → Outcome B) → ((a : A) → f a ≡ g a) → and_then o f ≡ and_then o g
 under (Ok a) f g h = h a
@@ -23,7 +23,7 @@ assoc (Ok a) f g = refl
 assoc (Err code) f g = refl
 
 -- what follows from the parts follows from each of them
-parts_then : {B : Type 0} (sources : List Source) (s : Select) (grouped : Bool) (k : Part → Outcome B)
+parts_then : {B : Type 0} (sources : List Source) (s : Select) (grouped : Bool) (k : SelectParts → Outcome B)
     → and_then (parts_of sources s grouped) k
     ≡ and_then (ons_of sources s.from) (λ ons.
     and_then (filter_of sources s.filter) (λ filter.
@@ -37,25 +37,33 @@ parts_then sources s grouped k =
     assoc (order_of grouped sources outputs s.order) _ k)))
 
 select_is : (tables : List Table) (s : Select)
-    → typed_select tables s ≡ and_then (entries_of tables s.from) (λ es. and_then (parts_of (entry_sources es) s (has_aggregate s)) (λ p. Ok (whole es s (has_aggregate s) p)))
+    → typed_select tables s
+    ≡ and_then (entries_of tables s.from) (λ es. and_then (parts_of (entry_sources es) s (has_aggregate s))
+    (λ p. Ok (whole es s (has_aggregate s) p)))
 unfolding typed_select
-select_is tables s = under (entries_of tables s.from) _ _ (λ es. sym (parts_then (entry_sources es) s (has_aggregate s) (λ p. Ok (whole es s (has_aggregate s) p))))
+select_is tables s = under (entries_of tables s.from) _ _ (λ es. sym
+    (parts_then (entry_sources es) s (has_aggregate s) (λ p. Ok (whole es s (has_aggregate s) p))))
 
-pub select_ok : (tables : List Table) (s : Select) (es : List Entry) (sources : List Source) (p : Part) → entries_of tables s.from ≡ Ok es → sources ≡ entry_sources es
+pub select_ok : (tables : List Table) (s : Select) (es : List Entry) (sources : List Source) (p : SelectParts) → entries_of tables s.from ≡ Ok es
+    → sources ≡ entry_sources es
     → parts_of sources s (has_aggregate s) ≡ Ok p → typed_select tables s ≡ Ok (whole es s (has_aggregate s) p)
 select_ok tables s es sources p e f g =
     let h : parts_of (entry_sources es) s (has_aggregate s) ≡ Ok p = rw (← f) g in
-    select_is tables s ∙ ap (λ o. and_then o (λ xs. and_then (parts_of (entry_sources xs) s (has_aggregate s)) (λ q. Ok (whole xs s (has_aggregate s) q)))) e
+    select_is tables s
+    ∙ ap (λ o. and_then o (λ xs. and_then (parts_of (entry_sources xs) s (has_aggregate s)) (λ q. Ok (whole xs s (has_aggregate s) q)))) e
     ∙ ap (λ o. and_then o (λ q. Ok (whole es s (has_aggregate s) q))) h
 
-select_err : (tables : List Table) (s : Select) (es : List Entry) (sources : List Source) (code : SqlState) → entries_of tables s.from ≡ Ok es → sources ≡ entry_sources es
+select_err : (tables : List Table) (s : Select) (es : List Entry) (sources : List Source) (code : SqlState) → entries_of tables s.from ≡ Ok es
+    → sources ≡ entry_sources es
     → parts_of sources s (has_aggregate s) ≡ Err code → typed_select tables s ≡ Err code
 select_err tables s es sources code e f g =
     let h : parts_of (entry_sources es) s (has_aggregate s) ≡ Err code = rw (← f) g in
-    select_is tables s ∙ ap (λ o. and_then o (λ xs. and_then (parts_of (entry_sources xs) s (has_aggregate s)) (λ q. Ok (whole xs s (has_aggregate s) q)))) e
+    select_is tables s
+    ∙ ap (λ o. and_then o (λ xs. and_then (parts_of (entry_sources xs) s (has_aggregate s)) (λ q. Ok (whole xs s (has_aggregate s) q)))) e
     ∙ ap (λ o. and_then o (λ q. Ok (whole es s (has_aggregate s) q))) h
 
-pub select_failed : (tables : List Table) (s : Select) (es : List Entry) (sources : List Source) (why : TypeFault) → entries_of tables s.from ≡ Ok es → sources ≡ entry_sources es
-    → GivesBy part (parts_of sources s (has_aggregate s)) (Err why) → Gives {A = TypedSelect} (typed_select tables s) (Err why)
+pub select_failed : (tables : List Table) (s : Select) (es : List Entry) (sources : List Source) (why : TypeFault)
+    → entries_of tables s.from ≡ Ok es → sources ≡ entry_sources es
+    → GivesBy select_parts (parts_of sources s (has_aggregate s)) (Err why) → Gives {A = TypedSelect} (typed_select tables s) (Err why)
 select_failed tables s es sources (State code) e f g = select_err tables s es sources code e f g
 select_failed tables s es sources Memory e f g = tt

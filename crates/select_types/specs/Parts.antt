@@ -10,16 +10,16 @@ use Rattle.sql_typing.specs.Select.{Entry, Output, ons_of, items_from, place_of,
 use Rattle.select_types.specs.declared.select.Parts.{Parts}
 use Rattle.select_types.specs.Outputs.{outputs}
 
-pub record Part : Type 0 where
+pub record SelectParts : Type 0 where
   pub ons : List TypedExpr
   pub filter : Option TypedExpr
   pub outputs : List Output
   pub order : List (TypedExpr × Bool)
 
-abbrev pub part : Parts → Part
-part p = record { ons = p.ons; filter = p.filter; outputs = outputs p.outputs; order = p.order }
+abbrev pub select_parts : Parts → SelectParts
+select_parts p = record { ons = p.ons; filter = p.filter; outputs = outputs p.outputs; order = p.order }
 
-abbrev pub parts_of : List Source → Select → Bool → Outcome Part
+abbrev pub parts_of : List Source → Select → Bool → Outcome SelectParts
 parts_of sources s grouped =
     and_then (ons_of sources s.from) (λ ons.
     and_then (filter_of sources s.filter) (λ filter.
@@ -28,10 +28,10 @@ parts_of sources s grouped =
     Ok (record { ons = ons; filter = filter; outputs = outputs; order = order })))))
 
 -- all expressions that are read
-abbrev pub read : Part → List TypedExpr
+abbrev pub read : SelectParts → List TypedExpr
 read p = p.ons ++ option_list p.filter ++ map (λ o. o.expr) p.outputs ++ map (λ t. t.0) p.order
 
-abbrev pub whole : List Entry → Select → Bool → Part → TypedSelect
+abbrev pub whole : List Entry → Select → Bool → SelectParts → TypedSelect
 whole entries s grouped p = record {
   fields = map field_of p.outputs;
   tables = map (λ e. e.found.number) entries;

@@ -69,7 +69,8 @@ fn with_entry<'a>(
     written: &'a TableRef,
 ) -> Result<Items<FromEntry<'a>>, TypeFault>
     requires { AreNarrow tables.now }
-    ensures { GivesBy shown.entries (and_then (shown.entry_of tables.now (shown.entries before.entry) written.now) (λ e. Ok (shown.entries before.entry ++ e ∷ []))) result }
+    ensures { GivesBy shown.entries
+        (and_then (shown.entry_of tables.now (shown.entries before.entry) written.now) (λ e. Ok (shown.entries before.entry ++ e ∷ []))) result }
 {
     let entry = entry_of(tables, before.as_slice(), written)?;
     let mut all = before;

@@ -59,7 +59,8 @@ fn mark_terms(
     terms: &[(TypedExpr, bool)],
 )
     requires { length entries.now < 2 ^ 32 }
-    ensures { IsMarked marks.old marks.new (λ c. list_any (λ (t : TypedExpr × Bool). spec.mentions_table number c 0 (shown.entries entries.now) t.0) terms.now) }
+    ensures { IsMarked marks.old marks.new
+        (λ c. list_any (λ (t : TypedExpr × Bool). spec.mentions_table number c 0 (shown.entries entries.now) t.0) terms.now) }
 {
     for (expr, _) in terms {
         mark_expr(marks, number, entries, expr);

@@ -6,7 +6,7 @@ ghost use Rattle.expr_types.specs.Scope.{IsNarrow, sources};
 ghost use Rattle.typed_parts.specs.Narrow.{AreNarrow};
 ghost use Rattle.select_types.specs.Entries as shown;
 ghost use Rattle.select_types.specs.GivesBy.{GivesBy};
-ghost use Rattle.select_types.specs.Parts.{part, parts_of, whole};
+ghost use Rattle.select_types.specs.Parts.{select_parts, parts_of, whole};
 
 use crate::aggregates::has_aggregate;
 use crate::from::{FromEntry, entries_of, numbers_of, scope_of};
@@ -48,7 +48,7 @@ fn parts_of(
 ) -> Result<Parts, TypeFault>
     requires as_many { length scope.now ≡ length select.now.from }
     requires narrow { IsNarrow scope.now }
-    ensures { GivesBy part (parts_of (sources scope.now) select.now grouped) result }
+    ensures { GivesBy select_parts (parts_of (sources scope.now) select.now grouped) result }
 {
     let ons = ons_of(alloc, select.from.as_slice(), scope)?;
     let filter = typed_filter(alloc, select.filter.as_ref(), scope)?;
@@ -91,7 +91,7 @@ fn whole(
     grouped: bool,
 ) -> Result<TypedSelect, Memory>
     requires { IsNarrow (map shown.seen entries.now) }
-    ensures { IfOk result (λ typed. typed ≡ whole (shown.entries entries.now) select.now grouped (part parts)) }
+    ensures { IfOk result (λ typed. typed ≡ whole (shown.entries entries.now) select.now grouped (select_parts parts)) }
 {
     let Parts {
         ons,

@@ -153,7 +153,39 @@ fn with_itself(alloc: Global) -> Result<Select, Fail> {
     })
 }
 
+/// count(*), sum(n)
+fn aggregates(alloc: Global) -> Result<Items<Item>, Fail> {
+    let mut items = Items::new(alloc);
+    items.push(Item::Expr(Expr::Call(text_of(alloc, "count")?, None), None))?;
+    let operand = Boxed::new(alloc, name(alloc, "n")?)?;
+    items.push(Item::Expr(Expr::Call(text_of(alloc, "sum")?, Some(operand)), None))?;
+    Ok(items)
+}
+
+/// SELECT count(*), sum(n), v FROM t WHERE k = 7
+fn mixed(alloc: Global) -> Result<Select, Fail> {
+    let mut items = aggregates(alloc)?;
+    items.push(Item::Expr(name(alloc, "v")?, None))?;
+    from_one(alloc, items)
+}
+
+/// SELECT nosuch FROM t WHERE k = 7
+fn unknown(alloc: Global) -> Result<Select, Fail> {
+    let mut items = Items::new(alloc);
+    items.push(Item::Expr(name(alloc, "nosuch")?, None))?;
+    from_one(alloc, items)
+}
+
 // ---- answers
+
+/// What a SELECT comes to.
+#[derive(Clone, Copy)]
+enum Want {
+    Joined,
+    ScannedTwice,
+    Aggregate,
+    Refused(SqlState),
+}
 
 fn is_column(expr: &TypedExpr, entry: u32, column: u32) -> bool {
     match &expr.node {
@@ -221,23 +253,6 @@ fn is_joined(typed: &TypedSelect) -> bool {
         && typed.offset == 2
 }
 
-fn types_joined(alloc: Global, select: &Select, tables: &[Table]) -> bool {
-    if !are_narrow(tables) {
-        return false;
-    }
-    match typed_select(alloc, select, tables) {
-        Ok(typed) => is_joined(&typed),
-        Err(_) => false,
-    }
-}
-
-#[test]
-fn types_a_join(rt: HostRuntime) -> Result<(), Fail> {
-    let alloc = rt.alloc();
-    assert!(rt; types_joined(alloc, &joined(alloc)?, tables_of(alloc)?.as_slice()));
-    Ok(())
-}
-
 fn reads_no_key(typed: &TypedSelect) -> bool {
     match typed.points.as_slice() {
         [first, second] => {
@@ -245,32 +260,6 @@ fn reads_no_key(typed: &TypedSelect) -> bool {
         }
         _ => false,
     }
-}
-
-fn scans_twice(alloc: Global, select: &Select, tables: &[Table]) -> bool {
-    if !are_narrow(tables) {
-        return false;
-    }
-    match typed_select(alloc, select, tables) {
-        Ok(typed) => reads_no_key(&typed),
-        Err(_) => false,
-    }
-}
-
-#[test]
-fn scans_a_table_that_stands_twice(rt: HostRuntime) -> Result<(), Fail> {
-    let alloc = rt.alloc();
-    assert!(rt; scans_twice(alloc, &with_itself(alloc)?, tables_of(alloc)?.as_slice()));
-    Ok(())
-}
-
-/// count(*), sum(n)
-fn aggregates(alloc: Global) -> Result<Items<Item>, Fail> {
-    let mut items = Items::new(alloc);
-    items.push(Item::Expr(Expr::Call(text_of(alloc, "count")?, None), None))?;
-    let operand = Boxed::new(alloc, name(alloc, "n")?)?;
-    items.push(Item::Expr(Expr::Call(text_of(alloc, "sum")?, Some(operand)), None))?;
-    Ok(items)
 }
 
 fn reads_aggregates(typed: &TypedSelect) -> bool {
@@ -288,45 +277,45 @@ fn is_aggregate(typed: &TypedSelect) -> bool {
         && typed.offset == 0
 }
 
-fn types_aggregates(alloc: Global, select: &Select, tables: &[Table]) -> bool {
+fn is_wanted(typed: &TypedSelect, want: Want) -> bool {
+    match want {
+        Want::Joined => is_joined(typed),
+        Want::ScannedTwice => reads_no_key(typed),
+        Want::Aggregate => is_aggregate(typed),
+        Want::Refused(_) => false,
+    }
+}
+
+fn is_refused(fault: TypeFault, want: Want) -> bool {
+    match want {
+        Want::Refused(code) => fault == TypeFault::State(code),
+        _ => false,
+    }
+}
+
+fn types_it(alloc: Global, select: &Select, tables: &[Table], want: Want) -> bool {
     if !are_narrow(tables) {
         return false;
     }
     match typed_select(alloc, select, tables) {
-        Ok(typed) => is_aggregate(&typed),
-        Err(_) => false,
+        Ok(typed) => is_wanted(&typed, want),
+        Err(fault) => is_refused(fault, want),
     }
 }
 
-#[test]
-fn types_an_aggregate(rt: HostRuntime) -> Result<(), Fail> {
-    let alloc = rt.alloc();
-    let select = from_one(alloc, aggregates(alloc)?)?;
-    assert!(rt; types_aggregates(alloc, &select, tables_of(alloc)?.as_slice()));
-    Ok(())
-}
-
-fn is_refused(alloc: Global, select: &Select, tables: &[Table], want: SqlState) -> bool {
-    if !are_narrow(tables) {
-        return false;
-    }
-    match typed_select(alloc, select, tables) {
-        Ok(_) => false,
-        Err(fault) => fault == TypeFault::State(want),
-    }
-}
-
-#[test]
-fn refuses_what_has_no_type(rt: HostRuntime) -> Result<(), Fail> {
-    let alloc = rt.alloc();
+/// Takes the statement whole, so that it is let go at one place.
+fn types(alloc: Global, select: Select, want: Want) -> Result<bool, Fail> {
     let tables = tables_of(alloc)?;
-    let mut mixed = aggregates(alloc)?;
-    mixed.push(Item::Expr(name(alloc, "v")?, None))?;
-    let select = from_one(alloc, mixed)?;
-    assert!(rt; is_refused(alloc, &select, tables.as_slice(), SqlState::S42803));
-    let mut unknown = Items::new(alloc);
-    unknown.push(Item::Expr(name(alloc, "nosuch")?, None))?;
-    let select = from_one(alloc, unknown)?;
-    assert!(rt; is_refused(alloc, &select, tables.as_slice(), SqlState::S42703));
+    Ok(types_it(alloc, &select, tables.as_slice(), want))
+}
+
+#[test]
+fn types_selects(rt: HostRuntime) -> Result<(), Fail> {
+    let alloc = rt.alloc();
+    assert!(rt; types(alloc, joined(alloc)?, Want::Joined)?);
+    assert!(rt; types(alloc, with_itself(alloc)?, Want::ScannedTwice)?);
+    assert!(rt; types(alloc, from_one(alloc, aggregates(alloc)?)?, Want::Aggregate)?);
+    assert!(rt; types(alloc, mixed(alloc)?, Want::Refused(SqlState::S42803))?);
+    assert!(rt; types(alloc, unknown(alloc)?, Want::Refused(SqlState::S42703))?);
     Ok(())
 }

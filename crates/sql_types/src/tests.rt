@@ -152,34 +152,34 @@ fn is_wanted(statement: &Statement, typed: &Typed) -> bool {
     }
 }
 
+/// Whether a statement without types, and that alone, has the code of those.
+fn is_refused(statement: &Statement, fault: TypeFault) -> bool {
+    matches!(statement, Statement::Commit) && fault == TypeFault::State(SqlState::S0A000)
+}
+
 fn types_it(alloc: Global, statement: &Statement, tables: &[Table]) -> bool {
     if !are_narrow(tables) {
         return false;
     }
     match typed(alloc, statement, tables) {
         Ok(typed) => is_wanted(statement, &typed),
-        Err(_) => false,
+        Err(fault) => is_refused(statement, fault),
     }
 }
 
-fn is_refused(alloc: Global, statement: &Statement, tables: &[Table]) -> bool {
-    if !are_narrow(tables) {
-        return false;
-    }
-    match typed(alloc, statement, tables) {
-        Ok(_) => false,
-        Err(fault) => fault == TypeFault::State(SqlState::S0A000),
-    }
+/// Takes the statement whole, so that each test has it let go at one place.
+fn types(alloc: Global, statement: Statement) -> Result<bool, Fail> {
+    let tables = tables_of(alloc)?;
+    Ok(types_it(alloc, &statement, tables.as_slice()))
 }
 
 #[test]
 fn types_each_kind_of_statement(rt: HostRuntime) -> Result<(), Fail> {
     let alloc = rt.alloc();
-    let tables = tables_of(alloc)?;
-    assert!(rt; types_it(alloc, &select(alloc)?, tables.as_slice()));
-    assert!(rt; types_it(alloc, &insert(alloc)?, tables.as_slice()));
-    assert!(rt; types_it(alloc, &update(alloc)?, tables.as_slice()));
-    assert!(rt; types_it(alloc, &delete(alloc)?, tables.as_slice()));
-    assert!(rt; is_refused(alloc, &Statement::Commit, tables.as_slice()));
+    assert!(rt; types(alloc, select(alloc)?)?);
+    assert!(rt; types(alloc, insert(alloc)?)?);
+    assert!(rt; types(alloc, update(alloc)?)?);
+    assert!(rt; types(alloc, delete(alloc)?)?);
+    assert!(rt; types(alloc, Statement::Commit)?);
     Ok(())
 }

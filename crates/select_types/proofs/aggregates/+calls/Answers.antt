@@ -1,3 +1,4 @@
+-- Whether an aggregate is called in an IN.
 use Rattle.std.proofs.Common.{rules, arith}
 use Rattle.std.proofs.lemmas.Grind.{common_steps}
 use Rattle.select_types.proofs.Calls.{calls_in}

@@ -1,3 +1,4 @@
+-- Whether an aggregate is called is the same of the items that are left.
 use Rattle.std.proofs.Common.{◌≡◌, drop}
 use Rattle.std.specs.List.{list_any}
 use Rattle.sql_typing.specs.Select.{item_calls}

@@ -1,3 +1,4 @@
+-- Whether an aggregate is called is the same of the terms that are left.
 use Rattle.std.proofs.Common.{◌≡◌, drop}
 use Rattle.std.specs.List.{list_any}
 use Rattle.sql_tree.specs.declared.statement.OrderTerm.{OrderTerm}
@@ -5,4 +6,5 @@ use Rattle.sql_typing.specs.Select.{calls_aggregate}
 use Rattle.select_types.proofs.aggregates.terms_call.Given as goal
 
 abbrev pub invariant-loop-term : goal.invariant-loop-term
-invariant-loop-term l = list_any (λ (t : OrderTerm). calls_aggregate t.expr) (drop l.term-index l.terms) ≡ list_any (λ (t : OrderTerm). calls_aggregate t.expr) l.terms
+invariant-loop-term l = list_any (λ (t : OrderTerm). calls_aggregate t.expr) (drop l.term-index l.terms)
+    ≡ list_any (λ (t : OrderTerm). calls_aggregate t.expr) l.terms

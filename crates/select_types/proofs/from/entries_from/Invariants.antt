@@ -1,3 +1,4 @@
+-- What is left of FROM, behind the entries so far.
 use Rattle.std.proofs.Common.{◌≡◌, [], drop}
 use Rattle.sql_typing.specs.Select.{entries_from}
 use Rattle.select_types.specs.Entries.{entries}

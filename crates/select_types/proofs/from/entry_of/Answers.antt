@@ -1,3 +1,4 @@
+-- A name that stands before, and a new one.
 use Rattle.std.proofs.Common.{sym, ◌∙◌}
 use Rattle.typed_parts.specs.Numbered.{numbered}
 use Rattle.select_types.specs.Entries.{entries}

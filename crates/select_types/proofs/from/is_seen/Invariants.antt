@@ -1,3 +1,4 @@
+-- Whether an entry is seen by the name is the same of those that are left.
 use Rattle.std.proofs.Common.{◌≡◌, drop}
 use Rattle.std.specs.List.{list_any}
 use Rattle.std.specs.Str.{bytes_eq}
@@ -7,4 +8,5 @@ use Rattle.select_types.proofs.from.is_seen.Given as goal
 
 abbrev pub invariant-loop-entry : goal.invariant-loop-entry
 invariant-loop-entry l =
-    list_any (λ (e : Entry). bytes_eq e.name l.name) (entries (drop l.entry-index l.entries)) ≡ list_any (λ (e : Entry). bytes_eq e.name l.name) (entries l.entries)
+    list_any (λ (e : Entry). bytes_eq e.name l.name) (entries (drop l.entry-index l.entries))
+    ≡ list_any (λ (e : Entry). bytes_eq e.name l.name) (entries l.entries)

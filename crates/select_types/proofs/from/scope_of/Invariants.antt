@@ -1,3 +1,4 @@
+-- The entries so far, as names are looked up in them.
 use Rattle.std.proofs.Common.{◌≡◌, take, map}
 use Rattle.select_types.specs.Entries.{seen}
 use Rattle.select_types.proofs.from.scope_of.Given as goal

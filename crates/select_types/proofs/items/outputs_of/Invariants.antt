@@ -1,3 +1,4 @@
+-- What is left of the items, behind the columns so far.
 use Rattle.std.proofs.Common.{◌≡◌, [], drop}
 use Rattle.sql_typing.specs.Select.{items_from}
 use Rattle.expr_types.specs.Scope.{sources}
@@ -5,4 +6,5 @@ use Rattle.select_types.specs.Outputs.{outputs}
 use Rattle.select_types.proofs.items.outputs_of.Given as goal
 
 abbrev pub invariant-loop-item : goal.invariant-loop-item
-invariant-loop-item l = items_from l.place (sources l.scope) (outputs l.outputs) (drop l.item-index l.items) ≡ items_from l.place (sources l.scope) [] l.items
+invariant-loop-item l = items_from l.place (sources l.scope) (outputs l.outputs) (drop l.item-index l.items)
+    ≡ items_from l.place (sources l.scope) [] l.items

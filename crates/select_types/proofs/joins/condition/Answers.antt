@@ -1,3 +1,4 @@
+-- The first entries are those of the first sources.
 use Rattle.std.proofs.Common.{◌≡◌, map, take}
 use Rattle.std.proofs.lemmas.List.{take-map}
 use Rattle.expr_types.specs.Scope.{source}
@@ -5,5 +6,6 @@ use Rattle.select_types.proofs.joins.condition.Goals as goal
 
 pub returns : goal.returns
 returns c =
-    let e : take c.args.seen (map source c.args.scope.now) ≡ map source (take c.args.seen c.args.scope.now) = take-map source c.args.seen c.args.scope.now in
+    let e : take c.args.seen (map source c.args.scope.now)
+    ≡ map source (take c.args.seen c.args.scope.now) = take-map source c.args.seen c.args.scope.now in
     rw e c.typed_flag.ensures.typed

@@ -1,3 +1,4 @@
+-- The conditions so far, and what is left.
 use Rattle.std.proofs.Common.{◌≡◌, ◌+◌, drop}
 use Rattle.expr_types.specs.Scope.{sources}
 use Rattle.sql_typing.specs.Select.{ons_of}

@@ -1,3 +1,4 @@
+-- The terms so far, and what is left.
 use Rattle.std.proofs.Common.{◌≡◌, drop, map}
 use Rattle.expr_types.proofs.Lists.{with_rest}
 use Rattle.expr_types.specs.Scope.{sources}
@@ -8,4 +9,5 @@ use Rattle.select_types.proofs.order.terms_of.Given as goal
 
 abbrev pub invariant-loop-term : goal.invariant-loop-term
 invariant-loop-term l =
-    with_rest (term_of (sources l.scope) (outputs l.outputs)) l.typed (drop l.term-index l.terms) ≡ all_of (map (term_of (sources l.scope) (outputs l.outputs)) l.terms)
+    with_rest (term_of (sources l.scope) (outputs l.outputs)) l.typed (drop l.term-index l.terms)
+    ≡ all_of (map (term_of (sources l.scope) (outputs l.outputs)) l.terms)

@@ -1,3 +1,4 @@
+-- The fields and the values so far, and what is left.
 use Rattle.std.proofs.Common.{◌≡◌, ◌++◌, map}
 use Rattle.std.specs.Vec.Iter.{into_iter_items}
 use Rattle.sql_typing.specs.Select.{Output, field_of}

@@ -1,3 +1,4 @@
+-- The first column of the name is the same of those that are left.
 use Rattle.std.proofs.Common.{◌≡◌, drop}
 use Rattle.sql_typing.specs.Select.{output_named}
 use Rattle.select_types.specs.Outputs.{outputs}

@@ -1,3 +1,4 @@
+-- The keys so far, and what is left.
 use Rattle.std.proofs.Common.{◌≡◌, ◌++◌, drop}
 use Rattle.std.specs.Option.{option_map}
 use Rattle.sql_typing.specs.Select.{points_from}

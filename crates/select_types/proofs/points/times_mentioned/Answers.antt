@@ -1,3 +1,4 @@
+-- A table stands at most as often as there are entries.
 use Rattle.std.proofs.Common.{◌≤◌, length, arith}
 use Rattle.select_types.proofs.ReadColumns.{times_fit}
 use Rattle.select_types.specs.Entries.{entries}
@@ -8,5 +9,6 @@ use Rattle.select_types.proofs.points.times_mentioned.Goals as goal
 pub overflow_add-times : goal.overflow_add-times
 overflow_add-times c =
     let within : c.loop-entry.times ≤ length c.args.entries.now =
-    times_fit c.args.number c.loop-entry.times (times_mentioned c.args.number (entries (drop c.loop-entry.entry-index c.args.entries.now))) c.args.entries.now c.loop-entry.invariant in
+    times_fit c.args.number c.loop-entry.times (times_mentioned c.args.number (entries (drop c.loop-entry.entry-index c.args.entries.now)))
+    c.args.entries.now c.loop-entry.invariant in
     omega arith

@@ -1,3 +1,4 @@
+-- How often so far, and how often in what is left.
 use Rattle.std.proofs.Common.{◌≡◌, ◌+◌, drop}
 use Rattle.sql_typing.specs.Select.{times_mentioned}
 use Rattle.select_types.specs.Entries.{entries}

@@ -1,3 +1,4 @@
+-- What the expression mentions of the entries so far is marked.
 use Rattle.std.proofs.Common.{take}
 use Rattle.sql_typing.specs.Select.{mentions_table}
 use Rattle.typed_parts.specs.Marked.{IsMarked}

@@ -1,3 +1,4 @@
+-- What the expressions so far mention is marked.
 use Rattle.std.proofs.Common.{take}
 use Rattle.std.specs.List.{list_any}
 use Rattle.sql_typing.specs.Select.{mentions_table}

@@ -1,3 +1,4 @@
+-- What the terms so far mention is marked.
 use Rattle.std.proofs.Common.{take, Bool}
 use Rattle.std.specs.List.{list_any}
 use Rattle.sql_tree.specs.declared.typed_expr.TypedExpr.{TypedExpr}
@@ -8,4 +9,5 @@ use Rattle.select_types.proofs.reads.mark_terms.Given as goal
 
 abbrev pub invariant-loop-expr : goal.invariant-loop-expr
 invariant-loop-expr l =
-    IsMarked l.initial.marks l.marks (λ c. list_any (λ (t : TypedExpr × Bool). mentions_table l.number c 0 (entries l.entries) t.0) (take l.expr-index l.terms))
+    IsMarked l.initial.marks l.marks (λ c. list_any (λ (t : TypedExpr × Bool). mentions_table l.number c 0 (entries l.entries) t.0)
+    (take l.expr-index l.terms))

@@ -1,3 +1,4 @@
+-- An entry's table is narrow, since all are.
 use Rattle.std.proofs.Common.{arith}
 use Rattle.select_types.proofs.ReadColumns.{narrow_at}
 use Rattle.select_types.proofs.reads.mentioned.Goals as goal

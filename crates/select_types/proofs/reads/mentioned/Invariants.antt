@@ -1,3 +1,4 @@
+-- The columns of the entries so far.
 use Rattle.std.proofs.Common.{◌≡◌, take, map}
 use Rattle.sql_typing.specs.Select.{mentioned_of}
 use Rattle.select_types.specs.Entries.{entries}

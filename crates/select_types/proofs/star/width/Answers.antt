@@ -1,3 +1,4 @@
+-- One entry more, and none left.
 use Rattle.std.proofs.Common.{◌≡◌, ◌+◌, ◌-◌, ◌^◌, ◌∙◌, ap, min, length, drop, [], arith}
 use Rattle.std.proofs.lemmas.List.{drop_all}
 use Rattle.expr_types.specs.Scope.{sources}
@@ -11,7 +12,8 @@ loop-entry-preserved c =
     let e : c.saturating_add-width.result ≡ min (c.loop-entry.width + length c.entry-item.result.table.now.columns) (2 ^ 64 - 1) = omega arith in
     record {
       fits = omega arith;
-      counted = width_more c.args.scope.now c.loop-entry.entry-index c.entry-item.result c.loop-entry.width c.saturating_add-width.result (2 ^ 64 - 1) (omega arith) c.entry-item.is e
+      counted = width_more c.args.scope.now c.loop-entry.entry-index c.entry-item.result c.loop-entry.width c.saturating_add-width.result
+          (2 ^ 64 - 1) (omega arith) c.entry-item.is e
           ∙ c.loop-entry.invariant.counted;
     }
 

@@ -1,3 +1,4 @@
+-- So many columns so far, where so many are left.
 use Rattle.std.proofs.Common.{drop}
 use Rattle.expr_types.specs.Scope.{sources}
 use Rattle.select_types.proofs.Stars.{IsCounted, star_width}

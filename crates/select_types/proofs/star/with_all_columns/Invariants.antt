@@ -1,3 +1,4 @@
+-- The columns of the entries so far, and what is left.
 use Rattle.std.proofs.Common.{◌≡◌, ◌++◌, drop}
 use Rattle.sql_typing.specs.Select.{star_outputs}
 use Rattle.expr_types.specs.Scope.{sources}

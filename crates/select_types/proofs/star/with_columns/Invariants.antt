@@ -1,3 +1,4 @@
+-- The columns so far, and what is left.
 use Rattle.std.proofs.Common.{◌≡◌, ◌++◌, drop}
 use Rattle.sql_typing.specs.Select.{column_outputs}
 use Rattle.select_types.specs.Outputs.{outputs}

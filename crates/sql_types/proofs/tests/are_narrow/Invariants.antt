@@ -1,3 +1,4 @@
+-- The tables so far are narrow.
 use Rattle.std.proofs.Common.{ℕ, ◌<◌, ◌^◌, length}
 use Rattle.std.specs.Prelude.{slice_index_or}
 use Rattle.sql_tree.specs.declared.table.Table.{Table}
