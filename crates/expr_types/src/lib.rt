@@ -17,9 +17,9 @@ mod literal;
 mod names;
 mod operands;
 mod operators;
-mod value;
 #[cfg(test)]
 mod tests;
+mod value;
 
 use crate::expression::form;
 use crate::operands::condition;
@@ -27,10 +27,10 @@ pub use constant::typed_constant;
 pub use entry::Entry;
 pub use error::TypeFault;
 pub use operators::aggregate_named;
-pub use value::{typed_item, typed_value};
 use sql_tree::{Expr, TypedExpr};
 use sql_typing::Place;
 use std::alloc::Global;
+pub use value::{typed_item, typed_value};
 
 /// The typed tree of a condition over one row of each entry. One of another type than boolean is 42804, a quoted literal 0A000,
 /// an aggregate 42803, a name 42703, 42702 or 42P01 where it stands for no column, for two, or its qualifier for no entry.

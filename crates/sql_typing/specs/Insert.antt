@@ -56,5 +56,5 @@ typed_insert tables insert =
     and_then (table_named tables insert.table) (λ t.
     and_then (listed_from t.table.columns [] insert.columns) (λ listed.
     if has_lengths t.table listed insert.rows then
-        and_then (all_of (map (typed_row t.table listed) insert.rows)) (λ rows. Ok (record { table = t.number; rows = rows }))
+    and_then (all_of (map (typed_row t.table listed) insert.rows)) (λ rows. Ok (record { table = t.number; rows = rows }))
     else Err S42601))

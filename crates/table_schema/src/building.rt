@@ -9,8 +9,8 @@ use crate::SchemaFault;
 use crate::columns::columns_of;
 use crate::keys::key_of;
 use cell_base::{Items, SqlState};
-use sql_tree::{Column, CreateTable, Expr, Table, TypedExpr};
 use expr_types::{Entry, typed_flag};
+use sql_tree::{Column, CreateTable, Expr, Table, TypedExpr};
 use std::alloc::Global;
 
 /// The most columns of a table.

@@ -8,8 +8,8 @@ ghost use Rattle.table_schema.specs.Columns.{names};
 
 use crate::SchemaFault;
 use cell_base::{Items, SqlState, SqlType, Text, Value};
-use sql_tree::{Column, ColumnDef, Expr};
 use expr_types::typed_constant;
+use sql_tree::{Column, ColumnDef, Expr};
 use std::alloc::Global;
 
 /// The greatest number of characters of a varchar.
