@@ -1,5 +1,5 @@
 -- What a session's calls leave stands for the lists grown by them.
-use Rattle.std.proofs.Common.{◌≡◌, ◌≢◌, Bool, true, false, ℕ, ◌<◌, List, [], ◌∷◌, ◌++◌, length, refl, sym, ◌∙◌, ap, subst, append_assoc, arith, Option, None, length-append}
+use Rattle.std.proofs.Common.{◌≡◌, ◌≢◌, inl, inr, Bool, true, false, ℕ, ◌<◌, List, [], ◌∷◌, ◌++◌, length, refl, sym, ◌∙◌, ap, subst, append_assoc, arith, Option, None, length-append}
 use Rattle.std.proofs.lemmas.List.{append-nil}
 use Rattle.std.specs.Prelude.{◌==◌}
 use Rattle.history_core.specs.declared.event.Event.{Event}
@@ -25,7 +25,7 @@ use Rattle.monkey_server.specs.declared.stage.Stage.TheVariants as stages
 use Rattle.monkey_server.specs.Replies.{fatal_reply, fatal_state, bytes_of}
 use Rattle.monkey_server.specs.Talk.{Talk, asks, partial, faulty, unread, IsTalk}
 use Rattle.monkey_server.specs.Told.{Entry, short, unsent, stop, Said, Next, more, call, ended, done, lost, closing, ending, owed_by, session, stop_end, waiting, handled, told}
-use Rattle.monkey_server.specs.Stands.{goes_on, least, IsFrom, IsWaiting, StandsFor, IsBusy, LeadsTo, with_short, Steps, Advances, Shows, wants, reply_of, IsHolding, broken, entry_for, owed_in, resumed, fatal_end, end_of}
+use Rattle.monkey_server.specs.Stands.{goes_on, least, IsFrom, IsWaiting, StandsFor, IsBusy, LeadsTo, Feeds, Sends, with_short, Steps, Advances, Shows, wants, reply_of, IsHolding, broken, entry_for, owed_in, resumed, fatal_end, end_of}
 use Rattle.monkey_server.proofs.Passes.{eqb-ne, busy-last, least-busy, unless_short-takes, unless_unsent-passes, unless_unsent-takes, IsFrom-later, with_short-append, IsFrom-with_short, IsFrom-read, IsFed-last, IsFed-nothing, IsFed-back}
 
 -- with nothing more to come
@@ -302,3 +302,33 @@ sent_parting stage built known held taken es asked sent fatal is s =
     subst (λ (x : List Entry). StandsFor (stages.Ended (finishes.Fatal fatal)) built known held taken x asked (sent ++ reply_of built stage)) (sym (append-nil es))
     (subst (λ (x : Stage). StandsFor (stages.Ended (finishes.Fatal fatal)) built known held taken es asked (sent ++ reply_of built x)) (sym is)
     (StandsFor-parted fatal built known held taken es asked sent (subst (λ (x : Stage). StandsFor x built known held taken es asked sent) is s)))
+
+-- a piece that came in
+pub StandsFor-piece : (opened : Bool) (built : List ℕ) (known : List Table) (held after : Held) (piece taken : List ℕ) (es : List Entry) (asked : List Call) (sent : List ℕ) (stage : Stage) (w : Option Bool) →
+    Feeds opened piece held stage w after → StandsFor (stages.Waiting opened) built known held taken es asked sent → (IsHolding stage → 0 < length (reply_of built stage)) →
+    StandsFor stage built known after (taken ++ piece) (es ++ with_short w sent []) asked sent
+StandsFor-piece opened built known held after piece taken es asked sent stage w (inl steps) s some =
+    StandsFor-fed opened built known held (record held { rest = held.rest ++ piece }) after piece taken es asked sent stage w refl s some (steps known)
+StandsFor-piece opened built known held after piece taken es asked sent stage w (inr (same, is, leads)) s some =
+    subst (λ (x : Held). StandsFor stage built known x (taken ++ piece) (es ++ with_short w sent []) asked sent) (sym same)
+    (subst (λ (v : Option Bool). StandsFor stage built known held (taken ++ piece) (es ++ with_short v sent []) asked sent) (sym is)
+    (StandsFor-no_memory opened built known held piece taken es asked sent stage s some leads))
+
+-- a reply that was sent
+pub StandsFor-sent : (stage next : Stage) (built : List ℕ) (known : List Table) (held after : Held) (taken : List ℕ) (es : List Entry) (asked : List Call) (sent : List ℕ) (w : Option Bool) →
+    Sends stage held next w after → StandsFor stage built known held taken es asked sent → (IsHolding next → 0 < length (reply_of built next)) →
+    StandsFor next built known after taken (es ++ with_short w (sent ++ reply_of built stage) []) asked (sent ++ reply_of built stage)
+StandsFor-sent (stages.Telling p r) next built known held after taken es asked sent w (is, same, busy, resumes) s some =
+    let now : List ℕ = sent ++ bytes_of built r in
+    subst (λ (x : Held). StandsFor next built known x taken (es ++ with_short w now []) asked now) (sym same)
+    (subst (λ (v : Option Bool). StandsFor next built known held taken (es ++ with_short v now []) asked now) (sym is)
+    (sent_telling (stages.Telling p r) next built known held taken es asked sent p r refl s some busy (resumes built known)))
+StandsFor-sent (stages.Settling r) next built known held after taken es asked sent w steps s some =
+    sent_settling (stages.Settling r) next built known held after taken es asked sent r w refl s some (steps known)
+StandsFor-sent (stages.Parting f) next built known held after taken es asked sent w (is, same, ended_is) s some =
+    let now : List ℕ = sent ++ fatal_reply (fatal_state f) in
+    subst (λ (x : Held). StandsFor next built known x taken (es ++ with_short w now []) asked now) (sym same)
+    (subst (λ (v : Option Bool). StandsFor next built known held taken (es ++ with_short v now []) asked now) (sym is)
+    (subst (λ (x : Stage). StandsFor x built known held taken (es ++ []) asked now) (sym ended_is)
+    (sent_parting (stages.Parting f) built known held taken es asked sent f refl s)))
+StandsFor-sent _ next built known held after taken es asked sent w h s some = absurd h

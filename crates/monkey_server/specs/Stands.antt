@@ -217,6 +217,21 @@ pub record Steps (opened : Bool) (known : List Table) (before : Held) (stage : S
       session opened known (turns talk) said (with_short wanting said.bytes es) ≡ goes_on stage built known talk said es
   pub waits : (o : Bool) → stage ≡ stages.Waiting o → IsWaiting after
 
+-- A piece that comes in where bytes are wanted leads on, or memory for it is wanting and the session ends.
+abbrev pub Feeds : Bool → List ℕ → Held → Stage → Option Bool → Held → Type 0
+Feeds opened piece before stage wanting after =
+    ((known : List Table) → Steps opened known (record before { rest = before.rest ++ piece }) stage wanting after)
+    ⊎ ((after ≡ before) × (wanting ≡ Some true) × LeadsTo stage (ending (owed_by opened) ends.Memory))
+
+-- A reply that was sent leads on.
+abbrev pub Sends : Stage → Held → Stage → Option Bool → Held → Type 0
+Sends (stages.Telling pending reply) before next wanting after =
+    (wanting ≡ None) × (after ≡ before) × IsBusy next
+    × ((built : List ℕ) (known : List Table) (talk : Talk) (said : Said) (es : List Entry) → resumed pending (session true known talk) said es ≡ goes_on next built known talk said es)
+Sends (stages.Settling reply) before next wanting after = (known : List Table) → Steps true known before next wanting after
+Sends (stages.Parting fatal) before next wanting after = (wanting ≡ None) × (after ≡ before) × (next ≡ stages.Ended (finishes.Fatal fatal))
+Sends _ before next wanting after = ⊥
+
 -- An answer to a stage's call leads on, with a want of memory behind it where there was one.
 pub record Advances (stage : Stage) (known : List Table) (answer : Answer) (next : Stage) (wanting : Option Bool) (built : List ℕ) (after : List Table) : Type 0 where
   pub goes : (c : Call) (before : List ℕ) (talk : Talk) (said : Said) (es : List Entry) (e : Event) → wants stage known ≡ calls.Book c → IsFrom 1 (length said.bytes) es →

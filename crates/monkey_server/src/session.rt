@@ -7,7 +7,7 @@ ghost use Rattle.history_core.specs.declared.event.Event.{Event};
 ghost use Rattle.monkey_server.specs.Calls.{Call as Asked, IsWant};
 ghost use Rattle.monkey_server.specs.Calls as calls;
 ghost use Rattle.monkey_server.specs.Told.{Entry, unsent, stop as stopped, has_short, owed_by};
-ghost use Rattle.monkey_server.specs.Stands.{wants, FitsWant, owed_after, IsKnownAfter, Steps, InPhase, IsHolding, NoBuilt, with_short, owed_at, outer, work_at, Lacks, KnowsTable, DefinesSound, AreNarrowTables, ComesFrom, wants_memory, Advances, reply_of};
+ghost use Rattle.monkey_server.specs.Stands.{Feeds, IsLast, Sends, wants, FitsWant, owed_after, IsKnownAfter, Steps, InPhase, IsHolding, NoBuilt, with_short, owed_at, outer, work_at, Lacks, KnowsTable, DefinesSound, AreNarrowTables, ComesFrom, wants_memory, Advances, reply_of};
 
 use crate::call::Answer;
 use crate::end::{End, Stop};
@@ -78,6 +78,67 @@ fn is_memory(fault: FrameFault) -> bool
     ensures { IsTrue result ↔ (fault ≡ FrameFault.Memory) }
 {
     matches!(&fault, FrameFault::Memory)
+}
+
+// Whether the session was opened, where bytes are wanted.
+fn opened_at(stage: &Stage) -> bool
+    requires { (known : List Defined) × (wants stage.now known ≡ calls.Bytes) }
+    ensures { stage.now ≡ Stage.Waiting result }
+{
+    match stage {
+        Stage::Waiting(opened) => *opened,
+        _ => unreachable!(),
+    }
+}
+
+// Takes a piece in where bytes are wanted.
+fn take_piece(alloc: Global, frames: &mut Frames, opened: bool, piece: &[u8]) -> Step
+    requires { frames.old.started ≡ opened }
+    ensures feeds { Feeds opened piece.now frames.old result.stage result.wanting frames.new }
+    ensures owed { owed_at result.stage ≡ owed_by opened }
+    ensures phase { InPhase result.stage frames.new.started }
+    ensures outer { outer result.stage ≡ None }
+    ensures lacks { Lacks result.stage [] }
+    ensures knows { (known : List Defined) → KnowsTable result.stage known }
+    ensures sound { DefinesSound result.stage }
+    ensures constant { NoBuilt result.stage }
+{
+    match frames.feed(piece) {
+        Ok(()) => take_step(alloc, frames, opened),
+        Err(_) => Step {
+            stage: leave(owed_between(opened), Finish::Memory),
+            wanting: Some(true),
+        },
+    }
+}
+
+// The step behind a reply that was sent.
+fn next_step(alloc: Global, stage: &Stage, frames: &mut Frames) -> Step
+    requires holding { IsHolding stage.now }
+    requires phase { InPhase stage.now frames.old.started }
+    ensures sends { Sends stage.now frames.old result.stage result.wanting frames.new }
+    ensures owed { owed_at result.stage ≡ owed_at stage.now }
+    ensures outer { outer result.stage ≡ outer stage.now }
+    ensures lacks { Lacks result.stage [] }
+    ensures phase { InPhase result.stage frames.new.started }
+    ensures work { work_at result.stage + 16 * length frames.new.rest < work_at stage.now + 16 * length frames.old.rest }
+    ensures last { IsLast stage.now → IsLast result.stage }
+    ensures knows { (known : List Defined) → KnowsTable result.stage known }
+    ensures sound { DefinesSound result.stage }
+    ensures constant { NoBuilt result.stage }
+{
+    match stage {
+        Stage::Telling(pending, reply) => Step {
+            stage: resume(*pending, *reply),
+            wanting: None,
+        },
+        Stage::Settling(_) => take_step(alloc, frames, true),
+        Stage::Parting(fatal) => Step {
+            stage: Stage::Ended(Finish::Fatal(*fatal)),
+            wanting: None,
+        },
+        _ => unreachable!(),
+    }
 }
 
 // Greets the client of a session that was opened.
@@ -191,7 +252,7 @@ fn either(a: bool, b: bool) -> bool
 
 impl Session {
     ghost use Rattle.monkey_server.specs.Sessions.{Stands, StandsShort, work_of};
-    ghost use Rattle.monkey_server.specs.Stands.{Shows, entry_for, IsLast, IsStopped};
+    ghost use Rattle.monkey_server.specs.Stands.{Shows, entry_for, IsStopped};
 
     /// A session that was fed nothing.
     pub fn new(alloc: Global) -> Result<Session, Memory>
@@ -266,24 +327,13 @@ impl Session {
         ensures knows { KnowsTable self.new.stage self.new.known.items }
         ensures sound { DefinesSound self.new.stage }
     {
-        let opened = match &self.stage {
-            Stage::Waiting(opened) => *opened,
-            _ => unreachable!(),
-        };
-        match self.frames.feed(piece) {
-            Ok(()) => {
-                let step = take_step(self.alloc, &mut self.frames, opened);
-                self.stage = step.stage;
-                self.short = either(self.short, step.wanting.is_some());
-            }
-            Err(_) => {
-                self.stage = leave(owed_between(opened), Finish::Memory);
-                self.short = true;
-            }
-        }
+        let opened = opened_at(&self.stage);
+        let step = take_piece(self.alloc, &mut self.frames, opened, piece);
+        self.short = either(self.short, step.wanting.is_some());
+        self.stage = step.stage;
     }
 
-    /// Takes the answer to the call that is calls.
+    /// Takes the answer to the call that is wanted.
     pub fn answer(&mut self, answer: Answer)
         requires { FitsWant (wants self.old.stage self.old.known.items) answer }
         ensures grown { (taken : List ℕ) (entries : List Entry) (asked : List Asked) (sent : List ℕ) (c : Asked) (e : Event) → Stands self.old taken entries asked sent →
@@ -324,16 +374,9 @@ impl Session {
         ensures sound { DefinesSound self.new.stage }
         ensures last { IsLast self.old.stage → IsLast self.new.stage }
     {
-        match &self.stage {
-            Stage::Telling(pending, reply) => self.stage = resume(*pending, *reply),
-            Stage::Settling(_) => {
-                let step = take_step(self.alloc, &mut self.frames, true);
-                self.stage = step.stage;
-                self.short = either(self.short, step.wanting.is_some());
-            }
-            Stage::Parting(fatal) => self.stage = Stage::Ended(Finish::Fatal(*fatal)),
-            _ => unreachable!(),
-        }
+        let step = next_step(self.alloc, &self.stage, &mut self.frames);
+        self.short = either(self.short, step.wanting.is_some());
+        self.stage = step.stage;
     }
 
     /// The reply could not be sent whole.
@@ -366,10 +409,7 @@ impl Session {
         ensures sound { DefinesSound self.new.stage }
         ensures last { IsLast self.new.stage }
     {
-        let opened = match &self.stage {
-            Stage::Waiting(opened) => *opened,
-            _ => unreachable!(),
-        };
+        let opened = opened_at(&self.stage);
         let finish = finish_of(cause, self.frames.rest() == 0);
         self.stage = leave(owed_between(opened), finish);
     }

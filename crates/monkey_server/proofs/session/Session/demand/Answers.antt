@@ -1,10 +1,6 @@
-use Rattle.std.proofs.Common.{sym, subst}
-use Rattle.monkey_server.specs.Calls.{Want}
-use Rattle.monkey_server.specs.Stands.{Shows}
 use Rattle.monkey_server.proofs.Grows.{Shows-stands}
 use Rattle.monkey_server.proofs.session.Session.demand.Goals as goal
 
 pub returns-clause-told : goal.returns-clause-told
 returns-clause-told c = λ taken es asked sent s.
-    subst (λ (w : Want). Shows w taken es asked sent) (sym c.want_of.ensures.want)
-    (Shows-stands c.args.self.now.stage c.args.self.now.built.items c.args.self.now.known.items c.args.self.now.frames taken es asked sent s.0)
+    Shows-stands c.args.self.now.stage c.args.self.now.built.items c.args.self.now.known.items c.args.self.now.frames taken es asked sent s.0

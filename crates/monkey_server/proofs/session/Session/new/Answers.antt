@@ -7,4 +7,4 @@ use Rattle.monkey_server.proofs.session.Session.new.Goals as goal
 
 pub returns-clause-empty : goal.returns-clause-empty
 returns-clause-empty c =
-    (subst (λ (held : Held). StandsFor (stages.Waiting false) c.new-3.result.items 0 held [] [] [] []) (sym c.new.ensures) (StandsFor-new c.new-3.result.items), refl)
+    (subst (λ (held : Held). StandsFor (stages.Waiting false) c.new-3.result.items [] held [] [] [] []) (sym c.new.ensures) (StandsFor-new c.new-3.result.items), refl)
