@@ -22,7 +22,7 @@ use Rattle.monkey_server.specs.Calls as calls
 use Rattle.monkey_server.specs.Talk.{Talk, IsTalk, unread}
 use Rattle.monkey_server.specs.Told.{Entry, ended, short, unsent, stop, more, told, has_short}
 use Rattle.monkey_server.specs.Sessions.{Stands, StandsShort}
-use Rattle.monkey_server.specs.Stands.{KnowsTable, DefinesSound, Lacks, LacksBy, owed_at, outer_end, IsStopped, outer, end_of, wants, IsHolding, entry_for, Shows, IsResting, IsLast, IsOver}
+use Rattle.monkey_server.specs.Stands.{IsReading, KnowsTable, DefinesSound, Lacks, LacksBy, owed_at, outer_end, IsStopped, outer, end_of, wants, IsHolding, entry_for, Shows, IsResting, IsLast, IsOver}
 use Rattle.monkey_server.specs.Serve.{Plays, Carries, IsAtEnd, Blames, Ran, Serves, Sits, owed_of, most_read}
 use Rattle.monkey_server.proofs.Grows.{Shows-stands}
 use Rattle.monkey_server.proofs.Lawfuls.{Lawful-plays, Lawful-short, Lawful-quiet, own_events}
@@ -301,6 +301,16 @@ sits_new stage known p is none seat = record {
   known_tables = omega (arith, ap length none);
   knows = subst (λ (x : Stage). KnowsTable x known) (sym is) tt;
   sound = subst DefinesSound (sym is) tt;
+}
+
+-- behind a reply that was sent the book sits as before
+pub sits_sent : (stage next : Stage) (known after : List Table) (p : Past) → Sits stage known p → owed_at next ≡ owed_at stage → after ≡ known → (IsReading next → ⊥) → KnowsTable next after → DefinesSound next → Sits next after p
+sits_sent stage next known after p s owed same silent knows sound = record {
+  owed = s.owed ∙ sym owed;
+  unwritten = λ r. absurd (silent r);
+  known_tables = omega (arith, s.known_tables, ap length same);
+  knows = knows;
+  sound = sound;
 }
 
 is_away : (seat : Seat) → owed_of seat ≡ owes.Nothing → seat ≡ away

@@ -39,11 +39,11 @@ pub struct Served {
 }
 
 // Defines a table in the book.
-fn define<B: Book>(book: &mut B, table: &Table) -> Answer
+fn define<B: Book, W: Words>(book: &mut B, words: &W, table: &Table) -> Answer
     requires may { IsSeated (B.past book.old).seat }
     requires sound { IsSound table.now }
     ensures fits { Fits (calls.Define table.now) result }
-    ensures plays { {W : Type 0} (gives : W → ℕ → W → Type 0) (words : W) → (e : Event) × Plays gives (B.past book.old) words (calls.Define table.now) result e (B.past book.new) words }
+    ensures plays { (e : Event) × Plays W.gives (B.past book.old) words.now (calls.Define table.now) result e (B.past book.new) words.now }
     ensures seat { SeatAfter (calls.Define table.now) result (B.past book.old).seat (B.past book.new).seat }
     ensures stays { B.stays book.old book.new }
 {
@@ -111,7 +111,7 @@ fn answer_define<B: Book, W: Words>(session: &mut Session, book: &mut B, words: 
     ensures last { IsLast session.old.stage → IsLast session.new.stage }
     ensures stays { B.stays book.old book.new }
 {
-    let answer = define(book, session.table());
+    let answer = define(book, words, session.table());
     session.answer(answer);
 }
 

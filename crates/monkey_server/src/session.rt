@@ -7,7 +7,7 @@ ghost use Rattle.history_core.specs.declared.event.Event.{Event};
 ghost use Rattle.monkey_server.specs.Calls.{Call as Asked, IsWant};
 ghost use Rattle.monkey_server.specs.Calls as calls;
 ghost use Rattle.monkey_server.specs.Told.{Entry, unsent, stop as stopped, has_short, owed_by};
-ghost use Rattle.monkey_server.specs.Stands.{Feeds, IsLast, Sends, wants, FitsWant, owed_after, IsKnownAfter, Steps, InPhase, IsHolding, NoBuilt, with_short, owed_at, outer, work_at, Lacks, KnowsTable, DefinesSound, AreNarrowTables, ComesFrom, wants_memory, Advances, reply_of};
+ghost use Rattle.monkey_server.specs.Stands.{Feeds, IsLast, IsReading, Sends, wants, FitsWant, owed_after, IsKnownAfter, Steps, InPhase, IsHolding, NoBuilt, with_short, owed_at, outer, work_at, Lacks, KnowsTable, DefinesSound, AreNarrowTables, ComesFrom, wants_memory, Advances, reply_of};
 
 use crate::call::Answer;
 use crate::end::{End, Stop};
@@ -49,6 +49,7 @@ fn take_step(alloc: Global, frames: &mut Frames, opened: bool) -> Step
     ensures lacks { Lacks result.stage [] }
     ensures work { work_at result.stage + 16 * length frames.new.rest < 5 + 16 * length frames.old.rest }
     ensures knows { (known : List Defined) → KnowsTable result.stage known }
+    ensures silent { IsReading result.stage → ⊥ }
     ensures sound { DefinesSound result.stage }
     ensures constant { NoBuilt result.stage }
 {
@@ -100,6 +101,7 @@ fn take_piece(alloc: Global, frames: &mut Frames, opened: bool, piece: &[u8]) ->
     ensures outer { outer result.stage ≡ None }
     ensures lacks { Lacks result.stage [] }
     ensures knows { (known : List Defined) → KnowsTable result.stage known }
+    ensures silent { IsReading result.stage → ⊥ }
     ensures sound { DefinesSound result.stage }
     ensures constant { NoBuilt result.stage }
 {
@@ -124,6 +126,7 @@ fn next_step(alloc: Global, stage: &Stage, frames: &mut Frames) -> Step
     ensures work { work_at result.stage + 16 * length frames.new.rest < work_at stage.now + 16 * length frames.old.rest }
     ensures last { IsLast stage.now → IsLast result.stage }
     ensures knows { (known : List Defined) → KnowsTable result.stage known }
+    ensures silent { IsReading result.stage → ⊥ }
     ensures sound { DefinesSound result.stage }
     ensures constant { NoBuilt result.stage }
 {
@@ -151,6 +154,7 @@ fn greet(alloc: Global, session: u32, built: &mut Vec<u8>) -> Step
     ensures phase { InPhase result.stage true }
     ensures reads { ComesFrom Stage.Opening result.stage }
     ensures knows { (known : List Defined) → KnowsTable result.stage known }
+    ensures silent { IsReading result.stage → ⊥ }
     ensures sound { DefinesSound result.stage }
     ensures some { IsHolding result.stage → 0 < length (reply_of built.new.items result.stage) }
 {
@@ -179,6 +183,7 @@ fn select(alloc: Global, value: &Value, built: &mut Vec<u8>) -> Step
     ensures phase { InPhase result.stage true }
     ensures reads { (table : ℕ) (key : ℤ) → ComesFrom (Stage.Fetching table key) result.stage }
     ensures knows { (known : List Defined) → KnowsTable result.stage known }
+    ensures silent { IsReading result.stage → ⊥ }
     ensures sound { DefinesSound result.stage }
     ensures some { IsHolding result.stage → 0 < length (reply_of built.new.items result.stage) }
 {
@@ -372,6 +377,7 @@ impl Session {
         ensures known { self.new.known.items ≡ self.old.known.items }
         ensures knows { KnowsTable self.new.stage self.new.known.items }
         ensures sound { DefinesSound self.new.stage }
+        ensures silent { IsReading self.new.stage → ⊥ }
         ensures last { IsLast self.old.stage → IsLast self.new.stage }
     {
         let step = next_step(self.alloc, &self.stage, &mut self.frames);
@@ -393,7 +399,8 @@ impl Session {
         ensures sound { DefinesSound self.new.stage }
         ensures last { IsLast self.new.stage }
     {
-        self.stage = break_off(&self.stage);
+        let next = break_off(&self.stage);
+        self.stage = next;
     }
 
     /// No more bytes come.
@@ -411,6 +418,7 @@ impl Session {
     {
         let opened = opened_at(&self.stage);
         let finish = finish_of(cause, self.frames.rest() == 0);
-        self.stage = leave(owed_between(opened), finish);
+        let next = leave(owed_between(opened), finish);
+        self.stage = next;
     }
 }

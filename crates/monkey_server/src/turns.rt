@@ -55,6 +55,7 @@ pub fn part(finish: Finish) -> Stage
     ensures lacks { (lost : List ℕ) → LacksBy (end_of finish) lost → lost ≡ [] → Lacks result lost }
     ensures phase { (started : Bool) → InPhase result started }
     ensures knows { (known : List Defined) → KnowsTable result known }
+    ensures silent { IsReading result → ⊥ }
     ensures sound { DefinesSound result }
     ensures constant { NoBuilt result }
 {
@@ -78,6 +79,7 @@ pub fn leave(owed: Owed, finish: Finish) -> Stage
     ensures lacks { (lost : List ℕ) → LacksBy (end_of finish) lost → lost ≡ [] → Lacks result lost }
     ensures phase { (started : Bool) → InPhase result started }
     ensures knows { (known : List Defined) → KnowsTable result known }
+    ensures silent { IsReading result → ⊥ }
     ensures sound { DefinesSound result }
     ensures constant { NoBuilt result }
 {
@@ -342,9 +344,10 @@ pub fn break_off(stage: &Stage) -> Stage
     ensures outer { outer result ≡ Some End.WriteFault }
     ensures work { work_at result < work_at stage.now }
     ensures lacks { (lost : List ℕ) → Lacks result lost }
-    ensures silent { IsHolding result → ⊥ }
+    ensures unheld { IsHolding result → ⊥ }
     ensures phase { (started : Bool) → InPhase result started }
     ensures knows { (known : List Defined) → KnowsTable result known }
+    ensures silent { IsReading result → ⊥ }
     ensures sound { DefinesSound result }
     ensures constant { NoBuilt result }
 {
@@ -382,6 +385,7 @@ fn begin_request(request: Request) -> Stage
     ensures work { work_at result ≤ 12 }
     ensures phase { InPhase result true }
     ensures knows { (known : List Defined) → KnowsTable result known }
+    ensures silent { IsReading result → ⊥ }
     ensures sound { DefinesSound result }
     ensures constant { NoBuilt result }
 {
@@ -409,6 +413,7 @@ fn enter_plain(front: &Front) -> Stage
     ensures work { work_at result ≤ 12 }
     ensures phase { (started : Bool) → IsFront started front.now → InPhase result (phase_after started front.now) }
     ensures knows { (known : List Defined) → KnowsTable result known }
+    ensures silent { IsReading result → ⊥ }
     ensures sound { DefinesSound result }
     ensures constant { NoBuilt result }
 {
@@ -437,6 +442,7 @@ fn enter_query(alloc: Global, text: &[u8]) -> Step
     ensures work { work_at result.stage ≤ 12 }
     ensures phase { InPhase result.stage true }
     ensures knows { (known : List Defined) → KnowsTable result.stage known }
+    ensures silent { IsReading result.stage → ⊥ }
     ensures sound { DefinesSound result.stage }
     ensures constant { NoBuilt result.stage }
 {
@@ -462,6 +468,7 @@ pub fn enter(alloc: Global, front: &Front) -> Step
     ensures work { work_at result.stage ≤ 12 }
     ensures phase { (started : Bool) → IsFront started front.now → InPhase result.stage (phase_after started front.now) }
     ensures knows { (known : List Defined) → KnowsTable result.stage known }
+    ensures silent { IsReading result.stage → ⊥ }
     ensures sound { DefinesSound result.stage }
     ensures constant { NoBuilt result.stage }
 {
@@ -485,6 +492,7 @@ pub fn resume(pending: bool, reply: Reply) -> Stage
     ensures work { work_at result < work_at (Stage.Telling pending reply) }
     ensures phase { InPhase result true }
     ensures knows { (known : List Defined) → KnowsTable result known }
+    ensures silent { IsReading result → ⊥ }
     ensures sound { DefinesSound result }
     ensures last { IsLast result → ⊥ }
     ensures constant { NoBuilt result }

@@ -6,14 +6,14 @@ use Rattle.monkey_server.proofs.serve.answer_define.Goals as goal
 pub returns-clause-ran : goal.returns-clause-ran
 returns-clause-ran g c = λ p v f seen many ran.
     let defining = calls.Define c.table.result.now in
-    let (e, plays) = c.define-answer.ensures.plays g.W.Words.gives c.args.words.now in
+    let (e, plays) = c.define-answer.ensures.plays in
     Ran-answered g.W.Words.gives p v f c.args.session.now c.answer.new.self (g.B.Book.past c.args.book.now) (g.B.Book.past c.define-answer.new.book) c.args.words.now c.args.words.now seen many defining c.define-answer.result e
     (λ taken es asked sent st. c.answer.ensures.grown taken es asked sent defining e st c.table.ensures.table) c.answer.ensures.outer c.answer.ensures.lacks plays ran
 
 pub returns-clause-sits : goal.returns-clause-sits
 returns-clause-sits g c =
     let defining = calls.Define c.table.result.now in
-    let (e, plays) = c.define-answer.ensures.plays g.W.Words.gives c.args.words.now in
+    let (e, plays) = c.define-answer.ensures.plays in
     sits_after g.W.Words.gives c.args.session.now.stage c.answer.new.self.stage c.args.session.now.known.items c.answer.new.self.known.items (g.B.Book.past c.args.book.now) c.args.words.now defining c.define-answer.result e
     (g.B.Book.past c.define-answer.new.book) c.args.words.now c.requires.sits c.table.ensures.table
     (may_ask c.args.session.now.stage c.args.session.now.known.items (g.B.Book.past c.args.book.now) defining c.requires.sits c.table.ensures.table)

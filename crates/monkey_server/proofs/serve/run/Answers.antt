@@ -1,5 +1,6 @@
-use Rattle.std.proofs.Common.{rules, ◌+◌, ℕ, arith}
+use Rattle.std.proofs.Common.{rules, ◌+◌, ℕ, arith, sym, subst}
 use Rattle.link_traits.specs.Traffic.{Sight, sight_of}
+use Rattle.monkey_server.specs.Stands.{IsOver}
 use Rattle.monkey_server.proofs.Serving.{Ran-new, Serves-ran, is_over, away_over, sits_new}
 use Rattle.monkey_server.proofs.serve.run.Goals as goal
 
@@ -17,6 +18,12 @@ returns-in-Ended-clause-served g c =
     Serves-ran g.W.Words.gives (g.B.Book.past c.args.book.now) c.args.words.now f c.drive.new.session c.finish.result.end c.finish.result.short (g.B.Book.past c.drive.new.book) c.drive.new.words
     (sight_of g.L.Sides.traffic g.L.Sides.read_faults g.L.Sides.write_faults c.drive.new.link) c.loop-session.invariant.ran.0 c.finish.ensures.end c.finish.ensures.short
     (c.drive.ensures.ran (g.B.Book.past c.args.book.now) c.args.words.now f c.loop-session.invariant.ran.0 c.loop-session.invariant.ran.2)
+
+pub returns-in-Ended-clause-away : goal.returns-in-Ended-clause-away
+returns-in-Ended-clause-away g c = away_over c.drive.new.session.stage c.drive.new.session.known.items (g.B.Book.past c.drive.new.book) (subst IsOver (sym c.finish.ensures.end) tt) c.drive.ensures.sits
+
+pub returns-in-Ended-clause-stays : goal.returns-in-Ended-clause-stays
+returns-in-Ended-clause-stays g c = g.met.B.Book.stays_trans _ _ _ c.loop-session.invariant.stays c.drive.ensures.stays
 
 pub returns-then-n-eq0 : goal.returns-then-n-eq0
 returns-then-n-eq0 g c =

@@ -2,7 +2,7 @@ use Rattle.std.proofs.Common.{ℕ, List, refl, sym, subst, ◌∙◌}
 use Rattle.link_traits.specs.Traffic.{Both, Wrote, sight_of}
 use Rattle.monkey_server.specs.Stands.{reply_of}
 use Rattle.monkey_server.proofs.Carrying.{Both-part}
-use Rattle.monkey_server.proofs.Serving.{Ran-sent, Ran-unsent}
+use Rattle.monkey_server.proofs.Serving.{Ran-sent, Ran-unsent, sits_sent}
 use Rattle.monkey_server.proofs.serve.turn.Goals as goal
 
 pub returns-in-Ok-clause-ran : goal.returns-in-Ok-clause-ran
@@ -20,3 +20,8 @@ returns-in-Err-clause-ran g c = λ p v f many ran.
     (sight_of g.L.Sides.traffic g.L.Sides.read_faults g.L.Sides.write_faults c.send_all.new.sink) many (reply_of c.args.session.now.built.items c.args.session.now.stage) part lost
     c.unsent.ensures.grown (c.in-Send.ensures.holding refl) c.unsent.ensures.outer c.unsent.ensures.lacks (sym c.reply.ensures ∙ reply_is) wrote
     c.send_all.ensures.read_faults (c.in-Err.ensures.cause.failed refl) c.send_all.ensures.cause.later ran
+
+pub returns-in-Ok-clause-sits : goal.returns-in-Ok-clause-sits
+returns-in-Ok-clause-sits g c =
+    sits_sent c.args.session.now.stage c.sent.new.self.stage c.args.session.now.known.items c.sent.new.self.known.items (g.B.Book.past c.args.book.now) c.requires.sits
+    c.sent.ensures.owed c.sent.ensures.known c.sent.ensures.silent c.sent.ensures.knows c.sent.ensures.sound

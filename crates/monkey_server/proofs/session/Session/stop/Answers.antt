@@ -11,10 +11,10 @@ use Rattle.monkey_server.proofs.session.Session.stop.Goals as goal
 pub returns-clause-grown : goal.returns-clause-grown
 returns-clause-grown c =
     λ taken es asked sent s. (
-      StandsFor-stopped c.in-Waiting.opened c.args.self.now.built.items c.args.self.now.known.items c.args.self.now.frames taken es asked sent c.match-self-leave.result c.args.cause (end_of c.finish_of-finish.result)
-          (subst (λ (x : Stage). StandsFor x c.args.self.now.built.items c.args.self.now.known.items c.args.self.now.frames taken es asked sent) c.in-Waiting.is s.0)
-          (subst (λ (o : Owed). LeadsTo c.match-self-leave.result (ending o (end_of c.finish_of-finish.result))) c.owed_between.ensures c.match-self-leave.ensures.leads)
-          (holding-some c.args.self.now.built.items c.match-self-leave.result c.match-self-leave.ensures.constant)
+      StandsFor-stopped c.opened_at-opened.result c.args.self.now.built.items c.args.self.now.known.items c.args.self.now.frames taken es asked sent c.leave-next.result c.args.cause (end_of c.finish_of-finish.result)
+          (subst (λ (x : Stage). StandsFor x c.args.self.now.built.items c.args.self.now.known.items c.args.self.now.frames taken es asked sent) c.opened_at-opened.ensures s.0)
+          (subst (λ (o : Owed). LeadsTo c.leave-next.result (ending o (end_of c.finish_of-finish.result))) c.owed_between.ensures c.leave-next.ensures.leads)
+          (holding-some c.args.self.now.built.items c.leave-next.result c.leave-next.ensures.constant)
           (stopped_right c.args.self.now.frames.rest c.args.cause (end_of c.finish_of-finish.result) (nat_eq c.rest.result 0) (ap (λ (n : ℕ). nat_eq n 0) c.rest.ensures) c.finish_of-finish.ensures.nothing c.finish_of-finish.ensures.something),
       flag-kept c.args.self.now.short es (stop c.args.cause) s.1 refl,
     )

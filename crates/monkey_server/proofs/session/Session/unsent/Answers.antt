@@ -8,6 +8,6 @@ use Rattle.monkey_server.proofs.session.Session.unsent.Goals as goal
 pub returns-clause-grown : goal.returns-clause-grown
 returns-clause-grown c =
     λ taken es asked sent s. (
-      StandsFor-unsent c.args.self.now.stage c.match-self-break_off.result c.args.self.now.built.items c.args.self.now.known.items c.args.self.now.frames taken es asked sent s.0 c.requires c.match-self-break_off.ensures.leads c.match-self-break_off.ensures.silent,
+      StandsFor-unsent c.args.self.now.stage c.break_off-next.result c.args.self.now.built.items c.args.self.now.known.items c.args.self.now.frames taken es asked sent s.0 c.requires c.break_off-next.ensures.leads c.break_off-next.ensures.unheld,
       flag-kept c.args.self.now.short es (unsent (length (sent ++ reply_of c.args.self.now.built.items c.args.self.now.stage))) s.1 refl,
     )
