@@ -1,4 +1,4 @@
-//! Tests of typing from texts: a table of more than two hundred statements over tables that CREATE TABLE texts define, each with its
+//! Tests of typing from texts: a table of more than four hundred statements over tables that CREATE TABLE texts define, each with its
 //! typed statement or its code.
 //!
 //! The typed statements are shown as text, so that text is compared with text. The contracts of `sql_types` and `table_schema` say

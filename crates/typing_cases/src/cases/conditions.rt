@@ -21,7 +21,8 @@ pub(crate) const CONDITIONS: &[(&str, &str)] = &[
     ("SELECT v FROM t WHERE count(nosuch) = 1", "S42703"),
     ("SELECT v FROM t WHERE foo(v) = 1", "S0A000"),
     ("SELECT v FROM t WHERE sum(*) = 1", "S42883"),
-    // AND, OR, NOT: both operands are typed, then the left one is judged, then the right one.
+    // AND, OR, NOT: both operands are typed, then the left one is judged, then the right one. PostgreSQL reads a quoted literal as a
+    // boolean, with 22P02 where it is none.
     (
         "SELECT true OR NULL, NULL AND false",
         "?column?:b ?column?:b <- or(true:b null:b):b and(null:b false:b):b",

@@ -1,4 +1,4 @@
-// CREATE TABLE, and the limits on texts, columns and depth.
+// CREATE TABLE, and the limits on columns, texts and depth.
 
 /// CREATE TABLEs.
 pub(crate) const DEFINITIONS: &[(&str, &str)] = &[
@@ -19,6 +19,7 @@ pub(crate) const DEFINITIONS: &[(&str, &str)] = &[
         "CREATE TABLE z (a varchar, b character varying(65536), c int8, d bool, k int4, PRIMARY KEY (k))",
         "z: a:v b:v65536 c:l d:b k:i! key 4",
     ),
+    // Lengths from 1 to 65,536. PostgreSQL answers 22023 for 0, and allows lengths up to 10,485,760.
     ("CREATE TABLE z (a varchar(0), k int PRIMARY KEY)", "S54000"),
     (
         "CREATE TABLE z (a varchar(65537), k int PRIMARY KEY)",
@@ -40,7 +41,7 @@ pub(crate) const DEFINITIONS: &[(&str, &str)] = &[
         "CREATE TABLE z (a int, \"A\" int PRIMARY KEY)",
         "z: a:i A:i! key 1",
     ),
-    // Defaults are converted to the column's type.
+    // Defaults are converted to the column's type. PostgreSQL takes 1 for a text, and 'true' for a boolean.
     (
         "CREATE TABLE z (k int PRIMARY KEY, a int DEFAULT ' 12 ', b int DEFAULT -2147483648, c bigint DEFAULT -5, d text DEFAULT NULL)",
         "z: k:i! a:i=12 b:i=-2147483648 c:l=-5 d:t key 0",
@@ -224,5 +225,20 @@ pub(crate) const LONG: &[(&str, &str, u32, &str, &str)] = &[
         70_000,
         "' AND nosuch",
         "S42703",
+    ),
+    // Depth 64: a literal inside 63 pairs of parentheses, and not inside 64.
+    (
+        "SELECT ",
+        "(",
+        63,
+        "1)))))))))))))))))))))))))))))))))))))))))))))))))))))))))))))))",
+        "?column?:i <- 1:i",
+    ),
+    (
+        "SELECT ",
+        "(",
+        64,
+        "1))))))))))))))))))))))))))))))))))))))))))))))))))))))))))))))))",
+        "S54000",
     ),
 ];

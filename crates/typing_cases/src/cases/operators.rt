@@ -44,13 +44,14 @@ pub(crate) const OPERATORS: &[(&str, &str)] = &[
     ("SELECT NULL * 1", "?column?:i <- *(null:i 1:i):i"),
     ("SELECT 1 + 'x'", "S22P02"),
     ("SELECT 1 + '2147483648'", "S22003"),
+    // Without a typed operand there is no operator. PostgreSQL answers 42725, an ambiguous operator, also for the lone `+`.
     ("SELECT '1' + '2'", "S42883"),
     ("SELECT NULL - NULL", "S42883"),
     ("SELECT '1' / NULL", "S42883"),
     ("SELECT -'1'", "S42883"),
     ("SELECT -NULL", "S42883"),
     ("SELECT +'1'", "?column?:t <- '1':t"),
-    // No boolean is wanted in arithmetic. PostgreSQL reads the literal as a boolean first, with 22P02.
+    // No boolean is wanted in arithmetic, so the literal isn't read as one.
     ("SELECT true + 'x'", "S42883"),
     ("SELECT 'x' + name FROM u", "S42883"),
     // Operands from left to right, before their node.

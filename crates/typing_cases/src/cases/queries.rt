@@ -69,7 +69,7 @@ pub(crate) const QUERIES: &[(&str, &str)] = &[
         "SELECT sum(2147483648)",
         "sum:n <- sum(2147483648:l):n grouped",
     ),
-    // A quoted literal or NULL in an aggregate is text.
+    // A quoted literal or NULL in an aggregate is text. PostgreSQL answers 42725 where there is no sum of it.
     (
         "SELECT min(NULL), max('a'), count(NULL)",
         "min:t max:t count:l <- min(null:t):t max('a':t):t count(null:t):l grouped",
@@ -114,7 +114,7 @@ pub(crate) const QUERIES: &[(&str, &str)] = &[
     ("SELECT count(1 + max(k)) FROM t", "S42803"),
     ("SELECT sum(count(nosuch)) FROM t", "S42703"),
     ("SELECT count(foo(k)) FROM t", "S0A000"),
-    // Beside an aggregate a column stands in one.
+    // Beside an aggregate a column stands in one, and is refused at its place. PostgreSQL looks at it behind all items.
     ("SELECT v, count(*) FROM t", "S42803"),
     ("SELECT count(*), v + 1 FROM t", "S42803"),
     ("SELECT *, count(*) FROM t", "S42803"),
@@ -131,7 +131,7 @@ pub(crate) const QUERIES: &[(&str, &str)] = &[
 
 /// ORDER BY, LIMIT and OFFSET.
 pub(crate) const ORDERS: &[(&str, &str)] = &[
-    // A bare integer is a position, from 1.
+    // A bare integer is a position, from 1. PostgreSQL answers 42P10 for one that isn't there.
     (
         "SELECT v FROM t ORDER BY 1",
         "v:l <- 0.1:l from 0 reads (1) at - by 0.1:l",
@@ -144,7 +144,7 @@ pub(crate) const ORDERS: &[(&str, &str)] = &[
     ("SELECT v FROM t ORDER BY 2", "S42601"),
     ("SELECT v FROM t ORDER BY 9223372036854775807", "S42601"),
     ("SELECT 1 ORDER BY 1", "?column?:i <- 1:i by 1:i"),
-    // Other constants are expressions. PostgreSQL refuses a quoted literal here with 42601.
+    // Other constants are expressions. PostgreSQL takes -1 for a position, and refuses a quoted literal and NULL with 42601.
     (
         "SELECT v FROM t ORDER BY -1",
         "v:l <- 0.1:l from 0 reads (1) at - by neg(1:i):i",
