@@ -94,6 +94,14 @@ pub(crate) const CHANGES: &[(&str, &str)] = &[
         "UPDATE s SET b = k = 'a'",
         "update 3 reads () at - set 1 = =(0.0:v3 'a':v3):b",
     ),
+    (
+        "UPDATE p SET a = 1 WHERE '2' = k AND d > 0",
+        "update 4 reads (1,2,3) at 2 set 1 = 1:i where and(=(2:i 0.0:i):b >(0.3:i 0:i):b):b",
+    ),
+    (
+        "UPDATE u SET name = NULL WHERE id = -3",
+        "update 1 reads () at -3 set 1 = null:t where =(0.0:i neg(3:i):i):b",
+    ),
     // DELETE: the table, then WHERE.
     ("DELETE FROM t", "delete 0 reads () at -"),
     (
@@ -103,6 +111,14 @@ pub(crate) const CHANGES: &[(&str, &str)] = &[
     (
         "DELETE FROM u WHERE u.name = 'a' OR code < 'b'",
         "delete 1 reads (1,2) at - where or(=(0.1:t 'a':t):b <(0.2:v3 'b':v3):b):b",
+    ),
+    (
+        "DELETE FROM s WHERE k = 'abc  ' AND NOT b",
+        "delete 3 reads (1) at 'abc  ' where and(=(0.0:v3 'abc  ':v3):b not(0.1:b):b):b",
+    ),
+    (
+        "DELETE FROM t WHERE v = 1 OR k = 1",
+        "delete 0 reads (1) at - where or(=(0.1:l 1:i):b =(0.0:l 1:i):b):b",
     ),
     ("DELETE FROM q WHERE nosuch", "S42P01"),
     ("DELETE FROM t WHERE q = 1", "S42703"),

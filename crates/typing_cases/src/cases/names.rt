@@ -96,4 +96,5 @@ pub(crate) const NAMES: &[(&str, &str)] = &[
     ("SELECT 1 FROM t WHERE nosuch ORDER BY 5", "S42703"),
     // Only statements over rows have types.
     ("COMMIT", "S0A000"),
+    ("SHOW monkey.history", "S0A000"),
 ];
