@@ -1,0 +1,18 @@
+//! Tests of typing from texts: a table of more than four hundred statements over tables that CREATE TABLE texts define, each with its
+//! typed statement or its code.
+//!
+//! The typed statements are shown as text, so that text is compared with text. The contracts of `sql_types` and `table_schema` say
+//! that they give what the rules of `sql_typing` give; this table shows by cases typed by hand that the rules are SQL's. The crate
+//! has nothing but tests.
+#![tactic(auto)]
+
+#[cfg(test)]
+mod cases;
+#[cfg(test)]
+mod expr;
+#[cfg(test)]
+mod statement;
+#[cfg(test)]
+mod table;
+#[cfg(test)]
+mod tests;
