@@ -24,9 +24,7 @@ fn are_k_and_v(columns: &[Column]) -> bool
     ensures { result ≡ spec.are_k_and_v columns.now }
 {
     match columns {
-        [k, v] => {
-            is_number_column(k, "k") && (is_number_column(v, "v") && !v.not_null)
-        }
+        [k, v] => { is_number_column(k, "k") && (is_number_column(v, "v") && !v.not_null) }
         _ => false,
     }
 }
@@ -36,8 +34,7 @@ fn is_t(table: &Table) -> bool
     ensures { result ≡ spec.is_t table.now }
 {
     table.name.as_str() == "t"
-        && (are_k_and_v(table.columns.as_slice())
-            && (table.key == 0 && table.checks.len() == 0))
+        && (are_k_and_v(table.columns.as_slice()) && (table.key == 0 && table.checks.len() == 0))
 }
 
 /// The number of that table, where it is defined.

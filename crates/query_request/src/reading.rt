@@ -7,8 +7,8 @@ ghost use Rattle.query_request.specs.Requests.{AreAsked, IsAskedBy, IsRequest, I
 ghost use Rattle.sql_typing.specs.Building.{built};
 ghost use Rattle.sql_typing.specs.Typed.{typed};
 
-use crate::trees::access_of;
 use crate::Request;
+use crate::trees::access_of;
 use cell_base::{Items, Memory, SqlState, Text, TextFault};
 use sql_lexer::LexFault;
 use sql_statements::{ParseFault, statements};

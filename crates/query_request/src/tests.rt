@@ -57,7 +57,13 @@ fn defines_tables(rt: HostRuntime) -> Result<(), Fail> {
             Asked::Define(2, 2, 0)
         )?
     );
-    assert!(rt; refused(alloc, b"CREATE TABLE t (k bigint, v bigint)", SqlState::S0A000)?);
+    assert!(rt;
+        refused(
+            alloc,
+            b"CREATE TABLE t (k bigint, v bigint)",
+            SqlState::S0A000
+        )?
+    );
     assert!(rt;
         refused(
             alloc,

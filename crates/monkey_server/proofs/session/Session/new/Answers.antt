@@ -10,6 +10,6 @@ pub returns-clause-empty : goal.returns-clause-empty
 returns-clause-empty c =
     let none : c.new-4.result.items ≡ [] = search rules in (
       subst (λ (known : List Table). StandsFor (stages.Waiting false) c.new-3.result.items known c.new.result [] [] [] []) (sym none)
-      (subst (λ (held : Held). StandsFor (stages.Waiting false) c.new-3.result.items [] held [] [] [] []) (sym c.new.ensures) (StandsFor-new c.new-3.result.items)),
+          (subst (λ (held : Held). StandsFor (stages.Waiting false) c.new-3.result.items [] held [] [] [] []) (sym c.new.ensures) (StandsFor-new c.new-3.result.items)),
       refl,
     )
