@@ -16,7 +16,7 @@ enum Asked {
     Refused(SqlState),
 }
 
-fn asked(alloc: Global, text: &[u8]) -> Result<Asked, Memory>
+fn answer_to(alloc: Global, text: &[u8]) -> Result<Asked, Memory>
     requires { length text.now < 2 ^ 32 }
 {
     Ok(match request_of(alloc, text)? {
@@ -30,7 +30,7 @@ fn asked(alloc: Global, text: &[u8]) -> Result<Asked, Memory>
 fn asks(alloc: Global, text: &[u8], wanted: Asked) -> Result<bool, Memory>
     requires { length text.now < 2 ^ 32 }
 {
-    Ok(asked(alloc, text)? == wanted)
+    Ok(answer_to(alloc, text)? == wanted)
 }
 
 // Whether the bytes are refused with this code.
