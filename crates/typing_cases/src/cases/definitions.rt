@@ -19,7 +19,8 @@ pub(crate) const DEFINITIONS: &[(&str, &str)] = &[
         "CREATE TABLE z (a varchar, b character varying(65536), c int8, d bool, k int4, PRIMARY KEY (k))",
         "z: a:v b:v65536 c:l d:b k:i! key 4",
     ),
-    // Lengths from 1 to 65,536. PostgreSQL answers 22023 for 0, and allows lengths up to 10,485,760.
+    // Lengths from 1 to 65,536. PostgreSQL answers 22023 for 0, allows lengths up to 10,485,760, and answers 42601 above
+    // 2147483647.
     ("CREATE TABLE z (a varchar(0), k int PRIMARY KEY)", "S54000"),
     (
         "CREATE TABLE z (a varchar(65537), k int PRIMARY KEY)",
@@ -41,7 +42,8 @@ pub(crate) const DEFINITIONS: &[(&str, &str)] = &[
         "CREATE TABLE z (a int, \"A\" int PRIMARY KEY)",
         "z: a:i A:i! key 1",
     ),
-    // Defaults are converted to the column's type. PostgreSQL takes 1 for a text, and 'true' for a boolean.
+    // Defaults are converted to the column's type. PostgreSQL takes 1 for a text, and 'true' for a boolean. It refuses an integer
+    // out of range and a text too long only when the default is used.
     (
         "CREATE TABLE z (k int PRIMARY KEY, a int DEFAULT ' 12 ', b int DEFAULT -2147483648, c bigint DEFAULT -5, d text DEFAULT NULL)",
         "z: k:i! a:i=12 b:i=-2147483648 c:l=-5 d:t key 0",
@@ -106,7 +108,7 @@ pub(crate) const DEFINITIONS: &[(&str, &str)] = &[
     ("CREATE TABLE z (k int, PRIMARY KEY (q))", "S42703"),
     ("CREATE TABLE z (k boolean PRIMARY KEY)", "S0A000"),
     ("CREATE TABLE z (k boolean, PRIMARY KEY (k))", "S0A000"),
-    // A column that is marked twice counts once, and the key is never null.
+    // A column that is marked twice counts once, and the key is never null. PostgreSQL refuses two marks with 42P16.
     (
         "CREATE TABLE z (k int PRIMARY KEY CONSTRAINT c PRIMARY KEY NULL)",
         "z: k:i! key 0",

@@ -78,7 +78,7 @@ pub(crate) const INSERTS: &[(&str, &str)] = &[
         "INSERT INTO u VALUES (NULL, NULL, NULL, NULL)",
         "into 1 row null:i null:t null:v3 null:b",
     ),
-    // Other pairs of types. PostgreSQL takes an integer for a text in some of them.
+    // Other pairs of types. PostgreSQL takes an integer or a boolean for a text.
     ("INSERT INTO t VALUES (1, true)", "S42804"),
     ("INSERT INTO t VALUES (1, 1 = 1)", "S42804"),
     ("INSERT INTO w VALUES (1, 2)", "S42804"),

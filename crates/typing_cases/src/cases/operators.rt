@@ -2,7 +2,8 @@
 
 /// Items that are one expression each.
 pub(crate) const OPERATORS: &[(&str, &str)] = &[
-    // An integer literal is an integer up to 2147483647. A sign is an operator.
+    // An integer literal is an integer up to 2147483647. A sign is an operator: PostgreSQL makes it a part of the literal, so its
+    // -2147483648 is an integer, and it takes 9223372036854775808 for a numeric.
     (
         "SELECT 2147483647, 2147483648",
         "?column?:i ?column?:l <- 2147483647:i 2147483648:l",
@@ -44,7 +45,8 @@ pub(crate) const OPERATORS: &[(&str, &str)] = &[
     ("SELECT NULL * 1", "?column?:i <- *(null:i 1:i):i"),
     ("SELECT 1 + 'x'", "S22P02"),
     ("SELECT 1 + '2147483648'", "S22003"),
-    // Without a typed operand there is no operator. PostgreSQL answers 42725, an ambiguous operator, also for the lone `+`.
+    // Without a typed operand there is no operator. PostgreSQL answers 42725, an ambiguous operator. A lone `+` gives its operand;
+    // PostgreSQL makes it a double precision.
     ("SELECT '1' + '2'", "S42883"),
     ("SELECT NULL - NULL", "S42883"),
     ("SELECT '1' / NULL", "S42883"),

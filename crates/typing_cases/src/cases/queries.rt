@@ -131,7 +131,7 @@ pub(crate) const QUERIES: &[(&str, &str)] = &[
 
 /// ORDER BY, LIMIT and OFFSET.
 pub(crate) const ORDERS: &[(&str, &str)] = &[
-    // A bare integer is a position, from 1. PostgreSQL answers 42P10 for one that isn't there.
+    // A bare integer is a position, from 1. PostgreSQL answers 42P10 for one that isn't there, and 42601 for a bigint.
     (
         "SELECT v FROM t ORDER BY 1",
         "v:l <- 0.1:l from 0 reads (1) at - by 0.1:l",
@@ -153,7 +153,8 @@ pub(crate) const ORDERS: &[(&str, &str)] = &[
         "SELECT 1 ORDER BY 'x', NULL",
         "?column?:i <- 1:i by 'x':t null:t",
     ),
-    // A bare name is the first output column of that name, also before a column of FROM.
+    // A bare name is the first output column of that name, also before a column of FROM. PostgreSQL answers 42702 where two output
+    // columns of that name differ.
     ("SELECT 1 AS a ORDER BY a", "a:i <- 1:i by 1:i"),
     (
         "SELECT k AS v, v AS k FROM t ORDER BY v",
