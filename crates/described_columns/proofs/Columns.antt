@@ -1,5 +1,5 @@
 -- The columns of well formed tables: their names are plain, and their varchars have limits.
-use Rattle.std.proofs.Common.{◌≡◌, true, ℕ, zero, suc, List, [], ◌∷◌, map, Option, Some, None, All, refl, subst}
+use Rattle.std.proofs.Common.{◌≡◌, true, ℕ, zero, suc, List, [], ◌∷◌, map, Option, Some, All, subst}
 use Rattle.std.specs.Prelude.{slice_get}
 use Rattle.std.proofs.lemmas.Bool.{leb-true}
 use Rattle.std.proofs.lemmas.List.Elements.{All-head, All-tail, All-map}
@@ -10,7 +10,6 @@ use Rattle.sql_tree.specs.declared.table.Table.{Table}
 use Rattle.sql_grammar.specs.Limited.{IsPlainName}
 use Rattle.sql_typing.specs.Building.{has_length}
 use Rattle.sql_typing.specs.Names.{Source, Found, resolved}
-use Rattle.sql_typing.specs.Outcome.{Outcome}
 use Rattle.sql_typing.specs.Sound.{Holds, column_types}
 use Rattle.sql_typing.specs.WellTyped.{ColumnTypes, column_type}
 use Rattle.sql_typing.proofs.Columns.{IsIn, resolved_in}

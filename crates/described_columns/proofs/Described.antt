@@ -1,5 +1,5 @@
 -- The columns of each typed SELECT can be described.
-use Rattle.std.proofs.Common.{◌≡◌, List, [], Ok, Err, All, subst, arith}
+use Rattle.std.proofs.Common.{List, [], Ok, All, subst, arith}
 use Rattle.std.proofs.lemmas.List.Elements.{All-nil}
 use Rattle.sql_tree.specs.declared.statement.Select.{Select}
 use Rattle.sql_tree.specs.declared.statement.Statement.{Statement}
@@ -21,7 +21,7 @@ use Rattle.described_columns.specs.Described.{AreDescribed, HasPlainNames}
 use Rattle.described_columns.specs.Laws.{ColumnsAreDescribed, StatementIsDescribed}
 use Rattle.described_columns.proofs.Entries.{IsOf, entries_well, sources_shown}
 use Rattle.described_columns.proofs.Fields.{fields_described}
-use Rattle.described_columns.proofs.Kinds.{after}
+use Rattle.described_columns.proofs.Types.{after}
 use Rattle.described_columns.proofs.Outputs.{AreFew, items_few}
 
 abbrev CanBeDescribed : TypedSelect → Type 0

@@ -3,7 +3,7 @@ pub mod Marks
 pub mod Statements
 pub mod Plain
 pub mod Columns
-pub mod Kinds
+pub mod Types
 pub mod Outputs
 pub mod Entries
 pub mod Fields

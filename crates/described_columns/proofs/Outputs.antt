@@ -1,5 +1,5 @@
 -- The columns of a SELECT: how many there are, their names and their types.
-use Rattle.std.proofs.Common.{◌≡◌, ℕ, ◌+◌, ◌≤◌, List, [], ◌∷◌, ◌++◌, length, length-append, Option, Ok, Err, refl, All, arith}
+use Rattle.std.proofs.Common.{◌≡◌, ℕ, ◌+◌, ◌≤◌, List, [], ◌∷◌, ◌++◌, length, length-append, Ok, Err, refl, All, arith}
 use Rattle.std.specs.Prelude.{nat_lt}
 use Rattle.std.proofs.lemmas.Bool.{cond_both, ltb-false}
 use Rattle.std.proofs.lemmas.List.Elements.{All-nil, All-cons, All-head, All-tail, All-append}
@@ -14,14 +14,13 @@ use Rattle.sql_typing.specs.declared.place.Place.TheVariants.{Row, Group}
 use Rattle.sql_typing.specs.Expressions as forms
 use Rattle.sql_typing.specs.Expressions.{typing}
 use Rattle.sql_typing.specs.Names.{Source}
-use Rattle.sql_typing.specs.Outcome.{Outcome}
 use Rattle.sql_typing.specs.Select.{Output, column_outputs, star_outputs, star_of, width, outputs_of, items_from, name_or, plain_name}
 use Rattle.sql_typing.specs.Sound.{Holds}
 use Rattle.sql_typing.proofs.Numbers.{then_holds}
 use Rattle.pg_framing.specs.Replies.{IsShortType}
 use Rattle.described_columns.specs.Described.{NamesPlainly}
 use Rattle.described_columns.proofs.Columns.{IsShown, AreShown}
-use Rattle.described_columns.proofs.Kinds.{IsShort, IsShortForm, typing_short, item_short}
+use Rattle.described_columns.proofs.Types.{IsShort, IsShortForm, typing_short, item_short}
 
 pub record IsOutput (o : Output) : Type 0 where
   pub named : IsPlainName o.name

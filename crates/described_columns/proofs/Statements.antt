@@ -1,7 +1,6 @@
 -- The statements that the grammar gives for plain tokens have plain names.
 use Rattle.std.proofs.Common.{ℕ, List, [], ◌∷◌, Option, Some, None, All}
 use Rattle.std.proofs.lemmas.List.Elements.{All-nil, All-cons}
-use Rattle.sql_tree.specs.declared.expr.Expr.{Expr}
 use Rattle.sql_tree.specs.declared.statement.Statement.{Statement}
 use Rattle.sql_tree.specs.declared.token.Token.{Token}
 use Rattle.sql_grammar.specs.declared.mark.Word.{Word}

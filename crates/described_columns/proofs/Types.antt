@@ -1,29 +1,28 @@
 -- The type of what an expression comes to: a varchar only where it is a column.
-use Rattle.std.proofs.Common.{◌≡◌, ℕ, ◌^◌, Bool, true, false, cond, List, [], ◌∷◌, map, Option, Some, None, Ok, Err, refl, sym, subst, All}
-use Rattle.std.specs.Prelude.{slice_get}
+use Rattle.std.proofs.Common.{◌≡◌, ℕ, ◌^◌, ◌||◌, ◌&&◌, Bool, true, false, cond, List, [], ◌∷◌, map, Option, Some, None, Ok, Err, sym, subst, All}
 use Rattle.std.proofs.lemmas.Bool.{cond_both, false≢true}
-use Rattle.cell_base.specs.declared.sql_state.SqlState.TheVariants.{S0A000, S42804, S42883}
+use Rattle.cell_base.specs.declared.sql_state.SqlState.TheVariants.{S0A000, S42883}
 use Rattle.cell_base.specs.declared.sql_type.SqlType.{SqlType}
 use Rattle.cell_base.specs.declared.sql_type.SqlType.TheVariants as type
-use Rattle.sql_tree.specs.declared.expr.Expr.{Expr}
+use Rattle.sql_tree.specs.declared.expr.Expr.{Expr, map-Expr}
 use Rattle.sql_tree.specs.declared.expr.Expr.TheOpen.{Expr-F}
 use Rattle.sql_tree.specs.declared.expr.Expr.TheFolds.{fold-roll-Expr, ind-Expr}
 use Rattle.sql_tree.specs.declared.op.Op.{Op}
 use Rattle.sql_tree.specs.declared.op.Aggregate.{Aggregate}
 use Rattle.sql_tree.specs.declared.op.Aggregate.TheVariants.{Count, Sum, Min, Max}
 use Rattle.sql_tree.specs.declared.typed_expr.TypedExpr.{TypedExpr}
+use Rattle.sql_tree.specs.declared.typed_expr.TypedNode.TheVariants as node
 use Rattle.sql_typing.specs.declared.form.Form.{Form}
 use Rattle.sql_typing.specs.declared.form.Form.TheVariants.{Typed, Quoted, Null}
 use Rattle.sql_typing.specs.declared.place.Place.{Place}
 use Rattle.sql_typing.specs.declared.place.Place.TheVariants.{Row, Group}
-use Rattle.sql_typing.specs.Outcome.{Outcome, and_then}
-use Rattle.sql_typing.specs.Kinds.{is_number, is_numeric, wider, is_within}
+use Rattle.sql_typing.specs.Outcome.{Outcome, and_then, all_of}
+use Rattle.sql_typing.specs.Kinds.{is_number, is_numeric, are_comparable, wider, is_within}
 use Rattle.sql_typing.specs.WellTyped.{is_arithmetic, is_connective, aggregate_type}
-use Rattle.sql_typing.specs.Literals.{quoted}
 use Rattle.sql_typing.specs.Operators.{aggregate_named}
 use Rattle.sql_typing.specs.Names.{Source, Found, resolved}
 use Rattle.sql_typing.specs.Expressions as forms
-use Rattle.sql_typing.specs.Expressions.{settled, condition, compared_to, compared, calculated_with, calculated, joined, combined, negated_form, inverted, null_test, among, aggregate_of, aggregate, aggregated, starred, inside, column_at, column, typing, typing_step}
+use Rattle.sql_typing.specs.Expressions.{settled, condition, compared_to, compared, calculated_with, calculated, joined, combined, negated_form, inverted, null_test, kind_or, kind_of, first_kind, member, typed_form, among, aggregate_of, aggregate, aggregated, starred, inside, column_at, column, typing, typing_step}
 use Rattle.sql_typing.specs.Sound.{Holds}
 use Rattle.sql_typing.proofs.Numbers.{then_holds}
 use Rattle.pg_framing.specs.Replies.{IsShortType}
@@ -70,7 +69,15 @@ IsShortOption None = Unit {0}
 IsShortOption (Some k) = IsShortType k
 
 aggregate_short : (f : Aggregate) (k : SqlType) → IsShortOption (aggregate_type f k)
-aggregate_short _ _ = tt
+aggregate_short Count type.Numeric = tt
+aggregate_short Count _ = tt
+aggregate_short Sum type.Integer = tt
+aggregate_short Sum type.Bigint = tt
+aggregate_short Sum _ = tt
+aggregate_short Min (type.Varchar limit) = tt
+aggregate_short Min _ = tt
+aggregate_short Max (type.Varchar limit) = tt
+aggregate_short Max _ = tt
 
 -- ---- operators
 
@@ -79,7 +86,7 @@ unfolding compared
 compared_short o a b =
     after IsShortForm (settled (forms.common_kind a b) a) _ (λ x.
     after IsShortForm (settled (forms.common_kind a b) b) (compared_to o x) (λ y.
-    either_holds IsShortForm (forms.are_comparable x.kind y.kind) _ _ tt tt))
+    either_holds IsShortForm (are_comparable x.kind y.kind) _ _ tt tt))
 
 calculated_short : (o : Op) (a b : Form) → Holds IsShortForm (calculated o a b)
 unfolding calculated
@@ -109,7 +116,9 @@ negated_short _ = tt
 
 among_short : (x : Form) (xs : List Form) (negated : Bool) → Holds IsShortForm (among x xs negated)
 among_short x [] negated = tt
-among_short x (m ∷ ms) negated = after IsShortForm (settled _ x) _ (λ y. after IsShortForm (forms.all_of _) _ (λ ys. tt))
+among_short x (m ∷ ms) negated =
+    after IsShortForm (settled (kind_or (first_kind (m ∷ ms)) (kind_of x)) x) _ (λ y.
+    after IsShortForm (all_of (map (member y.kind) (m ∷ ms))) (λ ys. typed_form type.Boolean (node.In y ys negated)) (λ ys. tt))
 
 -- ---- functions and columns
 
@@ -161,15 +170,16 @@ step_short sources h (Expr-F.IsNull a negated) place =
     after IsShortForm (a place) _ (λ x. after IsShortForm (settled type.Text x) _ (λ e. tt))
 step_short sources h (Expr-F.Binary op a b) place = after IsShortForm (a place) _ (λ x. after IsShortForm (b place) (combined op x) (combined_short op x))
 step_short sources h (Expr-F.In a members negated) place =
-    after IsShortForm (a place) _ (λ x. after IsShortForm (forms.all_of _) _ (λ xs. among_short x xs negated))
+    after IsShortForm (a place) _ (λ x.
+    after IsShortForm (all_of (map (λ (f : Place → Outcome Form). f place) members)) (λ xs. among x xs negated) (λ xs. among_short x xs negated))
 
 pub typing_short : (sources : List Source) → All AreShown sources → (e : Expr) (place : Place) → Holds IsShortForm (typing sources e place)
 typing_short sources h = ind-Expr (λ e. (place : Place) → Holds IsShortForm (typing sources e place)) (λ x y is place.
     subst (λ (f : Place → Outcome Form). Holds IsShortForm (f place)) (sym (fold-roll-Expr (Place → Outcome Form) (typing_step sources) x))
-    (step_short sources h _ place))
+    (step_short sources h (map-Expr Expr (Place → Outcome Form) (typing sources) x) place))
 
 -- as a whole item
 pub item_short : (x : Form) → IsShortForm x → Holds IsShort (forms.item x)
 item_short (Typed e) h = h
-item_short (Quoted text) h = after IsShort (quoted type.Text text) _ (λ v. tt)
+item_short (Quoted text) h = tt
 item_short Null h = tt
