@@ -2,8 +2,14 @@
 use Rattle.std.proofs.Common.{◌≡◌, ℕ, suc, ◌≤◌, ◌<◌, Bool, true, false, not, ◌&&◌, cond, List, [], ◌∷◌, length, get_or, refl, sym, ap, subst, ◌∙◌, arith}
 use Rattle.std.specs.Cmp.{IsStrictWeakOrder}
 use Rattle.std.specs.List.{filter}
-use Rattle.std.specs.List.Sorted.{IsSortedBy, IsStableBy, ties}
+use Rattle.std.specs.List.Sorted.{IsSortedBy, IsStableBy, IsSortedByClosure, IsStableByClosure, ties}
+use Rattle.std.specs.Fn.{Called}
+use Rattle.std.specs.Ordering.{is_lt}
+use Rattle.std.specs.declared.cmp.Ordering.{Ordering}
+use Rattle.std.proofs.lemmas.Fn.{always_returns_same}
 use Rattle.std.proofs.lemmas.List.Sorted.{sorted_far}
+use denote.Param.Members.{Mut}
+use denote.Ref.{Bor}
 
 -- an element among others that are in order: before the first that isn't less
 abbrev pub placed_by : {X : Type 0} → (X → X → Bool) → X → List X → List X
@@ -153,3 +159,12 @@ module _ {X : Type 0} (lt : X → X → Bool) (order : IsStrictWeakOrder lt) whe
 
   pub sorted_is : (xs ys : List X) → IsSortedBy lt ys → IsStableBy lt xs ys → ys ≡ sorted_by lt xs
   sorted_is xs ys up stable = unique ys (sorted_by lt xs) (rises_of ys up) (sorted_rises xs) (λ x. stable x ∙ sym (sorted_stable xs x))
+
+  -- from the clauses of `sort_by`, where each call of its closure answers `Less` just where the first is less
+  pub sorted_from : {F : Type 0} {g : Mut F (Bor X × (Bor X × Unit {0})) Ordering} {f : F} (xs ys : List X)
+      → IsSortedByClosure g f ys → IsStableByClosure g f xs ys
+      → ((a : Bor X × (Bor X × Unit {0})) (r : Ordering) (f' : F) → Called g f a r f' → (is_lt r ≡ lt a.0.now a.1.0.now) × (f' ≡ f))
+      → ys ≡ sorted_by lt xs
+  sorted_from {g = g} {f = f} xs ys up stable h =
+      let compares = always_returns_same g (λ a r. is_lt r ≡ lt a.0.now a.1.0.now) f h in
+      sorted_is xs ys (up lt order compares) (stable lt order compares)
