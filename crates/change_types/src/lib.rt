@@ -8,8 +8,6 @@ mod lengths;
 mod reads;
 mod row;
 mod targets;
-#[cfg(test)]
-mod tests;
 
 pub use change::{typed_delete, typed_update};
 pub use insert::typed_insert;

@@ -4,11 +4,7 @@
 //! bytes.
 #![tactic(auto)]
 
-#[cfg(test)]
-mod assigned;
 mod assignment;
-#[cfg(test)]
-mod cases;
 mod compare;
 mod compute;
 mod datum;
@@ -16,10 +12,6 @@ mod evaluation;
 mod fault;
 mod logic;
 mod lookup;
-#[cfg(test)]
-mod samples;
-#[cfg(test)]
-mod tests;
 
 pub use assignment::assign;
 pub use compare::order_of;

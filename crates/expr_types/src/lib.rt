@@ -17,8 +17,6 @@ mod literal;
 mod names;
 mod operands;
 mod operators;
-#[cfg(test)]
-mod tests;
 mod value;
 
 use crate::expression::form;

@@ -6,4 +6,3 @@ pub mod Chronicle
 pub mod Book
 pub mod Records
 pub mod Kept
-pub mod WorkedRow

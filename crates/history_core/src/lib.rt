@@ -15,8 +15,6 @@ mod laws;
 mod limits;
 mod notes;
 mod pushes;
-#[cfg(test)]
-mod tests;
 mod txn;
 mod weight;
 

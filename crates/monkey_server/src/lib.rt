@@ -13,10 +13,6 @@ mod serve;
 mod session;
 mod stage;
 mod tables;
-#[cfg(test)]
-mod tests;
-#[cfg(test)]
-mod tests_of_command;
 mod turns;
 mod user;
 mod want;

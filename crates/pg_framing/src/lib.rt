@@ -18,8 +18,6 @@ mod parts;
 mod replies;
 mod rows;
 mod split;
-#[cfg(test)]
-mod tests;
 
 pub use frames::Frames;
 pub use front::{FrameFault, Front};

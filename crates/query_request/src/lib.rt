@@ -7,8 +7,6 @@
 
 mod reading;
 mod request;
-#[cfg(test)]
-mod tests;
 mod trees;
 
 pub use reading::request_of;

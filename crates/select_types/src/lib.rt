@@ -16,7 +16,5 @@ mod points;
 mod reads;
 mod select;
 mod star;
-#[cfg(test)]
-mod tests;
 
 pub use select::typed_select;

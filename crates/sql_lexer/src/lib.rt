@@ -11,14 +11,10 @@
 //! linear too.
 #![tactic(auto)]
 
-#[cfg(test)]
-mod cases;
 mod cut;
 mod fault;
 mod piece;
 mod scan;
-#[cfg(test)]
-mod tests;
 
 pub use cut::{one_reading, tokens};
 pub use fault::LexFault;

@@ -1,7 +1,8 @@
-//! Tests of what the reader of SQL makes of texts: a table of some 350 texts, each with its statements or its fault.
+//! Tests of what the reader of SQL makes of texts: a table of some 350 texts, each with its statements or its fault, and one of
+//! 117 texts with their tokens.
 //!
 //! The statements are shown as text, with all parentheses, so that text is compared with text. The contracts of
-//! `sql_statements` say that it reads just what the grammar says; this table shows by cases read by hand that the grammar is the
+//! `sql_statements` say that it reads just what the grammar says; the table shows by cases read by hand that the grammar is the
 //! one that `docs/sql.md` describes. The crate has nothing but tests.
 #![tactic(auto)]
 
@@ -10,8 +11,12 @@ mod cases;
 #[cfg(test)]
 mod expr;
 #[cfg(test)]
+mod lexemes;
+#[cfg(test)]
 mod long_texts;
 #[cfg(test)]
 mod statement;
 #[cfg(test)]
 mod tests;
+#[cfg(test)]
+mod tokens;

@@ -6,8 +6,6 @@ mod catalogue;
 mod columns;
 mod fault;
 mod keys;
-#[cfg(test)]
-mod tests;
 
 pub use building::build;
 pub use catalogue::Catalogue;

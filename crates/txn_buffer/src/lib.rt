@@ -6,7 +6,5 @@
 
 mod buffer;
 mod index;
-#[cfg(test)]
-mod tests;
 
 pub use buffer::TxnBuffer;

@@ -6,8 +6,6 @@ mod filter;
 mod marks;
 mod points;
 mod tables;
-#[cfg(test)]
-mod tests;
 
 pub use filter::typed_filter;
 pub use marks::Marks;

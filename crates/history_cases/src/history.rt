@@ -1,0 +1,121 @@
+// What no clause says: that the calls succeed with ample memory, and values found by hand.
+ghost use Rattle.std.specs.Prelude.{◌≡◌, pos, [], codes, IfOk, OnOk};
+ghost use Rattle.sound_table.specs.Example.{two_columns};
+ghost use Rattle.sound_table.specs.Sound.{IsSound};
+ghost use Rattle.history_cases.specs.WorkedRow.{row_written, row_read};
+
+use cell_base::{Cell, Items, Key, Level, Memory, SqlType, Text, Value};
+use history_core::{BookFault, Event, History, TxnState};
+use sql_tree::{Column, Table};
+use std::alloc::Global;
+
+/// A session writes a row in one transaction and reads it back in the next: `INSERT INTO t VALUES (1, 10)`, then
+/// `SELECT v FROM t WHERE k = 1` with the words 1 and 7.
+#[test]
+fn a_row_is_written_and_read_back(rt: HostRuntime) -> Result<(), BookFault> {
+    let mut history = History::new(rt.alloc(), Level::Rc);
+    write_row(rt.alloc(), &mut history)?;
+    assert_eq!(&rt; history.load(), 9);
+    assert_eq!(&rt; history.begun(), 1);
+    assert_eq!(&rt; history.pending(1), None);
+    assert_eq!(&rt; history.tables().len(), 1);
+    read_row(rt.alloc(), &mut history)?;
+    assert_eq!(&rt; history.events().len(), 16);
+    assert_eq!(&rt; history.load(), 17);
+    assert_eq!(&rt; history.begun(), 2);
+    let first = history.txn(1);
+    assert_eq!(&rt; first.state, TxnState::Committed);
+    assert_eq!(&rt; first.seen.len(), 1);
+    assert_eq!(&rt; first.buffer.get(&presence()), Some(&Value::Flag(true)));
+    assert_eq!(&rt; first.buffer.get(&field()), Some(&Value::Int(10)));
+    let second = history.txn(2);
+    assert_eq!(&rt; second.state, TxnState::RolledBack);
+    assert_eq!(&rt; second.seen.len(), 3);
+    assert_eq!(&rt; second.buffer.writes().len(), 0);
+    Ok(())
+}
+
+/// The first transaction, with the session and the table before it: nine events.
+fn write_row(alloc: Global, history: &mut History) -> Result<(), BookFault>
+    requires { history.old.events ≡ [] }
+    ensures { OnOk result (history.new.events ≡ row_written (codes "t") (Key.Int (pos 1)) (Value.Int (pos 10))) }
+{
+    history.push(Event::Open(1))?;
+    history.push_define(1, table(alloc)?)?;
+    history.push(Event::Look(1, 1))?;
+    history.push(Event::Begin(1))?;
+    history.push(Event::Read(1, presence(), 0, 1, 0, Value::Flag(false)))?;
+    history.push(Event::Write(1, presence(), Value::Flag(true)))?;
+    history.push(Event::Write(1, field(), Value::Int(10)))?;
+    history.push(Event::Own(1, field(), Value::Int(10)))?;
+    history.end(Event::Commit(1));
+    Ok(())
+}
+
+/// The second transaction, and the end of the session: seven events.
+fn read_row(alloc: Global, history: &mut History) -> Result<(), BookFault>
+    requires { history.old.events ≡ row_written (codes "t") (Key.Int (pos 1)) (Value.Int (pos 10)) }
+    ensures { OnOk result (history.new.events ≡ row_read (codes "t") (Key.Int (pos 1)) (Value.Int (pos 10))) }
+{
+    let mut keys = Items::new(alloc);
+    keys.push(Key::Int(1))?;
+    history.push(Event::Begin(1))?;
+    history.push(Event::Read(1, presence(), 1, 2, 1, Value::Flag(true)))?;
+    history.push(Event::Read(1, field(), 1, 1, 7, Value::Int(10)))?;
+    history.push(Event::Scan(1, 0, keys))?;
+    history.push(Event::Rollback(1))?;
+    history.push(Event::Show(1, 15))?;
+    history.push(Event::Close(1))?;
+    Ok(())
+}
+
+/// Whether the row of key 1 is there.
+fn presence() -> Cell
+    ensures { result ≡ Cell.Presence 0 (Key.Int (pos 1)) }
+{
+    Cell::Presence(0, Key::Int(1))
+}
+
+/// The field v of the row of key 1.
+fn field() -> Cell
+    ensures { result ≡ Cell.Field 0 (Key.Int (pos 1)) 1 }
+{
+    Cell::Field(0, Key::Int(1), 1)
+}
+
+/// The table of `CREATE TABLE t (k bigint PRIMARY KEY, v bigint)`.
+#[tactic(auto, using(sound_table::proofs::Example::sound))]
+fn table(alloc: Global) -> Result<Table, Memory>
+    ensures value { IfOk result (λ table. table ≡ two_columns) }
+    ensures sound { IfOk result IsSound }
+{
+    let mut columns = Items::new(alloc);
+    columns.push(column(text(alloc, b"k")?, true))?;
+    columns.push(column(text(alloc, b"v")?, false))?;
+    Ok(Table {
+        name: text(alloc, b"t")?,
+        columns,
+        key: 0,
+        checks: Items::new(alloc),
+    })
+}
+
+fn column(name: Text, not_null: bool) -> Column
+    ensures { result ≡ record { name = name; kind = SqlType.Bigint; not_null = not_null; default = Value.Null } }
+{
+    Column {
+        name,
+        kind: SqlType::Bigint,
+        not_null,
+        default: Value::Null,
+    }
+}
+
+fn text(alloc: Global, bytes: &[u8]) -> Result<Text, Memory>
+    ensures { IfOk result (λ text. text ≡ bytes.now) }
+{
+    match Text::from_bytes(alloc, bytes) {
+        Ok(text) => Ok(text),
+        Err(_) => Err(Memory),
+    }
+}

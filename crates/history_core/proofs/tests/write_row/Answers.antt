@@ -1,8 +1,0 @@
-use Rattle.std.proofs.Common.{◌≡◌, pos, codes}
-use Rattle.cell_base.specs.declared.key.Key.TheVariants.{Int as KeyInt}
-use Rattle.cell_base.specs.declared.value.Value.TheVariants.{Int}
-use Rattle.history_core.proofs.WorkedRow.{fits9}
-use Rattle.history_core.proofs.tests.write_row.Goals as goal
-
-pub end-requires-clause-follows : goal.end-requires-clause-follows
-end-requires-clause-follows c = rw (c.in_ok-push-7.ensures.ok, c.in_ok-push-6.ensures.ok, c.in_ok-push-5.ensures.ok, c.in_ok-push-4.ensures.ok, c.in_ok-push-3.ensures.ok, c.in_ok-push-2.ensures.ok, c.in_ok-push_define.ensures.ok, c.in_ok-push.ensures.ok, c.field-2.ensures, c.field.ensures, c.presence-2.ensures, c.presence.ensures, c.in_ok-table.ensures.value, c.requires) (fits9 (codes "t") (KeyInt (pos 1)) (Int (pos 10)))

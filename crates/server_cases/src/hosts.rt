@@ -1,0 +1,79 @@
+// The program over a host in memory: what it sends over the standard link, or prints.
+ghost use Rattle.std.specs.Prelude.{◌≡◌, ◌<◌};
+
+use cell_base::{Items, Memory, Text};
+use link_traits::{MemHost, MemLink, MemPlan, MemSink};
+use monkey_server::monkey_main;
+use std::alloc::Global;
+
+fn plan(alloc: Global, piece: u32) -> MemPlan
+    ensures { result.piece ≡ piece }
+{
+    MemPlan {
+        piece,
+        fails: Items::new(alloc),
+        bytes: 1000,
+        reads: 1000,
+    }
+}
+
+pub fn link(alloc: Global, input: &[u8], piece: u32) -> Result<MemLink, Memory>
+    requires { 0 < piece }
+{
+    MemLink::new(
+        alloc,
+        Vec::from_slice(alloc, input)?,
+        plan(alloc, piece),
+        plan(alloc, 64),
+    )
+}
+
+fn text(alloc: Global, bytes: &[u8]) -> Result<Text, Memory> {
+    match Text::from_bytes(alloc, bytes) {
+        Ok(text) => Ok(text),
+        Err(_) => Err(Memory),
+    }
+}
+
+// Whether `pipe rc LIST` ends with this status and has sent these bytes, for an input that comes in pieces of this length.
+pub fn answers(
+    alloc: Global,
+    list: &[u8],
+    input: &[u8],
+    piece: u32,
+    code: u8,
+    sent: &[u8],
+) -> Result<bool, Memory>
+    requires { 0 < piece }
+{
+    let link = link(alloc, input, piece)?;
+    let out = MemSink::new(alloc, plan(alloc, 64))?;
+    let mut host = MemHost::new(alloc, Some(link), out, Items::new(alloc))?;
+    let words = [
+        text(alloc, b"pipe")?,
+        text(alloc, b"rc")?,
+        text(alloc, list)?,
+    ];
+    let status = monkey_main(alloc, &mut host, words.as_slice());
+    Ok(match host.back() {
+        [link] => status.code == code && link.written() == sent,
+        _ => false,
+    })
+}
+
+// Whether `pipe rc LIST` ends with status 2, takes no link, and prints these bytes.
+pub fn prints(alloc: Global, list: &[u8], line: &[u8]) -> Result<bool, Memory> {
+    let link = link(alloc, b"", 64)?;
+    let out = MemSink::new(alloc, plan(alloc, 64))?;
+    let mut host = MemHost::new(alloc, Some(link), out, Items::new(alloc))?;
+    let words = [
+        text(alloc, b"pipe")?,
+        text(alloc, b"rc")?,
+        text(alloc, list)?,
+    ];
+    let status = monkey_main(alloc, &mut host, words.as_slice());
+    Ok(match host.output() {
+        Some(out) => status.code == 2 && host.back().is_empty() && out.written() == line,
+        None => false,
+    })
+}
