@@ -25,8 +25,6 @@ mod reading;
 mod scanning;
 mod single;
 mod tables;
-#[cfg(test)]
-mod tests;
 mod tests_of_records;
 
 pub use book::SoloBook;
