@@ -1,0 +1,4 @@
+pub mod Checks
+pub mod Ending
+pub mod InOrder
+pub mod Mentioning
