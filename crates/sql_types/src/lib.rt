@@ -5,7 +5,6 @@ ghost use Rattle.sql_typing.specs.Typed as spec;
 ghost use Rattle.expr_types.specs.Gives.{Gives};
 ghost use Rattle.typed_parts.specs.Narrow.{AreNarrow};
 
-
 use cell_base::SqlState;
 use change_types::{typed_delete, typed_insert, typed_update};
 pub use expr_types::{Entry, TypeFault, typed_constant, typed_flag};
