@@ -1,0 +1,5 @@
+pub mod Rest
+pub mod Meanings
+pub mod Fillings
+pub mod Told
+pub mod Rows
