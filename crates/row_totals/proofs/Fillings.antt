@@ -1,14 +1,13 @@
 -- An expression that takes the values of its aggregates from a list has its value over the group.
-use Rattle.std.proofs.Common.{◌≡◌, List, [], ◌∷◌, ◌++◌, map, flat_map, Bool, false, Option, Some, None, Ok, Err, refl, sym, ap, ◌∙◌, subst, append_assoc}
+use Rattle.std.proofs.Common.{◌≡◌, List, [], ◌∷◌, ◌++◌, map, flat_map, Bool, false, Some, None, Ok, Err, refl, sym, ap, ◌∙◌, subst, append_assoc}
 use Rattle.std.proofs.lemmas.List.{map-append}
 use Rattle.cell_base.specs.declared.sql_type.SqlType.{SqlType}
-use Rattle.cell_base.specs.declared.sql_state.SqlState.{SqlState}
 use Rattle.cell_base.specs.declared.value.Value.{Value}
 use Rattle.cell_base.specs.declared.value.Value.TheVariants.{Flag}
 use Rattle.sql_tree.specs.declared.op.Op.TheVariants.{Eq}
 use Rattle.sql_tree.specs.declared.typed_expr.TypedExpr.{TypedExpr, roll-TypedExpr}
-use Rattle.sql_tree.specs.declared.typed_expr.TypedNode.{TypedNode, map-TypedNode, roll-TypedNode}
-use Rattle.sql_tree.specs.declared.typed_expr.TypedNode.TheOpen.{TypedNode-F, TypedExpr-F}
+use Rattle.sql_tree.specs.declared.typed_expr.TypedNode.{TypedNode, map-TypedNode}
+use Rattle.sql_tree.specs.declared.typed_expr.TypedNode.TheOpen.{TypedNode-F}
 use Rattle.sql_tree.specs.declared.typed_expr.TypedNode.TheFolds.{fold-TypedNode, fold-roll-TypedNode, fold-roll-TypedExpr, ind-TypedExpr}
 use Rattle.sql_typing.specs.Outcome.{Outcome, and_then, all_of}
 use Rattle.expr_eval.specs.Operators.{negated, compared, either, denied, binary}

@@ -3,3 +3,4 @@ pub mod Meanings
 pub mod Fillings
 pub mod Told
 pub mod Rows
+pub mod Collecting

@@ -1,11 +1,11 @@
 -- What an expression means in one row is its value there.
-use Rattle.std.proofs.Common.{◌≡◌, List, [], ◌∷◌, map, Option, Some, None, option_map, refl, sym, ap, ◌∙◌, subst}
+use Rattle.std.proofs.Common.{◌≡◌, List, [], ◌∷◌, map, Some, None, refl, sym, ap, ◌∙◌, subst}
 use Rattle.cell_base.specs.declared.sql_type.SqlType.{SqlType}
 use Rattle.cell_base.specs.declared.value.Value.{Value}
-use Rattle.sql_tree.specs.declared.typed_expr.TypedExpr.{TypedExpr, map-TypedExpr}
+use Rattle.sql_tree.specs.declared.typed_expr.TypedExpr.{TypedExpr}
 use Rattle.sql_tree.specs.declared.typed_expr.TypedNode.{TypedNode, map-TypedNode}
-use Rattle.sql_tree.specs.declared.typed_expr.TypedNode.TheOpen.{TypedNode-F, TypedExpr-F}
-use Rattle.sql_tree.specs.declared.typed_expr.TypedNode.TheFolds.{fold-TypedNode, fold-TypedExpr, fold-roll-TypedNode, fold-roll-TypedExpr, ind-TypedExpr}
+use Rattle.sql_tree.specs.declared.typed_expr.TypedNode.TheOpen.{TypedNode-F}
+use Rattle.sql_tree.specs.declared.typed_expr.TypedNode.TheFolds.{fold-TypedNode, fold-roll-TypedNode, fold-roll-TypedExpr, ind-TypedExpr}
 use Rattle.sql_typing.specs.Outcome.{Outcome}
 use Rattle.expr_eval.specs.Values.{Row, value_of, node_value, expr_value}
 use Rattle.expr_eval.proofs.Nodes.{node_of}

@@ -1,5 +1,5 @@
 -- What the totals stand for, row by row.
-use Rattle.std.proofs.Common.{◌≡◌, List, [], ◌∷◌, ◌++◌, map, fold, Option, Some, None, Ok, Err, Result, refl, sym, ap, ◌∙◌, subst}
+use Rattle.std.proofs.Common.{◌≡◌, List, [], ◌∷◌, ◌++◌, map, fold, Ok, Err, Result, refl, sym, ap, ◌∙◌, subst}
 use Rattle.std.proofs.lemmas.List.Sums.{fold-append}
 use Rattle.cell_base.specs.declared.sql_state.SqlState.{SqlState}
 use Rattle.cell_base.specs.declared.value.Value.{Value}
@@ -14,7 +14,7 @@ use Rattle.row_totals.specs.declared.calls.Call.{Call}
 use Rattle.row_totals.specs.declared.tally.Tally.{Tally}
 use Rattle.row_totals.specs.declared.totals.Totals.{Totals}
 use Rattle.row_totals.specs.Tallies.{started, with_value, told}
-use Rattle.row_totals.specs.Calls.{operand_value, meant, at_start, added_to, Tells, Leaves}
+use Rattle.row_totals.specs.Calls.{operand_value, meant, at_start, added_to, Leaves}
 use Rattle.row_totals.specs.Filling.{all_filled}
 use Rattle.row_totals.specs.Standing.{after, AreTallied, Stands, Adds}
 use Rattle.row_totals.proofs.Rest.{all_snoc, all_fault}
@@ -67,9 +67,10 @@ more_by rows row c call cs calls same kept (Ok ds) values more (Ok v) e =
     let rest = more.ok ds refl in
     record {
       ok = λ all h.
-        let is : record { operand = c.operand; tally = with_value c.tally v } ∷ ds ≡ all = cc in
-        (subst (λ all. AreTallied (rows ++ row ∷ []) all (call ∷ calls)) is (same, after_more call rows row c.tally v kept e, rest.0),
-        (v ∷ rest.1.0, ap (λ os. and_then os (λ vs. Ok (v ∷ vs))) rest.1.1));
+          let is : record { operand = c.operand; tally = with_value c.tally v } ∷ ds ≡ all = cc in (
+            subst (λ all. AreTallied (rows ++ row ∷ []) all (call ∷ calls)) is (same, after_more call rows row c.tally v kept e, rest.0),
+            (v ∷ rest.1.0, ap (λ os. and_then os (λ vs. Ok (v ∷ vs))) rest.1.1),
+          );
       fault = λ other h. cc;
     }
 
@@ -134,7 +135,7 @@ nothing_behind : (os : List (Outcome Value)) → os ++ [] ≡ os
 nothing_behind [] = refl
 nothing_behind (o ∷ os) = ap (λ us. o ∷ us) (nothing_behind os)
 
-pub finished : (exprs : List TypedExpr) (rows : List Row) (totals : Totals) (vs : List Value) → Stands totals exprs rows → all_of (map (λ c. told c.tally) totals.calls.items) ≡ Ok vs → all_filled exprs (map Ok vs) ≡ group_values exprs rows
+finished : (exprs : List TypedExpr) (rows : List Row) (totals : Totals) (vs : List Value) → Stands totals exprs rows → all_of (map (λ c. told c.tally) totals.calls.items) ≡ Ok vs → all_filled exprs (map Ok vs) ≡ group_values exprs rows
 finished exprs rows totals vs s h =
     let calls : map (λ c. told c.tally) totals.calls.items ≡ map (λ call. call_value call rows) (calls_of exprs) = told_calls rows totals.calls.items (calls_of exprs) s.tallied in
     let all : all_of (map (λ call. call_value call rows) (calls_of exprs)) ≡ Ok vs = ap all_of (sym calls) ∙ h in
@@ -143,8 +144,15 @@ finished exprs rows totals vs s h =
     ∙ sym (ap (λ o. and_then o (λ evaluated. and_then (all_of (map (λ call. call_value call rows) (calls_of exprs))) (λ totals. all_of (map (λ e. group_value e rows) exprs)))) s.evaluated.1
     ∙ ap (λ o. and_then o (λ totals. all_of (map (λ e. group_value e rows) exprs))) all)
 
-pub finished_fault : (exprs : List TypedExpr) (rows : List Row) (totals : Totals) (code : SqlState) → Stands totals exprs rows → all_of (map (λ c. told c.tally) totals.calls.items) ≡ Err code → group_values exprs rows ≡ Err code
+finished_fault : (exprs : List TypedExpr) (rows : List Row) (totals : Totals) (code : SqlState) → Stands totals exprs rows → all_of (map (λ c. told c.tally) totals.calls.items) ≡ Err code → group_values exprs rows ≡ Err code
 finished_fault exprs rows totals code s h =
     let calls : map (λ c. told c.tally) totals.calls.items ≡ map (λ call. call_value call rows) (calls_of exprs) = told_calls rows totals.calls.items (calls_of exprs) s.tallied in
     ap (λ o. and_then o (λ evaluated. and_then (all_of (map (λ call. call_value call rows) (calls_of exprs))) (λ totals. all_of (map (λ e. group_value e rows) exprs)))) s.evaluated.1
     ∙ ap (λ o. and_then o (λ totals. all_of (map (λ e. group_value e rows) exprs))) (ap all_of (sym calls) ∙ h)
+
+pub finish_is : (exprs : List TypedExpr) (rows : List Row) (totals : Totals) → Stands totals exprs rows → and_then (all_of (map (λ c. told c.tally) totals.calls.items)) (λ vs. all_filled exprs (map Ok vs)) ≡ group_values exprs rows
+finish_is exprs rows totals s = by (all_of (map (λ (c : Call). told c.tally) totals.calls.items)) refl
+  where
+    by : (o : Outcome (List Value)) → all_of (map (λ (c : Call). told c.tally) totals.calls.items) ≡ o → and_then o (λ vs. all_filled exprs (map Ok vs)) ≡ group_values exprs rows
+    by (Ok vs) h = finished exprs rows totals vs s h
+    by (Err code) h = sym (finished_fault exprs rows totals code s h)

@@ -1,24 +1,21 @@
 -- What is kept of the values tells the value of the aggregate.
-use Rattle.std.proofs.Common.{◌≡◌, ℕ, zero, suc, ◌+◌, ◌≤◌, ◌<◌, ◌^◌, min, nat_lt, ℤ, pos, ◌+ℤ◌, Bool, true, false, not, cond, List, [], ◌∷◌, ◌++◌, map, length, fold, Option, Some, None, Ok, Err, inl, inr, ◌⊎◌, refl, sym, ap, ◌∙◌, subst, arith}
-use Rattle.std.specs.List.{filter}
-use Rattle.std.specs.Ordering.{is_lt, is_gt}
+use Rattle.std.proofs.Common.{◌≡◌, ℕ, ◌+◌, ◌≤◌, ◌^◌, min, nat_lt, ℤ, pos, ◌+ℤ◌, Bool, true, false, not, cond, List, [], ◌∷◌, length, fold, Some, None, Ok, Err, inl, inr, ◌⊎◌, refl, sym, ap, ◌∙◌, arith}
 use Rattle.std.proofs.lemmas.Bool.{le-ltb}
 use Rattle.cell_base.specs.declared.sql_type.SqlType.{SqlType}
 use Rattle.cell_base.specs.declared.sql_type.SqlType.TheVariants.{Boolean, Integer, Bigint, Text, Varchar, Numeric}
 use Rattle.cell_base.specs.declared.sql_state.SqlState.{SqlState}
 use Rattle.cell_base.specs.declared.sql_state.SqlState.TheVariants.{S22003}
 use Rattle.cell_base.specs.declared.value.Value.{Value}
-use Rattle.cell_base.specs.declared.value.Value.TheVariants.{Null, Int, Wide}
+use Rattle.cell_base.specs.declared.value.Value.TheVariants.{Int, Wide}
 use Rattle.sql_tree.specs.declared.op.Aggregate.{Aggregate}
 use Rattle.sql_tree.specs.declared.op.Aggregate.TheVariants as aggregate
 use Rattle.sql_typing.specs.Outcome.{Outcome, and_then}
 use Rattle.sql_typing.specs.Kinds.{is_null, fits, is_within}
 use Rattle.row_meaning.specs.Groups.{number_in, integer, sum_from, sum_of, better, best, total, not_null}
-use Rattle.row_totals.specs.declared.tally.Partial.{Partial}
 use Rattle.row_totals.specs.declared.tally.Partial.TheVariants.{Nothing, Number, Outside}
 use Rattle.row_totals.specs.declared.tally.Tally.{Tally}
 use Rattle.row_totals.specs.declared.tally.Tally.TheVariants.{Count, Sum, Best}
-use Rattle.row_totals.specs.Tallies.{started, kept, kept_as, summed, wins, preferred, counted, with_value, told, told_sum}
+use Rattle.row_totals.specs.Tallies.{started, kept_as, wins, counted, with_value, told}
 
 -- ---- a null doesn't count
 

@@ -1,5 +1,5 @@
 -- What an aggregate keeps of the values that it has seen, and its value then.
-use Rattle.std.specs.Prelude.{ℕ, ℤ, pos, ◌+◌, ◌+ℤ◌, min, Bool, true, false, if◌then◌else◌, Option, Some, None, unwrap_or, Ok, Err}
+use Rattle.std.specs.Prelude.{ℤ, pos, ◌+◌, ◌+ℤ◌, min, Bool, true, false, if◌then◌else◌, Option, Some, None, unwrap_or, Ok, Err}
 use Rattle.std.specs.declared.cmp.Ordering.{Ordering}
 use Rattle.std.specs.Ordering.{is_lt, is_gt}
 use Rattle.cell_base.specs.declared.sql_type.SqlType.{SqlType}

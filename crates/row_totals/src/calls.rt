@@ -7,7 +7,7 @@ ghost use Rattle.row_totals.specs.Calls.{operand_value, meant, at_start, added_t
 ghost use Rattle.row_totals.specs.Tallies as tallies;
 
 use crate::tally::{Tally, changed, started, told};
-use cell_base::{Items, Memory, Value};
+use cell_base::{Boxed, Items, Memory, Value};
 use expr_eval::{Datum, EvalFault, datum_of};
 use sql_tree::{TypedExpr, TypedNode};
 use std::alloc::Global;
@@ -28,10 +28,7 @@ pub fn collect(alloc: Global, expr: &TypedExpr, calls: &mut Vec<Call>) -> Result
     match &expr.node {
         TypedNode::Constant(_) | TypedNode::Column(_, _) => Ok(()),
         TypedNode::Aggregate(function, operand) => {
-            let operand = match operand {
-                Some(operand) => Some(operand.get().copy(alloc)?),
-                None => None,
-            };
+            let operand = copied(alloc, operand)?;
             let tally = started(expr.kind, *function);
             Ok(calls.push(Call { operand, tally })?)
         }
@@ -49,13 +46,18 @@ pub fn collect(alloc: Global, expr: &TypedExpr, calls: &mut Vec<Call>) -> Result
     }
 }
 
+fn copied(alloc: Global, operand: &Option<Boxed<TypedExpr>>) -> Result<Option<TypedExpr>, Memory>
+    ensures { IfOk result (λ copy. copy ≡ operand.now) }
+{
+    match operand {
+        Some(operand) => Ok(Some(operand.get().copy(alloc)?)),
+        None => Ok(None),
+    }
+}
+
 /// Puts the calls of some expressions behind the others.
 #[cycle(collects)]
-pub fn collect_each(
-    alloc: Global,
-    exprs: &[TypedExpr],
-    calls: &mut Vec<Call>,
-) -> Result<(), Memory>
+pub fn collect_each(alloc: Global, exprs: &[TypedExpr], calls: &mut Vec<Call>) -> Result<(), Memory>
     ensures { OnOk result (map meant calls.new.items ≡ map meant calls.old.items ++ map at_start (calls_of exprs.now)) }
 {
     for expr in exprs {

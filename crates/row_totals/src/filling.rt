@@ -33,10 +33,7 @@ pub fn fill_all(
 
 /// The value of an expression, and the values of aggregates that it leaves.
 #[cycle(fills)]
-fn fill<'a>(
-    expr: &'a TypedExpr,
-    totals: &'a [Value],
-) -> Result<(Datum<'a>, &'a [Value]), SqlState>
+fn fill<'a>(expr: &'a TypedExpr, totals: &'a [Value]) -> Result<(Datum<'a>, &'a [Value]), SqlState>
     ensures { Fills result (filling.filled expr.now (map Ok totals.now)) }
 {
     match &expr.node {

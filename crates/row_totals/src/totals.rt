@@ -1,10 +1,13 @@
 // Aggregates over a group of rows, row by row.
-ghost use Rattle.std.specs.Prelude.{List, [], IfOk};
+ghost use Rattle.std.specs.Prelude.{List, [], map, Ok, IfOk};
 ghost use Rattle.sql_tree.specs.declared.typed_expr.TypedExpr as tree;
 ghost use Rattle.expr_eval.specs.Lent.{seen};
 ghost use Rattle.expr_eval.specs.Values.{Row};
 ghost use Rattle.row_meaning.specs.Groups.{group_values};
 ghost use Rattle.row_totals.specs.Calls.{Tells};
+ghost use Rattle.sql_typing.specs.Outcome.{and_then, all_of};
+ghost use Rattle.row_totals.specs.Tallies.{told};
+ghost use Rattle.row_totals.specs.Filling.{all_filled};
 ghost use Rattle.row_totals.specs.Standing.{Stands, Adds};
 
 use crate::calls::{Call, add_row, collect_each, totals};
@@ -44,7 +47,17 @@ impl Totals {
         ensures { (rows : List Row) → Stands self exprs.now rows → Tells result (group_values exprs.now rows) }
     {
         let Totals { alloc, calls } = self;
-        let values = totals(alloc, calls)?;
-        fill_all(alloc, exprs, values.as_slice())
+        values_of(alloc, calls, exprs)
     }
+}
+
+fn values_of(
+    alloc: Global,
+    calls: Vec<Call>,
+    exprs: &[TypedExpr],
+) -> Result<Items<Value>, EvalFault>
+    ensures { Tells result (and_then (all_of (map (λ call. told call.tally) calls.items)) (λ values. all_filled exprs.now (map Ok values))) }
+{
+    let values = totals(alloc, calls)?;
+    fill_all(alloc, exprs, values.as_slice())
 }
