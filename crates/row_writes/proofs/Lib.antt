@@ -1,3 +1,4 @@
+pub mod Assigning
 pub mod Checks
 pub mod Ending
 pub mod InOrder
