@@ -3,3 +3,4 @@ pub mod Checks
 pub mod Ending
 pub mod InOrder
 pub mod Mentioning
+pub mod Narrow

@@ -11,5 +11,5 @@ loop-i-preserved c =
     let found = c.get.ensures.lookup in
     let there : option_map (λ v. v.now) c.get.result ≡ slice_get c.args.values.now c.loop-i.i = lent_is c.args.values.now c.loop-i.i c.get.result (search rules) found.1 in
     sym (missing_more c.args.columns.now c.args.set.now c.args.values.now c.loop-i.i c.index-columns-i.result false c.loop-i-test.true c.index-columns-i.is
-      (ap (is_missing_at c.args.set.now c.loop-i.i c.index-columns-i.result) (sym there) ∙ sym c.is_missing_at.ensures ∙ c.if-is_missing_at.false))
+    (ap (is_missing_at c.args.set.now c.loop-i.i c.index-columns-i.result) (sym there) ∙ sym c.is_missing_at.ensures ∙ c.if-is_missing_at.false))
     ∙ c.loop-i.invariant
