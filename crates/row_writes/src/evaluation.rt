@@ -30,20 +30,14 @@ pub fn value_over(alloc: Global, expr: &TypedExpr, row: &[Value]) -> Result<Valu
 pub fn is_true(condition: &TypedExpr, row: &[Value]) -> Result<bool, SqlState>
     ensures { result ≡ and_then (value_of condition.now (row.now ∷ [])) (λ v. Ok (combinations.is_true v)) }
 {
-    match datum_of(condition, &[row])? {
-        Datum::Flag(flag) => Ok(flag),
-        _ => Ok(false),
-    }
+    Ok(matches!(datum_of(condition, &[row])?, Datum::Flag(true)))
 }
 
 /// Whether a condition is false over a row: neither true nor unknown. Takes no memory.
 pub fn is_false(condition: &TypedExpr, row: &[Value]) -> Result<bool, SqlState>
     ensures { result ≡ and_then (value_of condition.now (row.now ∷ [])) (λ v. Ok (storing.is_false v)) }
 {
-    match datum_of(condition, &[row])? {
-        Datum::Flag(flag) => Ok(!flag),
-        _ => Ok(false),
-    }
+    Ok(matches!(datum_of(condition, &[row])?, Datum::Flag(false)))
 }
 
 /// The value as one of a column's type.

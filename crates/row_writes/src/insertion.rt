@@ -1,10 +1,11 @@
 // The rows that an INSERT makes.
-ghost use Rattle.std.specs.Prelude.{[], map, slice_get, unwrap_or};
+ghost use Rattle.std.specs.Prelude.{[], length, map, slice_get, unwrap_or, IfOk};
 ghost use Rattle.sql_typing.specs.Assignment.{assigned};
 ghost use Rattle.sql_typing.specs.Outcome.{and_then, all_of};
 ghost use Rattle.expr_eval.specs.Values.{value_of};
 ghost use Rattle.row_meaning.specs.Gives.{Gives};
 ghost use Rattle.row_meaning.specs.Insertion as spec;
+ghost use Rattle.row_writes.specs.Widths.{AreWithin};
 
 use crate::evaluation::{converted, value_alone};
 use crate::keys::{has_twins, sorted_by_keys};
@@ -22,11 +23,7 @@ fn value_for(alloc: Global, column: &Column, expr: &TypedExpr) -> Result<Value, 
 }
 
 /// The values of a row, each as one of its column's type.
-fn row_of(
-    alloc: Global,
-    columns: &[Column],
-    exprs: &[TypedExpr],
-) -> Result<Items<Value>, EvalFault>
+fn row_of(alloc: Global, columns: &[Column], exprs: &[TypedExpr]) -> Result<Items<Value>, EvalFault>
     ensures { Gives result (spec.row_of columns.now exprs.now) }
 {
     let mut row = Items::new(alloc);
@@ -78,6 +75,8 @@ fn keyed_rows(
 
 /// The rows of an INSERT of these rows of expressions, keys ascending: for each its key and one value for each column.
 ///
+/// No row has more values than the table has columns.
+///
 /// Row by row: what the conversion of a value to its column's type gives; `S23502` where a column that is never null is null,
 /// `S23514` where a CHECK is false. Behind all rows: `S23505` where a key stands twice (PostgreSQL's documentation,
 /// "INSERT").
@@ -87,7 +86,8 @@ pub fn rows_to_insert(
     table: &Table,
     rows: &[Items<TypedExpr>],
 ) -> Result<Items<(Key, Items<Value>)>, EvalFault>
-    ensures { Gives result (spec.rows_to_insert table.now rows.now) }
+    ensures exact { Gives result (spec.rows_to_insert table.now rows.now) }
+    ensures within { IfOk result (λ made. AreWithin (length (table.now).columns) made) }
 {
     let made = keyed_rows(alloc, table, rows)?;
     let sorted = sorted_by_keys(made)?;

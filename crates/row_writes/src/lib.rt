@@ -2,12 +2,17 @@
 //! rows that it was shown, and the cells that are written for them.
 #![tactic(auto)]
 
+mod assigned;
+mod cells;
 mod changes;
 mod evaluation;
 mod insertion;
+mod kept;
 mod keys;
 mod mentions;
 mod storing;
+mod update;
 
-pub use changes::RowChange;
+pub use cells::{delete_writes, insert_writes, update_writes};
+pub use changes::{RowChange, changes_of};
 pub use insertion::rows_to_insert;
