@@ -1,14 +1,13 @@
 -- Keys in order, and what an index of keys holds as events are added.
-use Rattle.std.proofs.Common.{◌≡◌, Bool, true, false, cond, ℕ, ◌+◌, ◌<◌, ◌≤◌, List, [], ◌∷◌, ◌++◌, Ok, Err, Result, Some, None, Option, length, get_or, arith, rules, refl, ap, sym, ◌∙◌, subst, inl, inr, ◌⊎◌, ◌↔◌, Bor}
-use Rattle.std.specs.Bool.{IsTrue}
+use Rattle.std.proofs.Common.{◌≡◌, Bool, true, false, cond, ℕ, List, [], ◌∷◌, ◌++◌, Ok, Err, Result, Some, None, Option, get_or, rules, refl, ap, sym, ◌∙◌, subst, inl, inr, ◌⊎◌, Bor}
 use Rattle.std.specs.Prelude.{IfSome, IfNone, OnOk, OnErr, nat_eq}
 use Rattle.std.specs.Int.Signed.{<ℤ_irrefl}
 use Rattle.std.specs.Ordering.{nat_cmp, int_cmp, is_eq}
-use Rattle.std.specs.Cmp.{IsTotalOrder, int_ranks}
+use Rattle.std.specs.Cmp.{IsTotalOrder}
 use Rattle.std.specs.Cmp.Lexicographic.{slice_cmp}
 use Rattle.std.specs.declared.cmp.Ordering.{Ordering}
 use Rattle.std.specs.declared.cmp.Ordering.TheVariants.{Less, Equal, Greater}
-use Rattle.std.specs.List.{Contains, slice_get}
+use Rattle.std.specs.List.{Contains}
 use Rattle.std.specs.List.Sorted.{IsStrictlySortedBy}
 use Rattle.std.specs.BTreeSet.{BTreeSet, contains, Updates}
 use Rattle.std.specs.HashMap.{get}

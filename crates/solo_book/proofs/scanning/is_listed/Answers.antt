@@ -1,4 +1,4 @@
-use Rattle.std.proofs.Common.{◌≡◌, ◌==◌, length, true, ℕ, ap, refl, sym, ◌∙◌}
+use Rattle.std.proofs.Common.{◌==◌, length, ℕ, ap, refl, sym, ◌∙◌}
 use Rattle.std.proofs.lemmas.Bool.{false≢true}
 use Rattle.std.proofs.lemmas.Map.Views.{exact_unsigned_eq}
 use Rattle.solo_book.proofs.Scans.{listed_own, listed_first}

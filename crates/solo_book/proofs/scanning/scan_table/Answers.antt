@@ -1,4 +1,3 @@
-use Rattle.history_core.specs.declared.event.Event.TheVariants.{Scan}
 use Rattle.solo_book.proofs.Desks.{served_plain, plain_scan, goes_with}
 use Rattle.solo_book.proofs.scanning.scan_table.Goals as goal
 
