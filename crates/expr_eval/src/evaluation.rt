@@ -68,7 +68,8 @@ fn any_equal<'a>(
     Ok(found)
 }
 
-fn binary<'a>(
+/// An operator of two operands.
+pub fn binary<'a>(
     kind: SqlType,
     op: Op,
     left: Datum<'a>,

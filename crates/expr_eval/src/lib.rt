@@ -22,7 +22,10 @@ mod samples;
 mod tests;
 
 pub use assignment::assign;
-pub use compare::order_of;
+pub use compare::{compared, order_of};
+pub use compute::negated;
 pub use datum::{Datum, is_null, to_value};
-pub use evaluation::{datum_of, eval};
+pub use evaluation::{binary, datum_of, eval};
 pub use fault::EvalFault;
+pub use logic::{denied, either, null_test};
+pub use lookup::of_kind;

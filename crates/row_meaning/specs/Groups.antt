@@ -1,12 +1,12 @@
 -- Aggregates: one value for a list of rows (PostgreSQL's documentation, "Aggregate Functions").
-use Rattle.std.specs.Prelude.{ℤ, pos, ◌^◌, ◌+ℤ◌, Bool, false, not, if◌then◌else◌, List, [], ◌∷◌, ◌++◌, map, flat_map, filter, length, fold, Some, None, option_map, unwrap_or, Ok, Err}
+use Rattle.std.specs.Prelude.{ℤ, pos, ◌^◌, ◌+ℤ◌, Bool, true, false, not, if◌then◌else◌, List, [], ◌∷◌, ◌++◌, map, flat_map, filter, length, fold, Option, Some, None, option_map, unwrap_or, Ok, Err}
 use Rattle.std.specs.declared.cmp.Ordering.{Ordering}
 use Rattle.std.specs.Ordering.{is_lt, is_gt}
 use Rattle.cell_base.specs.declared.sql_type.SqlType.{SqlType}
 use Rattle.cell_base.specs.declared.sql_type.SqlType.TheVariants.{Bigint, Numeric}
 use Rattle.cell_base.specs.declared.sql_state.SqlState.TheVariants.{S22003}
 use Rattle.cell_base.specs.declared.value.Value.{Value}
-use Rattle.cell_base.specs.declared.value.Value.TheVariants.{Null, Int, Wide}
+use Rattle.cell_base.specs.declared.value.Value.TheVariants.{Null, Flag, Int, Wide}
 use Rattle.sql_tree.specs.declared.op.Aggregate.{Aggregate}
 use Rattle.sql_tree.specs.declared.op.Aggregate.TheVariants.{Count, Sum, Min, Max}
 use Rattle.sql_tree.specs.declared.typed_expr.TypedExpr.{TypedExpr}
@@ -54,13 +54,23 @@ total kind Max values = Ok (best is_gt values)
 abbrev pub not_null : List Value → List Value
 not_null values = filter (λ v. not (is_null v)) values
 
+-- a call of an aggregate: its type, its function, and what its operand means in one row
+pub record Call : Type 0 where
+  pub kind : SqlType
+  pub function : Aggregate
+  pub operand : Row → Outcome Value
+
+-- the value of a call over some rows; a null of its operand doesn't count
+abbrev pub call_value : Call → List Row → Outcome Value
+call_value call rows = and_then (all_of (map call.operand rows)) (λ values. total call.kind call.function (not_null values))
+
 -- ---- expressions over a group of rows
 
--- what an expression means: in one row, and over a group of rows; and what the operands of its aggregates mean in one row, in text order
+-- what an expression means: in one row, and over a group of rows; and its calls of aggregates, in text order
 pub record Meaning : Type 0 where
   pub in_row : Row → Outcome Value
   pub over : List Row → Outcome Value
-  pub operands : List (Row → Outcome Value)
+  pub calls : List Call
 
 -- one level of an expression, with the meanings of its operands in one row in their places
 abbrev pub node_in_row : TypedNode-F (SqlType → Meaning) Meaning → TypedNode-F (SqlType → Row → Outcome Value) (Row → Outcome Value)
@@ -73,31 +83,37 @@ node_in_row (TypedNode-F.IsNull a denies) = TypedNode-F.IsNull a.in_row denies
 node_in_row (TypedNode-F.Binary op a b) = TypedNode-F.Binary op a.in_row b.in_row
 node_in_row (TypedNode-F.In a members denies) = TypedNode-F.In a.in_row (map (λ m. m.in_row) members) denies
 
--- One level of an expression over a group of rows: an aggregate has its value, and a column outside one has none.
+-- the operand of a call; `*` stands for a value that is never null
+abbrev pub operand_of : Option Meaning → Row → Outcome Value
+operand_of None row = Ok (Flag true)
+operand_of (Some a) row = a.in_row row
+
+abbrev pub call_of : SqlType → Aggregate → Option Meaning → Call
+call_of kind function operand = record { kind = kind; function = function; operand = operand_of operand }
+
+-- One level of an expression over a group of rows: a call of an aggregate has its value, and a column outside one has none.
 abbrev pub node_over : TypedNode-F (SqlType → Meaning) Meaning → SqlType → List Row → Outcome Value
 node_over (TypedNode-F.Constant v) kind rows = Ok (of_kind kind v)
 node_over (TypedNode-F.Column entry column) kind rows = Ok Null
-node_over (TypedNode-F.Aggregate function None) kind rows = number_in Bigint (pos (length rows))
-node_over (TypedNode-F.Aggregate function (Some a)) kind rows = and_then (all_of (map a.in_row rows)) (λ values. total kind function (not_null values))
+node_over (TypedNode-F.Aggregate function operand) kind rows = of_one (λ v. Ok (of_kind kind v)) (call_value (call_of kind function operand) rows)
 node_over (TypedNode-F.Neg a) kind rows = of_one (negated kind) (a.over rows)
 node_over (TypedNode-F.Not a) kind rows = of_one (λ v. Ok (denied v)) (a.over rows)
 node_over (TypedNode-F.IsNull a denies) kind rows = of_one (λ v. Ok (null_test denies v)) (a.over rows)
 node_over (TypedNode-F.Binary op a b) kind rows = of_both (binary kind op) (a.over rows) (b.over rows)
 node_over (TypedNode-F.In a members denies) kind rows = of_one (λ v. Ok (denied_if denies v)) (among (a.over rows) (map (λ m. m.over rows) members))
 
-abbrev pub node_operands : TypedNode-F (SqlType → Meaning) Meaning → List (Row → Outcome Value)
-node_operands (TypedNode-F.Constant v) = []
-node_operands (TypedNode-F.Column entry column) = []
-node_operands (TypedNode-F.Aggregate function None) = []
-node_operands (TypedNode-F.Aggregate function (Some a)) = a.in_row ∷ []
-node_operands (TypedNode-F.Neg a) = a.operands
-node_operands (TypedNode-F.Not a) = a.operands
-node_operands (TypedNode-F.IsNull a denies) = a.operands
-node_operands (TypedNode-F.Binary op a b) = a.operands ++ b.operands
-node_operands (TypedNode-F.In a members denies) = a.operands ++ flat_map (λ m. m.operands) members
+abbrev pub node_calls : TypedNode-F (SqlType → Meaning) Meaning → SqlType → List Call
+node_calls (TypedNode-F.Constant v) kind = []
+node_calls (TypedNode-F.Column entry column) kind = []
+node_calls (TypedNode-F.Aggregate function operand) kind = call_of kind function operand ∷ []
+node_calls (TypedNode-F.Neg a) kind = a.calls
+node_calls (TypedNode-F.Not a) kind = a.calls
+node_calls (TypedNode-F.IsNull a denies) kind = a.calls
+node_calls (TypedNode-F.Binary op a b) kind = a.calls ++ b.calls
+node_calls (TypedNode-F.In a members denies) kind = a.calls ++ flat_map (λ m. m.calls) members
 
 abbrev pub node_meaning : TypedNode-F (SqlType → Meaning) Meaning → SqlType → Meaning
-node_meaning node kind = record { in_row = node_value (node_in_row node) kind; over = node_over node kind; operands = node_operands node }
+node_meaning node kind = record { in_row = node_value (node_in_row node) kind; over = node_over node kind; calls = node_calls node kind }
 
 abbrev pub expr_meaning : TypedExpr-F (SqlType → Meaning) Meaning → Meaning
 expr_meaning e = e.node e.kind
@@ -109,12 +125,18 @@ meaning = fold-TypedExpr (SqlType → Meaning) Meaning node_meaning expr_meaning
 abbrev pub group_value : TypedExpr → List Row → Outcome Value
 group_value e = (meaning e).over
 
--- the operands of the aggregates of some expressions, in text order
-abbrev pub operands_of : List TypedExpr → List (Row → Outcome Value)
-operands_of exprs = flat_map (λ e. (meaning e).operands) exprs
+-- the calls of aggregates in some expressions, in text order
+abbrev pub calls_of : List TypedExpr → List Call
+calls_of exprs = flat_map (λ e. (meaning e).calls) exprs
 
--- The values of some expressions over a group of rows. The operands of their aggregates are evaluated first, row by row.
+-- the values of their operands in one row
+abbrev pub operand_values : List Call → Row → Outcome (List Value)
+operand_values calls row = all_of (map (λ call. call.operand row) calls)
+
+-- The values of some expressions over a group of rows. The operands of the aggregates are evaluated first, row by row, and
+-- the aggregates have their values before any expression has.
 abbrev pub group_values : List TypedExpr → List Row → Outcome (List Value)
 group_values exprs rows =
-    and_then (all_of (map (λ row. all_of (map (λ operand. operand row) (operands_of exprs))) rows)) (λ evaluated.
-    all_of (map (λ e. group_value e rows) exprs))
+    and_then (all_of (map (operand_values (calls_of exprs)) rows)) (λ evaluated.
+    and_then (all_of (map (λ call. call_value call rows) (calls_of exprs))) (λ totals.
+    all_of (map (λ e. group_value e rows) exprs)))

@@ -1,0 +1,4 @@
+pub mod Tallies
+pub mod Calls
+pub mod Filling
+pub mod Standing

@@ -1,0 +1,108 @@
+// The calls of aggregates in expressions, in text order, each with what it keeps.
+ghost use Rattle.std.specs.Prelude.{◌≡◌, ◌++◌, [], map, flat_map, IfOk, OnOk};
+ghost use Rattle.sql_typing.specs.Outcome.{all_of};
+ghost use Rattle.expr_eval.specs.Lent.{seen};
+ghost use Rattle.row_meaning.specs.Groups.{meaning, calls_of};
+ghost use Rattle.row_totals.specs.Calls.{operand_value, meant, at_start, added_to, Tells, Leaves, NextTally};
+ghost use Rattle.row_totals.specs.Tallies as tallies;
+
+use crate::tally::{Tally, changed, started, told};
+use cell_base::{Boxed, Items, Memory, Value};
+use expr_eval::{Datum, EvalFault, datum_of};
+use sql_tree::{TypedExpr, TypedNode};
+use std::alloc::Global;
+
+/// A call of an aggregate.
+#[derive(Debug, Drop)]
+pub struct Call {
+    /// None for `*`.
+    pub operand: Option<TypedExpr>,
+    pub tally: Tally,
+}
+
+/// Puts the calls of an expression behind the others.
+#[cycle(collects)]
+pub fn collect(alloc: Global, expr: &TypedExpr, calls: &mut Vec<Call>) -> Result<(), Memory>
+    ensures { OnOk result (map meant calls.new.items ≡ map meant calls.old.items ++ map at_start (meaning expr.now).calls) }
+{
+    match &expr.node {
+        TypedNode::Constant(_) | TypedNode::Column(_, _) => Ok(()),
+        TypedNode::Aggregate(function, operand) => {
+            let operand = copied(alloc, operand)?;
+            let tally = started(expr.kind, *function);
+            Ok(calls.push(Call { operand, tally })?)
+        }
+        TypedNode::Neg(operand) | TypedNode::Not(operand) | TypedNode::IsNull(operand, _) => {
+            collect(alloc, operand.get(), calls)
+        }
+        TypedNode::Binary(_, left, right) => {
+            collect(alloc, left.get(), calls)?;
+            collect(alloc, right.get(), calls)
+        }
+        TypedNode::In(left, members, _) => {
+            collect(alloc, left.get(), calls)?;
+            collect_each(alloc, members.as_slice(), calls)
+        }
+    }
+}
+
+fn copied(alloc: Global, operand: &Option<Boxed<TypedExpr>>) -> Result<Option<TypedExpr>, Memory>
+    ensures { IfOk result (λ copy. copy ≡ operand.now) }
+{
+    match operand {
+        Some(operand) => Ok(Some(operand.get().copy(alloc)?)),
+        None => Ok(None),
+    }
+}
+
+/// Puts the calls of some expressions behind the others.
+#[cycle(collects)]
+pub fn collect_each(alloc: Global, exprs: &[TypedExpr], calls: &mut Vec<Call>) -> Result<(), Memory>
+    ensures { OnOk result (map meant calls.new.items ≡ map meant calls.old.items ++ map at_start (calls_of exprs.now)) }
+{
+    for expr in exprs {
+        collect(alloc, expr, calls)?;
+    }
+    Ok(())
+}
+
+/// Evaluates the operands over one more row, in order. After a fault the calls aren't used any more.
+pub fn add_row(alloc: Global, calls: &mut Vec<Call>, row: &[&[Value]]) -> Result<(), EvalFault>
+    ensures { Leaves result calls.new.items (all_of (map (added_to (seen row.now)) calls.old.items)) }
+{
+    for call in calls.iter_mut() {
+        add_to(alloc, call, row)?;
+    }
+    Ok(())
+}
+
+fn add_to(alloc: Global, call: &mut Call, row: &[&[Value]]) -> Result<(), EvalFault>
+    ensures { Leaves result call.new (added_to (seen row.now) call.old) }
+{
+    if let Some(tally) = next_tally(alloc, call, row)? {
+        call.tally = tally;
+    }
+    Ok(())
+}
+
+/// What a call keeps with one row more, or none where it stays as it is.
+fn next_tally(alloc: Global, call: &Call, row: &[&[Value]]) -> Result<Option<Tally>, EvalFault>
+    ensures { NextTally result call.now (seen row.now) }
+{
+    let value = match &call.operand {
+        Some(operand) => datum_of(operand, row)?,
+        None => Datum::Flag(true),
+    };
+    Ok(changed(alloc, &call.tally, value)?)
+}
+
+/// The values of the aggregates, in order, or the first code.
+pub fn totals(alloc: Global, calls: Vec<Call>) -> Result<Items<Value>, EvalFault>
+    ensures { Tells result (all_of (map (λ call. tallies.told call.tally) calls.items)) }
+{
+    let mut values = Items::new(alloc);
+    for call in calls {
+        values.push(told(call.tally)?)?;
+    }
+    Ok(values)
+}
