@@ -2,3 +2,4 @@ pub mod Steps
 pub mod Walking
 pub mod Sizes
 pub mod Sorting
+pub mod Grouping
