@@ -6,13 +6,13 @@ use Rattle.cell_base.specs.declared.value.Value.{Value}
 use Rattle.row_meaning.specs.declared.picture.TableRows.{TableRows}
 use Rattle.row_meaning.specs.Combinations.{is_true}
 use Rattle.row_meaning.specs.Pictures.{TableRow, row_values}
-use Rattle.statement_course.specs.declared.demand.Demand.{Demand}
-use Rattle.statement_course.specs.declared.demand.Demand.TheVariants as demands
-use Rattle.statement_course.specs.Course.{Course, scan, touch, write, done}
+use Rattle.statement_course.specs.Course.{Course, scan, touch}
 use Rattle.statement_course.specs.Reading.{read_columns, read_rows, read_parts}
 use Rattle.statement_course.specs.Reading as course
 use Rattle.table_reading.specs.declared.part.Part.{Part}
 use Rattle.table_reading.specs.declared.reading.Tables.{Tables}
+use Rattle.table_reading.specs.declared.reading.Question.{Question}
+use Rattle.table_reading.specs.declared.reading.Question.TheVariants as questions
 use Rattle.table_reading.specs.declared.reading.Reading.{Reading}
 use Rattle.table_reading.specs.declared.reading.Step.{Step}
 use Rattle.table_reading.specs.declared.reading.Step.TheVariants.{Asks, Ends}
@@ -56,16 +56,14 @@ after_presence r key present rest =
 abbrev pub after_field : Reading → Key → ℕ → Value → (List TableRows → Course) → Course
 after_field r key column v rest = columns_course r.tables r.keys r.found key r.columns (r.read ++ (column, v) ∷ []) rest
 
--- a reading that has asked for this, where it asks for nothing but keys and cells; then what follows, given all tables
-abbrev pub reading_course : Demand → Reading → (List TableRows → Course) → Course
-reading_course (demands.Scan table) r rest = scan table (λ keys. after_keys r keys rest)
-reading_course (demands.Touch (Presence table key)) r rest = touch (Presence table key) (λ present. after_presence r key present rest)
-reading_course (demands.Touch (Field table key column)) r rest = touch (Field table key column) (λ v. after_field r key column v rest)
-reading_course (demands.Write cell value) r rest = write cell value (rest r.tables.picture)
-reading_course (demands.Reply outcome) r rest = done outcome
+-- a reading that has asked for this; then what follows, given all tables
+abbrev pub reading_course : Question → Reading → (List TableRows → Course) → Course
+reading_course (questions.Keys table) r rest = scan table (λ keys. after_keys r keys rest)
+reading_course (questions.Presence table key) r rest = touch (Presence table key) (λ present. after_presence r key present rest)
+reading_course (questions.Field table key column) r rest = touch (Field table key column) (λ v. after_field r key column v rest)
 
 abbrev pub step_course : Step → (List TableRows → Course) → Course
-step_course (Asks demand reading) rest = reading_course demand reading rest
+step_course (Asks question reading) rest = reading_course question reading rest
 step_course (Ends picture) rest = rest picture
 
 -- ---- how many answers it takes at most; a scan lists fewer than 2^32 keys
@@ -81,13 +79,11 @@ tables_answers (p ∷ ps) = 2 ^ 32 * row_answers p.columns + tables_answers ps
 abbrev pub rows_answers : Tables → List Key → ℕ
 rows_answers t keys = length keys * row_answers t.columns + tables_answers t.parts
 
-abbrev pub reading_answers : Demand → Reading → ℕ
-reading_answers (demands.Scan table) r = 2 ^ 32 * row_answers r.tables.columns + tables_answers r.tables.parts
-reading_answers (demands.Touch (Presence table key)) r = row_answers r.tables.columns + rows_answers r.tables r.keys
-reading_answers (demands.Touch (Field table key column)) r = 1 + length r.columns + rows_answers r.tables r.keys
-reading_answers (demands.Write cell value) r = 0
-reading_answers (demands.Reply outcome) r = 0
+abbrev pub reading_answers : Question → Reading → ℕ
+reading_answers (questions.Keys table) r = 2 ^ 32 * row_answers r.tables.columns + tables_answers r.tables.parts
+reading_answers (questions.Presence table key) r = row_answers r.tables.columns + rows_answers r.tables r.keys
+reading_answers (questions.Field table key column) r = 1 + length r.columns + rows_answers r.tables r.keys
 
 abbrev pub step_answers : Step → ℕ
-step_answers (Asks demand reading) = reading_answers demand reading
+step_answers (Asks question reading) = reading_answers question reading
 step_answers (Ends picture) = 0

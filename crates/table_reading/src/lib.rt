@@ -9,4 +9,5 @@ mod row;
 
 pub use part::Part;
 pub use queue::Queue;
-pub use reading::{Reading, Step, begin};
+pub use reading::{Question, Reading, Step, begin};
+pub use row::is_true;

@@ -6,9 +6,8 @@ ghost use Rattle.table_reading.specs.Left.{tables_course, rows_course, columns_c
 
 use crate::row::{is_true, row_values};
 use crate::{Part, Queue};
-use cell_base::{Cell, Items, Key, Memory, Value};
+use cell_base::{Items, Key, Memory, Value};
 use row_meaning::TableRows;
-use statement_course::Demand;
 use std::alloc::Global;
 
 /// The table that is being read, and the others: those that were read, and those that are still to come.
@@ -37,11 +36,22 @@ pub struct Reading {
     read: Items<(u32, Value)>,
 }
 
+/// What a reading asks for.
+#[derive(Debug, Drop)]
+pub enum Question {
+    /// The keys of the table of this number.
+    Keys(u32),
+    /// Whether the table has a row of the key: table and key.
+    Presence(u32, Key),
+    /// The value of a column in the row of the key: table, key and column.
+    Field(u32, Key, u32),
+}
+
 /// What comes behind an answer.
 #[derive(Debug, Drop)]
 pub enum Step {
     /// The next question.
-    Asks(Demand, Reading),
+    Asks(Question, Reading),
     /// All tables were read.
     Ends(Items<TableRows>),
 }
@@ -134,12 +144,12 @@ fn first_question(alloc: Global, part: Part, others: Queue<Part>, picture: Items
         point,
         columns,
     } = part;
-    let demand = match point {
-        Some(key) => Demand::Touch(Cell::Presence(table, key)),
-        None => Demand::Scan(table),
+    let question = match point {
+        Some(key) => Question::Presence(table, key),
+        None => Question::Keys(table),
     };
     Step::Asks(
-        demand,
+        question,
         Reading {
             alloc,
             tables: Tables {
@@ -170,7 +180,7 @@ fn next_row(
     match keys.split() {
         Some((key, others)) => {
             Ok(Step::Asks(
-                Demand::Touch(Cell::Presence(tables.table, key)),
+                Question::Presence(tables.table, key),
                 Reading {
                     alloc,
                     tables,
@@ -216,7 +226,7 @@ fn next_column(
     match columns.split() {
         Some((column, others)) => {
             Ok(Step::Asks(
-                Demand::Touch(Cell::Field(tables.table, key, column)),
+                Question::Field(tables.table, key, column),
                 Reading {
                     alloc,
                     tables,

@@ -1,0 +1,4 @@
+pub mod Demanding
+pub mod Showing
+pub mod Parting
+pub mod Courses
