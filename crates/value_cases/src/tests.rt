@@ -7,7 +7,7 @@ use crate::samples::{shown, value_of};
 use cell_base::{Boxed, Items, Memory, SqlType, Text, TextFault, Value};
 use expr_eval::eval;
 use sql_tree::{Op, TypedExpr, TypedNode};
-use std::alloc::Global;
+use std::alloc::{AllocError, Global};
 use std::test::Fail;
 
 fn constant(alloc: Global, kind: SqlType, lit: Lit) -> Result<TypedExpr, TextFault> {
@@ -40,12 +40,20 @@ fn result_type(op: Op, kind: SqlType) -> SqlType {
     }
 }
 
-fn answer(alloc: Global, case: &Case) -> Result<String, Fail> {
+/// What the expression gives over no row. It takes the expression whole, so that each test lets it go at one place.
+fn given(alloc: Global, expr: TypedExpr) -> Result<String, AllocError> {
+    shown(alloc, eval(alloc, &expr, &[]))
+}
+
+fn operation(alloc: Global, case: &Case) -> Result<TypedExpr, Fail> {
     let (op, kind, left, right, _) = *case;
     let left = constant(alloc, kind, left)?;
     let right = constant(alloc, kind, right)?;
-    let expr = binary(alloc, result_type(op, kind), op, left, right)?;
-    Ok(shown(alloc, eval(alloc, &expr, &[]))?)
+    Ok(binary(alloc, result_type(op, kind), op, left, right)?)
+}
+
+fn answer(alloc: Global, case: &Case) -> Result<String, Fail> {
+    Ok(given(alloc, operation(alloc, case)?)?)
 }
 
 fn agrees(alloc: Global, case: &Case) -> Result<bool, Fail> {
@@ -118,18 +126,20 @@ fn sum(alloc: Global, left: i64, right: i64) -> Result<TypedExpr, Memory> {
     )
 }
 
+fn equality(alloc: Global, left: TypedExpr, right: TypedExpr) -> Result<TypedExpr, Memory> {
+    binary(alloc, SqlType::Boolean, Op::Eq, left, right)
+}
+
+/// `1 / 0 = 1`.
+fn failing(alloc: Global) -> Result<TypedExpr, Memory> {
+    equality(alloc, quotient(alloc, 1, 0)?, integer(1))
+}
+
 /// `FLAG AND 1 / 0 = 1`, and the same with another operator.
 fn guarded(alloc: Global, flag: bool, op: Op) -> Result<String, Fail> {
-    let fails = binary(
-        alloc,
-        SqlType::Boolean,
-        Op::Eq,
-        quotient(alloc, 1, 0)?,
-        integer(1),
-    )?;
     let guard = boolean(TypedNode::Constant(Value::Flag(flag)));
-    let expr = binary(alloc, SqlType::Boolean, op, guard, fails)?;
-    Ok(shown(alloc, eval(alloc, &expr, &[]))?)
+    let expr = binary(alloc, SqlType::Boolean, op, guard, failing(alloc)?)?;
+    Ok(given(alloc, expr)?)
 }
 
 #[test]
@@ -140,18 +150,24 @@ fn evaluates_both_operands(rt: HostRuntime) -> Result<(), Fail> {
 }
 
 fn compared(alloc: Global, left: TypedExpr, right: TypedExpr) -> Result<String, Fail> {
-    let expr = binary(alloc, SqlType::Boolean, Op::Eq, left, right)?;
-    Ok(shown(alloc, eval(alloc, &expr, &[]))?)
+    Ok(given(alloc, equality(alloc, left, right)?)?)
 }
 
-/// `1 / 0 = 2147483647 + 1` and the other way round.
+/// `1 / 0 = 2147483647 + 1`
+fn zero_first(alloc: Global) -> Result<String, Fail> {
+    compared(alloc, quotient(alloc, 1, 0)?, sum(alloc, 2147483647, 1)?)
+}
+
+/// `2147483647 + 1 = 1 / 0`
+fn range_first(alloc: Global) -> Result<String, Fail> {
+    compared(alloc, sum(alloc, 2147483647, 1)?, quotient(alloc, 1, 0)?)
+}
+
 #[test]
 fn evaluates_the_left_operand_first(rt: HostRuntime) -> Result<(), Fail> {
     let alloc = rt.alloc();
-    let zero_first = compared(alloc, quotient(alloc, 1, 0)?, sum(alloc, 2147483647, 1)?)?;
-    assert_eq!(rt; zero_first.as_str(), "S22012");
-    let range_first = compared(alloc, sum(alloc, 2147483647, 1)?, quotient(alloc, 1, 0)?)?;
-    assert_eq!(rt; range_first.as_str(), "S22003");
+    assert_eq!(rt; zero_first(alloc)?.as_str(), "S22012");
+    assert_eq!(rt; range_first(alloc)?.as_str(), "S22003");
     Ok(())
 }
 
@@ -170,7 +186,7 @@ fn negative(alloc: Global, kind: SqlType, lit: Lit) -> Result<String, Fail> {
         kind,
         node: TypedNode::Neg(operand),
     };
-    Ok(shown(alloc, eval(alloc, &expr, &[]))?)
+    Ok(given(alloc, expr)?)
 }
 
 #[test]
@@ -201,7 +217,7 @@ fn takes_a_sign(rt: HostRuntime) -> Result<(), Fail> {
 
 fn denied(alloc: Global, lit: Lit) -> Result<String, Fail> {
     let operand = Boxed::new(alloc, constant(alloc, SqlType::Boolean, lit)?)?;
-    Ok(shown(alloc, eval(alloc, &boolean(TypedNode::Not(operand)), &[]))?)
+    Ok(given(alloc, boolean(TypedNode::Not(operand)))?)
 }
 
 #[test]
@@ -215,10 +231,7 @@ fn denies(rt: HostRuntime) -> Result<(), Fail> {
 
 fn null_test(alloc: Global, lit: Lit, negated: bool) -> Result<String, Fail> {
     let operand = Boxed::new(alloc, constant(alloc, SqlType::Text, lit)?)?;
-    Ok(shown(
-        alloc,
-        eval(alloc, &boolean(TypedNode::IsNull(operand, negated)), &[]),
-    )?)
+    Ok(given(alloc, boolean(TypedNode::IsNull(operand, negated)))?)
 }
 
 #[test]
@@ -248,8 +261,7 @@ fn among(
 ) -> Result<String, Fail> {
     let left = Boxed::new(alloc, constant(alloc, kind, left)?)?;
     let members = constants(alloc, kind, members)?;
-    let expr = boolean(TypedNode::In(left, members, negated));
-    Ok(shown(alloc, eval(alloc, &expr, &[]))?)
+    Ok(given(alloc, boolean(TypedNode::In(left, members, negated)))?)
 }
 
 #[test]
@@ -278,10 +290,7 @@ fn among_failing(alloc: Global) -> Result<String, Fail> {
     members.push(integer(1))?;
     members.push(quotient(alloc, 1, 0)?)?;
     let left = Boxed::new(alloc, integer(1))?;
-    Ok(shown(
-        alloc,
-        eval(alloc, &boolean(TypedNode::In(left, members, false)), &[]),
-    )?)
+    Ok(given(alloc, boolean(TypedNode::In(left, members, false)))?)
 }
 
 #[test]
@@ -290,23 +299,41 @@ fn evaluates_all_members(rt: HostRuntime) -> Result<(), Fail> {
     Ok(())
 }
 
-/// The first entry of FROM: 7, a text and an unset value.
+/// 7, a text and an unset value.
 fn first_entry(alloc: Global) -> Result<Items<Value>, Fail> {
-    let mut values = Items::new(alloc);
-    values.push(Value::Int(7))?;
-    values.push(Value::Text(Text::from_bytes(alloc, b"ab")?))?;
-    values.push(Value::Unset)?;
-    Ok(values)
+    let mut entry = Items::new(alloc);
+    entry.push(Value::Int(7))?;
+    entry.push(Value::Text(Text::from_bytes(alloc, b"ab")?))?;
+    entry.push(Value::Unset)?;
+    Ok(entry)
+}
+
+/// 3000000000 and true.
+fn second_entry(alloc: Global) -> Result<Items<Value>, Fail> {
+    let mut entry = Items::new(alloc);
+    entry.push(Value::Int(3_000_000_000))?;
+    entry.push(Value::Flag(true))?;
+    Ok(entry)
+}
+
+/// The value over two entries of FROM.
+fn given_over(
+    alloc: Global,
+    expr: TypedExpr,
+    first: Items<Value>,
+    second: Items<Value>,
+) -> Result<String, AllocError> {
+    shown(
+        alloc,
+        eval(alloc, &expr, &[first.as_slice(), second.as_slice()]),
+    )
 }
 
 fn column(alloc: Global, kind: SqlType, entry: u32, place: u32) -> Result<String, Fail> {
+    let node = TypedNode::Column(entry, place);
     let first = first_entry(alloc)?;
-    let second = [Value::Int(3_000_000_000), Value::Flag(true)];
-    let expr = TypedExpr {
-        kind,
-        node: TypedNode::Column(entry, place),
-    };
-    Ok(shown(alloc, eval(alloc, &expr, &[first.as_slice(), &second]))?)
+    let second = second_entry(alloc)?;
+    Ok(given_over(alloc, TypedExpr { kind, node }, first, second)?)
 }
 
 #[test]

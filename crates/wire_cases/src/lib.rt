@@ -10,3 +10,5 @@
 mod links;
 #[cfg(test)]
 mod messages;
+#[cfg(test)]
+mod replies;

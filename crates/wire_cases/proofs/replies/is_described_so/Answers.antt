@@ -2,7 +2,7 @@ use Rattle.std.proofs.Common.{◌≡◌, ℕ, length, List, ap, arith}
 use Rattle.sql_tree.specs.declared.table.OutField.{OutField}
 use Rattle.pg_framing.specs.Replies.{field_bytes}
 use Rattle.pg_framing.proofs.Lengths.{length-field_bytes, length-one}
-use Rattle.wire_cases.proofs.messages.is_described_so.Goals as goal
+use Rattle.wire_cases.proofs.replies.is_described_so.Goals as goal
 
 pub append_fields-requires-clause-short : goal.append_fields-requires-clause-short
 append_fields-requires-clause-short c =
