@@ -17,7 +17,7 @@ pub enum Shape {
     NarrowSum,
     /// `sum(1 / x)`
     SumOfQuotients,
-    /// `sum(2147483647 + (x + 1))`
+    /// `sum((x + 1) + 2147483647)`
     SumAbove,
     /// `1 / (count(*) - n)`
     QuotientOfRows(i64),

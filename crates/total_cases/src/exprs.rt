@@ -69,36 +69,39 @@ fn sum(alloc: Global, operand: TypedExpr) -> Result<TypedExpr, Memory> {
 }
 
 fn sum_of_quotients(alloc: Global) -> Result<TypedExpr, Memory> {
-    let one = number(SqlType::Integer, 1);
-    let quotient = binary(
+    sum(
         alloc,
-        SqlType::Integer,
-        Op::Div,
-        one,
-        column(SqlType::Integer),
-    )?;
-    sum(alloc, quotient)
+        quotient(alloc, SqlType::Integer, column(SqlType::Integer))?,
+    )
 }
 
-fn sum_above(alloc: Global) -> Result<TypedExpr, Memory> {
-    let one = number(SqlType::Integer, 1);
-    let next = binary(
+/// `1 / x`
+fn quotient(alloc: Global, kind: SqlType, divisor: TypedExpr) -> Result<TypedExpr, Memory> {
+    binary(alloc, kind, Op::Div, number(kind, 1), divisor)
+}
+
+fn plus(alloc: Global, left: TypedExpr, n: i64) -> Result<TypedExpr, Memory> {
+    binary(
         alloc,
         SqlType::Integer,
         Op::Add,
-        column(SqlType::Integer),
-        one,
-    )?;
-    let greatest = number(SqlType::Integer, 2147483647);
-    let above = binary(alloc, SqlType::Integer, Op::Add, greatest, next)?;
-    sum(alloc, above)
+        left,
+        number(SqlType::Integer, n),
+    )
+}
+
+fn sum_above(alloc: Global) -> Result<TypedExpr, Memory> {
+    let next = plus(alloc, column(SqlType::Integer), 1)?;
+    sum(alloc, plus(alloc, next, 2147483647)?)
+}
+
+fn rows_less(alloc: Global, n: i64) -> Result<TypedExpr, Memory> {
+    let kind = SqlType::Bigint;
+    binary(alloc, kind, Op::Sub, count_rows(), number(kind, n))
 }
 
 fn quotient_of_rows(alloc: Global, n: i64) -> Result<TypedExpr, Memory> {
-    let n = number(SqlType::Bigint, n);
-    let less = binary(alloc, SqlType::Bigint, Op::Sub, count_rows(), n)?;
-    let one = number(SqlType::Bigint, 1);
-    binary(alloc, SqlType::Bigint, Op::Div, one, less)
+    quotient(alloc, SqlType::Bigint, rows_less(alloc, n)?)
 }
 
 fn mean(alloc: Global) -> Result<TypedExpr, Memory> {
@@ -106,42 +109,58 @@ fn mean(alloc: Global) -> Result<TypedExpr, Memory> {
     binary(alloc, SqlType::Bigint, Op::Div, total, count_rows())
 }
 
-fn sum_in(alloc: Global) -> Result<TypedExpr, Memory> {
-    let left = Boxed::new(alloc, sum(alloc, column(SqlType::Integer))?)?;
-    let mut members = Items::new(alloc);
-    members.push(count_rows())?;
-    members.push(number(SqlType::Bigint, 6))?;
+fn among(alloc: Global, left: TypedExpr, members: Items<TypedExpr>) -> Result<TypedExpr, Memory> {
+    let left = Boxed::new(alloc, left)?;
     Ok(TypedExpr {
         kind: SqlType::Boolean,
         node: TypedNode::In(left, members, false),
     })
 }
 
-fn has_sum(alloc: Global) -> Result<TypedExpr, Memory> {
-    let operand = Boxed::new(alloc, sum(alloc, column(SqlType::Integer))?)?;
-    let lacks = TypedExpr {
-        kind: SqlType::Boolean,
-        node: TypedNode::IsNull(operand, false),
-    };
-    let lacks = Boxed::new(alloc, lacks)?;
+fn rows_or_six(alloc: Global) -> Result<Items<TypedExpr>, Memory> {
+    let mut members = Items::new(alloc);
+    members.push(count_rows())?;
+    members.push(number(SqlType::Bigint, 6))?;
+    Ok(members)
+}
+
+fn sum_in(alloc: Global) -> Result<TypedExpr, Memory> {
+    let members = rows_or_six(alloc)?;
+    among(alloc, sum(alloc, column(SqlType::Integer))?, members)
+}
+
+fn lacks(alloc: Global, operand: TypedExpr) -> Result<TypedExpr, Memory> {
+    let operand = Boxed::new(alloc, operand)?;
     Ok(TypedExpr {
         kind: SqlType::Boolean,
-        node: TypedNode::Not(lacks),
+        node: TypedNode::IsNull(operand, false),
+    })
+}
+
+fn denied(alloc: Global, operand: TypedExpr) -> Result<TypedExpr, Memory> {
+    let operand = Boxed::new(alloc, operand)?;
+    Ok(TypedExpr {
+        kind: SqlType::Boolean,
+        node: TypedNode::Not(operand),
+    })
+}
+
+fn has_sum(alloc: Global) -> Result<TypedExpr, Memory> {
+    let total = sum(alloc, column(SqlType::Integer))?;
+    denied(alloc, lacks(alloc, total)?)
+}
+
+fn negated(alloc: Global, operand: TypedExpr) -> Result<TypedExpr, Memory> {
+    let operand = Boxed::new(alloc, operand)?;
+    Ok(TypedExpr {
+        kind: SqlType::Integer,
+        node: TypedNode::Neg(operand),
     })
 }
 
 fn negated_max(alloc: Global) -> Result<TypedExpr, Memory> {
-    let max = call(
-        alloc,
-        SqlType::Integer,
-        Aggregate::Max,
-        column(SqlType::Integer),
-    )?;
-    let max = Boxed::new(alloc, max)?;
-    Ok(TypedExpr {
-        kind: SqlType::Integer,
-        node: TypedNode::Neg(max),
-    })
+    let kind = SqlType::Integer;
+    negated(alloc, call(alloc, kind, Aggregate::Max, column(kind))?)
 }
 
 fn expr_of(alloc: Global, kind: SqlType, shape: Shape) -> Result<TypedExpr, Memory> {
