@@ -26,7 +26,7 @@ use Rattle.monkey_server.specs.declared.stage.Owed.TheVariants as owes
 use Rattle.monkey_server.specs.declared.stage.Stage.{Stage}
 use Rattle.monkey_server.specs.declared.stage.Stage.TheVariants as stages
 use Rattle.monkey_server.specs.Told.{refused, key_of, presence_of, field_of}
-use Rattle.monkey_server.specs.Record.{Draws, Happens, may_be_refused, limit_for, HasNewName}
+use Rattle.monkey_server.specs.Record.{Draws, Happens, may_be_refused, limit_for}
 use Rattle.monkey_server.specs.Stands.{Fits, FitsWant, IsPlain, wants, KnowsTable, DefinesSound, AreNarrowTables, IsReading, ComesFrom, owed_at, owed_after, IsKnownAfter}
 use Rattle.monkey_server.specs.Serve.{Plays, MayAsk, SeatAfter, Sits, owed_of}
 use Rattle.monkey_server.proofs.Lawfuls.{Happens-leaves, Declines-goes}
@@ -37,9 +37,9 @@ played gives p v c d a e q w is h = (e, subst (λ (x : Call). Plays gives p v x 
 
 -- a call that was refused
 pub declined : {W : Type 0} (gives : W → ℕ → W → Type 0) (p : Past) (v : W) (c d : Call) (why : BookFault) (q : Past) (w : W) → c ≡ d → may_be_refused d → GoesOn p q →
-    ((limit : Limit) → why ≡ faults.Full limit → limit_for q d ≡ Some limit) → ((limit : Limit) → why ≡ faults.Full limit → HasNewName q d limit) → Draws gives v d (refused why) w → (x : Event) × Plays gives p v c (answers.Refused why) x q w
-declined gives p v c d (faults.Full limit) q w is may goes full fresh draws = (Open 0, subst (λ (x : Call). Plays gives p v x (answers.Refused (faults.Full limit)) (Open 0) q w) (sym is) ((may, goes, full limit refl, fresh limit refl), draws))
-declined gives p v c d faults.Memory q w is may goes full fresh draws = (Open 0, subst (λ (x : Call). Plays gives p v x (answers.Refused faults.Memory) (Open 0) q w) (sym is) ((may, goes), draws))
+    ((limit : Limit) → why ≡ faults.Full limit → limit_for q d ≡ Some limit) → Draws gives v d (refused why) w → (x : Event) × Plays gives p v c (answers.Refused why) x q w
+declined gives p v c d (faults.Full limit) q w is may goes full draws = (Open 0, subst (λ (x : Call). Plays gives p v x (answers.Refused (faults.Full limit)) (Open 0) q w) (sym is) ((may, goes, full limit refl), draws))
+declined gives p v c d faults.Memory q w is may goes full draws = (Open 0, subst (λ (x : Call). Plays gives p v x (answers.Refused faults.Memory) (Open 0) q w) (sym is) ((may, goes), draws))
 
 pub defined_plays : {W : Type 0} (gives : W → ℕ → W → Type 0) (p : Past) (v : W) (table : Table) (answer : DefineAnswer) (q : Past) → AnswersDefine p table answer q →
     (x : Event) × Plays gives p v (calls.Define table) (answers.Defined answer) x q v

@@ -228,9 +228,9 @@ stage_over (stages.Ended e) known end w = (e, refl, cc w)
 stage_over _ known end w = absurd (cc w)
 
 pub Serves-ran : {W : Type 0} (gives : W → ℕ → W → Type 0) (p : Past) (v : W) (f : Sight) (s : Session) (end : End) (wanting : Bool) (q : Past) (w : W) (g : Sight) (many : ℕ) →
-    many ≤ most_read → wants s.stage s.known.items ≡ calls.Ended end → ((taken : List ℕ) (es : List Entry) (asked : List Call) (sent : List ℕ) → Stands s taken es asked sent → wanting ≡ has_short es) → Ran gives p v f s q w g many →
+    wants s.stage s.known.items ≡ calls.Ended end → ((taken : List ℕ) (es : List Entry) (asked : List Call) (sent : List ℕ) → Stands s taken es asked sent → wanting ≡ has_short es) → Ran gives p v f s q w g many →
     (talk : Talk) × (taken : List ℕ) × (es : List Entry) × (asked : List Call) × (sent : List ℕ) × (lost : List ℕ) × Serves gives p v f end wanting q w g talk taken es asked sent lost
-Serves-ran gives p v f s end wanting q w g many within over flag ran =
+Serves-ran gives p v f s end wanting q w g many over flag ran =
     let (taken, es, asked, sent, lost, many_is, run) = ran in
     let (finish, is, end_is) = stage_over s.stage s.known.items end over in
     let shows : Shows (calls.Ended end) taken es asked sent = subst (λ (x : Want). Shows x taken es asked sent) over (Shows-stands s.stage s.built.items s.known.items s.frames taken es asked sent run.stands.0) in (
@@ -241,7 +241,6 @@ Serves-ran gives p v f s end wanting q w g many within over flag ran =
       sent,
       lost,
       record {
-        within = omega (arith, many_is, within);
         talk_is = shows.1;
         told_is = shows.2;
         lawful = run.lawful;
@@ -343,7 +342,6 @@ Serves-none gives p v f = (
   [],
   [],
   record {
-    within = omega arith;
     talk_is = tt;
     told_is = told_short;
     lawful = Lawful-quiet gives p v [] [] p v (short true 0) tt (refl, refl);

@@ -1,13 +1,12 @@
 -- When a session's record is lawful: its calls were made of the book one after another, and each entry is what came of its call.
-use Rattle.std.specs.Prelude.{◌≡◌, ◌≢◌, ℕ, List, [], ◌∷◌, length, Contains, Option, Some}
+use Rattle.std.specs.Prelude.{◌≡◌, ℕ, List, [], ◌∷◌, length, Option, Some}
 use Rattle.history_core.specs.declared.event.Event.{Event}
 use Rattle.history_core.specs.declared.event.Event.TheVariants.{Open, Close, Define, Look, Begin, Read, Write, Commit, Rollback}
 use Rattle.history_core.specs.declared.fault.Limit.{Limit}
-use Rattle.history_core.specs.declared.fault.Limit.TheVariants as limits
 use Rattle.history_core.specs.declared.fault.BookFault.{BookFault}
 use Rattle.history_core.specs.declared.fault.BookFault.TheVariants as faults
 use Rattle.history_core.specs.declared.fault.DefineAnswer.TheVariants as defines
-use Rattle.history_core.specs.Events.{begun, names}
+use Rattle.history_core.specs.Events.{begun}
 use Rattle.history_core.specs.Legal.{full_for, full_load}
 use Rattle.history_core.specs.Book.{Past, session_of, Adds, GoesOn, AnswersTables, AnswersDefine}
 use Rattle.monkey_server.specs.Calls.{Call}
@@ -29,14 +28,9 @@ may_be_refused calls.Commit = ⊥
 may_be_refused calls.Rollback = ⊥
 may_be_refused _ = Unit {0}
 
--- a definition that is refused for another limit than the load has a new name
-abbrev pub HasNewName : Past → Call → Limit → Type 0
-HasNewName past (calls.Define table) limit = limit ≢ limits.Load → ¬ (Contains (names past.seen.events) table.name)
-HasNewName past _ limit = Unit {0}
-
 -- A call is refused: no event is made, and where the answer is Full the history is full for it.
 abbrev pub Declines : Past → Call → BookFault → Past → Type 0
-Declines old c (faults.Full limit) new = may_be_refused c × GoesOn old new × (limit_for new c ≡ Some limit) × HasNewName new c limit
+Declines old c (faults.Full limit) new = may_be_refused c × GoesOn old new × (limit_for new c ≡ Some limit)
 Declines old c faults.Memory new = may_be_refused c × GoesOn old new
 
 -- A call is answered: its one event is made, and holds the answer.

@@ -125,12 +125,11 @@ abbrev pub Ran : {W : Type 0} → (W → ℕ → W → Type 0) → Past → W �
 Ran gives p v f s q w g many =
     (taken : List ℕ) × (es : List Entry) × (asked : List Call) × (sent : List ℕ) × (lost : List ℕ) × (length taken ≡ many) × Runs gives p v f s q w g taken es asked sent lost
 
--- A link was served. No more was taken than the most that is read. What was sent and the end are told of what was taken and of a record, whose calls were made of the book in order and whose
+-- A link was served. What was sent and the end are told of what was taken and of a record, whose calls were made of the book in order and whose
 -- events are those that the book made; its reads drew the words; and no reply was held back over a read. Where a write failed, what is lost
 -- of what was told stands at its end.
 pub record Serves {W : Type 0} (gives : W → ℕ → W → Type 0) (p : Past) (v : W) (f : Sight) (end : End) (wanting : Bool) (q : Past) (w : W) (g : Sight)
     (talk : Talk) (taken : List ℕ) (es : List Entry) (asked : List Call) (sent lost : List ℕ) : Type 0 where
-  pub within : length taken ≤ most_read
   pub talk_is : IsTalk false taken talk
   pub told_is : told talk es ≡ (record { bytes = sent; calls = asked }, ended end)
   pub lawful : Lawful gives p v asked es q w

@@ -16,7 +16,7 @@ pub returns-in-Ended-clause-served : goal.returns-in-Ended-clause-served
 returns-in-Ended-clause-served g c =
     let f : Sight = sight_of g.L.Sides.traffic g.L.Sides.read_faults g.L.Sides.write_faults c.args.link.now in
     Serves-ran g.W.Words.gives (g.B.Book.past c.args.book.now) c.args.words.now f c.drive.new.session c.finish.result.end c.finish.result.short (g.B.Book.past c.drive.new.book) c.drive.new.words
-    (sight_of g.L.Sides.traffic g.L.Sides.read_faults g.L.Sides.write_faults c.drive.new.link) c.loop-session.invariant.ran.0 (omega (arith, c.loop-session.invariant.ran.1)) c.finish.ensures.end c.finish.ensures.short
+    (sight_of g.L.Sides.traffic g.L.Sides.read_faults g.L.Sides.write_faults c.drive.new.link) c.loop-session.invariant.ran.0 c.finish.ensures.end c.finish.ensures.short
     (c.drive.ensures.ran (g.B.Book.past c.args.book.now) c.args.words.now f c.loop-session.invariant.ran.0 c.loop-session.invariant.ran.2)
 
 pub returns-in-Ended-clause-away : goal.returns-in-Ended-clause-away
@@ -32,7 +32,7 @@ returns-then-n-eq0 g c =
     record {
       served =
           Serves-ran g.W.Words.gives (g.B.Book.past c.args.book.now) c.args.words.now f c.drive-then-n-eq0.new.session c.finish-then-n-eq0.result.end c.finish-then-n-eq0.result.short (g.B.Book.past c.drive-then-n-eq0.new.book) c.drive-then-n-eq0.new.words
-          (sight_of g.L.Sides.traffic g.L.Sides.read_faults g.L.Sides.write_faults c.drive-then-n-eq0.new.link) (many + c.take_in-n.result) (omega (arith, c.loop-session.invariant.ran.1, c.take_in-n.ensures.within)) c.finish-then-n-eq0.ensures.end c.finish-then-n-eq0.ensures.short
+          (sight_of g.L.Sides.traffic g.L.Sides.read_faults g.L.Sides.write_faults c.drive-then-n-eq0.new.link) (many + c.take_in-n.result) c.finish-then-n-eq0.ensures.end c.finish-then-n-eq0.ensures.short
           (c.drive-then-n-eq0.ensures.ran (g.B.Book.past c.args.book.now) c.args.words.now f (many + c.take_in-n.result)
           (c.take_in-n.ensures.ran (g.B.Book.past c.args.book.now) c.args.words.now f many c.loop-session.invariant.ran.1 (c.drive.ensures.ran (g.B.Book.past c.args.book.now) c.args.words.now f many c.loop-session.invariant.ran.2)));
       away = away_over c.drive-then-n-eq0.new.session.stage c.drive-then-n-eq0.new.session.known.items (g.B.Book.past c.drive-then-n-eq0.new.book) (is_over c.drive-then-n-eq0.new.session.stage c.drive-then-n-eq0.new.session.known.items c.drive-then-n-eq0.ensures.rests (c.drive-then-n-eq0.ensures.last (c.take_in-n.ensures.stopped c.if-n-eq0.true))) c.drive-then-n-eq0.ensures.sits;
