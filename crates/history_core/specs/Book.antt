@@ -1,6 +1,7 @@
 -- A book: one session's way to a history that others may add to as well.
-use Rattle.std.specs.Prelude.{◌≡◌, ◌≢◌, ◌<◌, ℕ, ℤ, List, [], ◌∷◌, ◌++◌, length, All, Contains}
+use Rattle.std.specs.Prelude.{◌≡◌, ◌≢◌, ◌<◌, ℕ, ℤ, Some, List, [], ◌∷◌, ◌++◌, length, slice_get, All, Contains}
 use Rattle.cell_base.specs.declared.cell.Cell.{Cell}
+use Rattle.cell_base.specs.declared.key.Key.{Key}
 use Rattle.cell_base.specs.declared.value.Value.{Value}
 use Rattle.cell_base.specs.declared.value.Value.TheVariants.{Unset, Wide}
 use Rattle.sql_tree.specs.declared.table.Table.{Table}
@@ -9,6 +10,7 @@ use Rattle.history_core.specs.declared.event.Event.TheVariants.{Define, Look, Re
 use Rattle.history_core.specs.declared.fault.DefineAnswer.{DefineAnswer}
 use Rattle.history_core.specs.declared.fault.DefineAnswer.TheVariants.{Defined, Taken}
 use Rattle.history_core.specs.Events.{session_in, names}
+use Rattle.history_core.specs.Legal.{IsKeyBelow}
 use Rattle.history_core.specs.Chronicle.{Chronicle}
 
 -- where the session of a book stands: none is open; one is open with nothing pending; its transaction is pending, with these writes so far
@@ -61,6 +63,12 @@ HasTable past table = table < length past.seen.tables
 -- neither unset nor wide
 abbrev pub IsStorable : Value → Type 0
 IsStorable value = (value ≢ Unset) × ((wide : ℤ) → value ≢ Wide wide)
+
+-- each key is below those behind it, none stands twice, and there are fewer than 2 ^ 32
+pub record IsKeyList (keys : List Key) : Type 0 where
+  pub ascending : (i j : ℕ) (a b : Key) → i < j → slice_get keys i ≡ Some a → slice_get keys j ≡ Some b → IsKeyBelow a b
+  pub once : (i j : ℕ) (key : Key) → slice_get keys i ≡ Some key → slice_get keys j ≡ Some key → i ≡ j
+  pub few : length keys < 4294967296
 
 -- the history goes on with the events of others
 pub record GoesOn (old new : Past) : Type 0 where

@@ -1,6 +1,6 @@
 // A book: one session's way to a history.
 use crate::{BookFault, DefineAnswer};
-use cell_base::{Cell, Items, Value};
+use cell_base::{Cell, Items, Key, Value};
 use sql_tree::Table;
 
 /// One session's way to a history, which others may add to as well. Each call adds just the event of its name behind
@@ -16,7 +16,7 @@ pub trait Book {
     ghost use Rattle.history_core.specs.Events.{table_of, begun, names};
     ghost use Rattle.history_core.specs.Legal.{full_for, full_load};
     ghost use Rattle.history_core.specs.Chronicle.{IsLegalChronicle};
-    ghost use Rattle.history_core.specs.Book.{Past, Seat, away, seated, pending, IsSeated, IsIdle, IsInTransaction, IsUnwritten, IsStorable, HasTable, session_of, writes_of, GoesOn, Adds, AddsRead, AnswersTables, AnswersDefine};
+    ghost use Rattle.history_core.specs.Book.{Past, Seat, away, seated, pending, IsSeated, IsIdle, IsInTransaction, IsUnwritten, IsStorable, HasTable, IsKeyList, session_of, writes_of, GoesOn, Adds, AddsRead, AnswersTables, AnswersDefine};
 
     /// The history seen, the own events, and where the session stands.
     ghost past: { Self → Past };
@@ -73,6 +73,18 @@ pub trait Book {
         ensures seat { OnOk result ((past self.new).seat ≡ pending (session_of (past self.old).seat) []) }
         ensures err { OnErr result (GoesOn (past self.old) (past self.new)) }
         ensures full { (limit : Limit) → result ≡ Err (BookFault.Full limit) → full_for (past self.new).seen.events (events.Begin 0) ≡ Some limit }
+        ensures legal { IsLegalChronicle (past self.new).seen }
+        ensures stays { stays self.old self.new };
+
+    /// Lists the keys of a table that a committed transaction or the pending one has made or removed, ascending.
+    fn scan(&mut self, table: u32) -> Result<Items<Key>, BookFault>
+        requires pending { IsInTransaction (past self.old).seat }
+        requires defined { HasTable (past self.old) table }
+        ensures ok { IfOk result (λ keys. Adds (past self.old) (events.Scan (session_of (past self.old).seat) table keys) (past self.new)) }
+        ensures listed { IfOk result IsKeyList }
+        ensures seat { (past self.new).seat ≡ (past self.old).seat }
+        ensures err { OnErr result (GoesOn (past self.old) (past self.new)) }
+        ensures full { (limit : Limit) → result ≡ Err (BookFault.Full limit) → full_load (past self.new).seen.events ≡ Some limit }
         ensures legal { IsLegalChronicle (past self.new).seen }
         ensures stays { stays self.old self.new };
 

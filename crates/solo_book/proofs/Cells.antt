@@ -13,7 +13,7 @@ cell_same a b is = search rules
 pub cell_here : (a : Cell) → same_cell a a ≡ true
 cell_here a = search rules
 
-bool_cases : (b : Bool) → (b ≡ true) ⊎ (b ≡ false)
+pub bool_cases : (b : Bool) → (b ≡ true) ⊎ (b ≡ false)
 bool_cases true = inl refl
 bool_cases false = inr refl
 

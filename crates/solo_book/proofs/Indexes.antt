@@ -47,7 +47,7 @@ alive_back events e k last (inr (at, (s, pending))) =
     ]
 
 -- what has written after an event had written before, or writes now
-written_back :
+pub written_back :
     (events : List Event) (e : Event) (k : ℕ) (x : Cell) → HasWritten (events ++ e ∷ []) k x →
     HasWritten events k x ⊎ ((s : ℕ) × ((v : Value) × ((e ≡ Write s x v) × IsPending events k (session_in e))))
 written_back events e k x written =
@@ -89,7 +89,7 @@ indexed_push events e index listed last is x = record {
   ];
 }
 
-no_write : (e : Event) (s : ℕ) (x : Cell) (v : Value) → IsNoWrite e → e ≡ Write s x v → ⊥
+pub no_write : (e : Event) (s : ℕ) (x : Cell) (v : Value) → IsNoWrite e → e ≡ Write s x v → ⊥
 no_write e s x v other is = subst IsNoWrite is other
 
 no_commit : (e : Event) (s : ℕ) → IsNoWrite e → e ≡ Commit s → ⊥

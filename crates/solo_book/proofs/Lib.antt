@@ -8,3 +8,5 @@ pub mod Books
 pub mod Indexes
 pub mod Picks
 pub mod Cells
+pub mod KeyLists
+pub mod Scans

@@ -2,5 +2,6 @@ pub mod Pairs
 pub mod Passed
 pub mod Tests
 pub mod Index
+pub mod Keys
 pub mod Desk
 pub mod Seats

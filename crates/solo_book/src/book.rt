@@ -6,8 +6,9 @@ use crate::calls::{
 use crate::desk::{Desk, Stage};
 use crate::indexed::IndexedHistory;
 use crate::reading::read_cell;
+use crate::scanning::scan_table;
 use crate::tables::{define_table, look_at_tables};
-use cell_base::{Cell, Items, Level, Value};
+use cell_base::{Cell, Items, Key, Level, Value};
 use history_core::{Book, BookFault, DefineAnswer, History};
 use sql_tree::Table;
 use std::alloc::Global;
@@ -90,6 +91,10 @@ impl Book for SoloBook {
 
     fn begin(&mut self) -> Result<u32, BookFault> {
         begin_transaction(&mut self.desk)
+    }
+
+    fn scan(&mut self, table: u32) -> Result<Items<Key>, BookFault> {
+        scan_table(&mut self.desk, table)
     }
 
     fn read(&mut self, cell: &Cell, word: u32) -> Result<Value, BookFault> {

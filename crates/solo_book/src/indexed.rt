@@ -1,25 +1,30 @@
-// A history with an index of the writers by cell.
-ghost use Rattle.std.specs.Prelude.{◌≡◌, ◌↔◌, ◌≤◌, [], length, Some, Err, OnOk, OnErr, IsTrue};
+// A history with an index of the writers by cell, and one of the keys by table.
+ghost use Rattle.std.specs.Prelude.{◌≡◌, ◌↔◌, ◌≤◌, ◌<◌, [], length, Contains, Some, Err, IfSome, IfNone, OnOk, OnErr, IsTrue};
 ghost use Rattle.sound_table.specs.Sound.{IsSound};
 ghost use Rattle.history_core.specs.declared.event.Event.{Event};
 ghost use Rattle.history_core.specs.declared.fault.Limit.{Limit};
-ghost use Rattle.history_core.specs.Events.{session_in, load_of};
+ghost use Rattle.history_core.specs.Events.{session_in, begun, load_of};
 ghost use Rattle.history_core.specs.Legal.{Follows, full_for};
 ghost use Rattle.history_core.specs.Chronicle.{followed_by, with_table, IsFormedChronicle};
 ghost use Rattle.history_core.specs.Records.{IsNoDefinition, is_any_end};
+ghost use Rattle.solo_book.specs.Index.{IsIndex, numbers_at};
+ghost use Rattle.solo_book.specs.Keys.{KeepsKeys, IsKept};
 
 use crate::index::{self, Index, note_writer, writers_of};
-use cell_base::{Cell, Level, Value};
+use crate::keys::{self, KeyIndex, Keys, keys_of, note_key};
+use cell_base::{Cell, Level, Memory, Value};
 use history_core::{BookFault, Event, History, Limit};
 use sql_tree::Table;
 use std::alloc::Global;
 use std::marker::Model;
 
-/// A history, and for each cell the transactions that wrote it. Contracts see the history alone.
+/// A history, for each cell the transactions that wrote it, and for each table the keys that were written. Contracts see
+/// the history alone.
 #[derive(Debug, Drop)]
 pub struct IndexedHistory {
     history: History,
     index: Index,
+    keys: KeyIndex,
 }
 
 impl Model for IndexedHistory {
@@ -32,14 +37,34 @@ impl Model for IndexedHistory {
     ghost coded = { Prim.hlevel (codes, typed_node.the_row.coded) };
 
     ghost use Rattle.solo_book.specs.Index.{IsIndex};
+    ghost use Rattle.solo_book.specs.Keys.{IsKeyIndex};
 
     ghost view = { λ h. h.history };
 
-    ghost invariant = { λ h. IsIndex h.history.events h.index };
+    ghost invariant = { λ h. IsIndex h.history.events h.index × IsKeyIndex h.history.events h.keys };
+}
+
+/// Lists the pending transaction at the cell, and keeps the key of a presence.
+fn note_write(
+    index: &mut Index,
+    keys: &mut KeyIndex,
+    history: &History,
+    cell: &Cell,
+) -> Result<(), Memory>
+    requires kept { IsIndex history.now.events index.old }
+    requires some { 0 < begun history.now.events }
+    ensures kept { IsIndex history.now.events index.new }
+    ensures noted { OnOk result (Contains (numbers_at index.new cell.now) (begun history.now.events)) }
+    ensures keeps { KeepsKeys keys.old keys.new }
+    ensures keyed { OnOk result (IsKept keys.new cell.now) }
+{
+    note_writer(index, history, cell)?;
+    note_key(keys, cell)
 }
 
 impl IndexedHistory {
     ghost use Rattle.solo_book.specs.Index.{AreWriters, IsLast, IsNoWrite};
+    ghost use Rattle.solo_book.specs.Keys.{HoldWritten};
 
     /// A history of the level without events. Takes no memory.
     pub fn new(alloc: Global, level: Level) -> IndexedHistory
@@ -48,6 +73,7 @@ impl IndexedHistory {
         IndexedHistory {
             history: History::new(alloc, level),
             index: index::new(alloc),
+            keys: keys::new(alloc),
         }
     }
 
@@ -63,8 +89,8 @@ impl IndexedHistory {
         self.history.push(event)
     }
 
-    /// Appends a write of the transaction that began last, as `History::push` does. Its place in the index is taken first,
-    /// so that the Commit takes no memory.
+    /// Appends a write of the transaction that began last, as `History::push` does. Its places in both indexes are taken
+    /// first, so that the Commit takes no memory.
     pub fn push_write(&mut self, session: u32, cell: Cell, value: Value) -> Result<(), BookFault>
         requires follows { Follows self.old.events (Event.Write session cell value) }
         requires last { IsLast self.old.events session }
@@ -75,7 +101,7 @@ impl IndexedHistory {
         if self.history.load() >= 1_048_576 {
             return Err(BookFault::Full(Limit::Load));
         }
-        match note_writer(&mut self.index, &self.history, &cell) {
+        match note_write(&mut self.index, &mut self.keys, &self.history, &cell) {
             Ok(()) => self.history.push(Event::Write(session, cell, value)),
             Err(_) => Err(BookFault::Memory),
         }
@@ -131,5 +157,13 @@ impl IndexedHistory {
         ensures few { length result.now ≤ 16383 }
     {
         writers_of(&self.index, &self.history, cell)
+    }
+
+    /// The keys that are kept of the table: each whose presence was written, and perhaps others.
+    pub fn keys(&self, table: u32) -> Option<&Keys>
+        ensures some { IfSome result (λ keys. HoldWritten self.now.events table keys.now) }
+        ensures none { IfNone result (HoldWritten self.now.events table []) }
+    {
+        keys_of(&self.keys, table)
     }
 }

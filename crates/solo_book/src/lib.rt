@@ -17,10 +17,12 @@ mod calls;
 mod desk;
 mod index;
 mod indexed;
+mod keys;
 mod laws;
 mod offering;
 mod pairs;
 mod reading;
+mod scanning;
 mod single;
 mod tables;
 #[cfg(test)]

@@ -1,0 +1,147 @@
+-- What a scan lists of the keys that are kept.
+use Rattle.std.proofs.Common.{◌≡◌, ℕ, ◌+◌, ◌<◌, ◌≤◌, List, [], ◌∷◌, ◌++◌, Some, length, arith, refl, ap, sym, ◌∙◌, subst, inl, inr, ◌⊎◌, ◌↔◌}
+use Rattle.std.specs.List.{Contains, slice_get}
+use Rattle.std.proofs.lemmas.Option.{slice_get_within}
+use Rattle.std.proofs.lemmas.List.{append_assoc, append-nil}
+use Rattle.std.proofs.lemmas.List.Elements.{Contains-append_left, Contains-push, Contains-push_cases}
+use Rattle.std.proofs.lemmas.Bool.{cases_lt}
+use Rattle.txn_buffer.proofs.Lists.{slice_get_push_cases, contains_at, at_contains}
+use Rattle.cell_base.specs.declared.key.Key.{Key}
+use Rattle.cell_base.specs.declared.cell.Cell.TheVariants.{Presence}
+use Rattle.history_core.specs.declared.event.Event.{Event}
+use Rattle.history_core.specs.Legal.{IsKeyBelow, ListsKeys}
+use Rattle.history_core.specs.Book.{IsKeyList}
+use Rattle.history_core.proofs.Prefixes.{slice_get-at_end}
+use Rattle.solo_book.specs.Keys.{HoldWritten, AreAscending, IsListed, AreListed, ListsNext}
+use Rattle.solo_book.proofs.KeyLists.{not_below_itself}
+
+-- of the keys, those before the rest were looked at
+pub record IsScanPart (events : List Event) (session table : ℕ) (whole rest keys : List Key) : Type 0 where
+  pub done : List Key
+  pub split : whole ≡ done ++ rest
+  pub listed : AreListed events session table done keys
+
+none_listed : (events : List Event) (session table : ℕ) → AreListed events session table [] []
+none_listed events session table = record {
+  ascending = λ i j a b less at_i at_j. let within = slice_get_within [] j b at_j in absurd (omega arith);
+  exact = λ key. (λ there. let within = there.1 in absurd (omega arith), λ both. both.0);
+}
+
+pub scan_start : (events : List Event) (session table : ℕ) (whole rest : List Key) → rest ≡ whole → IsScanPart events session table whole rest []
+scan_start events session table whole rest same = record { done = []; split = sym same; listed = none_listed events session table }
+
+ascending_push : (keys : List Key) (key : Key) → AreAscending keys → ((a : Key) → Contains keys a → IsKeyBelow a key) → AreAscending (keys ++ key ∷ [])
+ascending_push keys key ascending below i j a b less at_i at_j =
+    elim (slice_get_push_cases keys key j b at_j) [
+      | inl old_j ↦ elim (slice_get_push_cases keys key i a at_i) [
+        | inl old_i ↦ ascending i j a b less old_i.1 old_j.1
+        | inr new_i ↦ let h = old_j.0 in let e = new_i.0 in absurd (omega arith)
+      ]
+      | inr new_j ↦ elim (slice_get_push_cases keys key i a at_i) [
+        | inl old_i ↦ subst (λ (k : Key). IsKeyBelow a k) new_j.1 (below a (contains_at keys i a old_i.1))
+        | inr new_i ↦ let h = new_j.0 in let e = new_i.0 in absurd (omega arith)
+      ]
+    ]
+
+slice_get-left : {X : Type 0} (xs ys : List X) (k : ℕ) (x : X) → slice_get xs k ≡ Some x → slice_get (xs ++ ys) k ≡ Some x
+slice_get-left xs ys k x is = search rules
+
+slice_get-middle : {X : Type 0} (xs ys : List X) (x : X) → slice_get (xs ++ x ∷ ys) (length xs) ≡ Some x
+slice_get-middle [] ys x = refl
+slice_get-middle (z ∷ zs) ys x = search rules
+
+-- each key before another one is below it
+before_below :
+    (whole done rest : List Key) (key a : Key) → AreAscending whole → whole ≡ done ++ key ∷ rest → Contains done a → IsKeyBelow a key
+before_below whole done rest key a ascending split there =
+    let at = at_contains done a there in
+    let within = slice_get_within done at.0 a at.1 in
+    ascending at.0 (length done) a key (omega arith)
+    (subst (λ (ks : List Key). slice_get ks at.0 ≡ Some a) (sym split) (slice_get-left done (key ∷ rest) at.0 a at.1))
+    (subst (λ (ks : List Key). slice_get ks (length done) ≡ Some key) (sym split) (slice_get-middle done rest key))
+
+-- one more key is looked at
+pub scan_more :
+    (events : List Event) (session table : ℕ) (whole rest left : List Key) (key : Key) (old new : List Key) → AreAscending whole → rest ≡ key ∷ left →
+    ListsNext events session table key old new → IsScanPart events session table whole rest old → IsScanPart events session table whole left new
+scan_more events session table whole rest left key old new ascending at next part =
+    let split : whole ≡ part.done ++ key ∷ left = part.split ∙ ap (λ (ks : List Key). part.done ++ ks) at in
+    record {
+      done = part.done ++ key ∷ [];
+      split = split ∙ sym (append_assoc part.done (key ∷ []) left);
+      listed = elim next [
+        | inl gains ↦ subst (λ (ks : List Key). AreListed events session table (part.done ++ key ∷ []) ks) (sym gains.1) (record {
+          ascending = ascending_push old key part.listed.ascending
+              (λ a there. before_below whole part.done left key a ascending split ((part.listed.exact a).0 there).0);
+          exact = λ other. (
+            λ there. elim (Contains-push_cases old key other there) [
+              | inl before ↦
+                  let both = (part.listed.exact other).0 before in
+                  (Contains-append_left part.done (key ∷ []) other both.0, both.1)
+              | inr here ↦
+                  subst (λ (k : Key). Contains (part.done ++ key ∷ []) k × IsListed events session (Presence table k)) here
+                  (Contains-push part.done key, gains.0)
+            ],
+            λ both. elim (Contains-push_cases part.done key other both.0) [
+              | inl before ↦ Contains-append_left old (key ∷ []) other ((part.listed.exact other).1 (before, both.1))
+              | inr here ↦ subst (λ (k : Key). Contains (old ++ key ∷ []) k) here (Contains-push old key)
+            ],
+          );
+        })
+        | inr skips ↦ subst (λ (ks : List Key). AreListed events session table (part.done ++ key ∷ []) ks) (sym skips.1) (record {
+          ascending = part.listed.ascending;
+          exact = λ other. (
+            λ there.
+                let both = (part.listed.exact other).0 there in
+                (Contains-append_left part.done (key ∷ []) other both.0, both.1),
+            λ both. elim (Contains-push_cases part.done key other both.0) [
+              | inl before ↦ (part.listed.exact other).1 (before, both.1)
+              | inr here ↦ absurd (skips.0 (subst (λ (k : Key). IsListed events session (Presence table k)) (sym here) both.1))
+            ],
+          );
+        })
+      ];
+    }
+
+-- no key is left
+pub scan_end :
+    (events : List Event) (session table : ℕ) (whole rest keys : List Key) → rest ≡ [] → IsScanPart events session table whole rest keys →
+    AreListed events session table whole keys
+scan_end events session table whole rest keys none part =
+    let all : whole ≡ part.done = part.split ∙ ap (λ (ks : List Key). part.done ++ ks) none ∙ append-nil part.done in
+    subst (λ (ks : List Key). AreListed events session table ks keys) (sym all) part.listed
+
+-- what is listed is among the keys that hold all that was written
+held :
+    (events : List Event) (session table : ℕ) (among : List Key) (key : Key) → HoldWritten events table among →
+    IsListed events session (Presence table key) → Contains among key
+held events session table among key hold (inl (number, positive, inl initial)) = absurd (omega arith)
+held events session table among key hold (inl (number, positive, inr own)) = hold key number own.1
+held events session table among key hold (inr wrote) = hold key wrote.number wrote.written
+
+pub lists_keys :
+    (events : List Event) (session table : ℕ) (among keys : List Key) → HoldWritten events table among → AreListed events session table among keys →
+    ListsKeys events session table keys
+lists_keys events session table among keys hold is = record {
+  ascending = λ k a b at_a at_b. is.ascending k (k + 1) a b (omega arith) at_a at_b;
+  listed = λ key. (λ there. ((is.exact key).0 there).1, λ listed. (is.exact key).1 (held events session table among key hold listed, listed));
+}
+
+pub lists_none : (events : List Event) (session table : ℕ) → HoldWritten events table [] → ListsKeys events session table []
+lists_none events session table hold = lists_keys events session table [] [] hold (none_listed events session table)
+
+pub key_list : (keys : List Key) → AreAscending keys → length keys < 4294967296 → IsKeyList keys
+key_list keys ascending few = record {
+  ascending = ascending;
+  once = λ i j key at_i at_j. elim (cases_lt i j) [
+    | inl less ↦ absurd (not_below_itself key (ascending i j key key less at_i at_j))
+    | inr more ↦ elim (cases_lt j i) [
+      | inl less ↦ absurd (not_below_itself key (ascending j i key key less at_j at_i))
+      | inr other ↦ omega arith
+    ]
+  ];
+  few = few;
+}
+
+pub key_list_none : IsKeyList []
+key_list_none = key_list [] (λ i j a b less at_i at_j. let within = slice_get_within [] j b at_j in absurd (omega arith)) (omega arith)
