@@ -1,0 +1,6 @@
+//! The plan of a statement.
+#![tactic(auto)]
+
+mod plan;
+
+pub use plan::Plan;
