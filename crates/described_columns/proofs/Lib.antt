@@ -1,0 +1,10 @@
+pub mod Expressions
+pub mod Marks
+pub mod Statements
+pub mod Plain
+pub mod Columns
+pub mod Types
+pub mod Outputs
+pub mod Entries
+pub mod Fields
+pub mod Described

@@ -1,6 +1,6 @@
 -- Which columns of a result can be described to a client, and which statements name theirs plainly.
 -- (PostgreSQL's documentation, "Message Formats", RowDescription.)
-use Rattle.std.specs.Prelude.{ℕ, ◌≤◌, List, ◌++◌, length, flat_map}
+use Rattle.std.specs.Prelude.{◌≤◌, List, ◌++◌, length, flat_map}
 use Rattle.std.specs.List.{All}
 use Rattle.sql_tree.specs.declared.expr.Expr.{out-Expr}
 use Rattle.sql_tree.specs.declared.statement.Item.{Item}
