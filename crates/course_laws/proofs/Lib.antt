@@ -1,0 +1,4 @@
+pub mod ReadingFirst
+pub mod Inserting
+pub mod Changing
+pub mod ReadsFirst

@@ -1,0 +1,8 @@
+// What holds of the definitions.
+ghost use Rattle.course_laws.specs.Laws.{StatementReadsFirst};
+
+/// A statement asks for cells of the tables that there are, and then it only writes, cells of these tables, and values that a
+/// cell may hold.
+pub fn statement_reads_first()
+    ensures { StatementReadsFirst }
+{}
