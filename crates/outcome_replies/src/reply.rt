@@ -3,11 +3,13 @@ ghost use Rattle.std.specs.Prelude.{◌≡◌, ◌≤◌, ◌++◌, length, flat
 ghost use Rattle.std.specs.Fmt.{decimal};
 ghost use Rattle.pg_framing.specs.Spelling.{HasNoZero};
 ghost use Rattle.pg_framing.specs.Replies.{data_row, command_complete};
+ghost use Rattle.described_columns.specs.Described.{AreDescribed};
 ghost use Rattle.outcome_replies.specs.Replies.{outcome_reply, CanBeTold, IsShortRow};
 
 use cell_base::{Items, Memory, Value};
 use itoa::Buffer;
 use pg_framing::{append_complete, append_error, append_fields, append_row};
+use sql_tree::OutField;
 use statement_course::Outcome;
 use std::alloc::Global;
 
@@ -35,23 +37,44 @@ fn append_count(alloc: Global, out: &mut Vec<u8>, word: &[u8], n: u64) -> Result
     append_complete(alloc, out, &tag)
 }
 
-/// The messages that tell what a statement came to.
+// The columns of a result, its rows and how many they are.
 #[tactic(auto, unfolding(crate::specs::Replies::outcome_reply))]
+fn append_result(
+    alloc: Global,
+    out: &mut Vec<u8>,
+    fields: &[OutField],
+    rows: &[Items<Value>],
+) -> Result<(), Memory>
+    requires described { AreDescribed fields.now }
+    requires short { All IsShortRow rows.now }
+    ensures { OnOk result (out.new.items ≡ out.old.items ++ outcome_reply (Outcome.Rows fields.now rows.now)) }
+{
+    append_fields(alloc, out, fields)?;
+    append_rows(alloc, out, rows)?;
+    append_count(alloc, out, b"SELECT ", rows.len() as u64)
+}
+
+// The messages that tell what a statement came to.
+#[tactic(auto, unfolding(crate::specs::Replies::outcome_reply))]
+fn append_outcome(alloc: Global, out: &mut Vec<u8>, outcome: &Outcome) -> Result<(), Memory>
+    requires { CanBeTold outcome.now }
+    ensures { OnOk result (out.new.items ≡ out.old.items ++ outcome_reply outcome.now) }
+{
+    match outcome {
+        Outcome::Rows(fields, rows) => append_result(alloc, out, fields.as_slice(), rows.as_slice()),
+        Outcome::Inserted(n) => append_count(alloc, out, b"INSERT 0 ", *n as u64),
+        Outcome::Updated(n) => append_count(alloc, out, b"UPDATE ", *n as u64),
+        Outcome::Deleted(n) => append_count(alloc, out, b"DELETE ", *n as u64),
+        Outcome::Failed(code) => append_error(alloc, out, false, *code),
+    }
+}
+
+/// The messages that tell what a statement came to.
 pub fn reply_of(alloc: Global, outcome: &Outcome) -> Result<Vec<u8>, Memory>
     requires { CanBeTold outcome.now }
     ensures { IfOk result (λ reply. reply.items ≡ outcome_reply outcome.now) }
 {
     let mut reply = Vec::new(alloc);
-    match outcome {
-        Outcome::Rows(fields, rows) => {
-            append_fields(alloc, &mut reply, fields.as_slice())?;
-            append_rows(alloc, &mut reply, rows.as_slice())?;
-            append_count(alloc, &mut reply, b"SELECT ", rows.len() as u64)?;
-        }
-        Outcome::Inserted(n) => append_count(alloc, &mut reply, b"INSERT 0 ", *n as u64)?,
-        Outcome::Updated(n) => append_count(alloc, &mut reply, b"UPDATE ", *n as u64)?,
-        Outcome::Deleted(n) => append_count(alloc, &mut reply, b"DELETE ", *n as u64)?,
-        Outcome::Failed(code) => append_error(alloc, &mut reply, false, *code)?,
-    }
+    append_outcome(alloc, &mut reply, outcome)?;
     Ok(reply)
 }
