@@ -6,13 +6,14 @@ mod command;
 mod end;
 mod errors;
 mod list_words;
+mod messages;
 mod prepared;
 mod replies;
 mod run;
 mod serve;
 mod session;
 mod stage;
-mod tables;
+mod statements;
 #[cfg(test)]
 mod tests;
 #[cfg(test)]
