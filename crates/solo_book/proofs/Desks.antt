@@ -5,10 +5,11 @@ use Rattle.std.specs.List.{Contains}
 use Rattle.std.proofs.lemmas.List.Elements.{Contains-push_cases, Contains-push}
 use Rattle.std.proofs.lemmas.Bool.{false≢true}
 use Rattle.graph_base.proofs.Places.{count_by-push}
+use Rattle.cell_base.specs.declared.key.Key.{Key}
 use Rattle.cell_base.specs.declared.cell.Cell.{Cell}
 use Rattle.cell_base.specs.declared.value.Value.{Value}
 use Rattle.history_core.specs.declared.event.Event.{Event}
-use Rattle.history_core.specs.declared.event.Event.TheVariants.{Open, Close, Define, Look, Begin, Read, Write}
+use Rattle.history_core.specs.declared.event.Event.TheVariants.{Open, Close, Define, Look, Begin, Scan, Read, Write}
 use Rattle.history_core.specs.Events.{begun, opened, session_in, is_end, is_open_event, table_of}
 use Rattle.history_core.specs.Transactions.{IsPending}
 use Rattle.history_core.specs.Legal.{IsFormed, Follows, WroteItself}
@@ -153,6 +154,10 @@ plain_define s name = record { no_open = λ t is. cc; no_close = λ t is. cc; no
 
 pub plain_read : (s : ℕ) (cell : Cell) (source count word : ℕ) (value : Value) → IsPlain (Read s cell source count word value)
 plain_read s cell source count word value =
+    record { no_open = λ t is. cc; no_close = λ t is. cc; no_begin = λ t is. cc; no_end = refl; opens_none = refl; begins_none = refl }
+
+pub plain_scan : (s table : ℕ) (keys : List Key) → IsPlain (Scan s table keys)
+plain_scan s table keys =
     record { no_open = λ t is. cc; no_close = λ t is. cc; no_begin = λ t is. cc; no_end = refl; opens_none = refl; begins_none = refl }
 
 pub plain_write : (s : ℕ) (cell : Cell) (value : Value) → IsPlain (Write s cell value)

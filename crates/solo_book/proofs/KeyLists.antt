@@ -1,14 +1,13 @@
 -- Keys in order, and what an index of keys holds as events are added.
-use Rattle.std.proofs.Common.{◌≡◌, Bool, true, false, cond, ℕ, ◌+◌, ◌<◌, ◌≤◌, List, [], ◌∷◌, ◌++◌, Ok, Err, Result, Some, None, Option, length, get_or, arith, rules, refl, ap, sym, ◌∙◌, subst, inl, inr, ◌⊎◌, ◌↔◌}
-use Rattle.std.specs.Bool.{IsTrue}
-use Rattle.std.specs.Prelude.{OnOk, OnErr, nat_eq}
+use Rattle.std.proofs.Common.{◌≡◌, Bool, true, false, cond, ℕ, List, [], ◌∷◌, ◌++◌, Ok, Err, Result, Some, None, Option, get_or, rules, refl, ap, sym, ◌∙◌, subst, inl, inr, ◌⊎◌, Bor}
+use Rattle.std.specs.Prelude.{IfSome, IfNone, OnOk, OnErr, nat_eq}
 use Rattle.std.specs.Int.Signed.{<ℤ_irrefl}
 use Rattle.std.specs.Ordering.{nat_cmp, int_cmp, is_eq}
-use Rattle.std.specs.Cmp.{IsTotalOrder, int_ranks}
+use Rattle.std.specs.Cmp.{IsTotalOrder}
 use Rattle.std.specs.Cmp.Lexicographic.{slice_cmp}
 use Rattle.std.specs.declared.cmp.Ordering.{Ordering}
 use Rattle.std.specs.declared.cmp.Ordering.TheVariants.{Less, Equal, Greater}
-use Rattle.std.specs.List.{Contains, slice_get}
+use Rattle.std.specs.List.{Contains}
 use Rattle.std.specs.List.Sorted.{IsStrictlySortedBy}
 use Rattle.std.specs.BTreeSet.{BTreeSet, contains, Updates}
 use Rattle.std.specs.HashMap.{get}
@@ -35,7 +34,7 @@ use Rattle.history_core.specs.Chronicle.{Chronicle}
 use Rattle.history_core.specs.Legal.{IsKeyBelow}
 use Rattle.solo_book.specs.declared.keys.KeyIndex.{KeyIndex}
 use Rattle.solo_book.specs.Index.{IsNoWrite}
-use Rattle.solo_book.specs.Keys.{some_keys, keys_at, IsKeyIndex, KeepsKeys, IsKept, AreAscending, GainsKey}
+use Rattle.solo_book.specs.Keys.{some_keys, keys_at, HoldWritten, IsKeyIndex, KeepsKeys, IsKept, AreAscending, GainsKey}
 use Rattle.solo_book.proofs.Cells.{bool_cases}
 use Rattle.solo_book.proofs.Indexes.{written_back, no_write}
 
@@ -183,3 +182,17 @@ gained_all old key new (Err fault) ok err other there = subst (λ (keys : List K
 pub gained_key : (old : List Key) (key : Key) (new : List Key) (r : Result (Unit {0}) Memory) → OnOk r (GainsKey old key new) → OnOk r (Contains new key)
 gained_key old key new (Ok u) ok = (ok key).1 (inr refl)
 gained_key old key new (Err fault) ok = tt
+
+-- what is found at a table holds all that was written there
+pub held_some :
+    (events : List Event) (table : ℕ) (index : KeyIndex) (found : Option (Bor (List Key))) → IsKeyIndex events index →
+    IfSome found (λ keys. keys.now ≡ keys_at index table) → IfSome found (λ keys. HoldWritten events table keys.now)
+held_some events table index None is same = tt
+held_some events table index (Some keys) is same = subst (λ (ks : List Key). HoldWritten events table ks) (sym same) (is table)
+
+-- and where nothing is found, nothing was written
+pub held_none :
+    (events : List Event) (table : ℕ) (index : KeyIndex) (found : Option (Bor (List Key))) → IsKeyIndex events index → IfNone found (keys_at index table ≡ []) →
+    IfNone found (HoldWritten events table [])
+held_none events table index None is none = subst (λ (ks : List Key). HoldWritten events table ks) none (is table)
+held_none events table index (Some keys) is none = tt

@@ -1,5 +1,6 @@
 -- What a scan lists of the keys that are kept.
-use Rattle.std.proofs.Common.{◌≡◌, ℕ, ◌+◌, ◌<◌, ◌≤◌, List, [], ◌∷◌, ◌++◌, Some, length, arith, refl, ap, sym, ◌∙◌, subst, inl, inr, ◌⊎◌, ◌↔◌}
+use Rattle.std.proofs.Common.{◌≡◌, Bool, ℕ, ◌+◌, ◌<◌, List, [], ◌∷◌, ◌++◌, Option, Some, None, length, arith, refl, ap, sym, ◌∙◌, subst, inl, inr, ◌↔◌}
+use Rattle.std.specs.Bool.{IsTrue}
 use Rattle.std.specs.List.{Contains, slice_get}
 use Rattle.std.proofs.lemmas.Option.{slice_get_within}
 use Rattle.std.proofs.lemmas.List.{append_assoc, append-nil}
@@ -7,11 +8,16 @@ use Rattle.std.proofs.lemmas.List.Elements.{Contains-append_left, Contains-push,
 use Rattle.std.proofs.lemmas.Bool.{cases_lt}
 use Rattle.txn_buffer.proofs.Lists.{slice_get_push_cases, contains_at, at_contains}
 use Rattle.cell_base.specs.declared.key.Key.{Key}
+use Rattle.cell_base.specs.declared.cell.Cell.{Cell}
 use Rattle.cell_base.specs.declared.cell.Cell.TheVariants.{Presence}
 use Rattle.history_core.specs.declared.event.Event.{Event}
-use Rattle.history_core.specs.Legal.{IsKeyBelow, ListsKeys}
+use Rattle.history_core.specs.Transactions.{IsPending}
+use Rattle.history_core.specs.Relations.{HasWritten}
+use Rattle.history_core.specs.Legal.{IsKeyBelow, WroteItself, ListsKeys}
 use Rattle.history_core.specs.Book.{IsKeyList}
+use Rattle.history_core.proofs.Places.{slice_get-append_left}
 use Rattle.history_core.proofs.Prefixes.{slice_get-at_end}
+use Rattle.solo_book.specs.Index.{AreWriters}
 use Rattle.solo_book.specs.Keys.{HoldWritten, AreAscending, IsListed, AreListed, ListsNext}
 use Rattle.solo_book.proofs.KeyLists.{not_below_itself}
 
@@ -44,11 +50,12 @@ ascending_push keys key ascending below i j a b less at_i at_j =
     ]
 
 slice_get-left : {X : Type 0} (xs ys : List X) (k : ℕ) (x : X) → slice_get xs k ≡ Some x → slice_get (xs ++ ys) k ≡ Some x
-slice_get-left xs ys k x is = search rules
+slice_get-left xs ys k x is = slice_get-append_left xs ys k (slice_get_within xs k x is) ∙ is
 
 slice_get-middle : {X : Type 0} (xs ys : List X) (x : X) → slice_get (xs ++ x ∷ ys) (length xs) ≡ Some x
-slice_get-middle [] ys x = refl
-slice_get-middle (z ∷ zs) ys x = search rules
+slice_get-middle {X} xs ys x =
+    subst (λ (zs : List X). slice_get zs (length xs) ≡ Some x) (append_assoc xs (x ∷ []) ys)
+    (slice_get-left (xs ++ x ∷ []) ys (length xs) x (slice_get-at_end xs x))
 
 -- each key before another one is below it
 before_below :
@@ -145,3 +152,41 @@ key_list keys ascending few = record {
 
 pub key_list_none : IsKeyList []
 key_list_none = key_list [] (λ i j a b less at_i at_j. let within = slice_get_within [] j b at_j in absurd (omega arith)) (omega arith)
+
+-- a session has one pending transaction, or none
+pub wrote_last :
+    (events : List Event) (session : ℕ) (cell : Cell) (number : ℕ) (found : Option ℕ) → found ≡ Some number →
+    ((n : ℕ) → (found ≡ Some n) ↔ IsPending events n session) → WroteItself events session cell → HasWritten events number cell
+wrote_last events session cell number found is pending wrote =
+    let other : found ≡ Some wrote.number = (pending wrote.number).1 wrote.pending in
+    let same : wrote.number ≡ number = some_same wrote.number number (sym other ∙ is) in
+    subst (λ (n : ℕ). HasWritten events n cell) same wrote.written
+  where
+    some_same : (n m : ℕ) → Some n ≡ Some m → n ≡ m
+    some_same n m same = cc
+
+pub none_pending :
+    (events : List Event) (session : ℕ) (cell : Cell) (found : Option ℕ) → found ≡ None → ((n : ℕ) → (found ≡ Some n) ↔ IsPending events n session) →
+    WroteItself events session cell → ⊥
+none_pending events session cell found is pending wrote = let other : None ≡ Some wrote.number = sym is ∙ (pending wrote.number).1 wrote.pending in cc
+
+-- a cell without a committed writer is listed where the own transaction wrote it
+pub listed_own :
+    (events : List Event) (session : ℕ) (cell : Cell) (writers : List ℕ) (own : Bool) → AreWriters events cell writers → length writers ≡ 0 →
+    (IsTrue own ↔ WroteItself events session cell) → IsTrue own ↔ IsListed events session cell
+listed_own events session cell writers own are none is = (
+  λ h. inr (is.0 h),
+  λ listed. elim listed [
+    | inl (number, positive, writes) ↦ let there = (are.exact number).1 (positive, writes) in let within = there.1 in absurd (omega arith)
+    | inr wrote ↦ is.1 wrote
+  ],
+)
+
+-- a cell with a committed writer is listed
+pub listed_first :
+    (events : List Event) (session : ℕ) (cell : Cell) (writers : List ℕ) → AreWriters events cell writers → (length writers ≡ 0 → ⊥) →
+    IsListed events session cell
+listed_first events session cell [] are some = absurd (some refl)
+listed_first events session cell (w ∷ ws) are some =
+    let both = (are.exact w).0 (0, omega arith, refl) in
+    inl (w, both.0, both.1)

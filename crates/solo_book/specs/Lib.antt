@@ -4,4 +4,3 @@ pub mod Tests
 pub mod Index
 pub mod Keys
 pub mod Desk
-pub mod Seats

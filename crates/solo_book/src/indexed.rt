@@ -8,7 +8,7 @@ ghost use Rattle.history_core.specs.Legal.{Follows, full_for};
 ghost use Rattle.history_core.specs.Chronicle.{followed_by, with_table, IsFormedChronicle};
 ghost use Rattle.history_core.specs.Records.{IsNoDefinition, is_any_end};
 ghost use Rattle.solo_book.specs.Index.{IsIndex, numbers_at};
-ghost use Rattle.solo_book.specs.Keys.{KeepsKeys, IsKept};
+ghost use Rattle.solo_book.specs.Keys.{IsKeyIndex, IsKept};
 
 use crate::index::{self, Index, note_writer, writers_of};
 use crate::keys::{self, KeyIndex, Keys, keys_of, note_key};
@@ -52,10 +52,11 @@ fn note_write(
     cell: &Cell,
 ) -> Result<(), Memory>
     requires kept { IsIndex history.now.events index.old }
+    requires keys { IsKeyIndex history.now.events keys.old }
     requires some { 0 < begun history.now.events }
     ensures kept { IsIndex history.now.events index.new }
     ensures noted { OnOk result (Contains (numbers_at index.new cell.now) (begun history.now.events)) }
-    ensures keeps { KeepsKeys keys.old keys.new }
+    ensures keys { IsKeyIndex history.now.events keys.new }
     ensures keyed { OnOk result (IsKept keys.new cell.now) }
 {
     note_writer(index, history, cell)?;

@@ -9,6 +9,9 @@
 //! An index keeps the writers of each cell as they write. So a read in the first session looks at no other transaction: it
 //! finds the cell's writers by a hash, and of those the ones that are passed by a binary search for each read that the same
 //! transaction made before. It takes memory for its event alone. A commit, a rollback and a close take none.
+//!
+//! Beside it the keys of each table are kept in order, also those that only a transaction which was rolled back has written. So a
+//! scan passes over the keys of its table, asks of each whether it has a committed writer or is an own one, and looks at no event.
 #![tactic(auto)]
 
 mod append;
@@ -25,8 +28,6 @@ mod reading;
 mod scanning;
 mod single;
 mod tables;
-#[cfg(test)]
-mod tests;
 mod tests_of_records;
 
 pub use book::SoloBook;

@@ -1,0 +1,50 @@
+// The reads of a history.
+use cell_base::{Items, Memory, Value};
+use history_core::Event;
+use solo_book::SoloBook;
+use std::alloc::Global;
+
+/// A read as the history tells it.
+#[derive(Debug, PartialEq, Eq, Drop)]
+pub struct Told {
+    pub source: u32,
+    pub count: u32,
+    pub word: u32,
+    pub value: Value,
+}
+
+/// The reads of the history, in order.
+pub fn reads_of(alloc: Global, book: &SoloBook) -> Result<Items<Told>, Memory> {
+    let mut all = Items::new(alloc);
+    for event in book.history().events() {
+        if let Event::Read(_, _, source, count, word, value) = event {
+            all.push(Told {
+                source: *source,
+                count: *count,
+                word: *word,
+                value: value.copy(alloc)?,
+            })?;
+        }
+    }
+    Ok(all)
+}
+
+/// Whether the read at the place is told so.
+pub fn is_told(
+    all: &Items<Told>,
+    at: usize,
+    source: u32,
+    count: u32,
+    word: u32,
+    value: &Value,
+) -> bool {
+    match all.as_slice().get(at) {
+        Some(told) => {
+            told.source == source
+                && told.count == count
+                && told.word == word
+                && told.value.is_same(value)
+        }
+        None => false,
+    }
+}
