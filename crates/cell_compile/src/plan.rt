@@ -2,6 +2,7 @@
 ghost use Rattle.std.specs.Prelude.{◌≡◌, ◌<◌, IfOk, OnOk};
 ghost use Rattle.statement_course.specs.Course.{Course, done, first_demand, behind, FitsDemand};
 ghost use Rattle.statement_course.specs.Statements.{course_of};
+ghost use Rattle.cell_compile.specs.Narrow.{AreNarrow};
 ghost use Rattle.cell_compile.specs.Plans.{rest_of, left_of};
 
 use cell_base::Memory;
@@ -20,7 +21,8 @@ impl Plan {
 
     /// The plan of a statement over these tables.
     pub fn new(_alloc: Global, _typed: Typed, tables: &[Table]) -> Result<Plan, Memory>
-        ensures course { IfOk result (λ plan. rest_of plan ≡ course_of tables.now _typed) }
+        requires { AreNarrow tables.now }
+        ensures { IfOk result (λ plan. rest_of plan ≡ course_of tables.now _typed) }
     {
         Err(Memory)
     }
@@ -34,8 +36,8 @@ impl Plan {
 
     /// Takes the answer to what was asked for.
     pub fn answer(&mut self, _answer: PlanAnswer) -> Result<(), Memory>
-        requires fits { FitsDemand (rest_of self.old) _answer }
-        ensures ok { OnOk result (rest_of self.new ≡ behind (rest_of self.old) _answer) }
+        requires { FitsDemand (rest_of self.old) _answer }
+        ensures course { OnOk result (rest_of self.new ≡ behind (rest_of self.old) _answer) }
         ensures less { OnOk result (left_of self.new < left_of self.old) }
     {
         Err(Memory)

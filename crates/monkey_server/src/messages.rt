@@ -125,7 +125,7 @@ fn read_query(alloc: Global, text: &[u8], built: &mut Vec<u8>) -> Result<Stage, 
 }
 
 // The step that a query leads to.
-#[tactic(auto, using(crate::proofs::Somes::error-some))]
+#[tactic(auto, using(crate::proofs::Somes::error_some))]
 fn enter_query(alloc: Global, text: &[u8], built: &mut Vec<u8>) -> Step
     requires short { length text.now < 2 ^ 32 }
     requires no_zero { HasNoZero text.now }
@@ -181,7 +181,7 @@ fn enter_plain(front: &Front) -> Stage
 }
 
 /// The step that a message leads to, where the session was started as the message says.
-#[tactic(auto, using(crate::proofs::Holding::holding-some))]
+#[tactic(auto, using(crate::proofs::Holding::holding_some))]
 pub fn enter(alloc: Global, front: &Front, built: &mut Vec<u8>) -> Step
     requires { (started : Bool) × IsFront started front.now }
     ensures goes { (known : List Defined) → Enters front.now known result.stage result.wanting built.new.items }

@@ -40,7 +40,7 @@ pub struct Session {
 }
 
 // Begins with the next message that is whole, if there is one.
-#[tactic(auto, using(crate::proofs::Holding::holding-some))]
+#[tactic(auto, using(crate::proofs::Holding::holding_some))]
 fn take_step(alloc: Global, frames: &mut Frames, opened: bool, built: &mut Vec<u8>) -> Step
     requires { frames.old.started ≡ opened }
     ensures goes { (known : List Defined) → Steps opened known frames.old result.stage result.wanting built.new.items frames.new }
@@ -94,7 +94,7 @@ fn opened_at(stage: &Stage) -> bool
 }
 
 // Takes a piece in where bytes are wanted.
-#[tactic(auto, using(crate::proofs::Holding::holding-some))]
+#[tactic(auto, using(crate::proofs::Holding::holding_some))]
 fn take_piece(
     alloc: Global,
     frames: &mut Frames,
@@ -123,7 +123,7 @@ fn take_piece(
 }
 
 // The step behind a reply that was sent.
-#[tactic(auto, using(crate::proofs::Holding::holding-some))]
+#[tactic(auto, using(crate::proofs::Holding::holding_some))]
 fn next_step(alloc: Global, stage: &Stage, frames: &mut Frames, built: &mut Vec<u8>) -> Step
     requires holding { IsHolding stage.now }
     requires phase { InPhase stage.now frames.old.started }

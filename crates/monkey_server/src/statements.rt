@@ -29,6 +29,7 @@ use std::alloc::Global;
 
 // The stage of a statement over the tables that are known.
 fn judge(alloc: Global, statement: &Statement, known: &[Table]) -> Result<Stage, Memory>
+    requires few { length known.now < 2 ^ 32 }
     requires tables { All IsSound known.now }
     requires plain { HasPlainNames statement.now }
     ensures goes { IfOk result (λ stage. (built : List ℕ) (talk : Talk) (said : Said) (es : List Entry) →

@@ -3,7 +3,7 @@ use Rattle.link_traits.specs.Traffic.{Both, Wrote, sight_of}
 use Rattle.monkey_server.specs.Stands.{reply_of}
 use Rattle.monkey_server.proofs.Carrying.{Both-part}
 use Rattle.monkey_server.proofs.Serving.{Ran-sent, Ran-unsent, sits_sent}
-use Rattle.monkey_server.proofs.serve.turn.Goals as goal
+use Rattle.monkey_server.proofs.serve.serve_want.Goals as goal
 
 pub returns-in-Ok-clause-ran : goal.returns-in-Ok-clause-ran
 returns-in-Ok-clause-ran g c = λ p v f many ran.
