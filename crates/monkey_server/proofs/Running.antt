@@ -1,10 +1,11 @@
 -- A statement that runs: its course behind each answer.
-use Rattle.std.proofs.Common.{◌≡◌, ◌<◌, ℕ, Bool, true, false, List, [], ◌∷◌, ◌++◌, length, refl, sym, ◌∙◌, ap, subst, arith, Option, Some, None, Ok, Err, All}
+use Rattle.std.proofs.Common.{◌≡◌, ◌<◌, ℕ, Bool, true, false, List, [], ◌∷◌, ◌++◌, length, refl, sym, ◌∙◌, ap, subst, arith, Option, Some, None, Ok, Err, All, Result, IfOk}
 use Rattle.std.specs.Prelude.{◌==◌, slice_index_or, slice_get}
 use Rattle.std.specs.List.{list_any}
 use Rattle.std.proofs.lemmas.Bool.{cond_both}
 use Rattle.std.proofs.lemmas.Option.{slice_get_within}
 use Rattle.cell_base.specs.declared.key.Key.{Key}
+use Rattle.cell_base.specs.declared.memory.Memory.{Memory}
 use Rattle.cell_base.specs.declared.sql_state.SqlState.{SqlState}
 use Rattle.cell_base.specs.declared.sql_state.SqlState.TheVariants as states
 use Rattle.history_core.specs.declared.event.Event.{Event}
@@ -32,6 +33,8 @@ use Rattle.statement_course.specs.Course as course
 use Rattle.statement_course.specs.Laws.{ReadsFirst, OnlyWrites}
 use Rattle.outcome_replies.specs.Replies.{outcome_reply, CanBeTold}
 use Rattle.outcome_replies.specs.Ends.{EndsIn}
+use Rattle.query_request.specs.declared.request.Request.{Request}
+use Rattle.query_request.specs.Requests.{IsRequest}
 use Rattle.monkey_server.specs.Calls.{Call, asks_cells, call_for}
 use Rattle.monkey_server.specs.declared.call.Answer.{Answer}
 use Rattle.monkey_server.specs.declared.call.Answer.TheVariants as answers
@@ -40,7 +43,7 @@ use Rattle.monkey_server.specs.declared.stage.Owed.TheVariants as owes
 use Rattle.monkey_server.specs.declared.stage.Reply.TheVariants as replies
 use Rattle.monkey_server.specs.declared.stage.Stage.{Stage}
 use Rattle.monkey_server.specs.declared.stage.Stage.TheVariants as stages
-use Rattle.monkey_server.specs.Told.{Entry, Said, Script, call, with_call, unless_short, tell, ending, closing, readied, undone, succeeded, committed, concluded, runs, continued, answered_at_once, session, refusal_state}
+use Rattle.monkey_server.specs.Told.{Entry, Said, Script, call, with_call, unless_short, tell, ending, closing, readied, undone, succeeded, committed, concluded, runs, continued, answered_at_once, requested, session, refusal_state}
 use Rattle.monkey_server.specs.Talk.{Talk}
 use Rattle.monkey_server.specs.Stands.{Continues, IsFrom, Fits, goes_on, with_short, answer_with, entry_for}
 use Rattle.monkey_server.proofs.Passes.{unless_short-passes, unless_short-takes}
@@ -230,3 +233,11 @@ alone_done (Select s) = (
 )
 alone_done (Insert s) = (outcomes.Failed states.S42P01, insert_none s (slice_get no_tables s.table) (no_table s.table))
 alone_done (Change s) = (outcomes.Failed states.S42P01, change_none s (slice_get no_tables s.table) (no_table s.table))
+
+-- ---- what a query asks for
+
+pub asks_this : (text : List ℕ) (request : Request) (built : List ℕ) (r : Result Stage Memory) → IsRequest text request →
+    IfOk r (λ stage. (known : List Table) (talk : Talk) (said : Said) (es : List Entry) → requested request known (λ k. session true k talk) said es ≡ goes_on stage built known talk said es) →
+    IfOk r (λ stage. (x : Request) × IsRequest text x × ((known : List Table) (talk : Talk) (said : Said) (es : List Entry) → requested x known (λ k. session true k talk) said es ≡ goes_on stage built known talk said es))
+asks_this text request built (Ok stage) is goes = (request, is, goes)
+asks_this text request built (Err e) is goes = goes

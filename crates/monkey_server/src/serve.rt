@@ -383,6 +383,7 @@ fn finish(session: &Session) -> Served
 }
 
 // What a session is served with.
+#[derive(Drop)]
 struct Start {
     session: Session,
     room: Vec<u8>,
@@ -403,15 +404,15 @@ fn begin(alloc: Global) -> Result<Start, Memory>
 // Serves a session from its beginning on.
 fn run<B: Book, L: Link, W: Words>(
     alloc: Global,
-    mut session: Session,
+    session: &mut Session,
     room: &mut [u8],
     book: &mut B,
     link: &mut L,
     words: &mut W,
 ) -> Served
-    requires empty { Stands session [] [] [] [] }
-    requires stage { session.stage ≡ stages.Waiting false }
-    requires known { session.known.items ≡ [] }
+    requires empty { Stands session.old [] [] [] [] }
+    requires stage { session.old.stage ≡ stages.Waiting false }
+    requires known { session.old.known.items ≡ [] }
     requires room { 0 < length room.old }
     requires away { (B.past book.old).seat ≡ away }
     ensures served { (talk : Talk) × (taken : List ℕ) × (es : List Entry) × (asked : List Asked) × (sent : List ℕ) × (lost : List ℕ) ×
@@ -422,14 +423,14 @@ fn run<B: Book, L: Link, W: Words>(
 {
     let mut left = MOST_READ;
     loop {
-        drive(alloc, &mut session, book, link, words);
+        drive(alloc, session, book, link, words);
         if let Want::Ended(_) = session.demand() {
-            return finish(&session);
+            return finish(session);
         }
-        let n = take_in(&mut session, book, link, words, room, left);
+        let n = take_in(session, book, link, words, room, left);
         if n == 0 {
-            drive(alloc, &mut session, book, link, words);
-            return finish(&session);
+            drive(alloc, session, book, link, words);
+            return finish(session);
         }
         left -= n;
     }
@@ -452,7 +453,14 @@ pub fn serve_link<B: Book, L: Link, W: Words>(
     ensures stays { B.stays book.old book.new }
 {
     match begin(alloc) {
-        Ok(Start { session, mut room }) => run(alloc, session, &mut room, book, link, words),
+        Ok(mut start) => run(
+            alloc,
+            &mut start.session,
+            &mut start.room,
+            book,
+            link,
+            words,
+        ),
         Err(Memory) => Served {
             end: End::Memory,
             short: true,
