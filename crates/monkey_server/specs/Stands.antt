@@ -308,7 +308,7 @@ answer_with plan_answers.Written = answers.Written
 abbrev pub IsPlain : Stage → Answer → Type 0
 IsPlain stages.Opening (answers.Opened s) = ⊥
 IsPlain (stages.Looking statement) (answers.Looked tables) = ⊥
-IsPlain (stages.Beginning plan) (answers.Begun n) = ⊥
+IsPlain (stages.Beginning plan) _ = ⊥
 IsPlain (stages.Running run) _ = ⊥
 IsPlain _ _ = Unit {0}
 
@@ -340,6 +340,12 @@ owed_after _ _ owed = owed
 abbrev pub IsRunning : Stage → Type 0
 IsRunning (stages.Running run) = Unit {0}
 IsRunning _ = ⊥
+
+-- no statement begins or runs
+abbrev pub IsNoStatement : Stage → Type 0
+IsNoStatement (stages.Beginning plan) = ⊥
+IsNoStatement (stages.Running run) = ⊥
+IsNoStatement _ = Unit {0}
 
 -- A statement that begins or runs asks only for cells of the tables that are known, and reads before it writes.
 abbrev pub KnowsTables : Stage → List Table → Type 0

@@ -7,7 +7,7 @@ ghost use Rattle.history_core.specs.declared.event.Event.{Event};
 ghost use Rattle.monkey_server.specs.Calls.{Call as Asked, IsWant, asks_cells, call_for};
 ghost use Rattle.monkey_server.specs.Calls as calls;
 ghost use Rattle.monkey_server.specs.Told.{Entry, unsent, stop as stopped, has_short, owed_by};
-ghost use Rattle.monkey_server.specs.Stands.{Feeds, IsLast, IsRunning, Sends, wants, FitsWant, owed_after, IsKnownAfter, Steps, InPhase, IsHolding, NoBuilt, owed_at, outer, work_at, left_at, running_at, Lacks, KnowsTables, IsSoundStage, Follows, wants_memory, Advances, reply_of};
+ghost use Rattle.monkey_server.specs.Stands.{Feeds, IsLast, IsRunning, Sends, wants, FitsWant, owed_after, IsKnownAfter, Steps, InPhase, IsHolding, NoBuilt, owed_at, outer, work_at, left_at, running_at, Lacks, KnowsTables, IsSoundStage, IsNoStatement, Follows, wants_memory, Advances, reply_of};
 
 use crate::call::Answer;
 use crate::end::{End, Stop};
@@ -188,8 +188,47 @@ fn is_want(answer: &Answer) -> bool
     matches!(answer, Answer::Refused(BookFault::Memory))
 }
 
-// The step behind the answer to a stage's call.
+// The step behind the answer to a call that isn't a statement's own.
 #[tactic(auto, using(crate::proofs::Playing::fits_bare))]
+fn answered_plain(
+    alloc: Global,
+    stage: &Stage,
+    known: &mut Vec<Table>,
+    built: &mut Vec<u8>,
+    answer: Answer,
+) -> Step
+    requires none { IsNoStatement stage.now }
+    requires fits { FitsWant (wants stage.now known.old.items) answer }
+    requires few { length known.old.items < 2 ^ 32 }
+    requires tables { All IsSound known.old.items }
+    requires sound { IsSoundStage stage.now }
+    ensures goes { Advances stage.now known.old.items answer result.stage result.wanting built.new.items known.new.items }
+    ensures owed { (c : Asked) → wants stage.now known.old.items ≡ calls.Book c → owed_at result.stage ≡ owed_after c answer (owed_at stage.now) }
+    ensures outer { outer result.stage ≡ outer stage.now }
+    ensures lacks { (lost : List ℕ) → Lacks stage.now lost → Lacks result.stage lost }
+    ensures work { work_at result.stage < work_at stage.now + running_at result.stage }
+    ensures follows { Follows stage.now answer result.stage }
+    ensures known { IsKnownAfter known.old.items answer known.new.items }
+    ensures knows { KnowsTables stage.now known.old.items → KnowsTables result.stage known.new.items }
+    ensures sound { IsSoundStage result.stage }
+    ensures few { length known.new.items < 2 ^ 32 }
+    ensures tables { All IsSound known.new.items }
+    ensures phase { (started : Bool) → InPhase stage.now started → InPhase result.stage started }
+    ensures some { IsHolding result.stage → 0 < length (reply_of built.new.items result.stage) }
+{
+    match (stage, answer) {
+        (Stage::Opening, Answer::Opened(session)) => greet(alloc, session, built),
+        (Stage::Looking(statement), Answer::Looked(tables)) => {
+            look(alloc, statement, known, tables)
+        }
+        (stage, answer) => Step {
+            stage: advance(stage, &answer),
+            wanting: None,
+        },
+    }
+}
+
+// The step behind the answer to a stage's call.
 fn answered(
     alloc: Global,
     stage: Stage,
@@ -216,17 +255,10 @@ fn answered(
     ensures phase { (started : Bool) → InPhase stage started → InPhase result.stage started }
     ensures some { IsHolding result.stage → 0 < length (reply_of built.new.items result.stage) }
 {
-    match (stage, answer) {
-        (Stage::Opening, Answer::Opened(session)) => greet(alloc, session, built),
-        (Stage::Looking(statement), Answer::Looked(tables)) => {
-            look(alloc, &statement, known, tables)
-        }
-        (Stage::Beginning(plan), Answer::Begun(number)) => start(alloc, plan, number, built),
-        (Stage::Running(run), answer) => pursue(alloc, run, answer, built),
-        (stage, answer) => Step {
-            stage: advance(&stage, &answer),
-            wanting: None,
-        },
+    match stage {
+        Stage::Beginning(plan) => start(alloc, plan, answer, built),
+        Stage::Running(run) => pursue(alloc, run, answer, built),
+        _ => answered_plain(alloc, &stage, known, built, answer),
     }
 }
 

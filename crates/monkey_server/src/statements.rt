@@ -10,10 +10,11 @@ ghost use Rattle.statement_course.specs.declared.demand.Demand.{Demand as Demand
 ghost use Rattle.statement_course.specs.Laws.{ReadsFirst};
 ghost use Rattle.statement_course.specs.Course.{done, first_demand, behind, FitsDemand};
 ghost use Rattle.cell_compile.specs.Plans.{rest_of, left_of};
+ghost use Rattle.monkey_server.specs.Calls as calls;
 ghost use Rattle.monkey_server.specs.Calls.{asks_cells, call_for};
 ghost use Rattle.monkey_server.specs.Talk.{Talk};
 ghost use Rattle.monkey_server.specs.Told.{Said, Entry, judged, session};
-ghost use Rattle.monkey_server.specs.Stands.{Advances, Continues, Fits, InPhase, owed_at, outer, work_at, left_at, running_at, Lacks, KnowsTables, IsSoundStage, Follows, RunsFrom, IsKnownAfter, goes_on, IsBusy, IsRunning, IsHolding, NoBuilt, IsLast, answer_with, reply_of};
+ghost use Rattle.monkey_server.specs.Stands.{Advances, Continues, Fits, InPhase, owed_at, owed_after, outer, work_at, left_at, running_at, Lacks, KnowsTables, IsSoundStage, Follows, RunsFrom, IsKnownAfter, goes_on, IsBusy, IsRunning, IsHolding, NoBuilt, IsLast, answer_with, reply_of};
 
 use crate::call::Answer;
 use crate::stage::{Owed, Reply, Run, Stage};
@@ -232,12 +233,13 @@ pub fn pursue(alloc: Global, run: Run, answer: Answer, built: &mut Vec<u8>) -> S
     }
 }
 
-/// The step of a statement whose transaction has begun.
-pub fn start(alloc: Global, plan: Plan, number: u32, built: &mut Vec<u8>) -> Step
+/// The step of a statement behind the answer to the begin of its transaction.
+pub fn start(alloc: Global, plan: Plan, answer: Answer, built: &mut Vec<u8>) -> Step
+    requires fits { Fits calls.Begin answer }
     requires told { EndsIn CanBeTold (rest_of plan) }
-    ensures goes { (known : List Defined) → Advances (Stage.Beginning plan) known (Answer.Begun number) result.stage result.wanting built.new.items known }
-    ensures follows { Follows (Stage.Beginning plan) (Answer.Begun number) result.stage }
-    ensures owed { owed_at result.stage ≡ Owed.Rollback }
+    ensures goes { (known : List Defined) → Advances (Stage.Beginning plan) known answer result.stage result.wanting built.new.items known }
+    ensures follows { Follows (Stage.Beginning plan) answer result.stage }
+    ensures owed { owed_at result.stage ≡ owed_after calls.Begin answer Owed.Close }
     ensures outer { outer result.stage ≡ None }
     ensures lacks { Lacks result.stage [] }
     ensures work { work_at result.stage ≤ 7 + running_at result.stage }
@@ -246,5 +248,12 @@ pub fn start(alloc: Global, plan: Plan, number: u32, built: &mut Vec<u8>) -> Ste
     ensures phase { InPhase result.stage true }
     ensures some { IsHolding result.stage → 0 < length (reply_of built.new.items result.stage) }
 {
-    settle(alloc, plan, built)
+    match answer {
+        Answer::Begun(_) => settle(alloc, plan, built),
+        Answer::Refused(why) => Step {
+            stage: Stage::Telling(false, Reply::Error(refusal(&why))),
+            wanting: None,
+        },
+        _ => unreachable!(),
+    }
 }

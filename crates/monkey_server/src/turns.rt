@@ -126,10 +126,9 @@ pub fn advance(stage: &Stage, answer: &Answer) -> Stage
         (Stage::Defining(_), Answer::Defined(DefineAnswer::Taken(_))) => {
             Stage::Telling(false, Reply::Error(SqlState::S42P07))
         }
-        (
-            Stage::Defining(_) | Stage::Looking(_) | Stage::Beginning(_),
-            Answer::Refused(why),
-        ) => Stage::Telling(false, Reply::Error(refusal(why))),
+        (Stage::Defining(_) | Stage::Looking(_), Answer::Refused(why)) => {
+            Stage::Telling(false, Reply::Error(refusal(why)))
+        }
         (Stage::Committing, Answer::Committed) => Stage::Settling(Reply::Ready),
         (Stage::Undoing(state), Answer::RolledBack) => Stage::Telling(false, Reply::Error(*state)),
         (Stage::Leaving(finish), Answer::RolledBack) => Stage::Closing(*finish),
