@@ -41,11 +41,12 @@ use Rattle.monkey_server.specs.declared.call.Answer.TheVariants as answers
 use Rattle.monkey_server.specs.declared.end.End.TheVariants as ends
 use Rattle.monkey_server.specs.declared.stage.Owed.TheVariants as owes
 use Rattle.monkey_server.specs.declared.stage.Reply.TheVariants as replies
+use Rattle.monkey_server.specs.declared.stage.Run.{Run}
 use Rattle.monkey_server.specs.declared.stage.Stage.{Stage}
 use Rattle.monkey_server.specs.declared.stage.Stage.TheVariants as stages
 use Rattle.monkey_server.specs.Told.{Entry, Said, Script, call, with_call, unless_short, tell, ending, closing, readied, undone, succeeded, committed, concluded, runs, continued, answered_at_once, requested, session, refusal_state}
 use Rattle.monkey_server.specs.Talk.{Talk}
-use Rattle.monkey_server.specs.Stands.{Continues, IsFrom, Fits, goes_on, with_short, answer_with, entry_for}
+use Rattle.monkey_server.specs.Stands.{Continues, IsFrom, IsRunning, Fits, goes_on, with_short, answer_with, entry_for}
 use Rattle.monkey_server.proofs.Passes.{unless_short-passes, unless_short-takes}
 
 -- ---- courses
@@ -241,3 +242,7 @@ pub asks_this : (text : List ℕ) (request : Request) (built : List ℕ) (r : Re
     IfOk r (λ stage. (x : Request) × IsRequest text x × ((known : List Table) (talk : Talk) (said : Said) (es : List Entry) → requested x known (λ k. session true k talk) said es ≡ goes_on stage built known talk said es))
 asks_this text request built (Ok stage) is goes = (request, is, goes)
 asks_this text request built (Err e) is goes = goes
+
+pub not_running : (stage : Stage) → ((run : Run) → stage ≡ stages.Running run → ⊥) → IsRunning stage → ⊥
+not_running (stages.Running run) h r = h run refl
+not_running _ h r = r

@@ -258,7 +258,7 @@ fn answered(
     match stage {
         Stage::Beginning(plan) => start(alloc, plan, answer, built),
         Stage::Running(run) => pursue(alloc, run, answer, built),
-        _ => answered_plain(alloc, &stage, known, built, answer),
+        stage => answered_plain(alloc, &stage, known, built, answer),
     }
 }
 
