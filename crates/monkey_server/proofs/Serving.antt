@@ -1,8 +1,10 @@
 -- A run over a link goes on.
-use Rattle.std.proofs.Common.{◌≡◌, ◌↔◌, IfSome, Bool, true, false, ℕ, ◌+◌, ◌≤◌, List, [], ◌∷◌, ◌++◌, length, take, refl, sym, ◌∙◌, ap, subst, arith, Option, Some, None, length-append}
+use Rattle.std.proofs.Common.{◌≡◌, ◌↔◌, IfSome, Bool, true, false, ℕ, ◌+◌, ◌≤◌, List, [], ◌∷◌, ◌++◌, length, take, refl, sym, ◌∙◌, ap, subst, arith, Option, Some, None, length-append, All}
 use Rattle.std.proofs.lemmas.List.{append-nil}
+use Rattle.std.proofs.lemmas.List.Elements.{All-nil}
 use Rattle.std.proofs.lemmas.Grind.{common_steps}
 use Rattle.sql_tree.specs.declared.table.Table.{Table}
+use Rattle.sound_table.specs.Sound.{IsSound}
 use Rattle.link_traits.specs.Faults.{Rose}
 use Rattle.link_traits.specs.Traffic.{Traffic, Took, Wrote, Both, Sight}
 use Rattle.history_core.specs.declared.event.Event.{Event}
@@ -22,8 +24,9 @@ use Rattle.monkey_server.specs.Calls as calls
 use Rattle.monkey_server.specs.Talk.{Talk, IsTalk, unread}
 use Rattle.monkey_server.specs.Told.{Entry, ended, short, unsent, stop, more, told, has_short}
 use Rattle.monkey_server.specs.Sessions.{Stands, StandsShort}
-use Rattle.monkey_server.specs.Stands.{IsReading, KnowsTable, DefinesSound, Lacks, LacksBy, owed_at, outer_end, IsStopped, outer, end_of, wants, IsHolding, entry_for, Shows, IsResting, IsLast, IsOver}
-use Rattle.monkey_server.specs.Serve.{Plays, Carries, IsAtEnd, Blames, Ran, Serves, Sits, owed_of, most_read}
+use Rattle.monkey_server.specs.Stands.{IsRunning, KnowsTables, IsSoundStage, Lacks, LacksBy, owed_at, outer_end, IsStopped, outer, end_of, wants, IsHolding, entry_for, Shows, IsResting, IsLast, IsOver}
+use Rattle.monkey_server.specs.Serve.{Plays, Carries, IsAtEnd, Blames, Ran, Serves, Sits, IsUnwrittenAt, owed_of, most_read}
+use Rattle.monkey_server.proofs.Playing.{unwritten_calm}
 use Rattle.monkey_server.proofs.Grows.{Shows-stands}
 use Rattle.monkey_server.proofs.Lawfuls.{Lawful-plays, Lawful-short, Lawful-quiet, own_events}
 use Rattle.monkey_server.proofs.Carrying.{Carries-record, Carries-wrote, Carries-took, Both-then, Both-weaker, Blames-same, Blames-none, Blames-wrote}
@@ -298,20 +301,22 @@ at_end n (Some a) (Some b) e h k = sym k.left ∙ h.0 e
 pub sits_new : (stage : Stage) (known : List Table) (p : Past) → stage ≡ stages.Waiting false → known ≡ [] → p.seat ≡ away → Sits stage known p
 sits_new stage known p is none seat = record {
   owed = ap owed_of seat ∙ sym (ap owed_at is);
-  unwritten = λ _. ap writes_of seat;
+  unwritten = subst (λ (x : Stage). IsUnwrittenAt x known p.seat) (sym is) tt;
   known_tables = omega (arith, ap length none);
-  knows = subst (λ (x : Stage). KnowsTable x known) (sym is) tt;
-  sound = subst DefinesSound (sym is) tt;
+  knows = subst (λ (x : Stage). KnowsTables x known) (sym is) tt;
+  sound = subst IsSoundStage (sym is) tt;
+  tables = subst (λ (ts : List Table). All IsSound ts) (sym none) (All-nil IsSound);
 }
 
 -- behind a reply that was sent the book sits as before
-pub sits_sent : (stage next : Stage) (known after : List Table) (p : Past) → Sits stage known p → owed_at next ≡ owed_at stage → after ≡ known → (IsReading next → ⊥) → KnowsTable next after → DefinesSound next → Sits next after p
+pub sits_sent : (stage next : Stage) (known after : List Table) (p : Past) → Sits stage known p → owed_at next ≡ owed_at stage → after ≡ known → (IsRunning next → ⊥) → KnowsTables next after → IsSoundStage next → Sits next after p
 sits_sent stage next known after p s owed same silent knows sound = record {
   owed = s.owed ∙ sym owed;
-  unwritten = λ r. absurd (silent r);
+  unwritten = unwritten_calm next after p.seat silent;
   known_tables = omega (arith, s.known_tables, ap length same);
   knows = knows;
   sound = sound;
+  tables = subst (λ (ts : List Table). All IsSound ts) (sym same) s.tables;
 }
 
 is_away : (seat : Seat) → owed_of seat ≡ owes.Nothing → seat ≡ away

@@ -1,7 +1,7 @@
 -- When a session's record is lawful: its calls were made of the book one after another, and each entry is what came of its call.
 use Rattle.std.specs.Prelude.{◌≡◌, ◌≢◌, ℕ, List, [], ◌∷◌, length, Contains, Option, Some}
 use Rattle.history_core.specs.declared.event.Event.{Event}
-use Rattle.history_core.specs.declared.event.Event.TheVariants.{Open, Close, Define, Look, Begin, Read, Write, Commit, Rollback}
+use Rattle.history_core.specs.declared.event.Event.TheVariants.{Open, Close, Define, Look, Begin, Scan, Read, Write, Commit, Rollback}
 use Rattle.history_core.specs.declared.fault.Limit.{Limit}
 use Rattle.history_core.specs.declared.fault.Limit.TheVariants as limits
 use Rattle.history_core.specs.declared.fault.BookFault.{BookFault}
@@ -47,6 +47,7 @@ Happens old (calls.Look known) (answers.Looked tables) e new = (e ≡ Look (sess
 Happens old (calls.Define table) (answers.Defined (defines.Defined n)) e new = (e ≡ Define (session_of old.seat) table.name) × AnswersDefine old table (defines.Defined n) new
 Happens old (calls.Define table) (answers.Defined (defines.Taken n)) e new = (e ≡ Look (session_of old.seat) n) × AnswersDefine old table (defines.Taken n) new
 Happens old calls.Begin (answers.Begun n) e new = (e ≡ Begin (session_of old.seat)) × Adds old e new × (n ≡ begun new.seen.events)
+Happens old (calls.Scan table) (answers.Listed keys) e new = (e ≡ Scan (session_of old.seat) table keys) × Adds old e new
 Happens old (calls.Touch cell) (answers.Found value) e new =
     (source : ℕ) × (count : ℕ) × (word : ℕ) × (e ≡ Read (session_of old.seat) cell source count word value) × Adds old e new
 Happens old (calls.Write cell value) answers.Written e new = (e ≡ Write (session_of old.seat) cell value) × Adds old e new

@@ -6,8 +6,8 @@ use Rattle.monkey_server.proofs.serve.run.Goals as goal
 
 pub loop-session-init : goal.loop-session-init
 loop-session-init g c = record {
-  ran = (0, omega arith, Ran-new g.W.Words.gives (g.B.Book.past c.args.book.now) c.args.words.now (sight_of g.L.Sides.traffic g.L.Sides.read_faults g.L.Sides.write_faults c.args.link.now) c.args.session c.requires.empty c.requires.stage);
-  sits = sits_new c.args.session.stage c.args.session.known.items (g.B.Book.past c.args.book.now) c.requires.stage c.requires.known c.requires.away;
+  ran = (0, omega arith, Ran-new g.W.Words.gives (g.B.Book.past c.args.book.now) c.args.words.now (sight_of g.L.Sides.traffic g.L.Sides.read_faults g.L.Sides.write_faults c.args.link.now) c.args.session.now c.requires.empty c.requires.stage);
+  sits = sits_new c.args.session.now.stage c.args.session.now.known.items (g.B.Book.past c.args.book.now) c.requires.stage c.requires.known c.requires.away;
   stays = g.met.B.Book.stays_same c.args.book.now;
   room = c.requires.room;
 }

@@ -1,0 +1,14 @@
+use Rattle.std.proofs.Common.{length, subst}
+use Rattle.statement_course.specs.Course.{first_demand, FitsDemand}
+use Rattle.cell_compile.specs.Plans.{rest_of}
+use Rattle.monkey_server.specs.Calls.{call_for}
+use Rattle.monkey_server.specs.declared.call.Answer.{Answer}
+use Rattle.monkey_server.specs.Stands.{Fits}
+use Rattle.monkey_server.proofs.Running.{fits_demand, behind_first}
+use Rattle.monkey_server.proofs.statements.pursue.Goals as goal
+
+pub returns-in-Ok-clause-knows : goal.returns-in-Ok-clause-knows
+returns-in-Ok-clause-knows c = λ known first.
+    let fits : FitsDemand (rest_of c.args.run.plan) c.in-Ok.answer =
+    fits_demand (rest_of c.args.run.plan) c.in-Ok.answer c.args.run.asks (subst (λ (a : Answer). Fits (call_for (first_demand (rest_of c.args.run.plan))) a) c.in-Ok.ensures.ok c.requires.fits) in
+    c.go_on.ensures.knows known (behind_first (length known) (rest_of c.args.run.plan) c.in-Ok.answer fits first)
