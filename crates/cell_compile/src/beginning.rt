@@ -43,11 +43,7 @@ fn change_of(alloc: Global, change: TypedChange, table: &Table) -> Result<Plan, 
     let mut parts = Items::new(alloc);
     parts.push(part_of(alloc, change.table, table, &change.mentioned, &change.point)?)?;
     let copy = table.copy(alloc)?;
-    after_step(
-        alloc,
-        begin(alloc, parts)?,
-        Purpose::Changes(change, copy),
-    )
+    after_step(alloc, begin(alloc, parts)?, Purpose::Changes(change, copy))
 }
 
 /// The plan of an INSERT.
