@@ -86,13 +86,7 @@ fn defines_tables(rt: HostRuntime) -> Result<(), Fail> {
 #[test]
 fn looks_at_tables(rt: HostRuntime) -> Result<(), Fail> {
     let alloc = rt.alloc();
-    assert!(rt;
-        asks(
-            alloc,
-            b"SELECT v FROM t WHERE k = 1",
-            Asked::Look
-        )?
-    );
+    assert!(rt; asks(alloc, b"SELECT v FROM t WHERE k = 1", Asked::Look)?);
     assert!(rt;
         asks(
             alloc,
@@ -108,13 +102,7 @@ fn looks_at_tables(rt: HostRuntime) -> Result<(), Fail> {
         )?
     );
     assert!(rt; asks(alloc, b"SELECT v FROM u WHERE k = 1", Asked::Look)?);
-    assert!(rt;
-        asks(
-            alloc,
-            b"INSERT INTO t VALUES (1, 10), (2, 20)",
-            Asked::Look
-        )?
-    );
+    assert!(rt; asks(alloc, b"INSERT INTO t VALUES (1, 10), (2, 20)", Asked::Look)?);
     assert!(rt; asks(alloc, b"UPDATE t SET v = 1", Asked::Look)?);
     assert!(rt; asks(alloc, b"DELETE FROM t", Asked::Look)?);
     Ok(())
