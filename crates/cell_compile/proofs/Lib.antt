@@ -1,1 +1,4 @@
-pub mod Firsts
+pub mod Demanding
+pub mod Showing
+pub mod Parting
+pub mod Courses

@@ -1,6 +1,12 @@
-//! The plan of a statement.
+//! The plan of a statement: its demands, one after another, given the answers, and at the end what it comes to.
 #![tactic(auto)]
 
+mod answers;
+mod beginning;
+mod ending;
+mod inserting;
+mod next;
+mod parts;
 mod plan;
 
 pub use plan::Plan;

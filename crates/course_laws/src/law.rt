@@ -1,8 +1,13 @@
 // What holds of the definitions.
-ghost use Rattle.course_laws.specs.Laws.{StatementReadsFirst};
+ghost use Rattle.course_laws.specs.Laws.{StatementReadsFirst, StatementTouchesOnce};
 
 /// A statement asks for cells of the tables that there are, and then it only writes, cells of these tables, and values that a
 /// cell may hold.
 pub fn statement_reads_first()
     ensures { StatementReadsFirst }
+{}
+
+/// A statement that mentions each column once asks for no cell twice.
+pub fn statement_touches_once()
+    ensures { StatementTouchesOnce }
 {}

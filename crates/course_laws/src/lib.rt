@@ -3,4 +3,4 @@
 
 mod law;
 
-pub use law::statement_reads_first;
+pub use law::{statement_reads_first, statement_touches_once};

@@ -17,8 +17,8 @@ pub fn compared<'a>(op: Op, left: Datum<'a>, right: Datum<'a>) -> Datum<'a>
     }
 }
 
-/// Integers by value, text by bytes, false below true.
-fn order_of(left: Datum<'_>, right: Datum<'_>) -> Option<Ordering>
+/// Integers by value, text by bytes, false below true. Null has no order, nor have values of two types.
+pub fn order_of(left: Datum<'_>, right: Datum<'_>) -> Option<Ordering>
     ensures { result ≡ operators.order_of (owned left.entry) (owned right.entry) }
 {
     match (left, right) {

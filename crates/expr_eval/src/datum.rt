@@ -2,6 +2,7 @@
 ghost use Rattle.std.specs.Prelude.{◌≡◌, Ok, IfOk, OnErr};
 ghost use Rattle.expr_eval.specs.Answers.{IsTextOutcome};
 ghost use Rattle.expr_eval.specs.Lent.{owned};
+ghost use Rattle.sql_typing.specs.Kinds as kinds;
 
 use cell_base::{Memory, Text, Value};
 use std::alloc::Global;
@@ -15,6 +16,13 @@ pub enum Datum<'a> {
     Int(i64),
     Wide(i128),
     Text(&'a Text),
+}
+
+/// Whether it is null.
+pub fn is_null(datum: Datum<'_>) -> bool
+    ensures { result ≡ kinds.is_null (owned datum.entry) }
+{
+    matches!(datum, Datum::Null)
 }
 
 /// The value, with a copy of its text.

@@ -4,7 +4,7 @@ ghost use Rattle.sql_typing.specs.Kinds.{is_null_or_of};
 ghost use Rattle.sql_typing.specs.WellTyped.{ColumnTypes, IsWellTyped};
 ghost use Rattle.expr_eval.specs.Operators as operators;
 ghost use Rattle.expr_eval.specs.Answers.{Answers};
-ghost use Rattle.expr_eval.specs.Lent.{owned, Lends};
+ghost use Rattle.expr_eval.specs.Lent.{owned, seen, Lends};
 ghost use Rattle.expr_eval.specs.Values.{value_of, values_of, among};
 
 use crate::EvalFault;
@@ -13,38 +13,39 @@ use crate::compute::{arithmetic, negated};
 use crate::datum::{Datum, to_value};
 use crate::logic::{both, denied, either, null_test};
 use crate::lookup::{column, of_kind};
-use cell_base::{Items, SqlState, SqlType, Value};
+use cell_base::{SqlState, SqlType, Value};
 use sql_tree::{Op, TypedExpr, TypedNode};
 use std::alloc::Global;
 
 /// The value of an expression over a row, which has one list of column values for each entry of FROM.
-pub fn eval(alloc: Global, expr: &TypedExpr, row: &[Items<Value>]) -> Result<Value, EvalFault>
-    ensures exact { Answers result (value_of expr.now row.now) }
+pub fn eval(alloc: Global, expr: &TypedExpr, row: &[&[Value]]) -> Result<Value, EvalFault>
+    ensures exact { Answers result (value_of expr.now (seen row.now)) }
     ensures typed { (types : ColumnTypes) → IsWellTyped types expr.now
         → IfOk result (λ value. is_null_or_of (expr.now).kind value ≡ true) }
 {
-    let value = datum(expr, row)?;
+    let value = datum_of(expr, row)?;
     Ok(to_value(alloc, value)?)
 }
 
+/// The value of an expression over a row, which borrows its text from either. Takes no memory.
 #[cycle(values)]
-fn datum<'a>(expr: &'a TypedExpr, row: &'a [Items<Value>]) -> Result<Datum<'a>, SqlState>
-    ensures { Lends result (value_of expr.now row.now) }
+pub fn datum_of<'a>(expr: &'a TypedExpr, row: &'a [&'a [Value]]) -> Result<Datum<'a>, SqlState>
+    ensures { Lends result (value_of expr.now (seen row.now)) }
 {
     match &expr.node {
         TypedNode::Constant(value) => Ok(of_kind(expr.kind, value)),
         TypedNode::Column(entry, place) => Ok(column(expr.kind, row, *entry, *place)),
         TypedNode::Aggregate(_, _) => Ok(Datum::Null),
-        TypedNode::Neg(operand) => negated(expr.kind, datum(operand.get(), row)?),
-        TypedNode::Not(operand) => Ok(denied(datum(operand.get(), row)?)),
-        TypedNode::IsNull(operand, denies) => Ok(null_test(datum(operand.get(), row)?, *denies)),
+        TypedNode::Neg(operand) => negated(expr.kind, datum_of(operand.get(), row)?),
+        TypedNode::Not(operand) => Ok(denied(datum_of(operand.get(), row)?)),
+        TypedNode::IsNull(operand, denies) => Ok(null_test(datum_of(operand.get(), row)?, *denies)),
         TypedNode::Binary(op, left, right) => {
-            let left = datum(left.get(), row)?;
-            let right = datum(right.get(), row)?;
+            let left = datum_of(left.get(), row)?;
+            let right = datum_of(right.get(), row)?;
             binary(expr.kind, *op, left, right)
         }
         TypedNode::In(left, members, denies) => {
-            let left = datum(left.get(), row)?;
+            let left = datum_of(left.get(), row)?;
             let found = any_equal(left, members.as_slice(), row)?;
             Ok(if *denies { denied(found) } else { found })
         }
@@ -55,13 +56,13 @@ fn datum<'a>(expr: &'a TypedExpr, row: &'a [Items<Value>]) -> Result<Datum<'a>, 
 fn any_equal<'a>(
     left: Datum<'a>,
     members: &'a [TypedExpr],
-    row: &'a [Items<Value>],
+    row: &'a [&'a [Value]],
 ) -> Result<Datum<'a>, SqlState>
-    ensures { Lends result (among (Ok (owned left.entry)) (values_of members.now row.now)) }
+    ensures { Lends result (among (Ok (owned left.entry)) (values_of members.now (seen row.now))) }
 {
     let mut found = Datum::Flag(false);
     for member in members {
-        let next = compared(Op::Eq, left, datum(member, row)?);
+        let next = compared(Op::Eq, left, datum_of(member, row)?);
         found = either(found, next);
     }
     Ok(found)

@@ -22,5 +22,7 @@ mod samples;
 mod tests;
 
 pub use assignment::assign;
-pub use evaluation::eval;
+pub use compare::order_of;
+pub use datum::{Datum, is_null, to_value};
+pub use evaluation::{datum_of, eval};
 pub use fault::EvalFault;

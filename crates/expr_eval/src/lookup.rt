@@ -1,10 +1,10 @@
 // Values that stand in the expression or in the row.
 ghost use Rattle.std.specs.Prelude.{◌≡◌};
-ghost use Rattle.expr_eval.specs.Lent.{owned};
+ghost use Rattle.expr_eval.specs.Lent.{owned, seen};
 ghost use Rattle.expr_eval.specs.Values as values;
 
 use crate::datum::Datum;
-use cell_base::{Items, SqlType, Value};
+use cell_base::{SqlType, Value};
 
 /// The value, where it is of the type, and else null.
 pub fn of_kind<'a>(kind: SqlType, value: &'a Value) -> Datum<'a>
@@ -30,13 +30,13 @@ fn integer<'a>(n: i64) -> Datum<'a>
 }
 
 /// The value of a column, where it is of the type, and else null.
-pub fn column<'a>(kind: SqlType, row: &'a [Items<Value>], entry: u32, column: u32) -> Datum<'a>
-    ensures { owned result ≡ values.of_kind kind (values.column_value row.now entry column) }
+pub fn column<'a>(kind: SqlType, row: &'a [&'a [Value]], entry: u32, column: u32) -> Datum<'a>
+    ensures { owned result ≡ values.of_kind kind (values.column_value (seen row.now) entry column) }
 {
     let Some(entry) = row.get(entry as usize) else {
         return Datum::Null;
     };
-    match entry.as_slice().get(column as usize) {
+    match entry.get(column as usize) {
         Some(value) => of_kind(kind, value),
         None => Datum::Null,
     }

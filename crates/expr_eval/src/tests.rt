@@ -290,28 +290,23 @@ fn evaluates_all_members(rt: HostRuntime) -> Result<(), Fail> {
     Ok(())
 }
 
-/// Two entries of FROM: 7, a text and an unset value; and 3000000000 and true.
-fn sample_row(alloc: Global) -> Result<Items<Items<Value>>, Fail> {
-    let mut first = Items::new(alloc);
-    first.push(Value::Int(7))?;
-    first.push(Value::Text(Text::from_bytes(alloc, b"ab")?))?;
-    first.push(Value::Unset)?;
-    let mut second = Items::new(alloc);
-    second.push(Value::Int(3_000_000_000))?;
-    second.push(Value::Flag(true))?;
-    let mut row = Items::new(alloc);
-    row.push(first)?;
-    row.push(second)?;
-    Ok(row)
+/// The first entry of FROM: 7, a text and an unset value.
+fn first_entry(alloc: Global) -> Result<Items<Value>, Fail> {
+    let mut values = Items::new(alloc);
+    values.push(Value::Int(7))?;
+    values.push(Value::Text(Text::from_bytes(alloc, b"ab")?))?;
+    values.push(Value::Unset)?;
+    Ok(values)
 }
 
 fn column(alloc: Global, kind: SqlType, entry: u32, place: u32) -> Result<String, Fail> {
-    let row = sample_row(alloc)?;
+    let first = first_entry(alloc)?;
+    let second = [Value::Int(3_000_000_000), Value::Flag(true)];
     let expr = TypedExpr {
         kind,
         node: TypedNode::Column(entry, place),
     };
-    Ok(shown(alloc, eval(alloc, &expr, row.as_slice()))?)
+    Ok(shown(alloc, eval(alloc, &expr, &[first.as_slice(), &second]))?)
 }
 
 #[test]

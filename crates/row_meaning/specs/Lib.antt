@@ -1,3 +1,4 @@
+pub mod Gives
 pub mod Pictures
 pub mod Combinations
 pub mod Groups

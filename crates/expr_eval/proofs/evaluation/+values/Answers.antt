@@ -1,19 +1,19 @@
 use Rattle.std.proofs.Common.{◌≡◌, Ok, Err, rules, arith}
-use Rattle.expr_eval.specs.Lent.{owned}
+use Rattle.expr_eval.specs.Lent.{owned, seen}
 use Rattle.expr_eval.specs.Values.{among, value_of, values_of}
 use Rattle.expr_eval.proofs.Nodes.{in_failed}
 use Rattle.expr_eval.proofs.Members.{fails}
 use Rattle.expr_eval.proofs.evaluation.+values.Goals as goal
 
-pub any_equal-returns-in_err-datum : goal.any_equal-returns-in_err-datum
-any_equal-returns-in_err-datum t c =
-    let failed : among (Ok (owned c.args.left)) (values_of c.args.members.now c.args.row.now) ≡ Err c.in_err-datum.field-0.0 =
-    fails c.args.row.now (owned c.args.left) (owned c.loop-member.found) c.args.members.now c.loop-member.member-index c.member-item.result c.in_err-datum.field-0.0
-    (omega arith) c.member-item.is c.loop-member.invariant c.in_err-datum.ensures in
+pub any_equal-returns-in_err-datum_of : goal.any_equal-returns-in_err-datum_of
+any_equal-returns-in_err-datum_of t c =
+    let failed : among (Ok (owned c.args.left)) (values_of c.args.members.now (seen c.args.row.now)) ≡ Err c.in_err-datum_of.field-0.0 =
+    fails (seen c.args.row.now) (owned c.args.left) (owned c.loop-member.found) c.args.members.now c.loop-member.member-index c.member-item.result c.in_err-datum_of.field-0.0
+    (omega arith) c.member-item.is c.loop-member.invariant c.in_err-datum_of.ensures in
     rw failed (search rules)
 
-pub datum-returns-in_err-left-in-In : goal.datum-returns-in_err-left-in-In
-datum-returns-in_err-left-in-In t c =
-    let failed : value_of c.args.expr.now c.args.row.now ≡ Err c.in_err-left-in-In.field-0.0 =
-    in_failed c.args.expr.now c.in-In.left c.in-In.members c.in-In.denies c.args.row.now c.in_err-left-in-In.field-0.0 c.in-In.is (search rules) in
+pub datum_of-returns-in_err-left-in-In : goal.datum_of-returns-in_err-left-in-In
+datum_of-returns-in_err-left-in-In t c =
+    let failed : value_of c.args.expr.now (seen c.args.row.now) ≡ Err c.in_err-left-in-In.field-0.0 =
+    in_failed c.args.expr.now c.in-In.left c.in-In.members c.in-In.denies (seen c.args.row.now) c.in_err-left-in-In.field-0.0 c.in-In.is (search rules) in
     rw failed (search rules)

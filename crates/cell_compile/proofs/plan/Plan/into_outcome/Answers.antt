@@ -1,10 +1,15 @@
-use Rattle.std.proofs.Common.{ap, sym, ◌∙◌}
-use Rattle.statement_course.specs.Course.{done}
-use Rattle.cell_compile.proofs.Firsts.{came_to, is_reply}
+-- A statement that is done demands a reply.
+use Rattle.std.proofs.Common.{sym, ap, ◌∙◌}
+use Rattle.statement_course.specs.declared.demand.Demand.{Demand}
+use Rattle.statement_course.specs.Course.{first_demand}
+use Rattle.cell_compile.specs.Plans.{rest_of, next_course}
+use Rattle.cell_compile.proofs.Demanding.{demanded_first, replied_last}
 use Rattle.cell_compile.proofs.plan.Plan.into_outcome.Goals as goal
 
-pub unreachable-requires : goal.unreachable-requires
-unreachable-requires c = c.in_default.not-Reply c.requires.0 (is_reply c.args.self c.requires.0 c.requires.1)
+pub replied-requires : goal.replied-requires
+unfolding rest_of
+replied-requires c = (c.requires.0, sym (demanded_first c.args.self.demand c.args.self.next) ∙ ap first_demand c.requires.1)
 
 pub returns : goal.returns
-returns c = came_to c.args.self c.in-Reply.outcome c.in-Reply.is ∙ ap done (sym c.in-Reply.outcome-is)
+unfolding rest_of
+returns c = ap (λ (demand : Demand). next_course demand c.args.self.next) c.replied.ensures ∙ replied_last c.replied.result c.args.self.next

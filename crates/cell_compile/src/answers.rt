@@ -1,0 +1,112 @@
+// What follows an answer.
+ghost use Rattle.std.specs.Prelude.{◌≡◌, ◌<◌, IfOk};
+ghost use Rattle.statement_course.specs.declared.demand.Demand.TheVariants as demands;
+ghost use Rattle.statement_course.specs.declared.demand.Outcome as outcomes;
+ghost use Rattle.statement_course.specs.declared.demand.PlanAnswer.TheVariants as answers;
+ghost use Rattle.statement_course.specs.Course.{FitsDemand, behind};
+ghost use Rattle.cell_compile.specs.declared.next.Next.TheVariants as nexts;
+ghost use Rattle.cell_compile.specs.Plans.{left_of, next_answers, next_course, rest_of};
+
+use crate::Plan;
+use crate::ending::{after_step, writes_left};
+use crate::inserting::after_presence;
+use crate::next::{Insertion, Next, Purpose};
+use cell_base::{Cell, Items, Key, Memory, Value};
+use statement_course::{Demand, Outcome};
+use std::alloc::Global;
+use table_reading::Reading;
+
+/// Goes on with the keys of a table.
+pub fn with_keys(
+    alloc: Global,
+    demand: Demand,
+    next: Next,
+    keys: Items<Key>,
+) -> Result<Plan, Memory>
+    requires { FitsDemand (next_course demand next) (answers.Keys keys) }
+    ensures course { IfOk result (λ plan. rest_of plan ≡ behind (next_course demand next) (answers.Keys keys)) }
+    ensures less { IfOk result (λ plan. left_of plan < next_answers demand next) }
+{
+    match (demand, next) {
+        (Demand::Scan(_), Next::Reads(reading, purpose)) => {
+            after_step(alloc, reading.with_keys(keys)?, purpose)
+        }
+        _ => Err(Memory),
+    }
+}
+
+/// Goes on with the value of a cell.
+pub fn with_value(alloc: Global, demand: Demand, next: Next, value: Value) -> Result<Plan, Memory>
+    requires { FitsDemand (next_course demand next) (answers.Value value) }
+    ensures course { IfOk result (λ plan. rest_of plan ≡ behind (next_course demand next) (answers.Value value)) }
+    ensures less { IfOk result (λ plan. left_of plan < next_answers demand next) }
+{
+    match next {
+        Next::Reads(reading, purpose) => read_value(alloc, demand, reading, purpose, value),
+        Next::Inserts(insertion) => read_presence(alloc, demand, insertion, value),
+        _ => Err(Memory),
+    }
+}
+
+fn read_value(
+    alloc: Global,
+    demand: Demand,
+    reading: Reading,
+    purpose: Purpose,
+    value: Value,
+) -> Result<Plan, Memory>
+    requires { FitsDemand (next_course demand (nexts.Reads reading purpose)) (answers.Value value) }
+    ensures course { IfOk result (λ plan. rest_of plan ≡ behind (next_course demand (nexts.Reads reading purpose)) (answers.Value value)) }
+    ensures less { IfOk result (λ plan. left_of plan < next_answers demand (nexts.Reads reading purpose)) }
+{
+    match demand {
+        Demand::Touch(Cell::Presence(_, key)) => {
+            after_step(alloc, reading.with_presence(key, &value)?, purpose)
+        }
+        Demand::Touch(Cell::Field(_, key, column)) => {
+            after_step(alloc, reading.with_field(key, column, value)?, purpose)
+        }
+        _ => Err(Memory),
+    }
+}
+
+fn read_presence(
+    alloc: Global,
+    demand: Demand,
+    insertion: Insertion,
+    value: Value,
+) -> Result<Plan, Memory>
+    requires { FitsDemand (next_course demand (nexts.Inserts insertion)) (answers.Value value) }
+    ensures course { IfOk result (λ plan. rest_of plan ≡ behind (next_course demand (nexts.Inserts insertion)) (answers.Value value)) }
+    ensures less { IfOk result (λ plan. left_of plan < next_answers demand (nexts.Inserts insertion)) }
+{
+    match demand {
+        Demand::Touch(_cell) => Ok(after_presence(alloc, insertion, &value)),
+        _ => Err(Memory),
+    }
+}
+
+/// Goes on when a cell is written.
+pub fn with_written(alloc: Global, demand: Demand, next: Next) -> Result<Plan, Memory>
+    requires { FitsDemand (next_course demand next) answers.Written }
+    ensures course { IfOk result (λ plan. rest_of plan ≡ behind (next_course demand next) answers.Written) }
+    ensures less { IfOk result (λ plan. left_of plan < next_answers demand next) }
+{
+    match (demand, next) {
+        (Demand::Write(_, _), Next::Writes(writes, outcome)) => {
+            Ok(writes_left(alloc, writes, outcome))
+        }
+        _ => Err(Memory),
+    }
+}
+
+/// The outcome of a demand that is a reply.
+pub fn replied(demand: Demand) -> Outcome
+    requires { (outcome : outcomes.Outcome) × (demand ≡ demands.Reply outcome) }
+    ensures { demand ≡ demands.Reply result }
+{
+    match demand {
+        Demand::Reply(outcome) => outcome,
+        _ => unreachable!(),
+    }
+}

@@ -1,0 +1,4 @@
+pub mod Steps
+pub mod Walking
+pub mod Sizes
+pub mod Sorting

@@ -1,0 +1,6 @@
+-- The values so far.
+use Rattle.std.proofs.Common.{◌≡◌, take}
+use Rattle.row_writes.proofs.assigned.copy_row.Given as goal
+
+abbrev pub invariant-loop-value : goal.invariant-loop-value
+invariant-loop-value l = l.copy ≡ take l.value-index l.row

@@ -1,0 +1,7 @@
+-- The rows that are left, behind the one before them, decide.
+use Rattle.std.proofs.Common.{◌≡◌, drop}
+use Rattle.row_writes.specs.Twins as twins
+use Rattle.row_writes.proofs.keys.has_twins_behind.Given as goal
+
+abbrev pub invariant-loop-row : goal.invariant-loop-row
+invariant-loop-row l = twins.has_twins_behind l.before (drop l.row-index l.rows) ≡ twins.has_twins_behind l.fn.first l.rows

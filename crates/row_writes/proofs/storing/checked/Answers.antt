@@ -1,0 +1,12 @@
+-- A CHECK without a value gives its code.
+use Rattle.std.proofs.Common.{◌≡◌, Err, rules, arith}
+use Rattle.row_meaning.specs.Storing as spec
+use Rattle.row_writes.proofs.Checks.{checked_fault}
+use Rattle.row_writes.proofs.storing.checked.Goals as goal
+
+pub returns-in_err-is_false : goal.returns-in_err-is_false
+returns-in_err-is_false c =
+    let failed : spec.checked c.args.checks.now c.args.row.now ≡ Err c.in_err-is_false.field-0.0 =
+    checked_fault c.args.checks.now c.loop-check.check-index c.check-item.result c.args.row.now c.in_err-is_false.field-0.0 (spec.checked c.args.checks.now c.args.row.now)
+    (omega arith) c.check-item.is c.in_err-is_false.ensures c.loop-check.invariant in
+    rw failed (search rules)

@@ -1,0 +1,4 @@
+pub mod Twins
+pub mod Widths
+pub mod Places
+pub mod Seen
