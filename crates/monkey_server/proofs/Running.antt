@@ -36,6 +36,8 @@ use Rattle.outcome_replies.specs.Ends.{EndsIn}
 use Rattle.query_request.specs.declared.request.Request.{Request}
 use Rattle.query_request.specs.Requests.{IsRequest}
 use Rattle.monkey_server.specs.Calls.{Call, asks_cells, call_for}
+use Rattle.monkey_server.specs.Calls as calls
+use Rattle.cell_compile.specs.Plans.{rest_of}
 use Rattle.monkey_server.specs.declared.call.Answer.{Answer}
 use Rattle.monkey_server.specs.declared.call.Answer.TheVariants as answers
 use Rattle.monkey_server.specs.declared.end.End.TheVariants as ends
@@ -46,7 +48,7 @@ use Rattle.monkey_server.specs.declared.stage.Stage.{Stage}
 use Rattle.monkey_server.specs.declared.stage.Stage.TheVariants as stages
 use Rattle.monkey_server.specs.Told.{Entry, Said, Script, call, with_call, unless_short, tell, ending, closing, readied, undone, succeeded, committed, concluded, runs, continued, answered_at_once, requested, session, refusal_state}
 use Rattle.monkey_server.specs.Talk.{Talk}
-use Rattle.monkey_server.specs.Stands.{Continues, IsFrom, IsRunning, Fits, goes_on, with_short, answer_with, entry_for}
+use Rattle.monkey_server.specs.Stands.{Continues, Advances, IsBusy, IsFrom, IsRunning, Fits, goes_on, with_short, answer_with, entry_for}
 use Rattle.monkey_server.proofs.Passes.{unless_short-passes, unless_short-takes}
 
 -- ---- courses
@@ -246,3 +248,20 @@ asks_this text request built (Err e) is goes = goes
 pub not_running : (stage : Stage) → ((run : Run) → stage ≡ stages.Running run → ⊥) → IsRunning stage → ⊥
 not_running (stages.Running run) h r = h run refl
 not_running _ h r = r
+
+-- ---- the answer to a running statement's demand
+
+book_is : (d c : Call) → calls.Book d ≡ calls.Book c → d ≡ c
+book_is d c h = cc h
+
+pub run_advances : (run : Run) (answer : Answer) (b : PlanAnswer) (next : Stage) (w : Option Bool) (built : List ℕ) (known : List Table) → answer ≡ answer_with b → FitsDemand (rest_of run.plan) b → IsBusy next →
+    Continues (behind (rest_of run.plan) b) next w built → Advances (stages.Running run) known answer next w built known
+run_advances run answer b next w built known is fits busy goes =
+    subst (λ (a : Answer). Advances (stages.Running run) known a next w built known) (sym is) (record {
+      goes = λ c before talk said es e wants_c from.
+          runs_answered (rest_of run.plan) b (session true known talk) said e (with_short w said.bytes es) fits
+          ∙ goes known talk (with_call said (call_for (first_demand (rest_of run.plan)))) es from
+          ∙ ap (λ (x : Call). goes_on next built known talk (with_call said x) es) (book_is (call_for (first_demand (rest_of run.plan))) c wants_c);
+      busy = busy;
+      last = λ last. absurd last;
+    })

@@ -31,11 +31,7 @@ use statement_course::{Demand, Outcome};
 use std::alloc::Global;
 
 // The reply that tells what a statement came to which has no transaction.
-fn conclude_at_once(
-    alloc: Global,
-    outcome: &Outcome,
-    built: &mut Vec<u8>,
-) -> Result<Reply, Memory>
+fn conclude_at_once(alloc: Global, outcome: &Outcome, built: &mut Vec<u8>) -> Result<Reply, Memory>
     requires { CanBeTold outcome.now }
     ensures goes { IfOk result (λ reply. (rest : Script) (said : Said) (es : List Entry) →
         answered_at_once (done outcome.now) rest said es ≡ tell (bytes_of built.new.items reply) (closing End.WriteFault) (readied rest) said es) }
@@ -75,11 +71,7 @@ fn answer_at_once(alloc: Global, alone: Typed, built: &mut Vec<u8>) -> Result<Re
 }
 
 // The stage that a query leads to.
-fn begin_request(
-    alloc: Global,
-    request: Request,
-    built: &mut Vec<u8>,
-) -> Result<Stage, Memory>
+fn begin_request(alloc: Global, request: Request, built: &mut Vec<u8>) -> Result<Stage, Memory>
     requires sound { IsSoundRequest request }
     requires plain { IsPlainRequest request }
     ensures goes { IfOk result (λ stage. (known : List Defined) (talk : Talk) (said : Said) (es : List Entry) →

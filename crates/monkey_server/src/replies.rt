@@ -3,7 +3,9 @@ ghost use Rattle.std.specs.Prelude.{◌≡◌, IfOk};
 ghost use Rattle.monkey_server.specs.Replies.{startup_reply, error_reply, fatal_reply};
 
 use cell_base::{Memory, SqlState};
-use pg_framing::{TransactionState, append_auth_ok, append_error, append_key, append_parameter, append_ready};
+use pg_framing::{
+    TransactionState, append_auth_ok, append_error, append_key, append_parameter, append_ready,
+};
 use std::alloc::Global;
 
 /// The error of a statement.

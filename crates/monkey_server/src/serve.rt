@@ -188,7 +188,12 @@ fn answer_call<B: Book, W: Words>(session: &mut Session, book: &mut B, words: &W
 }
 
 // Makes the call that the running statement demands.
-fn answer_cells<B: Book, W: Words>(alloc: Global, session: &mut Session, book: &mut B, words: &mut W)
+fn answer_cells<B: Book, W: Words>(
+    alloc: Global,
+    session: &mut Session,
+    book: &mut B,
+    words: &mut W,
+)
     requires running { IsRunning session.old.stage }
     requires sits { Sits session.old.stage session.old.known.items (B.past book.old) }
     ensures ran { (p : Past) (v : W) (f g : Sight) (many : ℕ) →

@@ -362,13 +362,7 @@ impl Session {
         ensures silent { IsRunning self.new.stage → ⊥ }
     {
         let opened = opened_at(&self.stage);
-        let step = take_piece(
-            self.alloc,
-            &mut self.frames,
-            opened,
-            piece,
-            &mut self.built,
-        );
+        let step = take_piece(self.alloc, &mut self.frames, opened, piece, &mut self.built);
         self.short = either(self.short, step.wanting.is_some());
         self.stage = step.stage;
     }
@@ -394,13 +388,7 @@ impl Session {
     {
         let wants = is_want(&answer);
         let stage = std::mem::replace(&mut self.stage, Stage::Committing);
-        let step = answered(
-            self.alloc,
-            stage,
-            &mut self.known,
-            &mut self.built,
-            answer,
-        );
+        let step = answered(self.alloc, stage, &mut self.known, &mut self.built, answer);
         self.short = either(self.short, either(wants, step.wanting.is_some()));
         self.stage = step.stage;
     }

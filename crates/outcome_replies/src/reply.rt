@@ -61,7 +61,12 @@ fn append_outcome(alloc: Global, out: &mut Vec<u8>, outcome: &Outcome) -> Result
     ensures { OnOk result (out.new.items ≡ out.old.items ++ outcome_reply outcome.now) }
 {
     match outcome {
-        Outcome::Rows(fields, rows) => append_result(alloc, out, fields.as_slice(), rows.as_slice()),
+        Outcome::Rows(fields, rows) => append_result(
+            alloc,
+            out,
+            fields.as_slice(),
+            rows.as_slice(),
+        ),
         Outcome::Inserted(n) => append_count(alloc, out, b"INSERT 0 ", *n as u64),
         Outcome::Updated(n) => append_count(alloc, out, b"UPDATE ", *n as u64),
         Outcome::Deleted(n) => append_count(alloc, out, b"DELETE ", *n as u64),
