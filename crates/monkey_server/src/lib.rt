@@ -5,6 +5,7 @@ mod call;
 mod command;
 mod end;
 mod errors;
+mod kept;
 mod list_words;
 mod messages;
 mod prepared;

@@ -322,7 +322,7 @@ impl Session {
         ensures asks { asks_cells result.now ≡ true }
     {
         match &self.stage {
-            Stage::Running(run) => run.plan.demand(),
+            Stage::Running(run) => run.plan.get().demand(),
             _ => unreachable!(),
         }
     }

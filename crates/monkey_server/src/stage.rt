@@ -4,6 +4,7 @@ ghost use Rattle.statement_course.specs.Course.{first_demand};
 ghost use Rattle.cell_compile.specs.Plans.{rest_of};
 ghost use Rattle.monkey_server.specs.Calls.{asks_cells};
 
+use crate::kept::Kept;
 use cell_base::SqlState;
 use cell_compile::Plan;
 use pg_framing::FrameFault;
@@ -55,7 +56,7 @@ pub enum Reply {
 /// A statement that runs in its transaction, and isn't done.
 #[derive(Debug, Drop)]
 pub struct Run {
-    pub plan: Plan,
+    pub plan: Kept<Plan>,
     ghost asks: { asks_cells (first_demand (rest_of plan)) ≡ true },
 }
 
@@ -70,7 +71,7 @@ pub enum Stage {
     /// A statement looks at the tables.
     Looking(Statement),
     /// A statement that has its types begins its transaction.
-    Beginning(Plan),
+    Beginning(Kept<Plan>),
     /// A statement asks for cells and writes them.
     Running(Run),
     Committing,

@@ -17,6 +17,7 @@ ghost use Rattle.monkey_server.specs.Told.{Said, Entry, judged, session};
 ghost use Rattle.monkey_server.specs.Stands.{Advances, Continues, Fits, InPhase, owed_at, owed_after, outer, work_at, left_at, running_at, Lacks, KnowsTables, IsSoundStage, Follows, RunsFrom, IsKnownAfter, goes_on, IsBusy, IsRunning, IsHolding, NoBuilt, IsLast, answer_with, reply_of};
 
 use crate::call::Answer;
+use crate::kept::Kept;
 use crate::stage::{Owed, Reply, Run, Stage};
 use crate::turns::{Step, refusal};
 use cell_base::{Items, Memory, SqlState};
@@ -47,7 +48,7 @@ fn judge(alloc: Global, statement: &Statement, known: &[Table]) -> Result<Stage,
     ensures constant { IfOk result NoBuilt }
 {
     match typed(alloc, statement, known) {
-        Ok(t) => Ok(Stage::Beginning(Plan::new(alloc, t, known)?)),
+        Ok(t) => Ok(Stage::Beginning(Kept::new(Plan::new(alloc, t, known)?))),
         Err(TypeFault::State(code)) => Ok(Stage::Telling(false, Reply::Error(code))),
         Err(TypeFault::Memory) => Err(Memory),
     }
@@ -143,7 +144,7 @@ fn conclude(alloc: Global, outcome: &Outcome, built: &mut Vec<u8>) -> Step
 }
 
 // The step of a statement that runs on, or is done.
-fn settle(alloc: Global, plan: Plan, built: &mut Vec<u8>) -> Step
+fn settle(alloc: Global, plan: Kept<Plan>, built: &mut Vec<u8>) -> Step
     requires { EndsIn CanBeTold (rest_of plan) }
     ensures goes { Continues (rest_of plan) result.stage result.wanting built.new.items }
     ensures follows { (before : Stage) (a : Answer) → RunsFrom before a (rest_of plan) → Follows before a result.stage }
@@ -158,7 +159,7 @@ fn settle(alloc: Global, plan: Plan, built: &mut Vec<u8>) -> Step
     ensures phase { InPhase result.stage true }
     ensures some { IsHolding result.stage → 0 < length (reply_of built.new.items result.stage) }
 {
-    if let Demand::Reply(outcome) = plan.demand() {
+    if let Demand::Reply(outcome) = plan.get().demand() {
         return conclude(alloc, outcome, built);
     }
     Step {
@@ -168,7 +169,7 @@ fn settle(alloc: Global, plan: Plan, built: &mut Vec<u8>) -> Step
 }
 
 // The step of a statement behind the answer to its demand.
-fn go_on(alloc: Global, mut plan: Plan, answer: PlanAnswer, built: &mut Vec<u8>) -> Step
+fn go_on(alloc: Global, plan: Kept<Plan>, answer: PlanAnswer, built: &mut Vec<u8>) -> Step
     requires fits { FitsDemand (rest_of plan) answer }
     requires told { EndsIn CanBeTold (rest_of plan) }
     ensures goes { Continues (behind (rest_of plan) answer) result.stage result.wanting built.new.items }
@@ -184,8 +185,9 @@ fn go_on(alloc: Global, mut plan: Plan, answer: PlanAnswer, built: &mut Vec<u8>)
     ensures phase { InPhase result.stage true }
     ensures some { IsHolding result.stage → 0 < length (reply_of built.new.items result.stage) }
 {
+    let mut plan = plan.into_inner();
     match plan.answer(answer) {
-        Ok(()) => settle(alloc, plan, built),
+        Ok(()) => settle(alloc, Kept::new(plan), built),
         Err(Memory) => Step {
             stage: Stage::Undoing(SqlState::S53200),
             wanting: Some(false),
@@ -234,7 +236,7 @@ pub fn pursue(alloc: Global, run: Run, answer: Answer, built: &mut Vec<u8>) -> S
 }
 
 /// The step of a statement behind the answer to the begin of its transaction.
-pub fn start(alloc: Global, plan: Plan, answer: Answer, built: &mut Vec<u8>) -> Step
+pub fn start(alloc: Global, plan: Kept<Plan>, answer: Answer, built: &mut Vec<u8>) -> Step
     requires fits { Fits calls.Begin answer }
     requires told { EndsIn CanBeTold (rest_of plan) }
     ensures goes { (known : List Defined) → Advances (Stage.Beginning plan) known answer result.stage result.wanting built.new.items known }
