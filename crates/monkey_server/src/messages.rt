@@ -18,6 +18,7 @@ ghost use Rattle.monkey_server.specs.Told.{Said, Script, Entry, owed_by, answere
 ghost use Rattle.monkey_server.specs.Stands.{InPhase, owed_at, outer, work_at, Lacks, KnowsTables, IsSoundStage, goes_on, IsBusy, IsRunning, IsHolding, NoBuilt, Enters, IsNoQuery, reply_of};
 
 use crate::end::End;
+use crate::kept::Kept;
 use crate::stage::{Fatal, Finish, Owed, Reply, Stage};
 use crate::turns::Step;
 use crate::user::has_user;
@@ -88,8 +89,8 @@ fn begin_request(alloc: Global, request: Request, built: &mut Vec<u8>) -> Result
     ensures some { IfOk result (λ stage. IsHolding stage → 0 < length (reply_of built.new.items stage)) }
 {
     match request {
-        Request::Define(table) => Ok(Stage::Defining(table)),
-        Request::Look(statement) => Ok(Stage::Looking(statement)),
+        Request::Define(table) => Ok(Stage::Defining(Kept::new(table))),
+        Request::Look(statement) => Ok(Stage::Looking(Kept::new(statement))),
         Request::Alone(alone) => Ok(Stage::Telling(false, answer_at_once(alloc, alone, built)?)),
         Request::Refused(state) => Ok(Stage::Telling(false, Reply::Error(state))),
     }

@@ -219,7 +219,7 @@ fn answered_plain(
     match (stage, answer) {
         (Stage::Opening, Answer::Opened(session)) => greet(alloc, session, built),
         (Stage::Looking(statement), Answer::Looked(tables)) => {
-            look(alloc, statement, known, tables)
+            look(alloc, statement.get(), known, tables)
         }
         (stage, answer) => Step {
             stage: advance(stage, &answer),
@@ -310,7 +310,7 @@ impl Session {
         ensures sound { IsSound result.now }
     {
         match &self.stage {
-            Stage::Defining(table) => table,
+            Stage::Defining(table) => table.get(),
             _ => unreachable!(),
         }
     }

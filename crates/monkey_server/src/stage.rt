@@ -67,9 +67,9 @@ pub enum Stage {
     Waiting(bool),
     Opening,
     /// A CREATE TABLE defines its table.
-    Defining(Table),
+    Defining(Kept<Table>),
     /// A statement looks at the tables.
-    Looking(Statement),
+    Looking(Kept<Statement>),
     /// A statement that has its types begins its transaction.
     Beginning(Kept<Plan>),
     /// A statement asks for cells and writes them.
