@@ -53,6 +53,7 @@ is_short-entry answers.Closed e = refl
 is_short-entry (answers.Looked ts) e = refl
 is_short-entry (answers.Defined d) e = refl
 is_short-entry (answers.Begun n) e = refl
+is_short-entry (answers.Listed ks) e = refl
 is_short-entry (answers.Found v) e = refl
 is_short-entry answers.Written e = refl
 is_short-entry answers.Committed e = refl

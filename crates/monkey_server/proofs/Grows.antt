@@ -10,7 +10,9 @@ use Rattle.pg_framing.specs.Spelling.{spelling}
 use Rattle.pg_framing.specs.Fronts.{Held, HasFault}
 use Rattle.pg_framing.proofs.Numbers.{length-four_bytes}
 use Rattle.sql_tree.specs.declared.table.Table.{Table}
-use Rattle.monkey_server.specs.Calls.{Call}
+use Rattle.statement_course.specs.Course.{first_demand}
+use Rattle.cell_compile.specs.Plans.{rest_of}
+use Rattle.monkey_server.specs.Calls.{Call, call_for}
 use Rattle.monkey_server.specs.Calls as calls
 use Rattle.monkey_server.specs.declared.call.Answer.{Answer}
 use Rattle.monkey_server.specs.declared.call.Answer.TheVariants as answers
@@ -26,6 +28,7 @@ use Rattle.monkey_server.specs.Replies.{fatal_reply, fatal_state, bytes_of}
 use Rattle.monkey_server.specs.Talk.{Talk, asks, partial, faulty, unread, IsTalk}
 use Rattle.monkey_server.specs.Told.{Entry, short, unsent, stop, Said, Next, more, call, ended, done, lost, closing, ending, owed_by, session, stop_end, waiting, handled, told}
 use Rattle.monkey_server.specs.Stands.{goes_on, least, IsFrom, IsWaiting, StandsFor, IsBusy, LeadsTo, Feeds, Sends, with_short, Steps, Advances, Shows, wants, reply_of, IsHolding, broken, entry_for, owed_in, resumed, fatal_end, end_of}
+use Rattle.monkey_server.proofs.Running.{runs_asks}
 use Rattle.monkey_server.proofs.Passes.{eqb-ne, busy-last, least-busy, unless_short-takes, unless_unsent-passes, unless_unsent-takes, IsFrom-later, with_short-append, IsFrom-with_short, IsFrom-read, IsFed-last, IsFed-nothing, IsFed-back}
 
 -- with nothing more to come
@@ -51,12 +54,11 @@ Shows-stands (stages.Waiting o) built known held taken es asked sent s =
     shown (stages.Waiting o) built known held taken es asked sent (partial held.rest) more s (refl, (s.waits o refl).0, (s.waits o refl).1) refl
 Shows-stands stages.Opening built known held taken es asked sent s = shown stages.Opening built known held taken es asked sent unread (call calls.Open) s tt refl
 Shows-stands (stages.Defining t) built known held taken es asked sent s = shown (stages.Defining t) built known held taken es asked sent unread (call (calls.Define t)) s tt refl
-Shows-stands (stages.Looking q a) built known held taken es asked sent s = shown (stages.Looking q a) built known held taken es asked sent unread (call (calls.Look (length known))) s tt refl
-Shows-stands (stages.Beginning t a) built known held taken es asked sent s = shown (stages.Beginning t a) built known held taken es asked sent unread (call calls.Begin) s tt refl
-Shows-stands (stages.Checking t a) built known held taken es asked sent s = shown (stages.Checking t a) built known held taken es asked sent unread _ s tt refl
-Shows-stands (stages.Fetching t k) built known held taken es asked sent s = shown (stages.Fetching t k) built known held taken es asked sent unread _ s tt refl
-Shows-stands (stages.Marking t k v) built known held taken es asked sent s = shown (stages.Marking t k v) built known held taken es asked sent unread _ s tt refl
-Shows-stands (stages.Filling t k v) built known held taken es asked sent s = shown (stages.Filling t k v) built known held taken es asked sent unread _ s tt refl
+Shows-stands (stages.Looking q) built known held taken es asked sent s = shown (stages.Looking q) built known held taken es asked sent unread (call (calls.Look (length known))) s tt refl
+Shows-stands (stages.Beginning plan) built known held taken es asked sent s = shown (stages.Beginning plan) built known held taken es asked sent unread (call calls.Begin) s tt refl
+Shows-stands (stages.Running run) built known held taken es asked sent s =
+    shown (stages.Running run) built known held taken es asked sent unread (call (call_for (first_demand (rest_of run.plan)))) s tt
+    (runs_asks (rest_of run.plan) (session true known unread) (record { bytes = sent; calls = asked }) run.asks)
 Shows-stands stages.Committing built known held taken es asked sent s = shown stages.Committing built known held taken es asked sent unread (call calls.Commit) s tt refl
 Shows-stands (stages.Undoing f) built known held taken es asked sent s = shown (stages.Undoing f) built known held taken es asked sent unread (call calls.Rollback) s tt refl
 Shows-stands (stages.Telling p r) built known held taken es asked sent s = tt
@@ -76,24 +78,24 @@ pub StandsFor-turned : (opened : Bool) (built : List ℕ) (known : List Table) (
     ((talk : Talk) (more_es : List Entry) → IsFrom (least stage) (length sent) more_es →
     told (whole talk) (es ++ with_short w sent more_es) ≡ session opened known talk (record { bytes = sent; calls = asked }) (with_short w sent more_es)) →
     (IsHolding stage → 0 < length (reply_of built stage)) →
-    Steps opened known before stage w after → StandsFor stage built known after taken (es ++ with_short w sent []) asked sent
+    Steps opened known before stage w built after → StandsFor stage built known after taken (es ++ with_short w sent []) asked sent
 StandsFor-turned opened built known before after taken es asked sent stage w whole heard goes some steps = record {
   whole = λ talk. whole (steps.turns talk);
   heard = λ bytes talk fed h. heard bytes (steps.turns talk) (steps.heard bytes talk fed h);
   goes = λ talk more_es from.
       ap (told (whole (steps.turns talk))) (append_assoc es (with_short w sent []) more_es ∙ ap (λ x. es ++ x) (with_short-append w sent more_es))
       ∙ goes (steps.turns talk) more_es from
-      ∙ steps.goes built talk (record { bytes = sent; calls = asked }) more_es from;
+      ∙ steps.goes talk (record { bytes = sent; calls = asked }) more_es from;
   waits = steps.waits;
   some = some;
 }
 
-pub StandsFor-fed : (opened : Bool) (built : List ℕ) (known : List Table) (held before after : Held) (piece taken : List ℕ) (es : List Entry) (asked : List Call) (sent : List ℕ) (stage : Stage) (w : Option Bool) →
+pub StandsFor-fed : (opened : Bool) (built now_built : List ℕ) (known : List Table) (held before after : Held) (piece taken : List ℕ) (es : List Entry) (asked : List Call) (sent : List ℕ) (stage : Stage) (w : Option Bool) →
     before ≡ record held { rest = held.rest ++ piece } → StandsFor (stages.Waiting opened) built known held taken es asked sent →
-    (IsHolding stage → 0 < length (reply_of built stage)) →
-    Steps opened known before stage w after → StandsFor stage built known after (taken ++ piece) (es ++ with_short w sent []) asked sent
-StandsFor-fed opened built known held before after piece taken es asked sent stage w is s some steps =
-    StandsFor-turned opened built known before after (taken ++ piece) es asked sent stage w s.whole
+    (IsHolding stage → 0 < length (reply_of now_built stage)) →
+    Steps opened known before stage w now_built after → StandsFor stage now_built known after (taken ++ piece) (es ++ with_short w sent []) asked sent
+StandsFor-fed opened built now_built known held before after piece taken es asked sent stage w is s some steps =
+    StandsFor-turned opened now_built known before after (taken ++ piece) es asked sent stage w s.whole
     (λ bytes talk h. subst (λ (x : List ℕ). IsTalk false x (s.whole talk)) (sym (append_assoc taken piece bytes))
     (s.heard (piece ++ bytes) talk tt
     (subst (λ (x : List ℕ). IsTalk held.started x talk) (append_assoc held.rest piece bytes)
@@ -109,17 +111,17 @@ session-short opened known (faulty f) said es = unless_short-takes true (ending 
 session-short opened known unread said es = unless_short-takes true (ending (owed_by opened) ends.Memory) lost said es
 
 -- the feeding itself met want of memory
-pub StandsFor-no_memory : (opened : Bool) (built : List ℕ) (known : List Table) (held : Held) (piece taken : List ℕ) (es : List Entry) (asked : List Call) (sent : List ℕ) (stage : Stage) →
-    StandsFor (stages.Waiting opened) built known held taken es asked sent → (IsHolding stage → 0 < length (reply_of built stage)) → LeadsTo stage (ending (owed_by opened) ends.Memory) →
-    StandsFor stage built known held (taken ++ piece) (es ++ short true (length sent) ∷ []) asked sent
-StandsFor-no_memory opened built known held piece taken es asked sent stage s some leads = record {
+pub StandsFor-no_memory : (opened : Bool) (built now_built : List ℕ) (known : List Table) (held : Held) (piece taken : List ℕ) (es : List Entry) (asked : List Call) (sent : List ℕ) (stage : Stage) →
+    StandsFor (stages.Waiting opened) built known held taken es asked sent → (IsHolding stage → 0 < length (reply_of now_built stage)) → LeadsTo stage (ending (owed_by opened) ends.Memory) →
+    StandsFor stage now_built known held (taken ++ piece) (es ++ short true (length sent) ∷ []) asked sent
+StandsFor-no_memory opened built now_built known held piece taken es asked sent stage s some leads = record {
   whole = λ talk. s.whole unread;
   heard = λ bytes talk fed h. subst (λ (x : List ℕ). IsTalk false x (s.whole unread)) (sym (append_assoc taken piece bytes)) (s.heard (piece ++ bytes) unread tt tt);
   goes = λ talk more_es from.
       ap (told (s.whole unread)) (append_assoc es (short true (length sent) ∷ []) more_es)
       ∙ s.goes unread (short true (length sent) ∷ more_es) (omega arith)
       ∙ session-short opened known unread (record { bytes = sent; calls = asked }) more_es
-      ∙ leads.1 built known talk (record { bytes = sent; calls = asked }) more_es;
+      ∙ leads.1 now_built known talk (record { bytes = sent; calls = asked }) more_es;
   waits = λ o is. absurd (subst IsBusy is (busy-last stage leads.0));
   some = some;
 }
@@ -144,11 +146,11 @@ StandsFor-answered stage next built now_built known now_known held taken es aske
   some = some;
 }
 
-pub StandsFor-told : (p : Bool) (r : Reply) (built : List ℕ) (known : List Table) (held : Held) (taken : List ℕ) (es : List Entry) (asked : List Call) (sent : List ℕ) (stage : Stage) →
-    StandsFor (stages.Telling p r) built known held taken es asked sent → (IsHolding stage → 0 < length (reply_of built stage)) → IsBusy stage →
-    ((talk : Talk) (said : Said) (more_es : List Entry) → resumed p (session true known talk) said more_es ≡ goes_on stage built known talk said more_es) →
-    StandsFor stage built known held taken es asked (sent ++ bytes_of built r)
-StandsFor-told p r built known held taken es asked sent stage s some busy resumes = record {
+pub StandsFor-told : (p : Bool) (r : Reply) (built now_built : List ℕ) (known : List Table) (held : Held) (taken : List ℕ) (es : List Entry) (asked : List Call) (sent : List ℕ) (stage : Stage) →
+    StandsFor (stages.Telling p r) built known held taken es asked sent → (IsHolding stage → 0 < length (reply_of now_built stage)) → IsBusy stage →
+    ((talk : Talk) (said : Said) (more_es : List Entry) → resumed p (session true known talk) said more_es ≡ goes_on stage now_built known talk said more_es) →
+    StandsFor stage now_built known held taken es asked (sent ++ bytes_of built r)
+StandsFor-told p r built now_built known held taken es asked sent stage s some busy resumes = record {
   whole = s.whole;
   heard = λ bytes talk fed h. s.heard bytes talk tt h;
   goes = λ talk more_es from.
@@ -159,21 +161,21 @@ StandsFor-told p r built known held taken es asked sent stage s some busy resume
   some = some;
 }
 
-pub StandsFor-settled : (r : Reply) (built : List ℕ) (known : List Table) (before after : Held) (taken : List ℕ) (es : List Entry) (asked : List Call) (sent : List ℕ) (stage : Stage) (w : Option Bool) →
-    StandsFor (stages.Settling r) built known before taken es asked sent → (IsHolding stage → 0 < length (reply_of built stage)) → Steps true known before stage w after →
-    StandsFor stage built known after taken (es ++ with_short w (sent ++ bytes_of built r) []) asked (sent ++ bytes_of built r)
-StandsFor-settled r built known before after taken es asked sent stage w s some steps =
+pub StandsFor-settled : (r : Reply) (built now_built : List ℕ) (known : List Table) (before after : Held) (taken : List ℕ) (es : List Entry) (asked : List Call) (sent : List ℕ) (stage : Stage) (w : Option Bool) →
+    StandsFor (stages.Settling r) built known before taken es asked sent → (IsHolding stage → 0 < length (reply_of now_built stage)) → Steps true known before stage w now_built after →
+    StandsFor stage now_built known after taken (es ++ with_short w (sent ++ bytes_of built r) []) asked (sent ++ bytes_of built r)
+StandsFor-settled r built now_built known before after taken es asked sent stage w s some steps =
     let now : List ℕ = sent ++ bytes_of built r in
-    StandsFor-turned true built known before after taken es asked now stage w s.whole
+    StandsFor-turned true now_built known before after taken es asked now stage w s.whole
     (λ bytes talk h. s.heard bytes talk tt h)
     (λ talk more_es from.
     s.goes talk (with_short w now more_es) (IsFrom-read w sent (bytes_of built r) (least stage) more_es (s.some tt) from)
     ∙ unless_unsent-passes (closing ends.WriteFault) (session true known talk) (record { bytes = now; calls = asked }) 0 (with_short w now more_es) (IsFrom-with_short w now (least stage) more_es from))
     some steps
 
-pub StandsFor-parted : (fatal : Fatal) (built : List ℕ) (known : List Table) (held : Held) (taken : List ℕ) (es : List Entry) (asked : List Call) (sent : List ℕ) →
-    StandsFor (stages.Parting fatal) built known held taken es asked sent → StandsFor (stages.Ended (finishes.Fatal fatal)) built known held taken es asked (sent ++ fatal_reply (fatal_state fatal))
-StandsFor-parted fatal built known held taken es asked sent s = record {
+pub StandsFor-parted : (fatal : Fatal) (built now_built : List ℕ) (known : List Table) (held : Held) (taken : List ℕ) (es : List Entry) (asked : List Call) (sent : List ℕ) →
+    StandsFor (stages.Parting fatal) built known held taken es asked sent → StandsFor (stages.Ended (finishes.Fatal fatal)) now_built known held taken es asked (sent ++ fatal_reply (fatal_state fatal))
+StandsFor-parted fatal built now_built known held taken es asked sent s = record {
   whole = s.whole;
   heard = λ bytes talk fed h. s.heard bytes talk fed h;
   goes = λ talk more_es from.
@@ -280,55 +282,55 @@ StandsFor-new built = record {
 }
 
 -- a reply that was sent, whichever stage held it
-pub sent_telling : (stage next : Stage) (built : List ℕ) (known : List Table) (held : Held) (taken : List ℕ) (es : List Entry) (asked : List Call) (sent : List ℕ) (p : Bool) (r : Reply) →
-    stage ≡ stages.Telling p r → StandsFor stage built known held taken es asked sent → (IsHolding next → 0 < length (reply_of built next)) → IsBusy next →
-    ((talk : Talk) (said : Said) (more_es : List Entry) → resumed p (session true known talk) said more_es ≡ goes_on next built known talk said more_es) →
-    StandsFor next built known held taken (es ++ []) asked (sent ++ reply_of built stage)
-sent_telling stage next built known held taken es asked sent p r is s some busy resumes =
-    subst (λ (x : List Entry). StandsFor next built known held taken x asked (sent ++ reply_of built stage)) (sym (append-nil es))
-    (subst (λ (x : Stage). StandsFor next built known held taken es asked (sent ++ reply_of built x)) (sym is)
-    (StandsFor-told p r built known held taken es asked sent next (subst (λ (x : Stage). StandsFor x built known held taken es asked sent) is s) some busy resumes))
+pub sent_telling : (stage next : Stage) (built now_built : List ℕ) (known : List Table) (held : Held) (taken : List ℕ) (es : List Entry) (asked : List Call) (sent : List ℕ) (p : Bool) (r : Reply) →
+    stage ≡ stages.Telling p r → StandsFor stage built known held taken es asked sent → (IsHolding next → 0 < length (reply_of now_built next)) → IsBusy next →
+    ((talk : Talk) (said : Said) (more_es : List Entry) → resumed p (session true known talk) said more_es ≡ goes_on next now_built known talk said more_es) →
+    StandsFor next now_built known held taken (es ++ []) asked (sent ++ reply_of built stage)
+sent_telling stage next built now_built known held taken es asked sent p r is s some busy resumes =
+    subst (λ (x : List Entry). StandsFor next now_built known held taken x asked (sent ++ reply_of built stage)) (sym (append-nil es))
+    (subst (λ (x : Stage). StandsFor next now_built known held taken es asked (sent ++ reply_of built x)) (sym is)
+    (StandsFor-told p r built now_built known held taken es asked sent next (subst (λ (x : Stage). StandsFor x built known held taken es asked sent) is s) some busy resumes))
 
-pub sent_settling : (stage next : Stage) (built : List ℕ) (known : List Table) (held after : Held) (taken : List ℕ) (es : List Entry) (asked : List Call) (sent : List ℕ) (r : Reply) (w : Option Bool) →
-    stage ≡ stages.Settling r → StandsFor stage built known held taken es asked sent → (IsHolding next → 0 < length (reply_of built next)) → Steps true known held next w after →
-    StandsFor next built known after taken (es ++ with_short w (sent ++ reply_of built stage) []) asked (sent ++ reply_of built stage)
-sent_settling stage next built known held after taken es asked sent r w is s some steps =
-    subst (λ (x : Stage). StandsFor next built known after taken (es ++ with_short w (sent ++ reply_of built x) []) asked (sent ++ reply_of built x)) (sym is)
-    (StandsFor-settled r built known held after taken es asked sent next w (subst (λ (x : Stage). StandsFor x built known held taken es asked sent) is s) some steps)
+pub sent_settling : (stage next : Stage) (built now_built : List ℕ) (known : List Table) (held after : Held) (taken : List ℕ) (es : List Entry) (asked : List Call) (sent : List ℕ) (r : Reply) (w : Option Bool) →
+    stage ≡ stages.Settling r → StandsFor stage built known held taken es asked sent → (IsHolding next → 0 < length (reply_of now_built next)) → Steps true known held next w now_built after →
+    StandsFor next now_built known after taken (es ++ with_short w (sent ++ reply_of built stage) []) asked (sent ++ reply_of built stage)
+sent_settling stage next built now_built known held after taken es asked sent r w is s some steps =
+    subst (λ (x : Stage). StandsFor next now_built known after taken (es ++ with_short w (sent ++ reply_of built x) []) asked (sent ++ reply_of built x)) (sym is)
+    (StandsFor-settled r built now_built known held after taken es asked sent next w (subst (λ (x : Stage). StandsFor x built known held taken es asked sent) is s) some steps)
 
-pub sent_parting : (stage : Stage) (built : List ℕ) (known : List Table) (held : Held) (taken : List ℕ) (es : List Entry) (asked : List Call) (sent : List ℕ) (fatal : Fatal) →
-    stage ≡ stages.Parting fatal → StandsFor stage built known held taken es asked sent → StandsFor (stages.Ended (finishes.Fatal fatal)) built known held taken (es ++ []) asked (sent ++ reply_of built stage)
-sent_parting stage built known held taken es asked sent fatal is s =
-    subst (λ (x : List Entry). StandsFor (stages.Ended (finishes.Fatal fatal)) built known held taken x asked (sent ++ reply_of built stage)) (sym (append-nil es))
-    (subst (λ (x : Stage). StandsFor (stages.Ended (finishes.Fatal fatal)) built known held taken es asked (sent ++ reply_of built x)) (sym is)
-    (StandsFor-parted fatal built known held taken es asked sent (subst (λ (x : Stage). StandsFor x built known held taken es asked sent) is s)))
+pub sent_parting : (stage : Stage) (built now_built : List ℕ) (known : List Table) (held : Held) (taken : List ℕ) (es : List Entry) (asked : List Call) (sent : List ℕ) (fatal : Fatal) →
+    stage ≡ stages.Parting fatal → StandsFor stage built known held taken es asked sent → StandsFor (stages.Ended (finishes.Fatal fatal)) now_built known held taken (es ++ []) asked (sent ++ reply_of built stage)
+sent_parting stage built now_built known held taken es asked sent fatal is s =
+    subst (λ (x : List Entry). StandsFor (stages.Ended (finishes.Fatal fatal)) now_built known held taken x asked (sent ++ reply_of built stage)) (sym (append-nil es))
+    (subst (λ (x : Stage). StandsFor (stages.Ended (finishes.Fatal fatal)) now_built known held taken es asked (sent ++ reply_of built x)) (sym is)
+    (StandsFor-parted fatal built now_built known held taken es asked sent (subst (λ (x : Stage). StandsFor x built known held taken es asked sent) is s)))
 
 -- a piece that came in
-pub StandsFor-piece : (opened : Bool) (built : List ℕ) (known : List Table) (held after : Held) (piece taken : List ℕ) (es : List Entry) (asked : List Call) (sent : List ℕ) (stage : Stage) (w : Option Bool) →
-    Feeds opened piece held stage w after → StandsFor (stages.Waiting opened) built known held taken es asked sent → (IsHolding stage → 0 < length (reply_of built stage)) →
-    StandsFor stage built known after (taken ++ piece) (es ++ with_short w sent []) asked sent
-StandsFor-piece opened built known held after piece taken es asked sent stage w (inl steps) s some =
-    StandsFor-fed opened built known held (record held { rest = held.rest ++ piece }) after piece taken es asked sent stage w refl s some (steps known)
-StandsFor-piece opened built known held after piece taken es asked sent stage w (inr (same, is, leads)) s some =
-    subst (λ (x : Held). StandsFor stage built known x (taken ++ piece) (es ++ with_short w sent []) asked sent) (sym same)
-    (subst (λ (v : Option Bool). StandsFor stage built known held (taken ++ piece) (es ++ with_short v sent []) asked sent) (sym is)
-    (StandsFor-no_memory opened built known held piece taken es asked sent stage s some leads))
+pub StandsFor-piece : (opened : Bool) (built now_built : List ℕ) (known : List Table) (held after : Held) (piece taken : List ℕ) (es : List Entry) (asked : List Call) (sent : List ℕ) (stage : Stage) (w : Option Bool) →
+    Feeds opened piece held stage w now_built after → StandsFor (stages.Waiting opened) built known held taken es asked sent → (IsHolding stage → 0 < length (reply_of now_built stage)) →
+    StandsFor stage now_built known after (taken ++ piece) (es ++ with_short w sent []) asked sent
+StandsFor-piece opened built now_built known held after piece taken es asked sent stage w (inl steps) s some =
+    StandsFor-fed opened built now_built known held (record held { rest = held.rest ++ piece }) after piece taken es asked sent stage w refl s some (steps known)
+StandsFor-piece opened built now_built known held after piece taken es asked sent stage w (inr (same, is, leads)) s some =
+    subst (λ (x : Held). StandsFor stage now_built known x (taken ++ piece) (es ++ with_short w sent []) asked sent) (sym same)
+    (subst (λ (v : Option Bool). StandsFor stage now_built known held (taken ++ piece) (es ++ with_short v sent []) asked sent) (sym is)
+    (StandsFor-no_memory opened built now_built known held piece taken es asked sent stage s some leads))
 
 -- a reply that was sent
-pub StandsFor-sent : (stage next : Stage) (built : List ℕ) (known : List Table) (held after : Held) (taken : List ℕ) (es : List Entry) (asked : List Call) (sent : List ℕ) (w : Option Bool) →
-    Sends stage held next w after → StandsFor stage built known held taken es asked sent → (IsHolding next → 0 < length (reply_of built next)) →
-    StandsFor next built known after taken (es ++ with_short w (sent ++ reply_of built stage) []) asked (sent ++ reply_of built stage)
-StandsFor-sent (stages.Telling p r) next built known held after taken es asked sent w (is, same, busy, resumes) s some =
+pub StandsFor-sent : (stage next : Stage) (built now_built : List ℕ) (known : List Table) (held after : Held) (taken : List ℕ) (es : List Entry) (asked : List Call) (sent : List ℕ) (w : Option Bool) →
+    Sends stage held next w now_built after → StandsFor stage built known held taken es asked sent → (IsHolding next → 0 < length (reply_of now_built next)) →
+    StandsFor next now_built known after taken (es ++ with_short w (sent ++ reply_of built stage) []) asked (sent ++ reply_of built stage)
+StandsFor-sent (stages.Telling p r) next built now_built known held after taken es asked sent w (is, same, busy, resumes) s some =
     let now : List ℕ = sent ++ bytes_of built r in
-    subst (λ (x : Held). StandsFor next built known x taken (es ++ with_short w now []) asked now) (sym same)
-    (subst (λ (v : Option Bool). StandsFor next built known held taken (es ++ with_short v now []) asked now) (sym is)
-    (sent_telling (stages.Telling p r) next built known held taken es asked sent p r refl s some busy (resumes built known)))
-StandsFor-sent (stages.Settling r) next built known held after taken es asked sent w steps s some =
-    sent_settling (stages.Settling r) next built known held after taken es asked sent r w refl s some (steps known)
-StandsFor-sent (stages.Parting f) next built known held after taken es asked sent w (is, same, ended_is) s some =
+    subst (λ (x : Held). StandsFor next now_built known x taken (es ++ with_short w now []) asked now) (sym same)
+    (subst (λ (v : Option Bool). StandsFor next now_built known held taken (es ++ with_short v now []) asked now) (sym is)
+    (sent_telling (stages.Telling p r) next built now_built known held taken es asked sent p r refl s some busy (resumes known)))
+StandsFor-sent (stages.Settling r) next built now_built known held after taken es asked sent w steps s some =
+    sent_settling (stages.Settling r) next built now_built known held after taken es asked sent r w refl s some (steps known)
+StandsFor-sent (stages.Parting f) next built now_built known held after taken es asked sent w (is, same, ended_is) s some =
     let now : List ℕ = sent ++ fatal_reply (fatal_state f) in
-    subst (λ (x : Held). StandsFor next built known x taken (es ++ with_short w now []) asked now) (sym same)
-    (subst (λ (v : Option Bool). StandsFor next built known held taken (es ++ with_short v now []) asked now) (sym is)
-    (subst (λ (x : Stage). StandsFor x built known held taken (es ++ []) asked now) (sym ended_is)
-    (sent_parting (stages.Parting f) built known held taken es asked sent f refl s)))
-StandsFor-sent _ next built known held after taken es asked sent w h s some = absurd h
+    subst (λ (x : Held). StandsFor next now_built known x taken (es ++ with_short w now []) asked now) (sym same)
+    (subst (λ (v : Option Bool). StandsFor next now_built known held taken (es ++ with_short v now []) asked now) (sym is)
+    (subst (λ (x : Stage). StandsFor x now_built known held taken (es ++ []) asked now) (sym ended_is)
+    (sent_parting (stages.Parting f) built now_built known held taken es asked sent f refl s)))
+StandsFor-sent _ next built now_built known held after taken es asked sent w h s some = absurd h

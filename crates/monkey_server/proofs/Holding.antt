@@ -16,8 +16,8 @@ settling_not_built : (r : Reply) → NoBuilt (stages.Settling r) → r ≡ repli
 settling_not_built replies.Built h e = h
 settling_not_built _ h e = cc e
 
-pub holding-some : (built : List ℕ) (stage : Stage) → NoBuilt stage → IsHolding stage → 0 < length (reply_of built stage)
-holding-some built (stages.Telling p r) h k = bytes_of-some built r (telling_not_built p r h)
-holding-some built (stages.Settling r) h k = bytes_of-some built r (settling_not_built r h)
-holding-some built (stages.Parting f) h k = fatal-some (fatal_state f)
-holding-some built _ h k = absurd k
+pub holding_some : (built : List ℕ) (stage : Stage) → NoBuilt stage → IsHolding stage → 0 < length (reply_of built stage)
+holding_some built (stages.Telling p r) h k = bytes_of-some built r (telling_not_built p r h)
+holding_some built (stages.Settling r) h k = bytes_of-some built r (settling_not_built r h)
+holding_some built (stages.Parting f) h k = fatal-some (fatal_state f)
+holding_some built _ h k = absurd k

@@ -8,9 +8,9 @@ pub mod Digits
 pub mod Commas
 pub mod LastUser
 pub mod Texts
-pub mod Lengths
 pub mod Somes
 pub mod Holding
 pub mod Flags
+pub mod Running
 pub mod Playing
 pub mod Words

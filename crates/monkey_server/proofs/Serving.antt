@@ -1,8 +1,10 @@
 -- A run over a link goes on.
-use Rattle.std.proofs.Common.{◌≡◌, ◌↔◌, IfSome, Bool, true, false, ℕ, ◌+◌, ◌≤◌, List, [], ◌∷◌, ◌++◌, length, take, refl, sym, ◌∙◌, ap, subst, arith, Option, Some, None, length-append}
+use Rattle.std.proofs.Common.{◌≡◌, ◌↔◌, IfSome, Bool, true, false, ℕ, ◌+◌, ◌≤◌, List, [], ◌∷◌, ◌++◌, length, take, refl, sym, ◌∙◌, ap, subst, arith, Option, Some, None, length-append, All}
 use Rattle.std.proofs.lemmas.List.{append-nil}
+use Rattle.std.proofs.lemmas.List.Elements.{All-nil}
 use Rattle.std.proofs.lemmas.Grind.{common_steps}
 use Rattle.sql_tree.specs.declared.table.Table.{Table}
+use Rattle.sound_table.specs.Sound.{IsSound}
 use Rattle.link_traits.specs.Faults.{Rose}
 use Rattle.link_traits.specs.Traffic.{Traffic, Took, Wrote, Both, Sight}
 use Rattle.history_core.specs.declared.event.Event.{Event}
@@ -22,8 +24,9 @@ use Rattle.monkey_server.specs.Calls as calls
 use Rattle.monkey_server.specs.Talk.{Talk, IsTalk, unread}
 use Rattle.monkey_server.specs.Told.{Entry, ended, short, unsent, stop, more, told, has_short}
 use Rattle.monkey_server.specs.Sessions.{Stands, StandsShort}
-use Rattle.monkey_server.specs.Stands.{IsReading, KnowsTable, DefinesSound, Lacks, LacksBy, owed_at, outer_end, IsStopped, outer, end_of, wants, IsHolding, entry_for, Shows, IsResting, IsLast, IsOver}
-use Rattle.monkey_server.specs.Serve.{Plays, Carries, IsAtEnd, Blames, Ran, Serves, Sits, owed_of, most_read}
+use Rattle.monkey_server.specs.Stands.{IsRunning, KnowsTables, IsSoundStage, Lacks, LacksBy, owed_at, outer_end, IsStopped, outer, end_of, wants, IsHolding, entry_for, Shows, IsResting, IsLast, IsOver}
+use Rattle.monkey_server.specs.Serve.{Plays, Carries, IsAtEnd, Blames, Ran, Serves, Sits, IsUnwrittenAt, owed_of, most_read}
+use Rattle.monkey_server.proofs.Playing.{unwritten_calm}
 use Rattle.monkey_server.proofs.Grows.{Shows-stands}
 use Rattle.monkey_server.proofs.Lawfuls.{Lawful-plays, Lawful-short, Lawful-quiet, own_events}
 use Rattle.monkey_server.proofs.Carrying.{Carries-record, Carries-wrote, Carries-took, Both-then, Both-weaker, Blames-same, Blames-none, Blames-wrote}
@@ -228,9 +231,9 @@ stage_over (stages.Ended e) known end w = (e, refl, cc w)
 stage_over _ known end w = absurd (cc w)
 
 pub Serves-ran : {W : Type 0} (gives : W → ℕ → W → Type 0) (p : Past) (v : W) (f : Sight) (s : Session) (end : End) (wanting : Bool) (q : Past) (w : W) (g : Sight) (many : ℕ) →
-    wants s.stage s.known.items ≡ calls.Ended end → ((taken : List ℕ) (es : List Entry) (asked : List Call) (sent : List ℕ) → Stands s taken es asked sent → wanting ≡ has_short es) → Ran gives p v f s q w g many →
+    many ≤ most_read → wants s.stage s.known.items ≡ calls.Ended end → ((taken : List ℕ) (es : List Entry) (asked : List Call) (sent : List ℕ) → Stands s taken es asked sent → wanting ≡ has_short es) → Ran gives p v f s q w g many →
     (talk : Talk) × (taken : List ℕ) × (es : List Entry) × (asked : List Call) × (sent : List ℕ) × (lost : List ℕ) × Serves gives p v f end wanting q w g talk taken es asked sent lost
-Serves-ran gives p v f s end wanting q w g many over flag ran =
+Serves-ran gives p v f s end wanting q w g many within over flag ran =
     let (taken, es, asked, sent, lost, many_is, run) = ran in
     let (finish, is, end_is) = stage_over s.stage s.known.items end over in
     let shows : Shows (calls.Ended end) taken es asked sent = subst (λ (x : Want). Shows x taken es asked sent) over (Shows-stands s.stage s.built.items s.known.items s.frames taken es asked sent run.stands.0) in (
@@ -241,6 +244,7 @@ Serves-ran gives p v f s end wanting q w g many over flag ran =
       sent,
       lost,
       record {
+        within = omega (arith, many_is, within);
         talk_is = shows.1;
         told_is = shows.2;
         lawful = run.lawful;
@@ -297,20 +301,22 @@ at_end n (Some a) (Some b) e h k = sym k.left ∙ h.0 e
 pub sits_new : (stage : Stage) (known : List Table) (p : Past) → stage ≡ stages.Waiting false → known ≡ [] → p.seat ≡ away → Sits stage known p
 sits_new stage known p is none seat = record {
   owed = ap owed_of seat ∙ sym (ap owed_at is);
-  unwritten = λ _. ap writes_of seat;
+  unwritten = subst (λ (x : Stage). IsUnwrittenAt x known p.seat) (sym is) tt;
   known_tables = omega (arith, ap length none);
-  knows = subst (λ (x : Stage). KnowsTable x known) (sym is) tt;
-  sound = subst DefinesSound (sym is) tt;
+  knows = subst (λ (x : Stage). KnowsTables x known) (sym is) tt;
+  sound = subst IsSoundStage (sym is) tt;
+  tables = subst (λ (ts : List Table). All IsSound ts) (sym none) (All-nil IsSound);
 }
 
 -- behind a reply that was sent the book sits as before
-pub sits_sent : (stage next : Stage) (known after : List Table) (p : Past) → Sits stage known p → owed_at next ≡ owed_at stage → after ≡ known → (IsReading next → ⊥) → KnowsTable next after → DefinesSound next → Sits next after p
+pub sits_sent : (stage next : Stage) (known after : List Table) (p : Past) → Sits stage known p → owed_at next ≡ owed_at stage → after ≡ known → (IsRunning next → ⊥) → KnowsTables next after → IsSoundStage next → Sits next after p
 sits_sent stage next known after p s owed same silent knows sound = record {
   owed = s.owed ∙ sym owed;
-  unwritten = λ r. absurd (silent r);
+  unwritten = unwritten_calm next after p.seat silent;
   known_tables = omega (arith, s.known_tables, ap length same);
   knows = knows;
   sound = sound;
+  tables = subst (λ (ts : List Table). All IsSound ts) (sym same) s.tables;
 }
 
 is_away : (seat : Seat) → owed_of seat ≡ owes.Nothing → seat ≡ away
@@ -342,6 +348,7 @@ Serves-none gives p v f = (
   [],
   [],
   record {
+    within = omega arith;
     talk_is = tt;
     told_is = told_short;
     lawful = Lawful-quiet gives p v [] [] p v (short true 0) tt (refl, refl);

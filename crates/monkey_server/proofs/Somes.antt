@@ -1,12 +1,14 @@
 -- Each reply has bytes.
 use Rattle.std.proofs.Common.{◌≡◌, ℕ, ◌<◌, Bool, List, ◌++◌, length, refl, arith, length-append}
 use Rattle.cell_base.specs.declared.sql_state.SqlState.{SqlState}
-use Rattle.cell_base.specs.declared.value.Value.{Value}
 use Rattle.sql_tree.specs.declared.table.OutField.{OutField}
+use Rattle.statement_course.specs.declared.demand.Outcome.{Outcome}
+use Rattle.statement_course.specs.declared.demand.Outcome.TheVariants.{Rows, Inserted, Updated, Deleted, Failed}
+use Rattle.outcome_replies.specs.Replies.{outcome_reply}
 use Rattle.pg_framing.specs.Replies.{framed, auth_ok, ready, row_description, command_complete, error_response}
 use Rattle.monkey_server.specs.declared.stage.Reply.{Reply}
 use Rattle.monkey_server.specs.declared.stage.Reply.TheVariants as replies
-use Rattle.monkey_server.specs.Replies.{startup_reply, ready_reply, created_reply, inserted_reply, no_row_reply, one_row_reply, error_reply, fatal_reply, bytes_of}
+use Rattle.monkey_server.specs.Replies.{startup_reply, ready_reply, created_reply, error_reply, fatal_reply, bytes_of}
 
 framed-some : (kind : ℕ) (body : List ℕ) → 0 < length (framed kind body)
 unfolding framed
@@ -22,10 +24,6 @@ complete-some tag = framed-some _ _
 report-some : (fatal : Bool) (state : SqlState) → 0 < length (error_response fatal state)
 unfolding error_response
 report-some fatal state = framed-some _ _
-
-described-some : (fields : List OutField) → 0 < length (row_description fields)
-unfolding row_description
-described-some fields = framed-some _ _
 
 accepted-some : 0 < length auth_ok
 unfolding auth_ok
@@ -43,31 +41,29 @@ pub created-some : 0 < length created_reply
 unfolding created_reply
 created-some = complete-some _
 
-pub inserted-some : 0 < length inserted_reply
-unfolding inserted_reply
-inserted-some = complete-some _
-
-pub no_row-some : 0 < length no_row_reply
-unfolding no_row_reply
-no_row-some = first-some _ _ (described-some _)
-
-pub one_row-some : (value : Value) → 0 < length (one_row_reply value)
-unfolding one_row_reply
-one_row-some value = first-some _ _ (described-some _)
-
-pub error-some : (state : SqlState) → 0 < length (error_reply state)
+pub error_some : (state : SqlState) → 0 < length (error_reply state)
 unfolding error_reply
-error-some state = report-some _ state
+error_some state = report-some _ state
 
 pub fatal-some : (state : SqlState) → 0 < length (fatal_reply state)
 unfolding fatal_reply
 fatal-some state = report-some _ state
 
+described-some : (fields : List OutField) → 0 < length (row_description fields)
+unfolding row_description
+described-some fields = framed-some _ _
+
+pub outcome_some : (outcome : Outcome) → 0 < length (outcome_reply outcome)
+unfolding outcome_reply
+outcome_some (Rows fields rows) = first-some _ _ (described-some fields)
+outcome_some (Inserted n) = complete-some _
+outcome_some (Updated n) = complete-some _
+outcome_some (Deleted n) = complete-some _
+outcome_some (Failed code) = report-some _ code
+
 -- each reply but one that was built
 pub bytes_of-some : (built : List ℕ) (reply : Reply) → (reply ≡ replies.Built → ⊥) → 0 < length (bytes_of built reply)
 bytes_of-some built replies.Built other = absurd (other refl)
 bytes_of-some built replies.Created other = created-some
-bytes_of-some built replies.Inserted other = inserted-some
-bytes_of-some built replies.NoRow other = no_row-some
 bytes_of-some built replies.Ready other = ready-some
-bytes_of-some built (replies.Error state) other = error-some state
+bytes_of-some built (replies.Error state) other = error_some state

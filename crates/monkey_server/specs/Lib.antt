@@ -1,6 +1,5 @@
 pub mod Users
 pub mod Calls
-pub mod Tables
 pub mod Talk
 pub mod Replies
 pub mod Told

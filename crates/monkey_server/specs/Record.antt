@@ -1,12 +1,13 @@
 -- When a session's record is lawful: its calls were made of the book one after another, and each entry is what came of its call.
-use Rattle.std.specs.Prelude.{◌≡◌, ℕ, List, [], ◌∷◌, length, Option, Some}
+use Rattle.std.specs.Prelude.{◌≡◌, ◌≢◌, ℕ, List, [], ◌∷◌, length, Contains, Option, Some}
 use Rattle.history_core.specs.declared.event.Event.{Event}
-use Rattle.history_core.specs.declared.event.Event.TheVariants.{Open, Close, Define, Look, Begin, Read, Write, Commit, Rollback}
+use Rattle.history_core.specs.declared.event.Event.TheVariants.{Open, Close, Define, Look, Begin, Scan, Read, Write, Commit, Rollback}
 use Rattle.history_core.specs.declared.fault.Limit.{Limit}
+use Rattle.history_core.specs.declared.fault.Limit.TheVariants as limits
 use Rattle.history_core.specs.declared.fault.BookFault.{BookFault}
 use Rattle.history_core.specs.declared.fault.BookFault.TheVariants as faults
 use Rattle.history_core.specs.declared.fault.DefineAnswer.TheVariants as defines
-use Rattle.history_core.specs.Events.{begun}
+use Rattle.history_core.specs.Events.{begun, names}
 use Rattle.history_core.specs.Legal.{full_for, full_load}
 use Rattle.history_core.specs.Book.{Past, session_of, Adds, GoesOn, AnswersTables, AnswersDefine}
 use Rattle.monkey_server.specs.Calls.{Call}
@@ -28,9 +29,14 @@ may_be_refused calls.Commit = ⊥
 may_be_refused calls.Rollback = ⊥
 may_be_refused _ = Unit {0}
 
+-- a definition that is refused for another limit than the load has a new name
+abbrev pub HasNewName : Past → Call → Limit → Type 0
+HasNewName past (calls.Define table) limit = limit ≢ limits.Load → ¬ (Contains (names past.seen.events) table.name)
+HasNewName past _ limit = Unit {0}
+
 -- A call is refused: no event is made, and where the answer is Full the history is full for it.
 abbrev pub Declines : Past → Call → BookFault → Past → Type 0
-Declines old c (faults.Full limit) new = may_be_refused c × GoesOn old new × (limit_for new c ≡ Some limit)
+Declines old c (faults.Full limit) new = may_be_refused c × GoesOn old new × (limit_for new c ≡ Some limit) × HasNewName new c limit
 Declines old c faults.Memory new = may_be_refused c × GoesOn old new
 
 -- A call is answered: its one event is made, and holds the answer.
@@ -41,6 +47,7 @@ Happens old (calls.Look known) (answers.Looked tables) e new = (e ≡ Look (sess
 Happens old (calls.Define table) (answers.Defined (defines.Defined n)) e new = (e ≡ Define (session_of old.seat) table.name) × AnswersDefine old table (defines.Defined n) new
 Happens old (calls.Define table) (answers.Defined (defines.Taken n)) e new = (e ≡ Look (session_of old.seat) n) × AnswersDefine old table (defines.Taken n) new
 Happens old calls.Begin (answers.Begun n) e new = (e ≡ Begin (session_of old.seat)) × Adds old e new × (n ≡ begun new.seen.events)
+Happens old (calls.Scan table) (answers.Listed keys) e new = (e ≡ Scan (session_of old.seat) table keys) × Adds old e new
 Happens old (calls.Touch cell) (answers.Found value) e new =
     (source : ℕ) × (count : ℕ) × (word : ℕ) × (e ≡ Read (session_of old.seat) cell source count word value) × Adds old e new
 Happens old (calls.Write cell value) answers.Written e new = (e ≡ Write (session_of old.seat) cell value) × Adds old e new

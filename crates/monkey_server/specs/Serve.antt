@@ -1,7 +1,9 @@
 -- What a run of a session over a book, a link and words comes to.
-use Rattle.std.specs.Prelude.{◌≡◌, ℕ, ◌+◌, ◌≤◌, List, [], ◌∷◌, ◌++◌, length, Option, Some, None, Bool, false}
+use Rattle.std.specs.Prelude.{◌≡◌, ℕ, ◌+◌, ◌≤◌, ◌⊎◌, All, List, [], ◌∷◌, ◌++◌, length, Option, Some, None, Bool, false}
 use Rattle.sql_tree.specs.declared.table.Table.{Table}
 use Rattle.sound_table.specs.Sound.{IsSound}
+use Rattle.statement_course.specs.Laws.{OnlyWrites}
+use Rattle.cell_compile.specs.Plans.{rest_of}
 use Rattle.link_traits.specs.Faults.{Rose}
 use Rattle.link_traits.specs.Traffic.{Traffic, Both, Sight}
 use Rattle.history_core.specs.declared.event.Event.{Event}
@@ -16,12 +18,13 @@ use Rattle.monkey_server.specs.declared.end.End.TheVariants as ends
 use Rattle.monkey_server.specs.declared.stage.Owed.{Owed}
 use Rattle.monkey_server.specs.declared.stage.Owed.TheVariants as owes
 use Rattle.monkey_server.specs.declared.stage.Stage.{Stage}
+use Rattle.monkey_server.specs.declared.stage.Stage.TheVariants as stages
 use Rattle.monkey_server.specs.declared.session.Session.{Session}
 use Rattle.monkey_server.specs.Talk.{Talk, IsTalk}
 use Rattle.monkey_server.specs.Told.{Entry, did, refused, more, ended, told, has_short}
 use Rattle.monkey_server.specs.Record.{Happens, Declines, Draws, Lawful, events_of}
 use Rattle.monkey_server.specs.Sessions.{Stands}
-use Rattle.monkey_server.specs.Stands.{Lacks, LacksBy, outer, outer_end, owed_at, IsReading, KnowsTable, DefinesSound}
+use Rattle.monkey_server.specs.Stands.{Lacks, LacksBy, outer, outer_end, owed_at, KnowsTables, IsSoundStage}
 
 -- the greatest number of bytes that are read from a link
 abbrev pub most_read : ℕ
@@ -34,6 +37,7 @@ MayAsk calls.Close past = IsIdle past.seat
 MayAsk (calls.Look known) past = IsSeated past.seat × (known ≤ length past.seen.tables)
 MayAsk (calls.Define table) past = IsSeated past.seat × IsSound table
 MayAsk calls.Begin past = IsIdle past.seat
+MayAsk (calls.Scan table) past = IsInTransaction past.seat × HasTable past table
 MayAsk (calls.Touch cell) past = IsInTransaction past.seat × IsUnwritten cell past.seat × HasTable past (table_of cell)
 MayAsk (calls.Write cell value) past = IsInTransaction past.seat × IsStorable value × HasTable past (table_of cell)
 MayAsk calls.Commit past = IsInTransaction past.seat
@@ -59,13 +63,19 @@ owed_of away = owes.Nothing
 owed_of (seated s) = owes.Close
 owed_of (pending s writes) = owes.Rollback
 
+-- Where a statement runs, nothing is written yet, or nothing is read any more.
+abbrev pub IsUnwrittenAt : Stage → List Table → Seat → Type 0
+IsUnwrittenAt (stages.Running run) known seat = (writes_of seat ≡ []) ⊎ OnlyWrites (length known) (rest_of run.plan)
+IsUnwrittenAt _ known seat = Unit {0}
+
 -- The book is where the session's stage has it, and has defined the tables that the session knows.
 pub record Sits (stage : Stage) (known : List Table) (past : Past) : Type 0 where
   pub owed : owed_of past.seat ≡ owed_at stage
-  pub unwritten : IsReading stage → writes_of past.seat ≡ []
+  pub unwritten : IsUnwrittenAt stage known past.seat
   pub known_tables : length known ≤ length past.seen.tables
-  pub knows : KnowsTable stage known
-  pub sound : DefinesSound stage
+  pub knows : KnowsTables stage known
+  pub sound : IsSoundStage stage
+  pub tables : All IsSound known
 
 -- A mark, counted from where the link was: what had been sent before the read is told of what had been taken and of a prefix of the
 -- record, and more was wanted.
@@ -125,11 +135,12 @@ abbrev pub Ran : {W : Type 0} → (W → ℕ → W → Type 0) → Past → W �
 Ran gives p v f s q w g many =
     (taken : List ℕ) × (es : List Entry) × (asked : List Call) × (sent : List ℕ) × (lost : List ℕ) × (length taken ≡ many) × Runs gives p v f s q w g taken es asked sent lost
 
--- A link was served. What was sent and the end are told of what was taken and of a record, whose calls were made of the book in order and whose
+-- A link was served. No more was taken than the most that is read. What was sent and the end are told of what was taken and of a record, whose calls were made of the book in order and whose
 -- events are those that the book made; its reads drew the words; and no reply was held back over a read. Where a write failed, what is lost
 -- of what was told stands at its end.
 pub record Serves {W : Type 0} (gives : W → ℕ → W → Type 0) (p : Past) (v : W) (f : Sight) (end : End) (wanting : Bool) (q : Past) (w : W) (g : Sight)
     (talk : Talk) (taken : List ℕ) (es : List Entry) (asked : List Call) (sent lost : List ℕ) : Type 0 where
+  pub within : length taken ≤ most_read
   pub talk_is : IsTalk false taken talk
   pub told_is : told talk es ≡ (record { bytes = sent; calls = asked }, ended end)
   pub lawful : Lawful gives p v asked es q w

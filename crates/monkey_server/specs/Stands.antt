@@ -2,14 +2,13 @@
 -- the bytes taken from it.
 use Rattle.std.specs.Prelude.{◌≡◌, ℕ, ◌+◌, ◌<◌, ◌≤◌, ◌⊎◌, List, [], ◌∷◌, ◌++◌, length, All, Option, Some, None, Bool, true, false, not}
 use Rattle.cell_base.specs.declared.sql_state.SqlState.TheVariants as states
-use Rattle.cell_base.specs.declared.value.Value.TheVariants.{Flag, Int}
 use Rattle.history_core.specs.declared.event.Event.{Event}
 use Rattle.history_core.specs.declared.fault.BookFault.TheVariants as faults
 use Rattle.pg_framing.specs.declared.front.Front.{Front}
 use Rattle.pg_framing.specs.declared.front.Front.TheVariants.{Query}
 use Rattle.pg_framing.specs.Fronts.{Held, HasNoFront, HasFault}
 use Rattle.pg_framing.specs.declared.front.FrameFault.{FrameFault}
-use Rattle.monkey_server.specs.Calls.{Call, Want}
+use Rattle.monkey_server.specs.Calls.{Call, Want, call_for}
 use Rattle.monkey_server.specs.Calls as calls
 use Rattle.monkey_server.specs.declared.call.Answer.{Answer}
 use Rattle.monkey_server.specs.declared.call.Answer.TheVariants as answers
@@ -17,9 +16,16 @@ use Rattle.monkey_server.specs.declared.end.End.{End}
 use Rattle.monkey_server.specs.declared.end.End.TheVariants as ends
 use Rattle.monkey_server.specs.declared.end.Stop.{Stop}
 use Rattle.monkey_server.specs.declared.end.Stop.TheVariants as stops
-use Rattle.query_request.specs.declared.request.Access.{Access}
 use Rattle.sql_tree.specs.declared.table.Table.{Table}
 use Rattle.sound_table.specs.Sound.{IsSound}
+use Rattle.described_columns.specs.Described.{HasPlainNames}
+use Rattle.outcome_replies.specs.Replies.{CanBeTold}
+use Rattle.outcome_replies.specs.Ends.{EndsIn}
+use Rattle.statement_course.specs.Course.{Course, first_demand, behind}
+use Rattle.statement_course.specs.Laws.{ReadsFirst}
+use Rattle.statement_course.specs.declared.demand.PlanAnswer.{PlanAnswer}
+use Rattle.statement_course.specs.declared.demand.PlanAnswer.TheVariants as plan_answers
+use Rattle.cell_compile.specs.Plans.{rest_of, left_of}
 use Rattle.monkey_server.specs.declared.stage.Owed.{Owed}
 use Rattle.monkey_server.specs.declared.stage.Owed.TheVariants as owes
 use Rattle.monkey_server.specs.declared.stage.Fatal.{Fatal}
@@ -31,7 +37,7 @@ use Rattle.monkey_server.specs.declared.stage.Stage.{Stage}
 use Rattle.monkey_server.specs.declared.stage.Stage.TheVariants as stages
 use Rattle.monkey_server.specs.Talk.{Ask, Says, Talk, IsTalk}
 use Rattle.monkey_server.specs.Replies.{fatal_reply, fatal_state, bytes_of}
-use Rattle.monkey_server.specs.Told.{Entry, did, refused, short, unsent, stop, Said, Script, more, call, ended, with_call, tell, done, lost, closing, ending, owed_by, readied, undone, committed, creates, fills, marks, fetches, checks, begins, looks, opens, handled, session, told, key_of, presence_of, field_of}
+use Rattle.monkey_server.specs.Told.{Entry, did, refused, short, unsent, stop, Said, Script, more, call, ended, with_call, tell, done, lost, closing, ending, owed_by, readied, undone, committed, creates, runs, continued, begins, looks, opens, handled, session, told}
 
 -- what the parts of a stage stand for
 
@@ -64,12 +70,9 @@ abbrev pub goes_on : Stage → List ℕ → List Table → Talk → Script
 goes_on (stages.Waiting opened) built known talk = session opened known talk
 goes_on stages.Opening built known talk = opens (session true known talk)
 goes_on (stages.Defining table) built known talk = creates table (session true known talk)
-goes_on (stages.Looking statement access) built known talk = looks statement access known (λ k. session true k talk)
-goes_on (stages.Beginning table access) built known talk = begins table access (session true known talk)
-goes_on (stages.Checking table access) built known talk = checks table access (session true known talk)
-goes_on (stages.Fetching table key) built known talk = fetches table key (session true known talk)
-goes_on (stages.Marking table key value) built known talk = marks table key value (session true known talk)
-goes_on (stages.Filling table key value) built known talk = fills table key value (session true known talk)
+goes_on (stages.Looking statement) built known talk = looks statement known (λ k. session true k talk)
+goes_on (stages.Beginning plan) built known talk = begins (rest_of plan) (session true known talk)
+goes_on (stages.Running run) built known talk = runs (rest_of run.plan) (session true known talk)
 goes_on stages.Committing built known talk = committed (session true known talk)
 goes_on (stages.Undoing state) built known talk = undone state (session true known talk)
 goes_on (stages.Telling pending reply) built known talk = tell (bytes_of built reply) (ending (owed_in pending) ends.WriteFault) (resumed pending (session true known talk))
@@ -165,12 +168,9 @@ abbrev pub wants : Stage → List Table → Want
 wants (stages.Waiting opened) known = calls.Bytes
 wants stages.Opening known = calls.Book calls.Open
 wants (stages.Defining table) known = calls.Book (calls.Define table)
-wants (stages.Looking statement access) known = calls.Book (calls.Look (length known))
-wants (stages.Beginning table access) known = calls.Book calls.Begin
-wants (stages.Checking table access) known = calls.Book (calls.Touch (presence_of table (key_of access)))
-wants (stages.Fetching table key) known = calls.Book (calls.Touch (field_of table key))
-wants (stages.Marking table key value) known = calls.Book (calls.Write (presence_of table key) (Flag true))
-wants (stages.Filling table key value) known = calls.Book (calls.Write (field_of table key) (Int value))
+wants (stages.Looking statement) known = calls.Book (calls.Look (length known))
+wants (stages.Beginning plan) known = calls.Book calls.Begin
+wants (stages.Running run) known = calls.Book (call_for (first_demand (rest_of run.plan)))
 wants stages.Committing known = calls.Book calls.Commit
 wants (stages.Undoing state) known = calls.Book calls.Rollback
 wants (stages.Telling pending reply) known = calls.Send
@@ -200,37 +200,37 @@ IsPassing None = Unit {0}
 IsPassing (Some false) = Unit {0}
 IsPassing (Some true) = ⊥
 
--- a message of a client leads to a stage, with a want of memory in its reading where there was one
-pub record Enters (front : Front) (known : List Table) (stage : Stage) (wanting : Option Bool) : Type 0 where
+-- A message of a client leads to a stage, with a want of memory in its reading where there was one, and with the reply that was built.
+pub record Enters (front : Front) (known : List Table) (stage : Stage) (wanting : Option Bool) (built : List ℕ) : Type 0 where
   pub ask : Ask
   pub says : Says front ask
   pub busy : IsBusy stage
   pub passing : IsPassing wanting
-  pub goes : (built : List ℕ) (talk : Talk) (said : Said) (es : List Entry) →
+  pub goes : (talk : Talk) (said : Said) (es : List Entry) →
       handled ask known (λ k. session true k talk) said (with_short wanting said.bytes es) ≡ goes_on stage built known talk said es
 
 -- Where a message or bytes are wanted, the next message, a fault or a want of memory leads to a stage.
-pub record Steps (opened : Bool) (known : List Table) (before : Held) (stage : Stage) (wanting : Option Bool) (after : Held) : Type 0 where
+pub record Steps (opened : Bool) (known : List Table) (before : Held) (stage : Stage) (wanting : Option Bool) (built : List ℕ) (after : Held) : Type 0 where
   pub turns : Talk → Talk
   pub heard : (bytes : List ℕ) (talk : Talk) → IsFed stage bytes → IsTalk after.started (after.rest ++ bytes) talk → IsTalk before.started (before.rest ++ bytes) (turns talk)
-  pub goes : (built : List ℕ) (talk : Talk) (said : Said) (es : List Entry) → IsFrom (least stage) (length said.bytes) es →
+  pub goes : (talk : Talk) (said : Said) (es : List Entry) → IsFrom (least stage) (length said.bytes) es →
       session opened known (turns talk) said (with_short wanting said.bytes es) ≡ goes_on stage built known talk said es
   pub waits : (o : Bool) → stage ≡ stages.Waiting o → IsWaiting after
 
 -- A piece that comes in where bytes are wanted leads on, or memory for it is wanting and the session ends.
-abbrev pub Feeds : Bool → List ℕ → Held → Stage → Option Bool → Held → Type 0
-Feeds opened piece before stage wanting after =
-    ((known : List Table) → Steps opened known (record before { rest = before.rest ++ piece }) stage wanting after)
+abbrev pub Feeds : Bool → List ℕ → Held → Stage → Option Bool → List ℕ → Held → Type 0
+Feeds opened piece before stage wanting built after =
+    ((known : List Table) → Steps opened known (record before { rest = before.rest ++ piece }) stage wanting built after)
     ⊎ ((after ≡ before) × (wanting ≡ Some true) × LeadsTo stage (ending (owed_by opened) ends.Memory))
 
 -- A reply that was sent leads on.
-abbrev pub Sends : Stage → Held → Stage → Option Bool → Held → Type 0
-Sends (stages.Telling pending reply) before next wanting after =
+abbrev pub Sends : Stage → Held → Stage → Option Bool → List ℕ → Held → Type 0
+Sends (stages.Telling pending reply) before next wanting built after =
     (wanting ≡ None) × (after ≡ before) × IsBusy next
-    × ((built : List ℕ) (known : List Table) (talk : Talk) (said : Said) (es : List Entry) → resumed pending (session true known talk) said es ≡ goes_on next built known talk said es)
-Sends (stages.Settling reply) before next wanting after = (known : List Table) → Steps true known before next wanting after
-Sends (stages.Parting fatal) before next wanting after = (wanting ≡ None) × (after ≡ before) × (next ≡ stages.Ended (finishes.Fatal fatal))
-Sends _ before next wanting after = ⊥
+    × ((known : List Table) (talk : Talk) (said : Said) (es : List Entry) → resumed pending (session true known talk) said es ≡ goes_on next built known talk said es)
+Sends (stages.Settling reply) before next wanting built after = (known : List Table) → Steps true known before next wanting built after
+Sends (stages.Parting fatal) before next wanting built after = (wanting ≡ None) × (after ≡ before) × (next ≡ stages.Ended (finishes.Fatal fatal))
+Sends _ before next wanting built after = ⊥
 
 -- An answer to a stage's call leads on, with a want of memory behind it where there was one.
 pub record Advances (stage : Stage) (known : List Table) (answer : Answer) (next : Stage) (wanting : Option Bool) (built : List ℕ) (after : List Table) : Type 0 where
@@ -238,6 +238,12 @@ pub record Advances (stage : Stage) (known : List Table) (answer : Answer) (next
       goes_on stage before known talk said (entry_for answer e ∷ with_short wanting said.bytes es) ≡ goes_on next built after talk (with_call said c) es
   pub busy : IsBusy next
   pub last : IsLast stage → IsLast next
+
+-- A statement goes on along a course, with a want of memory before it where there was one.
+abbrev pub Continues : Course → Stage → Option Bool → List ℕ → Type 0
+Continues c next wanting built =
+    (known : List Table) (talk : Talk) (said : Said) (es : List Entry) → IsFrom 1 (length said.bytes) es →
+    continued c (session true known talk) said (with_short wanting said.bytes es) ≡ goes_on next built known talk said es
 
 -- the entries that a call adds by the session's own want of memory, where so many bytes were told
 abbrev pub IsShort : List ℕ → List Entry → Type 0
@@ -256,21 +262,19 @@ Shows (calls.Book c) taken es asked sent = (talk : Talk) × IsTalk false taken t
 Shows calls.Send taken es asked sent = Unit {0}
 Shows (calls.Ended end) taken es asked sent = (talk : Talk) × IsTalk false taken talk × (told talk es ≡ (record { bytes = sent; calls = asked }, ended end))
 
--- a table has fewer columns than there are numbers of 32 bits
-abbrev pub AreNarrowTables : List Table → Type 0
-AreNarrowTables tables = All (λ table. length table.columns < 4294967296) tables
-
 -- the answer is one of the call's name, or a refusal where the call may be refused
 abbrev pub Fits : Call → Answer → Type 0
 Fits calls.Open (answers.Opened s) = Unit {0}
 Fits calls.Open (answers.Refused why) = Unit {0}
 Fits calls.Close answers.Closed = Unit {0}
-Fits (calls.Look known) (answers.Looked tables) = (known + length tables < 4294967296) × AreNarrowTables tables
+Fits (calls.Look known) (answers.Looked tables) = (known + length tables < 4294967296) × All IsSound tables
 Fits (calls.Look known) (answers.Refused why) = Unit {0}
 Fits (calls.Define table) (answers.Defined a) = Unit {0}
 Fits (calls.Define table) (answers.Refused why) = Unit {0}
 Fits calls.Begin (answers.Begun n) = Unit {0}
 Fits calls.Begin (answers.Refused why) = Unit {0}
+Fits (calls.Scan table) (answers.Listed keys) = length keys < 4294967296
+Fits (calls.Scan table) (answers.Refused why) = Unit {0}
 Fits (calls.Touch cell) (answers.Found value) = Unit {0}
 Fits (calls.Touch cell) (answers.Refused why) = Unit {0}
 Fits (calls.Write cell value) answers.Written = Unit {0}
@@ -294,11 +298,18 @@ abbrev pub IsKnownAfter : List Table → Answer → List Table → Type 0
 IsKnownAfter known (answers.Looked tables) after = (after ≡ known) ⊎ (after ≡ known ++ tables)
 IsKnownAfter known _ after = after ≡ known
 
--- the answers that need memory are left out
+-- an answer to a statement's demand
+abbrev pub answer_with : PlanAnswer → Answer
+answer_with (plan_answers.Keys keys) = answers.Listed keys
+answer_with (plan_answers.Value value) = answers.Found value
+answer_with plan_answers.Written = answers.Written
+
+-- the answers that need memory are left out, and those of a running statement
 abbrev pub IsPlain : Stage → Answer → Type 0
 IsPlain stages.Opening (answers.Opened s) = ⊥
-IsPlain (stages.Looking statement access) (answers.Looked tables) = ⊥
-IsPlain (stages.Fetching table key) (answers.Found value) = ⊥
+IsPlain (stages.Looking statement) (answers.Looked tables) = ⊥
+IsPlain (stages.Beginning plan) _ = ⊥
+IsPlain (stages.Running run) _ = ⊥
 IsPlain _ _ = Unit {0}
 
 -- what the session owes its book
@@ -306,12 +317,9 @@ abbrev pub owed_at : Stage → Owed
 owed_at (stages.Waiting opened) = owed_by opened
 owed_at stages.Opening = owes.Nothing
 owed_at (stages.Defining table) = owes.Close
-owed_at (stages.Looking statement access) = owes.Close
-owed_at (stages.Beginning table access) = owes.Close
-owed_at (stages.Checking table access) = owes.Rollback
-owed_at (stages.Fetching table key) = owes.Rollback
-owed_at (stages.Marking table key value) = owes.Rollback
-owed_at (stages.Filling table key value) = owes.Rollback
+owed_at (stages.Looking statement) = owes.Close
+owed_at (stages.Beginning plan) = owes.Close
+owed_at (stages.Running run) = owes.Rollback
 owed_at stages.Committing = owes.Rollback
 owed_at (stages.Undoing state) = owes.Rollback
 owed_at (stages.Telling pending reply) = owed_in pending
@@ -329,31 +337,39 @@ owed_after calls.Commit answers.Committed owed = owes.Close
 owed_after calls.Rollback answers.RolledBack owed = owes.Close
 owed_after _ _ owed = owed
 
--- A stage that reads has a transaction that has written nothing.
-abbrev pub IsReading : Stage → Type 0
-IsReading (stages.Checking table access) = Unit {0}
-IsReading (stages.Fetching table key) = Unit {0}
-IsReading _ = ⊥
+abbrev pub IsRunning : Stage → Type 0
+IsRunning (stages.Running run) = Unit {0}
+IsRunning _ = ⊥
 
--- A stage that works on a row knows its table.
-abbrev pub KnowsTable : Stage → List Table → Type 0
-KnowsTable (stages.Beginning table access) known = table < length known
-KnowsTable (stages.Checking table access) known = table < length known
-KnowsTable (stages.Fetching table key) known = table < length known
-KnowsTable (stages.Marking table key value) known = table < length known
-KnowsTable (stages.Filling table key value) known = table < length known
-KnowsTable _ known = Unit {0}
+-- no statement begins or runs
+abbrev pub IsNoStatement : Stage → Type 0
+IsNoStatement (stages.Beginning plan) = ⊥
+IsNoStatement (stages.Running run) = ⊥
+IsNoStatement _ = Unit {0}
 
--- the table that is about to be defined is sound
-abbrev pub DefinesSound : Stage → Type 0
-DefinesSound (stages.Defining table) = IsSound table
-DefinesSound _ = Unit {0}
+-- A statement that begins or runs asks only for cells of the tables that are known, and reads before it writes.
+abbrev pub KnowsTables : Stage → List Table → Type 0
+KnowsTables (stages.Beginning plan) known = ReadsFirst (length known) (rest_of plan)
+KnowsTables (stages.Running run) known = ReadsFirst (length known) (rest_of run.plan)
+KnowsTables _ known = Unit {0}
 
--- a reading stage comes of a Begin, or of a read in a reading stage
-abbrev pub ComesFrom : Stage → Stage → Type 0
-ComesFrom before (stages.Checking table access) = (t : ℕ) × (a : Access) × (before ≡ stages.Beginning t a)
-ComesFrom before (stages.Fetching table key) = IsReading before
-ComesFrom before _ = Unit {0}
+-- the table that is about to be defined is sound, and what a statement comes to can be told
+abbrev pub IsSoundStage : Stage → Type 0
+IsSoundStage (stages.Defining table) = IsSound table
+IsSoundStage (stages.Looking statement) = HasPlainNames statement
+IsSoundStage (stages.Beginning plan) = EndsIn CanBeTold (rest_of plan)
+IsSoundStage (stages.Running run) = EndsIn CanBeTold (rest_of run.plan)
+IsSoundStage _ = Unit {0}
+
+-- where a running statement stands behind an answer: at its beginning, or behind the demand that was answered
+abbrev pub RunsFrom : Stage → Answer → Course → Type 0
+RunsFrom (stages.Beginning plan) a c = c ≡ rest_of plan
+RunsFrom (stages.Running run) a c = (b : PlanAnswer) × (a ≡ answer_with b) × (c ≡ behind (rest_of run.plan) b)
+RunsFrom _ a c = ⊥
+
+abbrev pub Follows : Stage → Answer → Stage → Type 0
+Follows before a (stages.Running run) = RunsFrom before a (rest_of run.plan)
+Follows before a _ = Unit {0}
 
 -- an end whose cause is the link
 abbrev pub outer_end : End → Option End
@@ -376,12 +392,9 @@ abbrev pub work_at : Stage → ℕ
 work_at (stages.Waiting opened) = 4
 work_at stages.Opening = 6
 work_at (stages.Defining table) = 7
-work_at (stages.Looking statement access) = 12
-work_at (stages.Beginning table access) = 11
-work_at (stages.Checking table access) = 10
-work_at (stages.Fetching table key) = 8
-work_at (stages.Marking table key value) = 9
-work_at (stages.Filling table key value) = 8
+work_at (stages.Looking statement) = 10
+work_at (stages.Beginning plan) = 9
+work_at (stages.Running run) = 8
 work_at stages.Committing = 6
 work_at (stages.Undoing state) = 7
 work_at (stages.Telling true reply) = 7
@@ -391,6 +404,16 @@ work_at (stages.Leaving finish) = 3
 work_at (stages.Closing finish) = 2
 work_at (stages.Parting fatal) = 1
 work_at (stages.Ended finish) = 0
+
+-- how many demands of a running statement are left at most
+abbrev pub left_at : Stage → ℕ
+left_at (stages.Running run) = 1 + left_of run.plan
+left_at _ = 0
+
+-- 1 where a statement runs
+abbrev pub running_at : Stage → ℕ
+running_at (stages.Running run) = 1
+running_at _ = 0
 
 -- what a failed write left unsent: a part of the last reply, and nothing elsewhere
 abbrev pub LacksBy : End → List ℕ → Type 0

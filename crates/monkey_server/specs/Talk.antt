@@ -18,7 +18,7 @@ pub data Ask : Type 0 where
   -- a startup of another version
   version : Ask
   query : Request → Ask
-  -- a query whose text could not be read for want of memory
+  -- a query that could not be read, or answered at once, for want of memory
   unread_query : Ask
   terminate : Ask
 

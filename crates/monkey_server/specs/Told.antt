@@ -1,12 +1,9 @@
 -- What a session is told, and which calls it asks of its book, given what its client says and what became of it so far.
 use Rattle.std.specs.Prelude.{ℕ, ℤ, ◌==◌, List, [], ◌∷◌, ◌++◌, length, if◌then◌else◌, Bool, true, false, ◌||◌, Option, Some, None, Ok, Err}
-use Rattle.cell_base.specs.declared.cell.Cell.{Cell}
-use Rattle.cell_base.specs.declared.cell.Cell.TheVariants.{Presence, Field}
-use Rattle.cell_base.specs.declared.key.Key.TheVariants.{Int as IntKey}
+use Rattle.cell_base.specs.declared.key.Key.{Key}
 use Rattle.cell_base.specs.declared.sql_state.SqlState.{SqlState}
 use Rattle.cell_base.specs.declared.sql_state.SqlState.TheVariants as states
 use Rattle.cell_base.specs.declared.value.Value.{Value}
-use Rattle.cell_base.specs.declared.value.Value.TheVariants.{Flag, Int}
 use Rattle.history_core.specs.declared.event.Event.{Event}
 use Rattle.history_core.specs.declared.fault.BookFault.{BookFault}
 use Rattle.history_core.specs.declared.fault.BookFault.TheVariants as faults
@@ -21,18 +18,21 @@ use Rattle.monkey_server.specs.declared.end.Stop.{Stop}
 use Rattle.monkey_server.specs.declared.end.Stop.TheVariants as stops
 use Rattle.query_request.specs.declared.request.Request.{Request}
 use Rattle.query_request.specs.declared.request.Request.TheVariants as requests
-use Rattle.query_request.specs.declared.request.Access.{Access}
-use Rattle.query_request.specs.declared.request.Access.TheVariants.{Get, Put}
 use Rattle.sql_tree.specs.declared.statement.Statement.{Statement}
 use Rattle.sql_tree.specs.declared.table.Table.{Table}
 use Rattle.sql_tree.specs.declared.typed.Typed.{Typed}
-use Rattle.sql_typing.specs.Outcome.{Outcome}
+use Rattle.sql_typing.specs.Outcome.{Outcome as Result}
 use Rattle.sql_typing.specs.Typed.{typed}
-use Rattle.monkey_server.specs.Tables.{number_of_t}
+use Rattle.statement_course.specs.declared.demand.Outcome.{Outcome}
+use Rattle.statement_course.specs.declared.demand.Outcome.TheVariants as outcomes
+use Rattle.statement_course.specs.Course.{Course, scan, touch, write}
+use Rattle.statement_course.specs.Course as course
+use Rattle.statement_course.specs.Statements.{course_of}
+use Rattle.outcome_replies.specs.Replies.{outcome_reply}
 use Rattle.monkey_server.specs.declared.stage.Owed.{Owed}
 use Rattle.monkey_server.specs.declared.stage.Owed.TheVariants as owes
 use Rattle.monkey_server.specs.Talk.{Ask, start, nameless, version, query, unread_query, terminate, Talk, asks, partial, faulty, unread}
-use Rattle.monkey_server.specs.Replies.{startup_reply, ready_reply, created_reply, inserted_reply, no_row_reply, one_row_reply, error_reply, fatal_reply, is_present}
+use Rattle.monkey_server.specs.Replies.{startup_reply, ready_reply, created_reply, error_reply, fatal_reply}
 
 -- An entry of a session's record. A want of memory says whether it ends the session, and it and a failed write say how many
 -- bytes had been told, so that it is known where they stand.
@@ -117,6 +117,11 @@ abbrev pub on_begun : Answer → Script → (BookFault → Script) → Script
 on_begun (answers.Begun n) good bad = good
 on_begun (answers.Refused fault) good bad = bad fault
 on_begun _ good bad = lost
+
+abbrev pub on_listed : Answer → (List Key → Script) → (BookFault → Script) → Script
+on_listed (answers.Listed keys) good bad = good keys
+on_listed (answers.Refused fault) good bad = bad fault
+on_listed _ good bad = lost
 
 abbrev pub on_found : Answer → (Value → Script) → (BookFault → Script) → Script
 on_found (answers.Found value) good bad = good value
@@ -206,67 +211,57 @@ committed rest = ask calls.Commit (λ _. readied rest)
 abbrev pub succeeded : List ℕ → Script → Script
 succeeded reply rest = tell reply (ending owes.Rollback ends.WriteFault) (committed rest)
 
--- the cells of a row of a table: whether it is there, and its second column
-abbrev pub presence_of : ℕ → ℤ → Cell
-presence_of table key = Presence table (IntKey key)
-
-abbrev pub field_of : ℕ → ℤ → Cell
-field_of table key = Field table (IntKey key) 1
-
-abbrev pub key_of : Access → ℤ
-key_of (Get key) = key
-key_of (Put key value) = key
-
 abbrev pub creates : Table → Script → Script
 creates table rest = ask (calls.Define table) (λ a. on_defined a (tell created_reply (closing ends.WriteFault) (readied rest)) (failed states.S42P07 rest) (λ why. failed (refusal_state why) rest))
 
-abbrev pub fills : ℕ → ℤ → ℤ → Script → Script
-fills table key value rest = ask (calls.Write (field_of table key) (Int value)) (λ a. on_written a (succeeded inserted_reply rest) (λ why. undone (refusal_state why) rest))
+-- what a statement comes to, in its transaction
+abbrev pub concluded : Outcome → Script → Script
+concluded (outcomes.Failed code) rest = undone code rest
+concluded outcome rest = succeeded (outcome_reply outcome) rest
 
-abbrev pub marks : ℕ → ℤ → ℤ → Script → Script
-marks table key value rest = ask (calls.Write (presence_of table key) (Flag true)) (λ a. on_written a (fills table key value rest) (λ why. undone (refusal_state why) rest))
+-- A statement in its transaction asks for what its course demands, one call for each demand. A want of memory of the session itself may
+-- stand behind each answer.
+abbrev pub runs : Course → Script → Script
+runs (scan table next) rest =
+    ask (calls.Scan table) (λ a. on_listed a (λ keys. unless_short false (undone states.S53200 rest) (runs (next keys) rest)) (λ why. undone (refusal_state why) rest))
+runs (touch cell next) rest =
+    ask (calls.Touch cell) (λ a. on_found a (λ value. unless_short false (undone states.S53200 rest) (runs (next value) rest)) (λ why. undone (refusal_state why) rest))
+runs (write cell value next) rest =
+    ask (calls.Write cell value) (λ a. on_written a (unless_short false (undone states.S53200 rest) (runs next rest)) (λ why. undone (refusal_state why) rest))
+runs (course.done outcome) rest = concluded outcome rest
 
-abbrev pub selects : Value → Script → Script
-selects value rest = unless_short false (undone states.S53200 rest) (succeeded (one_row_reply value) rest)
+-- the same, behind an answer
+abbrev pub continued : Course → Script → Script
+continued c rest = unless_short false (undone states.S53200 rest) (runs c rest)
 
-abbrev pub fetches : ℕ → ℤ → Script → Script
-fetches table key rest = ask (calls.Touch (field_of table key)) (λ a. on_found a (λ value. selects value rest) (λ why. undone (refusal_state why) rest))
+abbrev pub begins : Course → Script → Script
+begins c rest = ask calls.Begin (λ a. on_begun a (continued c rest) (λ why. failed (refusal_state why) rest))
 
--- the row is there, or not
-abbrev pub checked : ℕ → Access → Bool → Script → Script
-checked table (Get key) true rest = fetches table key rest
-checked table (Get key) false rest = succeeded no_row_reply rest
-checked table (Put key value) true rest = undone states.S23505 rest
-checked table (Put key value) false rest = marks table key value rest
+-- a statement that has its types runs over the tables that are known
+abbrev pub judged : Result Typed → List Table → Script → Script
+judged (Ok t) tables rest = begins (course_of tables t) rest
+judged (Err code) tables rest = failed code rest
 
-abbrev pub checks : ℕ → Access → Script → Script
-checks table access rest = ask (calls.Touch (presence_of table (key_of access))) (λ a. on_found a (λ value. checked table access (is_present value) rest) (λ why. undone (refusal_state why) rest))
-
-abbrev pub begins : ℕ → Access → Script → Script
-begins table access rest = ask calls.Begin (λ a. on_begun a (checks table access rest) (λ why. failed (refusal_state why) rest))
-
--- a statement that has its types runs where it is an access to a row of the table `t` of two columns, and is refused elsewhere
-abbrev pub runs : Option ℕ → Option Access → Script → Script
-runs (Some table) (Some access) rest = begins table access rest
-runs _ _ rest = failed states.S0A000 rest
-
-abbrev pub judged : Outcome Typed → Option ℕ → Option Access → Script → Script
-judged (Ok t) table access rest = runs table access rest
-judged (Err code) table access rest = failed code rest
+-- A SELECT without FROM is answered at once. It begins no transaction, and its course asks for nothing.
+abbrev pub answered_at_once : Course → Script → Script
+answered_at_once (course.done (outcomes.Failed code)) rest = failed code rest
+answered_at_once (course.done outcome) rest = tell (outcome_reply outcome) (closing ends.WriteFault) (readied rest)
+answered_at_once _ rest = lost
 
 -- A statement is typed over the tables that are known behind its look. rest is what follows, given the tables that are known. A want of
 -- memory in its typing forgets what the look showed.
-abbrev pub typed_over : Statement → Option Access → List Table → List Table → (List Table → Script) → Script
-typed_over statement access known tables rest =
-    unless_short false (failed states.S53200 (rest known)) (judged (typed (known ++ tables) statement) (number_of_t (known ++ tables)) access (rest (known ++ tables)))
+abbrev pub typed_over : Statement → List Table → List Table → (List Table → Script) → Script
+typed_over statement known tables rest =
+    unless_short false (failed states.S53200 (rest known)) (judged (typed (known ++ tables) statement) (known ++ tables) (rest (known ++ tables)))
 
-abbrev pub looks : Statement → Option Access → List Table → (List Table → Script) → Script
-looks statement access known rest =
-    ask (calls.Look (length known)) (λ a. on_looked a (λ tables. typed_over statement access known tables rest) (λ why. failed (refusal_state why) (rest known)))
+abbrev pub looks : Statement → List Table → (List Table → Script) → Script
+looks statement known rest =
+    ask (calls.Look (length known)) (λ a. on_looked a (λ tables. typed_over statement known tables rest) (λ why. failed (refusal_state why) (rest known)))
 
 abbrev pub requested : Request → List Table → (List Table → Script) → Script
 requested (requests.Define table) known rest = creates table (rest known)
-requested (requests.Look statement access) known rest = looks statement access known rest
+requested (requests.Look statement) known rest = looks statement known rest
+requested (requests.Alone t) known rest = answered_at_once (course_of [] t) (rest known)
 requested (requests.Refused code) known rest = failed code (rest known)
 
 -- Messages. Whether the session was opened says what it owes.

@@ -1,9 +1,9 @@
 // The calls that a session makes of its book, and their answers.
-use cell_base::{Cell, Items, Value};
+use cell_base::{Items, Key, Value};
 use history_core::{BookFault, DefineAnswer};
 use sql_tree::Table;
 
-/// A call of a book, but for the definition of a table, which the session keeps.
+/// A call of a book, but for the definition of a table and the demands of a statement, which the session keeps.
 #[derive(Debug, Drop)]
 pub enum Call {
     Open,
@@ -11,9 +11,6 @@ pub enum Call {
     /// The number of tables that the session knows.
     Look(u32),
     Begin,
-    /// Reads a cell.
-    Touch(Cell),
-    Write(Cell, Value),
     Commit,
     Rollback,
 }
@@ -29,6 +26,8 @@ pub enum Answer {
     Defined(DefineAnswer),
     /// The transaction's number.
     Begun(u32),
+    /// The table's keys.
+    Listed(Items<Key>),
     /// The cell's value.
     Found(Value),
     Written,

@@ -1,12 +1,12 @@
 // The replies that a session may need, made before it needs them, so that no want of memory stands between a call and the
 // reply that tells it.
 ghost use Rattle.std.specs.Prelude.{◌≡◌};
-ghost use Rattle.monkey_server.specs.Replies.{ready_reply, created_reply, inserted_reply, no_row_reply, fatal_reply};
+ghost use Rattle.monkey_server.specs.Replies.{ready_reply, created_reply, fatal_reply};
 ghost use Rattle.monkey_server.specs.Replies.{bytes_of, fatal_state};
 ghost use Rattle.cell_base.specs.declared.sql_state.SqlState.TheVariants as states;
 
 use crate::errors::Errors;
-use crate::replies::{append_result, fatal};
+use crate::replies::fatal;
 use crate::stage::{Fatal, Reply};
 use cell_base::{Memory, SqlState};
 use pg_framing::{TransactionState, append_complete, append_ready};
@@ -25,12 +25,8 @@ pub struct Prepared {
 struct Done {
     ready: Vec<u8>,
     created: Vec<u8>,
-    inserted: Vec<u8>,
-    no_row: Vec<u8>,
     ghost ready_is: { ready.items ≡ ready_reply },
     ghost created_is: { created.items ≡ created_reply },
-    ghost inserted_is: { inserted.items ≡ inserted_reply },
-    ghost no_row_is: { no_row.items ≡ no_row_reply },
 }
 
 // The replies that end a session.
@@ -47,23 +43,13 @@ struct Fatals {
 }
 
 impl Done {
-    #[tactic(auto, unfolding(crate::specs::Replies::ready_reply, crate::specs::Replies::created_reply, crate::specs::Replies::inserted_reply, crate::specs::Replies::no_row_reply))]
+    #[tactic(auto, unfolding(crate::specs::Replies::ready_reply, crate::specs::Replies::created_reply))]
     fn new(alloc: Global) -> Result<Done, Memory> {
         let mut ready = Vec::new(alloc);
         append_ready(alloc, &mut ready, TransactionState::Idle)?;
         let mut created = Vec::new(alloc);
         append_complete(alloc, &mut created, b"CREATE TABLE")?;
-        let mut inserted = Vec::new(alloc);
-        append_complete(alloc, &mut inserted, b"INSERT 0 1")?;
-        let mut no_row = Vec::new(alloc);
-        append_result(alloc, &mut no_row)?;
-        append_complete(alloc, &mut no_row, b"SELECT 0")?;
-        Ok(Done {
-            ready,
-            created,
-            inserted,
-            no_row,
-        })
+        Ok(Done { ready, created })
     }
 }
 
@@ -95,8 +81,6 @@ impl Prepared {
         match reply {
             Reply::Built => built,
             Reply::Created => self.done.created.as_slice(),
-            Reply::Inserted => self.done.inserted.as_slice(),
-            Reply::NoRow => self.done.no_row.as_slice(),
             Reply::Ready => self.done.ready.as_slice(),
             Reply::Error(state) => self.errors.bytes(state),
         }

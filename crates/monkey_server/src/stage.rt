@@ -1,7 +1,13 @@
 // What a session does next.
+ghost use Rattle.std.specs.Prelude.{◌≡◌, true};
+ghost use Rattle.statement_course.specs.Course.{first_demand};
+ghost use Rattle.cell_compile.specs.Plans.{rest_of};
+ghost use Rattle.monkey_server.specs.Calls.{asks_cells};
+
+use crate::kept::Kept;
 use cell_base::SqlState;
+use cell_compile::Plan;
 use pg_framing::FrameFault;
-use query_request::Access;
 use sql_tree::{Statement, Table};
 
 /// What a session owes its book before it ends.
@@ -39,35 +45,35 @@ pub enum Finish {
 /// A reply that is held.
 #[derive(Clone, Copy, Debug, PartialEq, Eq)]
 pub enum Reply {
-    /// The reply that was built of an answer.
+    /// The reply that was built.
     Built,
     Created,
-    Inserted,
-    NoRow,
     Ready,
     /// The code of a statement that failed.
     Error(SqlState),
 }
 
-/// What comes next. The number of a table is that of the row which a statement reads or writes.
+/// A statement that runs in its transaction, and isn't done.
+#[derive(Debug, Drop)]
+pub struct Run {
+    pub plan: Kept<Plan>,
+    ghost asks: { asks_cells (first_demand (rest_of plan)) ≡ true },
+}
+
+/// What comes next.
 #[derive(Debug, Drop)]
 pub enum Stage {
     /// Bytes are wanted; whether the session was opened.
     Waiting(bool),
     Opening,
     /// A CREATE TABLE defines its table.
-    Defining(Table),
-    /// A statement looks at the tables; and the access to one row that it is, where it is one.
-    Looking(Statement, Option<Access>),
-    Beginning(u32, Access),
-    /// A statement reads whether its row is there.
-    Checking(u32, Access),
-    /// A SELECT reads its row's second column.
-    Fetching(u32, i64),
-    /// An INSERT writes that its row is there.
-    Marking(u32, i64, i64),
-    /// An INSERT writes its row's second column.
-    Filling(u32, i64, i64),
+    Defining(Kept<Table>),
+    /// A statement looks at the tables.
+    Looking(Kept<Statement>),
+    /// A statement that has its types begins its transaction.
+    Beginning(Kept<Plan>),
+    /// A statement asks for cells and writes them.
+    Running(Run),
     Committing,
     /// The rollback of a statement that failed with this code.
     Undoing(SqlState),

@@ -9,6 +9,8 @@ pub enum Want {
     Bytes,
     /// Its table defined by its book.
     Define,
+    /// What its running statement demands.
+    Cells,
     /// Another call of its book.
     Book(Call),
     /// Its reply sent.

@@ -17,8 +17,8 @@ use Rattle.sql_typing.specs.Building.{built}
 use Rattle.sql_typing.specs.Typed.{typed}
 use Rattle.sound_table.specs.Sound.{IsSound}
 use Rattle.query_request.specs.declared.request.Request.{Request}
-use Rattle.query_request.specs.declared.request.Request.TheVariants.{Define, Look, Refused}
-use Rattle.query_request.specs.Trees.{IsAccess}
+use Rattle.query_request.specs.declared.request.Request.TheVariants.{Define, Look, Alone, Refused}
+use Rattle.described_columns.specs.Described.{HasPlainNames}
 
 -- the code that the fault of a text is answered with; no text has the fault Memory
 abbrev pub state_of : ParseFault → SqlState
@@ -37,34 +37,29 @@ abbrev pub defined : Outcome Table → Request
 defined (Ok table) = Define table
 defined (Err code) = Refused code
 
--- why a statement that the server doesn't run is refused
-abbrev pub refusal_of : Outcome Typed → SqlState
-refusal_of (Ok t) = states.S0A000
-refusal_of (Err code) = code
-
--- the statement looks at the tables
-abbrev pub Looks : Statement → Request → Type 0
-Looks statement (Look asked access) = (asked ≡ statement) × IsAccess statement access
-Looks statement _ = ⊥
+-- a SELECT without FROM, or why it has no types
+abbrev pub alone : Outcome Typed → Request
+alone (Ok t) = Alone t
+alone (Err code) = Refused code
 
 -- a SELECT without FROM is typed over no tables, another one looks at them
-abbrev pub LooksFrom : List TableRef → Statement → Request → Type 0
-LooksFrom [] statement request = request ≡ Refused (refusal_of (typed [] statement))
-LooksFrom (entry ∷ more) statement request = Looks statement request
+abbrev pub selecting : List TableRef → Statement → Request
+selecting [] statement = alone (typed [] statement)
+selecting (entry ∷ more) statement = Look statement
 
 -- what a statement asks for
-abbrev pub IsAskedBy : Statement → Request → Type 0
-IsAskedBy (tree.Create create) request = request ≡ defined (built create)
-IsAskedBy (tree.Select select) request = LooksFrom select.from (tree.Select select) request
-IsAskedBy (tree.Insert insert) request = Looks (tree.Insert insert) request
-IsAskedBy (tree.Update update) request = Looks (tree.Update update) request
-IsAskedBy (tree.Delete delete) request = Looks (tree.Delete delete) request
-IsAskedBy _ request = request ≡ Refused states.S0A000
+abbrev pub asked_by : Statement → Request
+asked_by (tree.Create create) = defined (built create)
+asked_by (tree.Select select) = selecting select.from (tree.Select select)
+asked_by (tree.Insert insert) = Look (tree.Insert insert)
+asked_by (tree.Update update) = Look (tree.Update update)
+asked_by (tree.Delete delete) = Look (tree.Delete delete)
+asked_by _ = Refused states.S0A000
 
 -- what the statements of a query ask for, where they are one
-abbrev pub AreAsked : List Statement → Request → Type 0
-AreAsked (x ∷ []) request = IsAskedBy x request
-AreAsked _ request = request ≡ Refused states.S0A000
+abbrev pub asked : List Statement → Request
+asked (x ∷ []) = asked_by x
+asked _ = Refused states.S0A000
 
 -- what the bytes of a query ask for
 pub data IsRequest (text : List ℕ) : Request → Type 0 where
@@ -73,9 +68,15 @@ pub data IsRequest (text : List ℕ) : Request → Type 0 where
   -- the text isn't read
   faulty : (fault : ParseFault) → IsUtf8 text → IsFaultOfText text fault → IsRequest text (Refused (state_of fault))
   -- it is statements
-  reads : (xs : List Statement) (request : Request) → IsUtf8 text → AreStatementsOf text xs → AreAsked xs request → IsRequest text request
+  reads : (xs : List Statement) → IsUtf8 text → AreStatementsOf text xs → IsRequest text (asked xs)
 
 -- the table that is to be defined is sound
 abbrev pub IsSoundRequest : Request → Type 0
 IsSoundRequest (Define table) = IsSound table
 IsSoundRequest _ = Unit {0}
+
+-- the names of a statement that runs are plain
+abbrev pub IsPlainRequest : Request → Type 0
+IsPlainRequest (Look statement) = HasPlainNames statement
+IsPlainRequest (Alone t) = (statement : Statement) × HasPlainNames statement × (typed [] statement ≡ Ok t)
+IsPlainRequest _ = Unit {0}

@@ -1,14 +1,12 @@
 // What the bytes of a query ask for.
 ghost use Rattle.std.specs.Prelude.{◌≡◌, ◌≢◌, ◌<◌, ◌^◌, [], length, IfOk, IfSome, IsNone};
-ghost use Rattle.query_request.specs.declared.request.Request.{Request as Asked};
 ghost use Rattle.std.specs.Str.{IsUtf8};
 ghost use Rattle.sql_grammar.specs.Limited.{HasNoZero};
-ghost use Rattle.query_request.specs.Requests.{AreAsked, IsAskedBy, IsRequest, IsSoundRequest, Looks, defined, refusal_of, state_of};
+ghost use Rattle.query_request.specs.Requests.{asked, asked_by, alone, IsRequest, IsSoundRequest, IsPlainRequest, defined, state_of};
 ghost use Rattle.sql_typing.specs.Building.{built};
 ghost use Rattle.sql_typing.specs.Typed.{typed};
 
 use crate::Request;
-use crate::trees::access_of;
 use cell_base::{Items, Memory, SqlState, Text, TextFault};
 use sql_lexer::LexFault;
 use sql_statements::{ParseFault, statements};
@@ -45,34 +43,26 @@ fn table_of(alloc: Global, create: &CreateTable) -> Result<Request, Memory>
     }
 }
 
-// Why a statement over no tables is refused: by its types, or since the server doesn't run it.
-fn refused_alone(alloc: Global, statement: &Statement) -> Result<Request, Memory>
-    ensures { IfOk result (λ request. request ≡ Request.Refused (refusal_of (typed [] statement.now))) }
+// A statement over no tables: its types, or why it has none.
+fn typed_alone(alloc: Global, statement: &Statement) -> Result<Request, Memory>
+    ensures { IfOk result (λ request. request ≡ alone (typed [] statement.now)) }
 {
     match typed(alloc, statement, &[]) {
-        Ok(_) => Ok(Request::Refused(SqlState::S0A000)),
+        Ok(typed) => Ok(Request::Alone(typed)),
         Err(TypeFault::State(code)) => Ok(Request::Refused(code)),
         Err(TypeFault::Memory) => Err(Memory),
     }
 }
 
-// A statement that looks at the tables.
-fn looking(statement: Statement) -> Request
-    ensures { Looks statement result }
-{
-    let access = access_of(&statement);
-    Request::Look(statement, access)
-}
-
 // What a statement asks for that doesn't look at the tables; none for one that does.
 fn request_alone(alloc: Global, statement: &Statement) -> Result<Option<Request>, Memory>
-    ensures some { IfOk result (λ asked. IfSome asked (IsAskedBy statement.now)) }
-    ensures none { IfOk result (λ asked. IsNone asked → (request : Asked) → Looks statement.now request → IsAskedBy statement.now request) }
+    ensures some { IfOk result (λ request. IfSome request (λ it. it ≡ asked_by statement.now)) }
+    ensures none { IfOk result (λ request. IsNone request → asked_by statement.now ≡ Request.Look statement.now) }
 {
     match statement {
         Statement::Create(create) => Ok(Some(table_of(alloc, create)?)),
         Statement::Select(select) => match select.from.as_slice() {
-            [] => Ok(Some(refused_alone(alloc, statement)?)),
+            [] => Ok(Some(typed_alone(alloc, statement)?)),
             [_, ..] => Ok(None),
         },
         Statement::Insert(_) | Statement::Update(_) | Statement::Delete(_) => Ok(None),
@@ -82,17 +72,17 @@ fn request_alone(alloc: Global, statement: &Statement) -> Result<Option<Request>
 
 // What a statement asks for.
 fn request_by(alloc: Global, statement: Statement) -> Result<Request, Memory>
-    ensures { IfOk result (IsAskedBy statement) }
+    ensures { IfOk result (λ request. request ≡ asked_by statement) }
 {
     match request_alone(alloc, &statement)? {
         Some(request) => Ok(request),
-        None => Ok(looking(statement)),
+        None => Ok(Request::Look(statement)),
     }
 }
 
 // What the statements of a query ask for, where they are one.
 fn request_by_all(alloc: Global, statements: Items<Statement>) -> Result<Request, Memory>
-    ensures { IfOk result (AreAsked statements) }
+    ensures { IfOk result (λ request. request ≡ asked statements) }
 {
     let mut statements = statements.into_vec();
     match statements.pop() {
@@ -113,6 +103,7 @@ fn request_of_text(alloc: Global, text: &Text) -> Result<Request, Memory>
     requires utf8 { IsUtf8 text.now }
     ensures request { IfOk result (λ request. IsRequest text.now request) }
     ensures sound { HasNoZero text.now → IfOk result IsSoundRequest }
+    ensures plain { HasNoZero text.now → IfOk result IsPlainRequest }
 {
     match statements(alloc, text) {
         Ok(found) => request_by_all(alloc, found),
@@ -125,12 +116,12 @@ fn request_of_text(alloc: Global, text: &Text) -> Result<Request, Memory>
 
 /// What the bytes of a query ask for, fewer than 4,294,967,296. Bytes that aren't UTF-8 are refused first (22021), then a text that
 /// isn't read, then one of more statements than one or of none (0A000), then a CREATE TABLE that makes no table and a SELECT without
-/// FROM that has no types, by the code that says why; a SELECT without FROM that has types is 0A000, and so are the other statements
-/// that don't look at the tables.
+/// FROM that has no types, by the code that says why; the other statements that don't look at the tables are 0A000.
 pub fn request_of(alloc: Global, text: &[u8]) -> Result<Request, Memory>
     requires { length text.now < 2 ^ 32 }
     ensures request { IfOk result (λ request. IsRequest text.now request) }
     ensures sound { HasNoZero text.now → IfOk result IsSoundRequest }
+    ensures plain { HasNoZero text.now → IfOk result IsPlainRequest }
 {
     match Text::from_bytes(alloc, text) {
         Ok(text) => request_of_text(alloc, &text),

@@ -17,4 +17,4 @@ returns-clause-sits g c =
     sits_after g.W.Words.gives c.args.session.now.stage c.answer.new.self.stage c.args.session.now.known.items c.answer.new.self.known.items (g.B.Book.past c.args.book.now) c.args.words.now defining c.define-answer.result e
     (g.B.Book.past c.define-answer.new.book) c.args.words.now c.requires.sits c.table.ensures.table
     (may_ask c.args.session.now.stage c.args.session.now.known.items (g.B.Book.past c.args.book.now) defining c.requires.sits c.table.ensures.table)
-    c.define-answer.ensures.fits plays c.define-answer.ensures.seat (c.answer.ensures.owed defining c.table.ensures.table) c.answer.ensures.reads c.answer.ensures.known c.answer.ensures.knows c.answer.ensures.sound
+    c.define-answer.ensures.fits plays c.define-answer.ensures.seat (c.answer.ensures.owed defining c.table.ensures.table) c.answer.ensures.follows c.answer.ensures.known c.answer.ensures.knows c.answer.ensures.sound c.answer.ensures.tables

@@ -1,5 +1,5 @@
 use Rattle.std.proofs.Common.{refl, ap, Err, length}
-use Rattle.history_core.specs.declared.event.Event.TheVariants.{Close, Look, Begin, Read, Write, Commit, Rollback}
+use Rattle.history_core.specs.declared.event.Event.TheVariants.{Close, Look, Begin, Commit, Rollback}
 use Rattle.history_core.specs.Book.{session_of}
 use Rattle.monkey_server.specs.Calls.{call_of}
 use Rattle.monkey_server.specs.Calls as calls
@@ -7,8 +7,8 @@ use Rattle.monkey_server.specs.declared.call.Answer.TheVariants as answers
 use Rattle.monkey_server.proofs.Playing.{played, declined, look_fits}
 use Rattle.monkey_server.proofs.serve.call.Goals as goal
 
-pub returns-in-Open-clause-plays : goal.returns-in-Open-clause-plays
-returns-in-Open-clause-plays g c = declined g.W.Words.gives (g.B.Book.past c.args.book.now) c.args.words.now (call_of c.args.c) calls.Open c.in-Err.why (g.B.Book.past c.open.new.self) c.args.words.now (ap call_of c.in-Open.is) tt c.in-Err.ensures.err (λ limit is. c.in-Err.ensures.full limit (ap Err is)) refl
+pub returns-in-Err-clause-plays : goal.returns-in-Err-clause-plays
+returns-in-Err-clause-plays g c = declined g.W.Words.gives (g.B.Book.past c.args.book.now) c.args.words.now (call_of c.args.c) calls.Open c.in-Err.why (g.B.Book.past c.open.new.self) c.args.words.now (ap call_of c.in-Open.is) tt c.in-Err.ensures.err (λ limit is. c.in-Err.ensures.full limit (ap Err is)) (λ limit is. tt) refl
 
 pub returns-in-Close-clause-plays : goal.returns-in-Close-clause-plays
 returns-in-Close-clause-plays g c = played g.W.Words.gives (g.B.Book.past c.args.book.now) c.args.words.now (call_of c.args.c) calls.Close answers.Closed (Close (session_of (g.B.Book.past c.args.book.now).seat)) (g.B.Book.past c.close.new.self) c.args.words.now (ap call_of c.in-Close.is) ((refl, c.close.ensures.adds), refl)
@@ -19,32 +19,17 @@ returns-in-Ok-look-clause-fits g c = look_fits (call_of c.args.c) (g.B.Book.past
 pub returns-in-Ok-look-clause-plays : goal.returns-in-Ok-look-clause-plays
 returns-in-Ok-look-clause-plays g c = played g.W.Words.gives (g.B.Book.past c.args.book.now) c.args.words.now (call_of c.args.c) (calls.Look c.in-Look.known) (answers.Looked c.in-Ok-look.tables) (Look (session_of (g.B.Book.past c.args.book.now).seat) (length (g.B.Book.past c.look.new.self).seen.tables)) (g.B.Book.past c.look.new.self) c.args.words.now (ap call_of c.in-Look.is) ((refl, c.in-Ok-look.ensures.ok), refl)
 
-pub returns-in-Look-clause-plays : goal.returns-in-Look-clause-plays
-returns-in-Look-clause-plays g c = declined g.W.Words.gives (g.B.Book.past c.args.book.now) c.args.words.now (call_of c.args.c) (calls.Look c.in-Look.known) c.in-Err-look.why (g.B.Book.past c.look.new.self) c.args.words.now (ap call_of c.in-Look.is) tt c.in-Err-look.ensures.err (λ limit is. c.in-Err-look.ensures.full limit (ap Err is)) refl
+pub returns-in-Err-look-clause-plays : goal.returns-in-Err-look-clause-plays
+returns-in-Err-look-clause-plays g c = declined g.W.Words.gives (g.B.Book.past c.args.book.now) c.args.words.now (call_of c.args.c) (calls.Look c.in-Look.known) c.in-Err-look.why (g.B.Book.past c.look.new.self) c.args.words.now (ap call_of c.in-Look.is) tt c.in-Err-look.ensures.err (λ limit is. c.in-Err-look.ensures.full limit (ap Err is)) (λ limit is. tt) refl
 
 pub returns-in-Ok-begin-clause-plays : goal.returns-in-Ok-begin-clause-plays
 returns-in-Ok-begin-clause-plays g c = played g.W.Words.gives (g.B.Book.past c.args.book.now) c.args.words.now (call_of c.args.c) calls.Begin (answers.Begun c.in-Ok-begin.number) (Begin (session_of (g.B.Book.past c.args.book.now).seat)) (g.B.Book.past c.begin.new.self) c.args.words.now (ap call_of c.in-Begin.is) ((refl, c.in-Ok-begin.ensures.ok, c.in-Ok-begin.ensures.number), refl)
 
-pub returns-in-Begin-clause-plays : goal.returns-in-Begin-clause-plays
-returns-in-Begin-clause-plays g c = declined g.W.Words.gives (g.B.Book.past c.args.book.now) c.args.words.now (call_of c.args.c) calls.Begin c.in-Err-begin.why (g.B.Book.past c.begin.new.self) c.args.words.now (ap call_of c.in-Begin.is) tt c.in-Err-begin.ensures.err (λ limit is. c.in-Err-begin.ensures.full limit (ap Err is)) refl
-
-pub returns-in-Ok-read-clause-plays : goal.returns-in-Ok-read-clause-plays
-returns-in-Ok-read-clause-plays g c =
-    let r = c.in-Ok-read.ensures.ok in
-    played g.W.Words.gives (g.B.Book.past c.args.book.now) c.args.words.now (call_of c.args.c) (calls.Touch c.in-Touch.cell) (answers.Found c.in-Ok-read.value) (Read (session_of (g.B.Book.past c.args.book.now).seat) c.in-Touch.cell r.source r.count c.next-word.result c.in-Ok-read.value) (g.B.Book.past c.read.new.self) c.next-word.new.self (ap call_of c.in-Touch.is)
-    ((r.source, r.count, c.next-word.result, refl, r.adds), (c.next-word.result, c.next-word.ensures, refl))
-
-pub returns-in-Touch-clause-plays : goal.returns-in-Touch-clause-plays
-returns-in-Touch-clause-plays g c = declined g.W.Words.gives (g.B.Book.past c.args.book.now) c.args.words.now (call_of c.args.c) (calls.Touch c.in-Touch.cell) c.in-Err-read.why (g.B.Book.past c.read.new.self) c.next-word.new.self (ap call_of c.in-Touch.is) tt c.in-Err-read.ensures.err (λ limit is. c.in-Err-read.ensures.full limit (ap Err is)) (c.next-word.result, c.next-word.ensures)
-
-pub returns-in-Ok-write-clause-plays : goal.returns-in-Ok-write-clause-plays
-returns-in-Ok-write-clause-plays g c = played g.W.Words.gives (g.B.Book.past c.args.book.now) c.args.words.now (call_of c.args.c) (calls.Write c.in-Write.cell c.in-Write.value) answers.Written (Write (session_of (g.B.Book.past c.args.book.now).seat) c.in-Write.cell c.in-Write.value) (g.B.Book.past c.write.new.self) c.args.words.now (ap call_of c.in-Write.is) ((refl, c.in-Ok-write.ensures.ok), refl)
-
-pub returns-in-Write-clause-plays : goal.returns-in-Write-clause-plays
-returns-in-Write-clause-plays g c = declined g.W.Words.gives (g.B.Book.past c.args.book.now) c.args.words.now (call_of c.args.c) (calls.Write c.in-Write.cell c.in-Write.value) c.in-Err-write.why (g.B.Book.past c.write.new.self) c.args.words.now (ap call_of c.in-Write.is) tt c.in-Err-write.ensures.err (λ limit is. c.in-Err-write.ensures.full limit (ap Err is)) refl
+pub returns-in-Err-begin-clause-plays : goal.returns-in-Err-begin-clause-plays
+returns-in-Err-begin-clause-plays g c = declined g.W.Words.gives (g.B.Book.past c.args.book.now) c.args.words.now (call_of c.args.c) calls.Begin c.in-Err-begin.why (g.B.Book.past c.begin.new.self) c.args.words.now (ap call_of c.in-Begin.is) tt c.in-Err-begin.ensures.err (λ limit is. c.in-Err-begin.ensures.full limit (ap Err is)) (λ limit is. tt) refl
 
 pub returns-in-Commit-clause-plays : goal.returns-in-Commit-clause-plays
 returns-in-Commit-clause-plays g c = played g.W.Words.gives (g.B.Book.past c.args.book.now) c.args.words.now (call_of c.args.c) calls.Commit answers.Committed (Commit (session_of (g.B.Book.past c.args.book.now).seat)) (g.B.Book.past c.commit.new.self) c.args.words.now (ap call_of c.in-Commit.is) ((refl, c.commit.ensures.adds), refl)
 
-pub returns-clause-plays : goal.returns-clause-plays
-returns-clause-plays g c = played g.W.Words.gives (g.B.Book.past c.args.book.now) c.args.words.now (call_of c.args.c) calls.Rollback answers.RolledBack (Rollback (session_of (g.B.Book.past c.args.book.now).seat)) (g.B.Book.past c.rollback.new.self) c.args.words.now (ap call_of c.in-Rollback.is) ((refl, c.rollback.ensures.adds), refl)
+pub returns-in-Rollback-clause-plays : goal.returns-in-Rollback-clause-plays
+returns-in-Rollback-clause-plays g c = played g.W.Words.gives (g.B.Book.past c.args.book.now) c.args.words.now (call_of c.args.c) calls.Rollback answers.RolledBack (Rollback (session_of (g.B.Book.past c.args.book.now).seat)) (g.B.Book.past c.rollback.new.self) c.args.words.now (ap call_of c.in-Rollback.is) ((refl, c.rollback.ensures.adds), refl)

@@ -6,8 +6,8 @@ use Rattle.monkey_server.specs.Stands.{IsLast}
 use Rattle.monkey_server.specs.Serve.{Ran, Sits}
 use Rattle.monkey_server.proofs.serve.drive.Given as goal
 
-abbrev pub invariant-loop : goal.invariant-loop
-invariant-loop g l = record {
+abbrev pub invariant-loop-alloc : goal.invariant-loop-alloc
+invariant-loop-alloc g l = record {
   ran : (p : Past) (v : _) (f : Sight) (many : ℕ) →
       Ran g.W.Words.gives p v f l.initial.session (g.B.Book.past l.initial.book) l.initial.words (sight_of g.L.Sides.traffic g.L.Sides.read_faults g.L.Sides.write_faults l.initial.link) many →
       Ran g.W.Words.gives p v f l.session (g.B.Book.past l.book) l.words (sight_of g.L.Sides.traffic g.L.Sides.read_faults g.L.Sides.write_faults l.link) many;
@@ -16,5 +16,5 @@ invariant-loop g l = record {
   stays : g.B.Book.stays l.initial.book l.book;
 }
 
-abbrev pub decreases-loop : goal.decreases-loop
-decreases-loop g l = work_of l.session
+abbrev pub decreases-loop-alloc : goal.decreases-loop-alloc
+decreases-loop-alloc g l = work_of l.session

@@ -6,8 +6,8 @@ use Rattle.monkey_server.proofs.serve.run.Goals as goal
 
 pub loop-session-init : goal.loop-session-init
 loop-session-init g c = record {
-  ran = (0, omega arith, Ran-new g.W.Words.gives (g.B.Book.past c.args.book.now) c.args.words.now (sight_of g.L.Sides.traffic g.L.Sides.read_faults g.L.Sides.write_faults c.args.link.now) c.args.session c.requires.empty c.requires.stage);
-  sits = sits_new c.args.session.stage c.args.session.known.items (g.B.Book.past c.args.book.now) c.requires.stage c.requires.known c.requires.away;
+  ran = (0, omega arith, Ran-new g.W.Words.gives (g.B.Book.past c.args.book.now) c.args.words.now (sight_of g.L.Sides.traffic g.L.Sides.read_faults g.L.Sides.write_faults c.args.link.now) c.args.session.now c.requires.empty c.requires.stage);
+  sits = sits_new c.args.session.now.stage c.args.session.now.known.items (g.B.Book.past c.args.book.now) c.requires.stage c.requires.known c.requires.away;
   stays = g.met.B.Book.stays_same c.args.book.now;
   room = c.requires.room;
 }
@@ -16,7 +16,7 @@ pub returns-in-Ended-clause-served : goal.returns-in-Ended-clause-served
 returns-in-Ended-clause-served g c =
     let f : Sight = sight_of g.L.Sides.traffic g.L.Sides.read_faults g.L.Sides.write_faults c.args.link.now in
     Serves-ran g.W.Words.gives (g.B.Book.past c.args.book.now) c.args.words.now f c.drive.new.session c.finish.result.end c.finish.result.short (g.B.Book.past c.drive.new.book) c.drive.new.words
-    (sight_of g.L.Sides.traffic g.L.Sides.read_faults g.L.Sides.write_faults c.drive.new.link) c.loop-session.invariant.ran.0 c.finish.ensures.end c.finish.ensures.short
+    (sight_of g.L.Sides.traffic g.L.Sides.read_faults g.L.Sides.write_faults c.drive.new.link) c.loop-session.invariant.ran.0 (omega (arith, c.loop-session.invariant.ran.1)) c.finish.ensures.end c.finish.ensures.short
     (c.drive.ensures.ran (g.B.Book.past c.args.book.now) c.args.words.now f c.loop-session.invariant.ran.0 c.loop-session.invariant.ran.2)
 
 pub returns-in-Ended-clause-away : goal.returns-in-Ended-clause-away
@@ -32,7 +32,7 @@ returns-then-n-eq0 g c =
     record {
       served =
           Serves-ran g.W.Words.gives (g.B.Book.past c.args.book.now) c.args.words.now f c.drive-then-n-eq0.new.session c.finish-then-n-eq0.result.end c.finish-then-n-eq0.result.short (g.B.Book.past c.drive-then-n-eq0.new.book) c.drive-then-n-eq0.new.words
-          (sight_of g.L.Sides.traffic g.L.Sides.read_faults g.L.Sides.write_faults c.drive-then-n-eq0.new.link) (many + c.take_in-n.result) c.finish-then-n-eq0.ensures.end c.finish-then-n-eq0.ensures.short
+          (sight_of g.L.Sides.traffic g.L.Sides.read_faults g.L.Sides.write_faults c.drive-then-n-eq0.new.link) (many + c.take_in-n.result) (omega (arith, c.loop-session.invariant.ran.1, c.take_in-n.ensures.within)) c.finish-then-n-eq0.ensures.end c.finish-then-n-eq0.ensures.short
           (c.drive-then-n-eq0.ensures.ran (g.B.Book.past c.args.book.now) c.args.words.now f (many + c.take_in-n.result)
           (c.take_in-n.ensures.ran (g.B.Book.past c.args.book.now) c.args.words.now f many c.loop-session.invariant.ran.1 (c.drive.ensures.ran (g.B.Book.past c.args.book.now) c.args.words.now f many c.loop-session.invariant.ran.2)));
       away = away_over c.drive-then-n-eq0.new.session.stage c.drive-then-n-eq0.new.session.known.items (g.B.Book.past c.drive-then-n-eq0.new.book) (is_over c.drive-then-n-eq0.new.session.stage c.drive-then-n-eq0.new.session.known.items c.drive-then-n-eq0.ensures.rests (c.drive-then-n-eq0.ensures.last (c.take_in-n.ensures.stopped c.if-n-eq0.true))) c.drive-then-n-eq0.ensures.sits;

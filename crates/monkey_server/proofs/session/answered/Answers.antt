@@ -1,35 +1,35 @@
-use Rattle.std.proofs.Common.{sym, subst, None}
-use Rattle.monkey_server.specs.declared.call.Answer.{Answer}
-use Rattle.monkey_server.specs.declared.call.Answer.TheVariants as answers
+use Rattle.std.proofs.Common.{sym, subst}
 use Rattle.monkey_server.specs.declared.stage.Stage.{Stage}
-use Rattle.monkey_server.specs.declared.stage.Stage.TheVariants as stages
 use Rattle.monkey_server.specs.Stands.{Advances}
-use Rattle.monkey_server.proofs.Holding.{holding-some}
+use Rattle.monkey_server.proofs.Running.{not_running}
 use Rattle.monkey_server.proofs.session.answered.Goals as goal
 
-pub returns-in-Opening-Opened-clause-goes : goal.returns-in-Opening-Opened-clause-goes
-returns-in-Opening-Opened-clause-goes c =
-    subst (λ (x : Stage). Advances x c.args.known.now.items c.args.answer c.greet.result.stage c.greet.result.wanting c.greet.new.built.items c.args.known.now.items) (sym c.in-Opening-Opened.is-0)
-    (subst (λ (x : Answer). Advances stages.Opening c.args.known.now.items x c.greet.result.stage c.greet.result.wanting c.greet.new.built.items c.args.known.now.items) (sym c.in-Opening-Opened.is-1)
-    (c.greet.ensures.goes c.args.known.now.items))
+pub returns-in-Beginning-clause-goes : goal.returns-in-Beginning-clause-goes
+returns-in-Beginning-clause-goes c =
+    subst (λ (x : Stage). Advances x c.args.known.now.items c.args.answer c.start.result.stage c.start.result.wanting c.start.new.built.items c.args.known.now.items) (sym c.in-Beginning.is)
+    (c.start.ensures.goes c.args.known.now.items)
 
-pub returns-in-Looking-Looked-clause-goes : goal.returns-in-Looking-Looked-clause-goes
-returns-in-Looking-Looked-clause-goes c =
-    subst (λ (x : Stage). Advances x c.args.known.now.items c.args.answer c.look.result.stage c.look.result.wanting c.args.built.now.items c.look.new.known.items) (sym c.in-Looking-Looked.is-0)
-    (subst (λ (x : Answer). Advances (stages.Looking c.in-Looking-Looked.statement c.in-Looking-Looked.access) c.args.known.now.items x c.look.result.stage c.look.result.wanting c.args.built.now.items c.look.new.known.items)
-    (sym c.in-Looking-Looked.is-1) (c.look.ensures.goes c.args.built.now.items))
+pub returns-in-Running-clause-goes : goal.returns-in-Running-clause-goes
+returns-in-Running-clause-goes c =
+    subst (λ (x : Stage). Advances x c.args.known.now.items c.args.answer c.pursue.result.stage c.pursue.result.wanting c.pursue.new.built.items c.args.known.now.items) (sym c.in-Running.is)
+    (c.pursue.ensures.goes c.args.known.now.items)
 
-pub returns-in-Looking-Looked-clause-some : goal.returns-in-Looking-Looked-clause-some
-returns-in-Looking-Looked-clause-some c = holding-some c.args.built.now.items c.look.result.stage c.look.ensures.constant
-
-pub returns-in-Fetching-Found-clause-goes : goal.returns-in-Fetching-Found-clause-goes
-returns-in-Fetching-Found-clause-goes c =
-    subst (λ (x : Stage). Advances x c.args.known.now.items c.args.answer c.select.result.stage c.select.result.wanting c.select.new.built.items c.args.known.now.items) (sym c.in-Fetching-Found.is-0)
-    (subst (λ (x : Answer). Advances (stages.Fetching c.in-Fetching-Found.field-0-0 c.in-Fetching-Found.field-1-0) c.args.known.now.items x c.select.result.stage c.select.result.wanting c.select.new.built.items c.args.known.now.items)
-    (sym c.in-Fetching-Found.is-1) (c.select.ensures.goes c.in-Fetching-Found.field-0-0 c.in-Fetching-Found.field-1-0 c.args.known.now.items))
-
-pub returns-in_default-clause-goes : goal.returns-in_default-clause-goes
-returns-in_default-clause-goes c = c.advance.ensures.goes c.args.built.now.items c.args.known.now.items
-
-pub returns-in_default-clause-some : goal.returns-in_default-clause-some
-returns-in_default-clause-some c = holding-some c.args.built.now.items c.advance.result c.advance.ensures.constant
+pub returns-in_default : goal.returns-in_default
+returns-in_default c =
+    let e = c.answered_plain.ensures in
+    record {
+      goes = e.goes;
+      owed = e.owed;
+      outer = e.outer;
+      lacks = e.lacks;
+      work = e.work;
+      left = λ running. absurd (not_running c.args.stage c.in_default.not-Running running);
+      follows = e.follows;
+      known = e.known;
+      knows = e.knows;
+      sound = e.sound;
+      few = e.few;
+      tables = e.tables;
+      phase = e.phase;
+      some = e.some;
+    }

@@ -1,0 +1,23 @@
+use Rattle.std.proofs.Common.{length, sym, subst, ap, ◌∙◌}
+use Rattle.statement_course.specs.Course.{Course}
+use Rattle.statement_course.specs.Laws.{ReadsFirst}
+use Rattle.cell_compile.specs.Plans.{rest_of}
+use Rattle.outcome_replies.specs.Replies.{CanBeTold}
+use Rattle.outcome_replies.specs.Ends.{EndsIn}
+use Rattle.outcome_replies.proofs.Told.{outcomes_told}
+use Rattle.course_laws.proofs.ReadsFirst.{reads_first}
+use Rattle.monkey_server.proofs.Running.{narrow_sound, columns_narrow}
+use Rattle.monkey_server.proofs.statements.judge.Goals as goal
+
+pub typed-requires : goal.typed-requires
+typed-requires c = narrow_sound c.args.known.now c.requires.few c.requires.tables
+
+pub new-requires : goal.new-requires
+new-requires c = columns_narrow c.args.known.now c.requires.tables
+
+pub returns-in_ok-new-in-Ok-clause-knows : goal.returns-in_ok-new-in-Ok-clause-knows
+returns-in_ok-new-in-Ok-clause-knows c = subst (λ (x : Course). ReadsFirst (length c.args.known.now) x) (sym (ap rest_of c.new-in-Ok.ensures ∙ c.in_ok-new-in-Ok.ensures)) (reads_first c.args.known.now c.in-Ok.t)
+
+pub returns-in_ok-new-in-Ok-clause-sound : goal.returns-in_ok-new-in-Ok-clause-sound
+returns-in_ok-new-in-Ok-clause-sound c =
+    subst (λ (x : Course). EndsIn CanBeTold x) (sym (ap rest_of c.new-in-Ok.ensures ∙ c.in_ok-new-in-Ok.ensures)) (outcomes_told c.args.known.now c.args.statement.now c.in-Ok.t c.requires.tables c.requires.plain c.in-Ok.ensures)

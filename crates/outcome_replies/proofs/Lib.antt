@@ -1,0 +1,4 @@
+pub mod Ending
+pub mod Rows
+pub mod Tags
+pub mod Told

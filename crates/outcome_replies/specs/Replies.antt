@@ -1,0 +1,27 @@
+-- The reply of a statement that reads or writes rows (PostgreSQL's documentation, "Message Flow", Simple Query).
+use Rattle.std.specs.Prelude.{ℕ, ◌≤◌, false, List, ◌++◌, length, flat_map, codes, All}
+use Rattle.std.specs.Fmt.{decimal}
+use Rattle.cell_base.specs.declared.value.Value.{Value}
+use Rattle.pg_framing.specs.Replies.{two_bytes, value_bytes, row_description, data_row, command_complete, error_response, IsShortBody}
+use Rattle.statement_course.specs.declared.demand.Outcome.{Outcome}
+use Rattle.statement_course.specs.declared.demand.Outcome.TheVariants.{Rows, Inserted, Updated, Deleted, Failed}
+use Rattle.described_columns.specs.Described.{AreDescribed}
+
+-- A SELECT is told by its columns, its rows and how many they are; another statement by how many rows it changed; and a statement that
+-- failed by its error alone.
+unfoldable pub outcome_reply : Outcome → List ℕ
+outcome_reply (Rows fields rows) = row_description fields ++ (flat_map data_row rows ++ command_complete (codes "SELECT " ++ decimal (length rows)))
+outcome_reply (Inserted n) = command_complete (codes "INSERT 0 " ++ decimal n)
+outcome_reply (Updated n) = command_complete (codes "UPDATE " ++ decimal n)
+outcome_reply (Deleted n) = command_complete (codes "DELETE " ++ decimal n)
+outcome_reply (Failed code) = error_response false code
+
+-- a row fits one message
+pub record IsShortRow (row : List Value) : Type 0 where
+  pub few : length row ≤ 1664
+  pub short : IsShortBody (two_bytes (length row) ++ flat_map value_bytes row)
+
+-- what a statement came to fits messages
+abbrev pub CanBeTold : Outcome → Type 0
+CanBeTold (Rows fields rows) = AreDescribed fields × All IsShortRow rows
+CanBeTold _ = Unit {0}
