@@ -1,4 +1,5 @@
 use Rattle.std.proofs.Common.{sym, subst}
+use Rattle.sql_tree.specs.declared.statement.Statement.{Statement}
 use Rattle.monkey_server.specs.declared.call.Answer.{Answer}
 use Rattle.monkey_server.specs.declared.call.Answer.TheVariants as answers
 use Rattle.monkey_server.specs.declared.stage.Stage.{Stage}
@@ -17,7 +18,9 @@ pub returns-in-Looking-Looked-clause-goes : goal.returns-in-Looking-Looked-claus
 returns-in-Looking-Looked-clause-goes c =
     subst (λ (x : Stage). Advances x c.args.known.now.items c.args.answer c.look.result.stage c.look.result.wanting c.args.built.now.items c.look.new.known.items) (sym c.in-Looking-Looked.is-0)
     (subst (λ (x : Answer). Advances (stages.Looking c.in-Looking-Looked.statement) c.args.known.now.items x c.look.result.stage c.look.result.wanting c.args.built.now.items c.look.new.known.items)
-    (sym c.in-Looking-Looked.is-1) (c.look.ensures.goes c.args.built.now.items))
+    (sym c.in-Looking-Looked.is-1)
+    (subst (λ (x : Statement). Advances (stages.Looking x) c.args.known.now.items (answers.Looked c.in-Looking-Looked.tables) c.look.result.stage c.look.result.wanting c.args.built.now.items c.look.new.known.items)
+    c.get.ensures (c.look.ensures.goes c.args.built.now.items)))
 
 pub returns-in-Looking-Looked-clause-some : goal.returns-in-Looking-Looked-clause-some
 returns-in-Looking-Looked-clause-some c = holding_some c.args.built.now.items c.look.result.stage c.look.ensures.constant
