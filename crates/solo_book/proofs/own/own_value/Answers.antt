@@ -20,6 +20,6 @@ pub unreachable-requires : goal.unreachable-requires
 unreachable-requires c =
     none_pending c.args.history.now.events c.args.session c.args.cell.now c.pending.result c.in-None.is c.pending.ensures c.requires
 
-pub returns-in-Some : goal.returns-in-Some
-returns-in-Some c =
+pub returns : goal.returns
+returns c =
     if_ok _ _ c.last_write.result (λ value last. (c.in-Some.number, (c.pending.ensures c.in-Some.number).0 c.in-Some.is, last)) c.last_write.ensures

@@ -1,10 +1,10 @@
-use Rattle.std.proofs.Common.{◌≡◌, ◌↔◌, refl, sym, ◌∙◌, subst}
+use Rattle.std.proofs.Common.{◌≡◌, ◌↔◌, List, refl, sym, ◌∙◌, subst}
 use Rattle.std.specs.Bool.{IsTrue}
 use Rattle.std.specs.List.{Any}
 use Rattle.std.proofs.lemmas.Bool.{false≢true}
 use Rattle.cell_base.specs.declared.value.Value.{Value}
 use Rattle.cell_base.specs.declared.cell.Cell.{Cell}
-use Rattle.history_core.specs.Book.{Past, IsInTransaction, HasWrite, IsUnwritten, writes_of}
+use Rattle.history_core.specs.Book.{Past, IsInTransaction}
 use Rattle.solo_book.proofs.Books.{stage_pending, writes_pending, goes_same}
 use Rattle.solo_book.proofs.OwnWrites.{all_other}
 use Rattle.solo_book.proofs.book.SoloBookBook.wrote.Goals as goal
