@@ -1,5 +1,5 @@
 -- What the parts of a reader of messages say of each other. The pages of definitions are `Spelling` and `Fronts`.
-use Rattle.std.specs.Prelude.{◌≡◌, ◌≢◌, ℕ, ◌+◌, ◌-◌, List, [], ◌∷◌, ◌++◌, length, take, drop, Bool, false, Option, Some, MatchOption}
+use Rattle.std.specs.Prelude.{◌≡◌, ℕ, ◌-◌, List, [], ◌∷◌, ◌++◌, length, take, drop, Bool, false, Option, Some, MatchOption}
 use Rattle.std.specs.List.{AllByRecursion}
 use Rattle.client_framing.specs.declared.front.Front.{Front}
 use Rattle.client_framing.specs.declared.front.Extended.TheVariants.{Parse, Bind, Describe, Execute, Close}
@@ -7,7 +7,9 @@ use Rattle.client_framing.specs.declared.front.CopyMessage.TheVariants.{Data, Do
 use Rattle.client_framing.specs.declared.front.FrameFault.{FrameFault}
 use Rattle.client_framing.specs.declared.message_type.MessageType.{MessageType}
 use Rattle.client_framing.specs.declared.message_type.MessageType.TheVariants.{Query, Terminate, Sync, Flush, Extended, Function, Copy}
-use Rattle.client_framing.specs.Spelling.{Pair, pair_bytes, pairs_bytes, code_of, IsPair, IsBody, phase_after}
+use Rattle.client_framing.specs.declared.opening_type.OpeningType.{OpeningType}
+use Rattle.client_framing.specs.declared.opening_type.OpeningType.TheVariants.{Startup, Cancel, Ssl, Gss, Version}
+use Rattle.client_framing.specs.Spelling.{Pair, pair_bytes, pairs_bytes, code_of, IsPair, IsBody, IsOtherVersion, phase_after}
 use Rattle.client_framing.specs.Fronts.{Held, TakesFront, IsPartial, HasFault, phase_behind, number_at}
 
 -- the byte of a message's type
@@ -25,6 +27,19 @@ byte_of Function = 70
 byte_of (Copy Data) = 100
 byte_of (Copy Done) = 99
 byte_of (Copy Fail) = 102
+
+-- the code of an opening message's type
+abbrev pub opening_code : OpeningType → ℕ
+opening_code Startup = 196608
+opening_code Cancel = 80877102
+opening_code Ssl = 80877103
+opening_code Gss = 80877104
+opening_code (Version code) = code
+
+-- a type that is named another version is one
+abbrev pub IsRightlyNamed : OpeningType → Type 0
+IsRightlyNamed (Version code) = IsOtherVersion code
+IsRightlyNamed _ = Unit {0}
 
 -- no pair stands at the front
 abbrev pub HasNoPair : List ℕ → Type 0

@@ -76,9 +76,9 @@ IsBody (Query text) body = HasNoZero text × (body ≡ text ++ 0 ∷ [])
 IsBody Terminate body = body ≡ []
 IsBody Sync body = body ≡ []
 IsBody Flush body = body ≡ []
-IsBody (Extended kind) body = Unit {0}
+IsBody (Extended _) body = Unit {0}
 IsBody Function body = Unit {0}
-IsBody (Copy kind) body = Unit {0}
+IsBody (Copy _) body = Unit {0}
 
 -- before the startup: a length, which counts itself and is at most 10,000, a code and a body
 pub record IsOpening (front : Front) (bytes : List ℕ) : Type 0 where

@@ -12,6 +12,7 @@ mod front;
 mod main_phase;
 mod message_type;
 mod opening;
+mod opening_type;
 mod pairs;
 mod parts;
 mod split;

@@ -2,19 +2,14 @@
 ghost use Rattle.std.specs.Prelude.{◌≡◌, ◌≢◌, ◌≤◌, ◌-◌, ◌↔◌, length, take, drop, false, Some, IfOk, IfErr, IfSome, IsNone, IsTrue};
 ghost use Rattle.client_framing.specs.Spelling.{IsBody, code_of};
 ghost use Rattle.client_framing.specs.Fronts.{TakesFront, IsPartial, HasFault};
-ghost use Rattle.client_framing.specs.Reading.{CanBeBody};
+ghost use Rattle.client_framing.specs.Reading.{CanBeBody, IsRightlyNamed, opening_code};
 
+use crate::opening_type::{OpeningType, opening_type};
 use crate::pairs::{can_be_pairs, pairs_of};
 use crate::parts::number_at;
 use crate::{FrameFault, Front};
 use cell_base::Memory;
 use std::alloc::Global;
-
-// The codes of a startup message of protocol 3.0, and of the requests that open no session.
-const VERSION_3_0: u32 = 196_608;
-const CANCEL: u32 = 80_877_102;
-const SSL: u32 = 80_877_103;
-const GSS: u32 = 80_877_104;
 
 // The greatest length of a message before the startup's end.
 const MOST_LENGTH: u32 = 10_000;
@@ -39,16 +34,16 @@ pub fn opening_of(alloc: Global, bytes: &[u8]) -> Result<Option<(Front, usize)>,
     if bytes.len() < 8 {
         return Ok(None);
     }
-    let code = number_at(bytes, 4);
+    let kind = opening_type(number_at(bytes, 4));
     let len = len as usize;
     let held = held_behind_code(bytes, len);
-    if !can_be_body(code, held, len - 8) {
+    if !can_be_body(kind, held, len - 8) {
         return Err(FrameFault::BadStartup);
     }
     if bytes.len() < len {
         return Ok(None);
     }
-    let front = front_of(alloc, code, held)?;
+    let front = front_of(alloc, kind, held)?;
     Ok(Some((front, len)))
 }
 
@@ -65,30 +60,32 @@ fn held_behind_code(bytes: &[u8], len: usize) -> &[u8]
     }
 }
 
-// Whether the bytes can go on to be the body of a message of this code, so many bytes in all.
-fn can_be_body(code: u32, held: &[u8], size: usize) -> bool
-    requires { length held.now ≤ size }
-    ensures { IsTrue result ↔ CanBeBody code size held.now }
+// Whether the bytes can go on to be the body of a message of this type, so many bytes in all.
+fn can_be_body(kind: OpeningType, held: &[u8], size: usize) -> bool
+    requires short { length held.now ≤ size }
+    requires named { IsRightlyNamed kind }
+    ensures { IsTrue result ↔ CanBeBody (opening_code kind) size held.now }
 {
-    match code {
-        VERSION_3_0 => can_be_pairs(held, size),
-        CANCEL => size == 8,
-        SSL | GSS => size == 0,
-        _ => true,
+    match kind {
+        OpeningType::Startup => can_be_pairs(held, size),
+        OpeningType::Cancel => size == 8,
+        OpeningType::Ssl | OpeningType::Gss => size == 0,
+        OpeningType::Version(_) => true,
     }
 }
 
-// The message of this code and body.
-fn front_of(alloc: Global, code: u32, body: &[u8]) -> Result<Front, Memory>
-    requires { CanBeBody code (length body.now) body.now }
-    ensures code { IfOk result (λ front. code_of front ≡ Some code) }
+// The message of this type and body.
+fn front_of(alloc: Global, kind: OpeningType, body: &[u8]) -> Result<Front, Memory>
+    requires body { CanBeBody (opening_code kind) (length body.now) body.now }
+    requires named { IsRightlyNamed kind }
+    ensures code { IfOk result (λ front. code_of front ≡ Some (opening_code kind)) }
     ensures body { IfOk result (λ front. IsBody front body.now) }
 {
-    match code {
-        VERSION_3_0 => Ok(Front::Startup(pairs_of(alloc, body)?)),
-        CANCEL => Ok(Front::Cancel(number_at(body, 0), number_at(body, 4))),
-        SSL => Ok(Front::Ssl),
-        GSS => Ok(Front::Gss),
-        _ => Ok(Front::Version(code)),
+    match kind {
+        OpeningType::Startup => Ok(Front::Startup(pairs_of(alloc, body)?)),
+        OpeningType::Cancel => Ok(Front::Cancel(number_at(body, 0), number_at(body, 4))),
+        OpeningType::Ssl => Ok(Front::Ssl),
+        OpeningType::Gss => Ok(Front::Gss),
+        OpeningType::Version(code) => Ok(Front::Version(code)),
     }
 }
