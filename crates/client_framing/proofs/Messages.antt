@@ -1,13 +1,13 @@
 -- A message behind the startup, in the bytes of the stream.
 use Rattle.std.proofs.Common.{◌≡◌, ◌≢◌, ℕ, ◌+◌, ◌-◌, ◌<◌, ◌≤◌, List, [], ◌∷◌, ◌++◌, length, take, drop, refl, sym, ◌∙◌, ap, subst, arith, append_assoc, true}
-use Rattle.std.specs.Prelude.{slice_index, Option, Some}
+use Rattle.std.specs.Prelude.{slice_index, Some}
 use Rattle.std.proofs.lemmas.List.{length-append, drop-drop, take_at, drop_at}
 use Rattle.client_framing.specs.declared.front.Front.{Front}
 use Rattle.client_framing.specs.declared.front.FrameFault.{FrameFault}
 use Rattle.client_framing.specs.declared.front.FrameFault.TheVariants.{BadLength, BadStartup, TooLong, UnknownType, NoTerminator, Memory}
 use Rattle.client_framing.specs.declared.message_type.MessageType.{MessageType}
 use Rattle.client_framing.specs.Spelling.{number_of, type_of, IsBody, IsMessage}
-use Rattle.client_framing.specs.Fronts.{TakesFront, HasNoFront, HasFault, HasLength, HasQuery, IsType, CanHaveLength, IsNoText, IsPartial, number_at, body_at_front}
+use Rattle.client_framing.specs.Fronts.{TakesFront, HasNoFront, HasFault, IsType, CanHaveLength, IsNoText, IsPartial, number_at, body_at_front}
 use Rattle.client_framing.specs.Reading.{byte_of}
 use Rattle.client_framing.proofs.Numbers.{length-part, two_parts}
 use Rattle.client_framing.proofs.Types.{is_type, query_needs}
@@ -70,8 +70,8 @@ message_stands bytes front len e low high whole kind_is body_is =
         body_is = body_is;
       };
       whole =
-        head_tail bytes (omega arith)
-        ∙ ap (λ (x : List ℕ). slice_index bytes 0 ∷ x) (b ∙ (ap (λ (x : List ℕ). size ++ x) d ∙ sym (append_assoc size body (drop (1 + len) bytes))));
+          head_tail bytes (omega arith)
+          ∙ ap (λ (x : List ℕ). slice_index bytes 0 ∷ x) (b ∙ (ap (λ (x : List ℕ). size ++ x) d ∙ sym (append_assoc size body (drop (1 + len) bytes))));
     }
 
 -- a message can have the length that it has
@@ -146,8 +146,7 @@ text_is_bad bytes len kind is e can high whole fault named query no_text other =
     let low : 5 ≤ len = query_needs len (subst (λ (k : ℕ). CanHaveLength k len) q can) in
     let n : 1 + len - 5 ≡ number_at 1 bytes - 4 = omega arith in
     let P : FrameFault → Type 0 = λ (f : FrameFault). HasFault true bytes f in
-    subst P (sym (named other))
-    (
+    subst P (sym (named other)) (
       record { kind_is = sym is ∙ q; low = omega arith; high = omega arith; whole = omega arith },
       subst (λ (i : ℕ). IsNoText (take i (drop 5 bytes))) n (no_text other),
     )

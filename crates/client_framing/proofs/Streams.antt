@@ -6,7 +6,7 @@ use Rattle.client_framing.specs.declared.front.Front.{Front}
 use Rattle.client_framing.specs.declared.front.FrameFault.{FrameFault}
 use Rattle.client_framing.specs.declared.front.FrameFault.TheVariants.{BadLength, BadStartup, TooLong, UnknownType, NoTerminator, Memory}
 use Rattle.client_framing.specs.Spelling.{phase_after}
-use Rattle.client_framing.specs.Fronts.{TakesFront, HasFault, HasCode, HasLength, HasQuery, IsType, CanHaveLength, CannotOpen, IsNoText, body_at_front, number_at, Stream, message, partial, faulty, unread, IsStream, IsRead, grafted, phase_behind}
+use Rattle.client_framing.specs.Fronts.{TakesFront, HasFault, HasCode, HasLength, HasQuery, IsType, CanHaveLength, IsNoText, body_at_front, number_at, Stream, message, partial, faulty, unread, IsStream, IsRead, grafted, phase_behind}
 use Rattle.client_framing.specs.Reading.{TakesFronts, held_body}
 use Rattle.client_framing.proofs.Numbers.{number_at-append, first-append}
 use Rattle.client_framing.proofs.Types.{type_unique, query_body, query_long}
@@ -185,8 +185,7 @@ query_stays bytes more h =
     let n : number_at 1 (bytes ++ more) ≡ number_at 1 bytes = number_at-append 1 bytes more (omega arith) in
     let d : drop 5 (bytes ++ more) ≡ drop 5 bytes ++ more = drop-append-le 5 bytes more (omega arith) in
     let t : take (number_at 1 bytes - 4) (drop 5 bytes ++ more) ≡ body_at_front bytes = take-append-le (number_at 1 bytes - 4) (drop 5 bytes) more (rw length-drop (omega arith)) in
-    let same : body_at_front (bytes ++ more) ≡ body_at_front bytes = ap (λ (i : ℕ). take (i - 4) (drop 5 (bytes ++ more))) n ∙ (ap (λ (x : List ℕ). take (number_at 1 bytes - 4) x) d ∙ t) in
-    (
+    let same : body_at_front (bytes ++ more) ≡ body_at_front bytes = ap (λ (i : ℕ). take (i - 4) (drop 5 (bytes ++ more))) n ∙ (ap (λ (x : List ℕ). take (number_at 1 bytes - 4) x) d ∙ t) in (
       record { kind_is = first-append bytes more (omega arith) ∙ h.0.kind_is; low = omega arith; high = omega (arith, h.0.high); whole = omega (arith, length-append bytes more) },
       λ text is. h.1 text (is.0, sym same ∙ is.1),
     )

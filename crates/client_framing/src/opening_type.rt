@@ -15,8 +15,11 @@ pub enum OpeningType {
 }
 
 const VERSION_3_0: u32 = 196_608;
+
 const CANCEL: u32 = 80_877_102;
+
 const SSL: u32 = 80_877_103;
+
 const GSS: u32 = 80_877_104;
 
 /// The type that the code says.
