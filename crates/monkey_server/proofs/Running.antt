@@ -1,5 +1,5 @@
 -- A statement that runs: its course behind each answer.
-use Rattle.std.proofs.Common.{◌≡◌, ◌<◌, ℕ, Bool, true, false, List, [], ◌∷◌, ◌++◌, length, refl, sym, ◌∙◌, ap, subst, arith, Option, Some, None, Ok, Err, All, Result, IfOk}
+use Rattle.std.proofs.Common.{◌≡◌, ◌<◌, ℕ, Bool, true, false, List, [], ◌∷◌, length, refl, sym, ◌∙◌, ap, subst, arith, Option, Some, None, Ok, Err, All, Result, IfOk}
 use Rattle.std.specs.Prelude.{◌==◌, slice_index_or, slice_get}
 use Rattle.std.specs.List.{list_any}
 use Rattle.std.proofs.lemmas.Bool.{cond_both}
@@ -31,7 +31,7 @@ use Rattle.statement_course.specs.declared.demand.PlanAnswer.TheVariants as plan
 use Rattle.statement_course.specs.Course.{Course, scan, touch, write, first_demand, behind, FitsDemand}
 use Rattle.statement_course.specs.Course as course
 use Rattle.statement_course.specs.Laws.{ReadsFirst, OnlyWrites}
-use Rattle.outcome_replies.specs.Replies.{outcome_reply, CanBeTold}
+use Rattle.outcome_replies.specs.Replies.{outcome_reply}
 use Rattle.outcome_replies.specs.Ends.{EndsIn}
 use Rattle.query_request.specs.declared.request.Request.{Request}
 use Rattle.query_request.specs.Requests.{IsRequest}
@@ -41,14 +41,13 @@ use Rattle.cell_compile.specs.Plans.{rest_of}
 use Rattle.monkey_server.specs.declared.call.Answer.{Answer}
 use Rattle.monkey_server.specs.declared.call.Answer.TheVariants as answers
 use Rattle.monkey_server.specs.declared.end.End.TheVariants as ends
-use Rattle.monkey_server.specs.declared.stage.Owed.TheVariants as owes
 use Rattle.monkey_server.specs.declared.stage.Reply.TheVariants as replies
 use Rattle.monkey_server.specs.declared.stage.Run.{Run}
 use Rattle.monkey_server.specs.declared.stage.Stage.{Stage}
 use Rattle.monkey_server.specs.declared.stage.Stage.TheVariants as stages
-use Rattle.monkey_server.specs.Told.{Entry, Said, Script, call, with_call, unless_short, tell, ending, closing, readied, undone, succeeded, committed, concluded, runs, continued, answered_at_once, requested, session, refusal_state}
+use Rattle.monkey_server.specs.Told.{Entry, Said, Script, call, with_call, tell, closing, readied, undone, succeeded, concluded, runs, continued, answered_at_once, requested, session, refusal_state}
 use Rattle.monkey_server.specs.Talk.{Talk}
-use Rattle.monkey_server.specs.Stands.{Continues, Advances, IsBusy, IsFrom, IsRunning, Fits, goes_on, with_short, answer_with, entry_for}
+use Rattle.monkey_server.specs.Stands.{Continues, Advances, IsBusy, IsRunning, Fits, goes_on, with_short, answer_with, entry_for}
 use Rattle.monkey_server.proofs.Passes.{unless_short-passes, unless_short-takes}
 
 -- ---- courses

@@ -8,7 +8,7 @@ use Rattle.sound_table.specs.Sound.{IsSound}
 use Rattle.link_traits.specs.Faults.{Rose}
 use Rattle.link_traits.specs.Traffic.{Traffic, Took, Wrote, Both, Sight}
 use Rattle.history_core.specs.declared.event.Event.{Event}
-use Rattle.history_core.specs.Book.{Past, Seat, away, seated, pending, writes_of}
+use Rattle.history_core.specs.Book.{Past, Seat, away, seated, pending}
 use Rattle.monkey_server.specs.Calls.{Call, Want}
 use Rattle.monkey_server.specs.declared.call.Answer.{Answer}
 use Rattle.monkey_server.specs.declared.end.End.{End}

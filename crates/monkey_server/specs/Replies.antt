@@ -1,5 +1,5 @@
 -- The replies of a session, but for those of statements that read or write rows (outcome_replies).
-use Rattle.std.specs.Prelude.{ℕ, List, [], ◌∷◌, ◌++◌, codes, Bool, true, false}
+use Rattle.std.specs.Prelude.{ℕ, List, ◌++◌, codes, true, false}
 use Rattle.cell_base.specs.declared.sql_state.SqlState.{SqlState}
 use Rattle.cell_base.specs.declared.sql_state.SqlState.TheVariants as states
 use Rattle.monkey_server.specs.declared.stage.Fatal.{Fatal}

@@ -89,8 +89,8 @@ fn begin_request(alloc: Global, request: Request, built: &mut Vec<u8>) -> Result
     ensures some { IfOk result (λ stage. IsHolding stage → 0 < length (reply_of built.new.items stage)) }
 {
     match request {
-        Request::Define(table) => Ok(Stage::Defining(Kept::new(table))),
-        Request::Look(statement) => Ok(Stage::Looking(Kept::new(statement))),
+        Request::Define(table) => Ok(Stage::Defining(Kept::new(alloc, table)?)),
+        Request::Look(statement) => Ok(Stage::Looking(Kept::new(alloc, statement)?)),
         Request::Alone(alone) => Ok(Stage::Telling(false, answer_at_once(alloc, alone, built)?)),
         Request::Refused(state) => Ok(Stage::Telling(false, Reply::Error(state))),
     }

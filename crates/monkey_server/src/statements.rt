@@ -9,6 +9,8 @@ ghost use Rattle.outcome_replies.specs.Ends.{EndsIn};
 ghost use Rattle.statement_course.specs.declared.demand.Demand.{Demand as Demanded};
 ghost use Rattle.statement_course.specs.Laws.{ReadsFirst};
 ghost use Rattle.statement_course.specs.Course.{done, first_demand, behind, FitsDemand};
+ghost use Rattle.statement_course.specs.Statements.{course_of};
+ghost use Rattle.cell_compile.specs.Narrow.{AreNarrow};
 ghost use Rattle.cell_compile.specs.Plans.{rest_of, left_of};
 ghost use Rattle.monkey_server.specs.Calls as calls;
 ghost use Rattle.monkey_server.specs.Calls.{asks_cells, call_for};
@@ -24,10 +26,18 @@ use cell_base::{Items, Memory, SqlState};
 use cell_compile::Plan;
 use history_core::BookFault;
 use outcome_replies::reply_of;
-use sql_tree::{Statement, Table};
+use sql_tree::{Statement, Table, Typed};
 use sql_types::{TypeFault, typed};
 use statement_course::{Demand, Outcome, PlanAnswer};
 use std::alloc::Global;
+
+// The plan of a statement that has its types, in a box of its own.
+fn planned(alloc: Global, statement: Typed, known: &[Table]) -> Result<Kept<Plan>, Memory>
+    requires { AreNarrow known.now }
+    ensures { IfOk result (λ plan. rest_of plan ≡ course_of known.now statement) }
+{
+    Kept::new(alloc, Plan::new(alloc, statement, known)?)
+}
 
 // The stage of a statement over the tables that are known.
 fn judge(alloc: Global, statement: &Statement, known: &[Table]) -> Result<Stage, Memory>
@@ -48,7 +58,7 @@ fn judge(alloc: Global, statement: &Statement, known: &[Table]) -> Result<Stage,
     ensures constant { IfOk result NoBuilt }
 {
     match typed(alloc, statement, known) {
-        Ok(t) => Ok(Stage::Beginning(Kept::new(Plan::new(alloc, t, known)?))),
+        Ok(t) => Ok(Stage::Beginning(planned(alloc, t, known)?)),
         Err(TypeFault::State(code)) => Ok(Stage::Telling(false, Reply::Error(code))),
         Err(TypeFault::Memory) => Err(Memory),
     }
@@ -185,9 +195,9 @@ fn go_on(alloc: Global, plan: Kept<Plan>, answer: PlanAnswer, built: &mut Vec<u8
     ensures phase { InPhase result.stage true }
     ensures some { IsHolding result.stage → 0 < length (reply_of built.new.items result.stage) }
 {
-    let mut plan = plan.into_inner();
+    let mut plan = plan.into_box();
     match plan.answer(answer) {
-        Ok(()) => settle(alloc, Kept::new(plan), built),
+        Ok(()) => settle(alloc, Kept::from_box(plan), built),
         Err(Memory) => Step {
             stage: Stage::Undoing(SqlState::S53200),
             wanting: Some(false),

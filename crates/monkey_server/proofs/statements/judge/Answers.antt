@@ -1,7 +1,6 @@
-use Rattle.std.proofs.Common.{length, sym, subst, ap, ◌∙◌}
+use Rattle.std.proofs.Common.{length, sym, subst}
 use Rattle.statement_course.specs.Course.{Course}
 use Rattle.statement_course.specs.Laws.{ReadsFirst}
-use Rattle.cell_compile.specs.Plans.{rest_of}
 use Rattle.outcome_replies.specs.Replies.{CanBeTold}
 use Rattle.outcome_replies.specs.Ends.{EndsIn}
 use Rattle.outcome_replies.proofs.Told.{outcomes_told}
@@ -12,12 +11,12 @@ use Rattle.monkey_server.proofs.statements.judge.Goals as goal
 pub typed-requires : goal.typed-requires
 typed-requires c = narrow_sound c.args.known.now c.requires.few c.requires.tables
 
-pub new-requires : goal.new-requires
-new-requires c = columns_narrow c.args.known.now c.requires.tables
+pub planned-requires : goal.planned-requires
+planned-requires c = columns_narrow c.args.known.now c.requires.tables
 
-pub returns-in_ok-new-in-Ok-clause-knows : goal.returns-in_ok-new-in-Ok-clause-knows
-returns-in_ok-new-in-Ok-clause-knows c = subst (λ (x : Course). ReadsFirst (length c.args.known.now) x) (sym (ap rest_of c.new-in-Ok.ensures ∙ c.in_ok-new-in-Ok.ensures)) (reads_first c.args.known.now c.in-Ok.t)
+pub returns-in_ok-planned-in-Ok-clause-knows : goal.returns-in_ok-planned-in-Ok-clause-knows
+returns-in_ok-planned-in-Ok-clause-knows c = subst (λ (x : Course). ReadsFirst (length c.args.known.now) x) (sym c.in_ok-planned-in-Ok.ensures) (reads_first c.args.known.now c.in-Ok.t)
 
-pub returns-in_ok-new-in-Ok-clause-sound : goal.returns-in_ok-new-in-Ok-clause-sound
-returns-in_ok-new-in-Ok-clause-sound c =
-    subst (λ (x : Course). EndsIn CanBeTold x) (sym (ap rest_of c.new-in-Ok.ensures ∙ c.in_ok-new-in-Ok.ensures)) (outcomes_told c.args.known.now c.args.statement.now c.in-Ok.t c.requires.tables c.requires.plain c.in-Ok.ensures)
+pub returns-in_ok-planned-in-Ok-clause-sound : goal.returns-in_ok-planned-in-Ok-clause-sound
+returns-in_ok-planned-in-Ok-clause-sound c =
+    subst (λ (x : Course). EndsIn CanBeTold x) (sym c.in_ok-planned-in-Ok.ensures) (outcomes_told c.args.known.now c.args.statement.now c.in-Ok.t c.requires.tables c.requires.plain c.in-Ok.ensures)
