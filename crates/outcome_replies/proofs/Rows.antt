@@ -1,5 +1,5 @@
 -- Each row of a SELECT has one value for each item, and its message isn't too long.
-use Rattle.std.proofs.Common.{◌≡◌, ℕ, zero, suc, ◌+◌, ◌≤◌, Bool, true, false, List, [], ◌∷◌, ◌++◌, length, map, refl, ap, sym, ◌∙◌, arith, Ok, Err, Some, None, All, length-append}
+use Rattle.std.proofs.Common.{◌≡◌, ℕ, zero, suc, ◌+◌, ◌≤◌, Bool, true, false, List, [], ◌∷◌, ◌++◌, length, map, refl, ap, arith, Ok, Err, Some, None, All, length-append}
 use Rattle.std.specs.Prelude.{ℤ, Option, take, drop, flat_map, sum_by, nat_le}
 use Rattle.std.specs.Ordering.{is_lt}
 use Rattle.std.specs.List.{AllByRecursion}
@@ -10,11 +10,11 @@ use Rattle.std.proofs.lemmas.List.Sums.{sum_by-cons}
 use Rattle.cell_base.specs.declared.sql_state.SqlState.TheVariants.{S54000}
 use Rattle.cell_base.specs.declared.value.Value.{Value}
 use Rattle.pg_framing.specs.Spelling.{four_bytes}
-use Rattle.pg_framing.specs.Replies.{two_bytes, value_bytes, framed, data_row, IsShortBody}
+use Rattle.pg_framing.specs.Replies.{two_bytes, value_bytes, framed, data_row}
 use Rattle.pg_framing.proofs.Numbers.{length-four_bytes}
 use Rattle.sql_tree.specs.declared.typed.TypedSelect.{TypedSelect}
 use Rattle.sql_tree.specs.declared.typed_expr.TypedExpr.{TypedExpr}
-use Rattle.sql_typing.specs.Outcome.{Outcome, and_then, all_of}
+use Rattle.sql_typing.specs.Outcome.{Outcome, all_of}
 use Rattle.sql_typing.specs.Sound.{Holds}
 use Rattle.sql_typing.proofs.Numbers.{then_holds}
 use Rattle.expr_eval.specs.Values.{Row, value_of}

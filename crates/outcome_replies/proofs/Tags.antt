@@ -1,7 +1,7 @@
 -- The tags of statements have no zero byte and are short.
 use Rattle.std.proofs.Common.{◌≡◌, ◌<◌, ◌≤◌, ◌^◌, ℕ, List, ◌++◌, [], ◌∷◌, length, arith, length-append, subst, sym, ap}
 use Rattle.std.specs.Fmt.{decimal}
-use Rattle.std.proofs.lemmas.Fmt.{decimal_is_IsNumeral, length-decimal-le}
+use Rattle.std.proofs.lemmas.Fmt.{decimal_is_IsNumeral}
 use Rattle.std.proofs.lemmas.Str.Parse.{digit_at}
 use Rattle.pg_framing.specs.Spelling.{HasNoZero}
 use Rattle.pg_framing.specs.Replies.{ended, IsShortBody}

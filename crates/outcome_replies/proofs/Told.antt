@@ -1,5 +1,5 @@
 -- What a statement with types comes to can be told.
-use Rattle.std.proofs.Common.{◌≡◌, ℕ, ◌≤◌, Bool, true, false, List, [], ◌∷◌, length, map, Option, Some, None, Ok, Err, refl, sym, ◌∙◌, subst, arith, All}
+use Rattle.std.proofs.Common.{◌≡◌, ℕ, Bool, true, false, List, [], ◌∷◌, length, map, Option, Some, None, Ok, Err, sym, ◌∙◌, subst, arith, All}
 use Rattle.std.specs.Prelude.{slice_get}
 use Rattle.std.proofs.lemmas.Bool.{cond_both}
 use Rattle.std.proofs.lemmas.List.{length-map}
@@ -14,7 +14,7 @@ use Rattle.sql_tree.specs.declared.typed.TypedChange.{TypedChange}
 use Rattle.sql_tree.specs.declared.typed.TypedInsert.{TypedInsert}
 use Rattle.sql_tree.specs.declared.typed.TypedSelect.{TypedSelect}
 use Rattle.sql_tree.specs.declared.typed_expr.TypedExpr.{TypedExpr}
-use Rattle.sql_typing.specs.Outcome.{Outcome as Result, and_then}
+use Rattle.sql_typing.specs.Outcome.{Outcome as Result}
 use Rattle.sql_typing.specs.Sound.{Holds}
 use Rattle.sql_typing.specs.Select as typing
 use Rattle.sql_typing.specs.Changes.{filter_of}
@@ -22,8 +22,7 @@ use Rattle.sql_typing.specs.Insert.{typed_insert}
 use Rattle.sql_typing.specs.Changes.{typed_update, typed_delete}
 use Rattle.sql_typing.specs.Typed.{typed}
 use Rattle.sql_typing.proofs.Numbers.{then_holds}
-use Rattle.sound_table.specs.Sound.{IsSound}
-use Rattle.described_columns.specs.Described.{AreDescribed, HasPlainNames}
+use Rattle.described_columns.specs.Described.{AreDescribed}
 use Rattle.described_columns.proofs.Described.{statement_described}
 use Rattle.row_meaning.specs.Pictures.{TableRow, shown_of}
 use Rattle.row_meaning.specs.Selection.{selected}

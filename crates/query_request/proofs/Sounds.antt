@@ -4,7 +4,6 @@ use Rattle.std.proofs.lemmas.List.Elements.{All-contains}
 use Rattle.cell_base.specs.declared.memory.Memory.{Memory}
 use Rattle.std.specs.List.{Contains}
 use Rattle.sound_text.proofs.Plain.{built_sound}
-use Rattle.cell_base.specs.declared.sql_state.SqlState.{SqlState}
 use Rattle.sql_grammar.specs.Limited.{HasNoZero}
 use Rattle.sql_statements.specs.Faults.{AreStatementsOf}
 use Rattle.sql_tree.specs.declared.statement.Statement.{Statement}
@@ -19,7 +18,6 @@ use Rattle.sound_table.specs.Sound.{IsSound}
 use Rattle.described_columns.specs.Described.{HasPlainNames}
 use Rattle.described_columns.proofs.Plain.{statements_plain}
 use Rattle.query_request.specs.declared.request.Request.{Request}
-use Rattle.query_request.specs.declared.request.Request.TheVariants.{Define, Look, Alone, Refused}
 use Rattle.query_request.specs.Requests.{asked, asked_by, alone, selecting, defined, IsSoundRequest, IsPlainRequest}
 
 -- ---- the table is sound
