@@ -18,7 +18,7 @@ fn reads_the_last_write(rt: HostRuntime) -> Result<(), BookFault> {
     let mut book = start(rt.alloc())?;
     let value = see_second(&mut book)?;
     assert!(&rt; value.is_same(&Value::Int(20)));
-    assert!(&rt; is_own(&book, 6, &field_of(1), &Value::Int(20)));
+    assert!(&rt; is_own(&book, 5, &field_of(1), &Value::Int(20)));
     assert_eq!(&rt; book.history().events().len(), 7);
     Ok(())
 }
@@ -38,8 +38,8 @@ fn tells_what_is_written(rt: HostRuntime) -> Result<(), BookFault> {
 #[test]
 fn reads_its_own_row(rt: HostRuntime) -> Result<(), BookFault> {
     let book = row_rolled_back(rt.alloc())?;
-    assert!(&rt; is_own(&book, 7, &presence_of(1), &Value::Flag(true)));
-    assert!(&rt; is_own(&book, 8, &field_of(1), &Value::Int(10)));
+    assert!(&rt; is_own(&book, 6, &presence_of(1), &Value::Flag(true)));
+    assert!(&rt; is_own(&book, 7, &field_of(1), &Value::Int(10)));
     let told = reads_of(rt.alloc(), &book)?;
     assert_eq!(&rt; told.len(), 2);
     assert!(&rt; is_told(&told, 0, 0, 1, 5, &Value::Flag(false)));
@@ -55,9 +55,9 @@ fn shows_its_number(rt: HostRuntime) -> Result<(), BookFault> {
     assert_eq!(&rt; show(&mut book)?, 4);
     write_text(rt.alloc(), &mut book)?;
     assert_eq!(&rt; show(&mut book)?, 8);
-    assert!(&rt; is_shown(&book, 3));
-    assert!(&rt; is_shown(&book, 4));
-    assert!(&rt; is_shown(&book, 8));
+    assert!(&rt; is_shown(&book, 2, 3));
+    assert!(&rt; is_shown(&book, 3, 4));
+    assert!(&rt; is_shown(&book, 7, 8));
     assert_eq!(&rt; book.history().load(), 10);
     Ok(())
 }

@@ -49,9 +49,9 @@ pub fn is_told(
     }
 }
 
-/// Whether the event of the number is an own read of the cell in session 1, which gave the value.
-pub fn is_own(book: &SoloBook, number: usize, cell: &Cell, value: &Value) -> bool {
-    match book.history().events().get(number - 1) {
+/// Whether the event at the place is an own read of the cell in session 1, which gave the value.
+pub fn is_own(book: &SoloBook, at: usize, cell: &Cell, value: &Value) -> bool {
+    match book.history().events().get(at) {
         Some(Event::Own(session, own, last)) => {
             *session == 1 && own.is_same(cell) && last.is_same(value)
         }
@@ -59,10 +59,10 @@ pub fn is_own(book: &SoloBook, number: usize, cell: &Cell, value: &Value) -> boo
     }
 }
 
-/// Whether the event of the number tells it in session 1.
-pub fn is_shown(book: &SoloBook, number: usize) -> bool {
-    match book.history().events().get(number - 1) {
-        Some(Event::Show(session, own)) => *session == 1 && *own as usize == number,
+/// Whether the event at the place tells the number in session 1.
+pub fn is_shown(book: &SoloBook, at: usize, number: u32) -> bool {
+    match book.history().events().get(at) {
+        Some(Event::Show(session, own)) => *session == 1 && *own == number,
         _ => false,
     }
 }
