@@ -1,5 +1,5 @@
 // Streams of many messages in any pieces, and messages at the limits.
-use crate::reading::{STARTUP, read, told};
+use crate::reading::{STARTUP, name_of, read, told};
 use cell_base::Memory;
 use client_framing::{FrameFault, Frames, Front};
 use std::alloc::Global;
@@ -73,26 +73,27 @@ fn longest_are_read(alloc: Global) -> Result<bool, Memory> {
     )
 }
 
+// The name of the next message.
+fn next_name(frames: &mut Frames) -> Result<&'static [u8], FrameFault> {
+    match frames.next()? {
+        Some(front) => Ok(name_of(&front)),
+        None => Ok(b"nothing"),
+    }
+}
+
 // Whether a reader that is fed all at once gives message by message, and holds what is left.
 fn one_piece_is_taken(alloc: Global) -> Result<bool, FrameFault> {
     let mut frames = Frames::new(alloc);
     frames.feed(STARTUP)?;
     frames.feed(b"S\x00\x00\x00\x04X\x00\x00\x00\x04?")?;
     let held = frames.rest();
-    let first = frames.next()?;
-    let second = frames.next()?;
-    let third = frames.next()?;
-    let left = frames.rest();
-    let again = frames.next().is_err() && frames.next().is_err();
-    let startup = match first {
-        Some(Front::Startup(pairs)) => pairs.len() == 1,
-        _ => false,
-    };
-    let ends = match (second, third) {
-        (Some(Front::Sync), Some(Front::Terminate)) => true,
-        _ => false,
-    };
-    Ok(held == 27 && left == 1 && startup && ends && again)
+    let startup = next_name(&mut frames)? == b"startup".as_slice();
+    let sync = next_name(&mut frames)? == b"sync".as_slice();
+    let terminate = next_name(&mut frames)? == b"terminate".as_slice();
+    let fault = Err(FrameFault::UnknownType(63));
+    let told = next_name(&mut frames) == fault;
+    let told_again = next_name(&mut frames) == fault;
+    Ok(held == 27 && startup && sync && terminate && told && told_again && frames.rest() == 1)
 }
 
 #[test]

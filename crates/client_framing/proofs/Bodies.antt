@@ -1,10 +1,10 @@
 -- What bytes can go on to be pairs and their end.
-use Rattle.std.proofs.Common.{◌≡◌, ◌≢◌, ℕ, ◌+◌, ◌-◌, ◌≤◌, ◌<◌, List, [], ◌∷◌, ◌++◌, length, refl, sym, ◌∙◌, ap, arith, append_assoc, append-nil, length-append, inl, inr, eqb, leb, true}
+use Rattle.std.proofs.Common.{◌≡◌, ◌≢◌, ℕ, ◌+◌, ◌-◌, ◌≤◌, ◌<◌, List, [], ◌∷◌, ◌++◌, length, refl, sym, ◌∙◌, ap, arith, append_assoc, length-append, inl, inr, eqb, leb, true}
 use Rattle.std.specs.Prelude.{◌⊎◌, ◌↔◌, IsTrue}
 use Rattle.std.proofs.lemmas.Bool.{eq-eqb, eqb-true, leb-true, le-leb}
 use Rattle.std.specs.List.{AllByRecursion}
 use Rattle.client_framing.specs.Spelling.{Pair, pair_bytes, pairs_bytes, IsPair, HasNoZero}
-use Rattle.client_framing.specs.Reading.{ArePairs, CanBePairs}
+use Rattle.client_framing.specs.Reading.{CanBePairs}
 use Rattle.client_framing.proofs.Zeros.{NoZero, no_zero_from, has_no_zero, no_zero-append, ones, length-ones, no_zero-ones, split_unique, before_zero}
 use Rattle.client_framing.proofs.PairLists.{flat_pair, first_pair, length-pair, length-first, length-pairs, pair_unique, end_is_no_pair}
 
@@ -154,21 +154,6 @@ pair_needs room left rest behind p is_pair is size can = go can.pairs can.each c
         let r = pair_unique p q (behind ++ can.more) (pairs_bytes qs) is_pair h.0 (flat ∙ (w ∙ first_pair q qs)) in
         let same : length (pair_bytes p) ≡ length (pair_bytes q) = ap (λ (x : Pair). length (pair_bytes x)) r.0 in
         record { pairs = qs; more = can.more; each = h.1; fills = omega (arith, length-first q qs); whole = r.1 }
-
--- what fills its room is pairs and their end
-pub full_pairs : (room : ℕ) (held : List ℕ) → CanBePairs room held → length held ≡ room → ArePairs held
-full_pairs room held can full = record {
-  pairs = can.pairs;
-  each = can.each;
-  whole = sym (append-nil held) ∙ (ap (λ (x : List ℕ). held ++ x) (sym nothing) ∙ can.whole);
-}
-  where
-    empty : (xs : List ℕ) → length xs ≡ 0 → xs ≡ []
-    empty [] e = refl
-    empty (x ∷ xs) e = absurd (omega arith)
-
-    nothing : can.more ≡ []
-    nothing = empty can.more (omega (arith, can.fills, ap length can.whole, length-append held can.more))
 
 empty : (xs : List ℕ) → length xs ≡ 0 → xs ≡ []
 empty [] e = refl

@@ -115,10 +115,6 @@ message_partial bytes g = record { no_front = fronts; no_fault = faults }
 known : (bytes : List ℕ) (kind : MessageType) → byte_of kind ≡ slice_index bytes 0 → IsType (slice_index bytes 0)
 known bytes kind is = let P : ℕ → Type 0 = IsType in subst P is (is_type kind)
 
--- nothing is held
-pub nothing_held : (bytes : List ℕ) → length bytes ≡ 0 → IsPartial true bytes
-nothing_held bytes none = message_partial bytes (record { known = λ h. absurd (omega arith); length_fits = λ h. absurd (omega arith); high = λ h. absurd (omega arith); short = λ h. absurd (omega arith) })
-
 -- a type byte is held, and no length
 pub no_length_held : (bytes : List ℕ) (kind : MessageType) → byte_of kind ≡ slice_index bytes 0 → length bytes < 5 → IsPartial true bytes
 no_length_held bytes kind is few = message_partial bytes (record { known = λ _. known bytes kind is; length_fits = λ h. absurd (omega arith); high = λ h. absurd (omega arith); short = λ h. absurd (omega arith) })

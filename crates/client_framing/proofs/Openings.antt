@@ -141,10 +141,6 @@ opening_partial bytes g = record { no_front = fronts; no_fault = faults }
 pub no_length_yet : (bytes : List ℕ) → length bytes < 4 → IsPartial false bytes
 no_length_yet bytes few = opening_partial bytes (record { low = λ h. absurd (omega arith); high = λ h. absurd (omega arith); short = λ h. absurd (omega arith); body = λ h. absurd (omega (arith, h.held)) })
 
--- fewer than eight bytes, of which the first four are a good length
-pub no_code_yet : (bytes : List ℕ) → length bytes < 8 → 8 ≤ number_at 0 bytes → number_at 0 bytes ≤ 10000 → IsPartial false bytes
-no_code_yet bytes few low high = opening_partial bytes (record { low = λ _. low; high = λ _. high; short = λ h. absurd (omega arith); body = λ h. absurd (omega (arith, h.held)) })
-
 -- what the code holds, as the bytes say it
 as_held : (bytes held : List ℕ) (len code : ℕ) → len ≡ number_at 0 bytes → code ≡ number_at 4 bytes → held ≡ take (len - 8) (drop 8 bytes) → CanBeBody code (len - 8) held
     → CanBeBody (number_at 4 bytes) (number_at 0 bytes - 8) (held_body bytes)

@@ -6,8 +6,8 @@ use Rattle.std.proofs.lemmas.List.Concat.{flat_map-append}
 use Rattle.client_framing.specs.declared.front.Front.{Front}
 use Rattle.client_framing.specs.declared.front.FrameFault.{FrameFault}
 use Rattle.client_framing.specs.Spelling.{phase_after}
-use Rattle.client_framing.specs.Fronts.{Held, TakesFront, Stream, IsStream, IsRead, grafted, end_of, phase_behind}
-use Rattle.client_framing.specs.Reading.{TakesFronts, SplitsInto, EndsWith}
+use Rattle.client_framing.specs.Fronts.{Held, TakesFront, Stream, IsStream, IsRead, grafted, end_of, phase_behind, TakesFronts}
+use Rattle.client_framing.specs.Reading.{SplitsInto, EndsWith}
 use Rattle.client_framing.proofs.Openings.{no_length_yet}
 use Rattle.client_framing.proofs.Streams.{stream_unique, stream_behind, read_behind}
 

@@ -6,10 +6,10 @@ use Rattle.client_framing.specs.declared.front.Front.{Front}
 use Rattle.client_framing.specs.declared.front.FrameFault.{FrameFault}
 use Rattle.client_framing.specs.declared.front.FrameFault.TheVariants.{BadLength, BadStartup, TooLong, UnknownType, NoTerminator, Memory}
 use Rattle.client_framing.specs.Spelling.{phase_after}
-use Rattle.client_framing.specs.Fronts.{TakesFront, HasFault, HasCode, HasLength, HasQuery, IsType, CanHaveLength, IsNoText, body_at_front, number_at, Stream, message, partial, faulty, unread, IsStream, IsRead, grafted, phase_behind}
-use Rattle.client_framing.specs.Reading.{TakesFronts, held_body}
+use Rattle.client_framing.specs.Fronts.{TakesFront, HasFault, HasCode, HasLength, HasQuery, IsType, CanHaveLength, IsNoText, body_at_front, number_at, Stream, message, partial, faulty, unread, IsStream, IsRead, grafted, phase_behind, TakesFronts}
+use Rattle.client_framing.specs.Reading.{held_body}
 use Rattle.client_framing.proofs.Numbers.{number_at-append, first-append}
-use Rattle.client_framing.proofs.Types.{type_unique, query_body, query_long}
+use Rattle.client_framing.proofs.Types.{type_unique, query_body, query_can}
 use Rattle.client_framing.proofs.Codes.{code_unique}
 use Rattle.client_framing.proofs.Openings.{reads_opening}
 use Rattle.client_framing.proofs.Messages.{reads_message, has_its_length}
@@ -88,7 +88,7 @@ unknown_known bytes m h known = h.2 (let P : ℕ → Type 0 = IsType in subst P 
 
 query_known : (bytes : List ℕ) → HasQuery bytes → IsType (slice_index bytes 0)
 query_known bytes h =
-    let can = query_long 5 (omega arith) in
+    let can = query_can 5 (omega arith) in
     let P : ℕ → Type 0 = IsType in subst P (sym h.kind_is) (record { front = can.front; kind_is = can.kind_is })
 
 low_long : (bytes : List ℕ) (m n : ℕ) → HasFault true bytes (BadLength m) → HasFault true bytes (TooLong n) → ⊥
@@ -97,7 +97,7 @@ low_long bytes m n h k = h.1 (subst (λ (i : ℕ). CanHaveLength (slice_index by
 low_query : (bytes : List ℕ) (m : ℕ) → HasFault true bytes (BadLength m) → HasQuery bytes → ⊥
 low_query bytes m h k =
     let low : 5 ≤ number_at 1 bytes = k.low in
-    h.1 (subst (λ (i : ℕ). CanHaveLength i m) (sym k.kind_is) (query_long m (omega (arith, h.0.length_is))))
+    h.1 (subst (λ (i : ℕ). CanHaveLength i m) (sym k.kind_is) (query_can m (omega (arith, h.0.length_is))))
 
 long_query : (bytes : List ℕ) (m : ℕ) → HasFault true bytes (TooLong m) → HasQuery bytes → ⊥
 long_query bytes m h k = let high : number_at 1 bytes ≤ 1048576 = k.high in omega (arith, h.0.length_is, h.2)

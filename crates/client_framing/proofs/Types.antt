@@ -85,7 +85,7 @@ pub query_body : (front : Front) (body : List ℕ) → type_of front ≡ Some 81
 query_body front body e h none = none (take (length body - 1) body) (body_named front 81 body e h)
 
 -- the lengths of a query
-query_can : (len : ℕ) → 5 ≤ len → CanHaveLength 81 len
+pub query_can : (len : ℕ) → 5 ≤ len → CanHaveLength 81 len
 query_can len low = record {
   front = Query (ones (len - 5));
   body = ones (len - 5) ++ 0 ∷ [];
@@ -101,9 +101,6 @@ query_needs len can =
 
 pub query_length : (kind : MessageType) (len : ℕ) → kind ≡ types.Query → IsTrue (leb 5 len) ↔ CanHaveLength (byte_of kind) len
 query_length kind len e = rw e (λ t. query_can len (leb-true 5 len t), λ can. le-leb 5 len (query_needs len can))
-
-pub query_long : (len : ℕ) → 5 ≤ len → CanHaveLength 81 len
-query_long len low = query_can len low
 
 -- the only length of a message without a body
 pub terminate_empty : (len : ℕ) (body : List ℕ) → CanHaveLength 88 len → 4 + length body ≡ len → body ≡ []

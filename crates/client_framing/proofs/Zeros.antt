@@ -1,5 +1,5 @@
 -- Texts that a zero byte ends.
-use Rattle.std.proofs.Common.{◌≡◌, ◌≢◌, ℕ, zero, suc, ◌≤◌, List, [], ◌∷◌, ◌++◌, length, refl, sym, ◌∙◌, arith, subst, get_or}
+use Rattle.std.proofs.Common.{◌≡◌, ◌≢◌, ℕ, zero, suc, ◌≤◌, List, [], ◌∷◌, ◌++◌, length, refl, sym, ◌∙◌, arith, get_or}
 use Rattle.client_framing.specs.Spelling.{HasNoZero}
 use Rattle.client_framing.specs.Fronts.{IsNoText}
 
@@ -59,10 +59,6 @@ before_zero (x ∷ a) b (y ∷ c) d na e = let t : length a ≤ length c = befor
 pub contains_zero : (a b : List ℕ) → NoZero (a ++ (0 ∷ b)) → ⊥
 contains_zero [] b h = h.0 refl
 contains_zero (x ∷ a) b h = contains_zero a b h.1
-
--- without a zero byte the bytes are no text
-pub no_text_at_all : (bytes : List ℕ) → HasNoZero bytes → IsNoText bytes
-no_text_at_all bytes h text is = contains_zero text [] (let P : List ℕ → Type 0 = NoZero in subst P is.1 (no_zero_from bytes h))
 
 -- with bytes behind the first zero byte they are no text
 pub no_text_behind : (bytes text after : List ℕ) → bytes ≡ text ++ (0 ∷ after) → HasNoZero text → after ≢ [] → IsNoText bytes

@@ -121,6 +121,11 @@ abbrev pub phase_behind : Bool → List Front → Bool
 phase_behind started [] = started
 phase_behind started (front ∷ fronts) = phase_behind (phase_after started front) fronts
 
+-- the messages come off the front of the bytes one after another, and this is left behind them
+abbrev pub TakesFronts : Bool → List ℕ → List Front → List ℕ → Type 0
+TakesFronts started bytes [] rest = bytes ≡ rest
+TakesFronts started bytes (front ∷ fronts) rest = (more : List ℕ) × TakesFront started bytes front more × TakesFronts (phase_after started front) more fronts rest
+
 -- how a stream ends with this rest and this fault
 abbrev pub end_of : List ℕ → Option FrameFault → Stream
 end_of rest None = partial rest

@@ -1,5 +1,5 @@
 -- What the parts of a reader of messages say of each other. The pages of definitions are `Spelling` and `Fronts`.
-use Rattle.std.specs.Prelude.{◌≡◌, ℕ, ◌-◌, List, [], ◌∷◌, ◌++◌, length, take, drop, Bool, false, Option, Some, MatchOption}
+use Rattle.std.specs.Prelude.{◌≡◌, ℕ, ◌-◌, List, ◌++◌, length, take, drop, false, Option, Some, MatchOption}
 use Rattle.std.specs.List.{AllByRecursion}
 use Rattle.client_framing.specs.declared.front.Front.{Front}
 use Rattle.client_framing.specs.declared.front.Extended.TheVariants.{Parse, Bind, Describe, Execute, Close}
@@ -9,8 +9,8 @@ use Rattle.client_framing.specs.declared.message_type.MessageType.{MessageType}
 use Rattle.client_framing.specs.declared.message_type.MessageType.TheVariants.{Query, Terminate, Sync, Flush, Extended, Function, Copy}
 use Rattle.client_framing.specs.declared.opening_type.OpeningType.{OpeningType}
 use Rattle.client_framing.specs.declared.opening_type.OpeningType.TheVariants.{Startup, Cancel, Ssl, Gss, Version}
-use Rattle.client_framing.specs.Spelling.{Pair, pair_bytes, pairs_bytes, code_of, IsPair, IsBody, IsOtherVersion, phase_after}
-use Rattle.client_framing.specs.Fronts.{Held, TakesFront, IsPartial, HasFault, phase_behind, number_at}
+use Rattle.client_framing.specs.Spelling.{Pair, pair_bytes, pairs_bytes, code_of, IsPair, IsBody, IsOtherVersion}
+use Rattle.client_framing.specs.Fronts.{Held, TakesFronts, IsPartial, HasFault, phase_behind, number_at}
 
 -- the byte of a message's type
 abbrev pub byte_of : MessageType → ℕ
@@ -70,11 +70,6 @@ pub record CanBeBody (code size : ℕ) (held : List ℕ) : Type 0 where
 -- what is held of an opening message's body, which goes as far as its length says
 abbrev pub held_body : List ℕ → List ℕ
 held_body bytes = take (number_at 0 bytes - 8) (drop 8 bytes)
-
--- the messages come off the front of the bytes one after another, and this is left behind them
-abbrev pub TakesFronts : Bool → List ℕ → List Front → List ℕ → Type 0
-TakesFronts started bytes [] rest = bytes ≡ rest
-TakesFronts started bytes (front ∷ fronts) rest = (more : List ℕ) × TakesFront started bytes front more × TakesFronts (phase_after started front) more fronts rest
 
 -- the stream is these messages, and behind them what is held
 pub record SplitsInto (stream : List ℕ) (fronts : List Front) (held : Held) : Type 0 where

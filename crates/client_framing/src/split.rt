@@ -1,6 +1,6 @@
 // A whole stream, in whatever pieces it came.
 ghost use Rattle.std.specs.Prelude.{◌≡◌, List, ℕ, length, flat_map, IfOk, OnOk, false};
-ghost use Rattle.client_framing.specs.Fronts.{Stream, IsStream, IsRead, grafted, end_of};
+ghost use Rattle.client_framing.specs.Fronts.{Stream, IsStream, IsRead, TakesFronts, grafted, end_of};
 ghost use Rattle.client_framing.specs.Reading.{SplitsInto, EndsWith};
 
 use crate::{FrameFault, Frames, Front};
@@ -22,6 +22,8 @@ pub fn split_stream(alloc: Global, pieces: &[Items<u8>]) -> Result<Split, Memory
     // They are nothing else, so it doesn't matter how the stream was cut into pieces.
     ensures only { IfOk result (λ s. (other : Stream) → IsStream false (flat_map (λ piece. piece) pieces.now) other → IsRead other
         → (rest : List ℕ) × (other ≡ grafted s.fronts (end_of rest s.fault)) × (length rest ≡ s.rest)) }
+    // So many bytes are left behind the messages, also where a fault stands there.
+    ensures rest { IfOk result (λ s. (rest : List ℕ) × TakesFronts false (flat_map (λ piece. piece) pieces.now) s.fronts rest × (length rest ≡ s.rest)) }
 {
     let mut frames = Frames::new(alloc);
     let mut fronts = Items::new(alloc);

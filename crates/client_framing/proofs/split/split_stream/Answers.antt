@@ -27,6 +27,12 @@ returns-clause-stream c =
     let all = take_all at.piece-index c.args.pieces.now (omega arith) in
     (at.frames.rest, is_read_so _ at.fronts at.frames at.fault (rw all at at.invariant.splits) at.invariant.ends, sym c.rest.ensures)
 
+pub returns-clause-rest : goal.returns-clause-rest
+returns-clause-rest c =
+    let at = c.loop-piece in
+    let all = take_all at.piece-index c.args.pieces.now (omega arith) in
+    (at.frames.rest, (rw all at at.invariant.splits).takes, sym c.rest.ensures)
+
 pub returns-clause-only : goal.returns-clause-only
 returns-clause-only c = λ other is read.
     let at = c.loop-piece in
