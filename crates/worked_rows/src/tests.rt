@@ -2,7 +2,7 @@
 ghost use Rattle.std.specs.Prelude.{◌≡◌, ◌<◌};
 
 use crate::events::push_event;
-use crate::rows::{ROWS, Row};
+use crate::rows::{Row, session_at};
 use cell_base::{Items, Memory};
 use history_core::Event;
 use link_traits::{MemLink, MemPlan};
@@ -10,6 +10,9 @@ use monkey_server::{ListWords, serve_link};
 use solo_book::SoloBook;
 use std::alloc::{AllocError, Global};
 use std::test::Fail;
+
+// How many sessions there are.
+const COUNT: usize = 15;
 
 fn plan(alloc: Global, piece: u32) -> MemPlan
     ensures { result.piece ≡ piece }
@@ -75,29 +78,33 @@ fn holds(alloc: Global, row: &Row, piece: u32) -> Result<bool, Fail>
     Ok(events && link.written() == sent.as_slice())
 }
 
-fn first_wrong(alloc: Global, rows: &[Row], piece: u32) -> Result<Option<usize>, Fail>
+// How many sessions there are, where they all hold for an input in pieces of this length; else the number of the first that doesn't.
+fn held(alloc: Global, piece: u32) -> Result<usize, Fail>
     requires { 0 < piece }
 {
-    for (place, row) in rows.iter().enumerate() {
-        if !holds(alloc, row, piece)? {
-            return Ok(Some(place));
+    for number in 0..COUNT {
+        match session_at(number) {
+            Some(row) => {
+                if !holds(alloc, row, piece)? {
+                    return Ok(number);
+                }
+            }
+            None => return Ok(number),
         }
     }
-    Ok(None)
+    Ok(COUNT)
 }
 
 #[test]
 fn serves_worked_sessions(rt: HostRuntime) -> Result<(), Fail> {
-    let alloc = rt.alloc();
-    assert_eq!(rt; first_wrong(alloc, ROWS, 64)?, None);
+    assert_eq!(rt; held(rt.alloc(), 64)?, COUNT);
     Ok(())
 }
 
 #[test]
 fn serves_them_in_other_pieces(rt: HostRuntime) -> Result<(), Fail> {
-    let alloc = rt.alloc();
     for piece in [1, 2, 3, 7, 29, 100] {
-        assert_eq!(rt; first_wrong(alloc, ROWS, piece)?, None);
+        assert_eq!(rt; held(rt.alloc(), piece)?, COUNT);
     }
     Ok(())
 }
