@@ -1,5 +1,6 @@
 -- What each stage of a message goes on with, what it wants and owes, and what a step from one to the next comes to.
 use Rattle.std.specs.Prelude.{◌≡◌, ℕ, ◌+◌, ◌<◌, ◌≤◌, ◌⊎◌, List, [], ◌∷◌, ◌++◌, length, All, Bool, true, false, Ok}
+use Rattle.cell_base.specs.declared.level.Level.{Level}
 use Rattle.cell_base.specs.declared.sql_state.SqlState.{SqlState}
 use Rattle.history_core.specs.declared.event.Event.{Event}
 use Rattle.history_core.specs.declared.fault.BookFault.TheVariants as faults
@@ -207,11 +208,17 @@ LeadsTo script next wanting built known =
     (more : List Statement) (outside : Outside) (said : Said) (es : List Entry) → IsFrom 1 (length said.bytes) es →
     script (before more outside) said (with_short wanting said.bytes es) ≡ goes_on next built known more outside said es
 
--- the statements of a message, or what follows a reply, lead to a stage and the statements that are then left
-abbrev pub TurnsTo : (Outside → Script) → Stage → Bool → List ℕ → List Table → List Statement → Type 0
-TurnsTo script next wanting built known more =
-    (outside : Outside) (said : Said) (es : List Entry) → IsFrom (least next) (length said.bytes) es →
-    script outside said (with_short wanting said.bytes es) ≡ goes_on next built known more outside said es
+-- the same, whatever the tables are, where this level is served
+abbrev pub LeadsAt : Level → (List Table → Around → Script) → Stage → Bool → List ℕ → Type 0
+LeadsAt level script next wanting built =
+    (known : List Table) (more : List Statement) (outside : Outside) (said : Said) (es : List Entry) → outside.level ≡ level → IsFrom 1 (length said.bytes) es →
+    script known (before more outside) said (with_short wanting said.bytes es) ≡ goes_on next built known more outside said es
+
+-- a message, or what follows a reply, leads to a stage and the statements that are then left
+abbrev pub TurnsTo : Level → (List Table → Outside → Script) → Stage → Bool → List ℕ → List Statement → Type 0
+TurnsTo level script next wanting built more =
+    (known : List Table) (outside : Outside) (said : Said) (es : List Entry) → outside.level ≡ level → IsFrom (least next) (length said.bytes) es →
+    script known outside said (with_short wanting said.bytes es) ≡ goes_on next built known more outside said es
 
 -- An answer to a stage's call leads on, with a want of memory behind it where there was one.
 abbrev pub Advances : Stage → List Table → Answer → Stage → Bool → List ℕ → List Table → Type 0
@@ -245,6 +252,12 @@ abbrev pub IsRunning : Stage → Type 0
 IsRunning (stages.Running run p) = Unit {0}
 IsRunning _ = ⊥
 
+-- no statement begins to run or runs
+abbrev pub IsNoStatement : Stage → Type 0
+IsNoStatement (stages.Beginning plan) = ⊥
+IsNoStatement (stages.Running run p) = ⊥
+IsNoStatement _ = Unit {0}
+
 -- neither a table nor a statement is kept
 abbrev pub IsQuiet : Stage → Type 0
 IsQuiet (stages.Defining table block) = ⊥
@@ -272,6 +285,11 @@ IsSoundStatement statement = HasPlainNames statement
 abbrev pub IsSoundMessage : Message → Type 0
 IsSoundMessage (messages.Statements statements) = All IsSoundStatement statements
 IsSoundMessage (messages.Unread code) = Unit {0}
+
+-- how many statements a message has
+abbrev pub length_of : Message → ℕ
+length_of (messages.Statements statements) = length statements
+length_of (messages.Unread code) = 0
 
 -- the table that is about to be defined is sound, and what a statement comes to can be told
 abbrev pub IsSoundStage : Stage → Type 0

@@ -174,10 +174,13 @@ abbrev pub shows_history : Block → List Table → Around → Script
 shows_history block known around =
     ask calls.Show (λ a. on_shown a (λ n. unless_short_in block known around (succeeds (show_reply history_name (decimal n)) block known around)) (declined block known around))
 
-abbrev pub shows : List ℕ → Block → List Table → Around → Script
-shows name block known around =
+abbrev pub shows_at : Level → List ℕ → Block → List Table → Around → Script
+shows_at level name block known around =
     if bytes_eq name history_name then shows_history block known around
-    else shows_value name (value_of around.level name) block known around
+    else shows_value name (value_of level name) block known around
+
+abbrev pub shows : List ℕ → Block → List Table → Around → Script
+shows name block known around = shows_at around.level name block known around
 
 -- ---- all of them
 

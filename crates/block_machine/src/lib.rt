@@ -23,6 +23,7 @@ mod runner;
 mod settings;
 mod stage;
 mod step;
+mod turns;
 mod want;
 
 pub use block::{Block, Owed, Pending};

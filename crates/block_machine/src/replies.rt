@@ -1,6 +1,7 @@
 // The replies to the statements of a message as bytes.
 ghost use Rattle.std.specs.Prelude.{◌≡◌, ◌≤◌, length, IfOk};
 ghost use Rattle.pg_framing.specs.Spelling.{HasNoZero};
+ghost use Rattle.block_machine.specs.Settings.{IsShown};
 ghost use Rattle.block_machine.specs.Replies.{ready_reply, error_reply, empty_reply, done_reply, warned_reply, show_reply};
 
 use cell_base::{Memory, SqlState, SqlType, Text, Value};
@@ -89,8 +90,7 @@ fn column(alloc: Global, name: &str) -> Result<OutField, Memory>
 /// The value of a setting under the name that was asked for.
 #[tactic(auto, unfolding(crate::specs::Replies::show_reply))]
 pub fn shown(alloc: Global, name: &str, value: &str) -> Result<Vec<u8>, Memory>
-    requires no_zero { HasNoZero name.now }
-    requires short { length name.now ≤ 64 }
+    requires name { IsShown name.now }
     requires value { length value.now ≤ 64 }
     ensures { IfOk result (λ reply. reply.items ≡ show_reply name.now value.now) }
 {

@@ -1,16 +1,21 @@
 // The statements of a session's messages as a machine: answers come in, calls and replies go out. It keeps the tables that the session was
 // shown, and what its running statement needs.
-use crate::actions::{next_statement, show_history};
-use crate::advance::{advance, want_of};
-use crate::block::Block;
-use crate::blocks::block_at;
+ghost use Rattle.std.specs.Prelude.{◌≡◌, ℕ, ◌+◌, ◌*◌, ◌<◌, ◌≤◌, ◌^◌, List, [], ◌∷◌, length, All, IfOk};
+ghost use Rattle.sql_tree.specs.declared.table.Table.{Table as Defined};
+ghost use Rattle.sound_table.specs.Sound.{IsSound};
+ghost use Rattle.history_core.specs.declared.event.Event.{Event};
+ghost use Rattle.block_machine.specs.Calls as calls;
+ghost use Rattle.block_machine.specs.Calls.{Call as Asked, IsWant, asks_cells, call_for};
+ghost use Rattle.block_machine.specs.Script.{Said, Entry, call as asking, with_call, tell};
+ghost use Rattle.block_machine.specs.Messages.{Outside, message as told};
+ghost use Rattle.block_machine.specs.Stages.{FitsWant, IsFrom, IsHolding, IsKnownAfter, IsBusy, IsRunning, IsSoundMessage, IsSoundStage, IsSoundStatement, KnowsTables, HasReply, after_reply, entry_for, least, left_at, length_of, owed_after, owed_at, running_at, with_short};
+
+use crate::advance::want_of;
 use crate::call::Answer;
-use crate::courses::{look, pursue, start_course};
 use crate::message::Message;
 use crate::prepared::Prepared;
-use crate::reply::{Fixed, Reply};
 use crate::stage::Stage;
-use crate::step::{Step, calm, fail};
+use crate::turns::{answered, begin_message, block_between, next_step};
 use crate::want::Want;
 use cell_base::{Level, Memory};
 use pg_framing::TransactionState;
@@ -29,102 +34,18 @@ pub struct Runner {
     known: Vec<Table>,
     rest: IntoIter<Statement>,
     stage: Stage,
-}
-
-// The state in which the last message left the session.
-fn state_at(stage: &Stage) -> TransactionState {
-    match stage {
-        Stage::Over(state) => *state,
-        _ => unreachable!(),
-    }
-}
-
-// The step to the first of these statements, or to the reply of none.
-fn open(
-    alloc: Global,
-    level: Level,
-    rest: &mut IntoIter<Statement>,
-    block: Block,
-    built: &mut Vec<u8>,
-) -> Step {
-    if rest.len() == 0 {
-        return calm(Stage::Telling(Reply::Fixed(Fixed::Empty), block));
-    }
-    next_statement(alloc, level, rest, block, built)
-}
-
-// The step to what a message asks for first.
-fn begin_message(
-    alloc: Global,
-    level: Level,
-    message: Message,
-    rest: &mut IntoIter<Statement>,
-    block: Block,
-    built: &mut Vec<u8>,
-) -> Step {
-    match message {
-        Message::Unread(code) => {
-            *rest = Vec::new(alloc).into_iter();
-            calm(fail(code, block))
-        }
-        Message::Statements(statements) => {
-            *rest = statements.into_vec().into_iter();
-            open(alloc, level, rest, block, built)
-        }
-    }
-}
-
-// The step behind the answer to a call that isn't a statement's own.
-fn answered_plain(
-    alloc: Global,
-    stage: &Stage,
-    known: &mut Vec<Table>,
-    built: &mut Vec<u8>,
-    answer: Answer,
-) -> Step {
-    match (stage, answer) {
-        (Stage::Looking(statement, block), Answer::Looked(tables)) => {
-            look(alloc, statement.get(), *block, known, tables, built)
-        }
-        (Stage::Showing(block), Answer::Shown(n)) => show_history(alloc, n, *block, built),
-        (stage, answer) => calm(advance(stage, &answer)),
-    }
-}
-
-// The step behind the answer to a stage's call.
-fn answered(
-    alloc: Global,
-    stage: Stage,
-    known: &mut Vec<Table>,
-    built: &mut Vec<u8>,
-    answer: Answer,
-) -> Step {
-    match stage {
-        Stage::Beginning(plan) => start_course(alloc, plan, answer, built),
-        Stage::Running(run, pending) => pursue(alloc, run, pending, answer, built),
-        stage => answered_plain(alloc, &stage, known, built, answer),
-    }
-}
-
-// The step behind a reply that was sent.
-fn next_step(
-    alloc: Global,
-    level: Level,
-    stage: &Stage,
-    rest: &mut IntoIter<Statement>,
-    built: &mut Vec<u8>,
-) -> Step {
-    match stage {
-        Stage::Telling(_, block) => next_statement(alloc, level, rest, *block, built),
-        Stage::Failing(_, state) => calm(Stage::Readying(*state)),
-        Stage::Readying(state) => calm(Stage::Over(*state)),
-        _ => unreachable!(),
-    }
+    ghost few: { length known.items < 2 ^ 32 },
 }
 
 impl Runner {
+    ghost use Rattle.block_machine.specs.Runners.{statements_of, follows, wanted, held, work_of};
+
     /// Runs no message yet, and knows no tables.
-    pub fn new(alloc: Global, level: Level) -> Result<Runner, Memory> {
+    pub fn new(alloc: Global, level: Level) -> Result<Runner, Memory>
+        ensures stage { IfOk result (λ r. r.stage ≡ Stage.Over TransactionState.Idle) }
+        ensures known { IfOk result (λ r. r.known.items ≡ []) }
+        ensures level { IfOk result (λ r. r.level ≡ level) }
+    {
         Ok(Runner {
             alloc,
             level,
@@ -137,12 +58,24 @@ impl Runner {
     }
 
     /// What the message wants.
-    pub fn demand(&self) -> Want {
+    pub fn demand(&self) -> Want
+        ensures stage { IsWant result (wanted self.now) }
+        ensures holding { result ≡ Want.Send → IsHolding self.now.stage }
+        ensures running { result ≡ Want.Cells → IsRunning self.now.stage }
+        ensures calm { (result ≡ Want.Cells → ⊥) → running_at self.now.stage ≡ 0 }
+        // The call that is wanted is the one that the script asks.
+        ensures asks { (c : Asked) (outside : Outside) (said : Said) → wanted self.now ≡ calls.Book c → follows self.now outside said [] ≡ (said, asking c) }
+    {
         want_of(&self.stage, self.known.len() as u32)
     }
 
     /// The table that is to be defined.
-    pub fn table(&self) -> &Table {
+    pub fn table(&self) -> &Table
+        requires wanted { (table : Defined) × (wanted self.now ≡ calls.Book (calls.Define table)) }
+        requires sound { IsSoundStage self.now.stage }
+        ensures table { wanted self.now ≡ calls.Book (calls.Define result.now) }
+        ensures sound { IsSound result.now }
+    {
         match &self.stage {
             Stage::Defining(table, _) => table.get(),
             _ => unreachable!(),
@@ -150,7 +83,11 @@ impl Runner {
     }
 
     /// What the running statement demands.
-    pub fn demanded(&self) -> &Demand {
+    pub fn demanded(&self) -> &Demand
+        requires { IsRunning self.now.stage }
+        ensures wanted { wanted self.now ≡ calls.Book (call_for result.now) }
+        ensures asks { asks_cells result.now ≡ true }
+    {
         match &self.stage {
             Stage::Running(run, _) => run.plan.get().demand(),
             _ => unreachable!(),
@@ -158,7 +95,13 @@ impl Runner {
     }
 
     /// The reply that is to be sent.
-    pub fn reply(&self) -> &[u8] {
+    pub fn reply(&self) -> &[u8]
+        requires { IsHolding self.now.stage }
+        ensures held { result.now ≡ held self.now }
+        // The reply is what the script tells next.
+        ensures tells { (outside : Outside) (said : Said) (es : List Entry) → follows self.now outside said es ≡
+            tell (held self.now) (outside.broken (owed_at self.now.stage)) (after_reply self.now.stage self.now.known.items (statements_of self.now) outside) said es }
+    {
         match &self.stage {
             Stage::Telling(reply, _) => self.prepared.bytes(self.built.as_slice(), *reply),
             Stage::Failing(code, _) => self.prepared.error(*code),
@@ -168,8 +111,23 @@ impl Runner {
     }
 
     /// Begins with a message, where none is under way. Answers whether memory was wanting.
-    pub fn begin(&mut self, message: Message) -> bool {
-        let block = block_at(state_at(&self.stage));
+    pub fn begin(&mut self, message: Message) -> bool
+        requires over { (state : TransactionState) × (self.old.stage ≡ Stage.Over state) }
+        requires sound { IsSoundMessage message }
+        ensures goes { (state : TransactionState) (outside : Outside) (said : Said) (es : List Entry) → self.old.stage ≡ Stage.Over state → outside.level ≡ self.old.level → IsFrom 1 (length said.bytes) es →
+            told message state self.old.known.items outside said (with_short result said.bytes es) ≡ follows self.new outside said es }
+        ensures level { self.new.level ≡ self.old.level }
+        ensures known { self.new.known.items ≡ self.old.known.items }
+        ensures rest { All IsSoundStatement (statements_of self.new) }
+        ensures owed { owed_at self.new.stage ≡ owed_at self.old.stage }
+        ensures work { work_of self.new ≤ 8 + 8 * length_of message }
+        ensures knows { KnowsTables self.new.stage self.new.known.items }
+        ensures silent { IsRunning self.new.stage → ⊥ }
+        ensures sound { IsSoundStage self.new.stage }
+        ensures busy { IsBusy self.new.stage }
+        ensures some { HasReply self.new.stage self.new.built.items }
+    {
+        let block = block_between(&self.stage);
         let step = begin_message(
             self.alloc,
             self.level,
@@ -183,7 +141,24 @@ impl Runner {
     }
 
     /// Takes the answer to the call that is wanted. Answers whether memory was wanting.
-    pub fn answer(&mut self, answer: Answer) -> bool {
+    pub fn answer(&mut self, answer: Answer) -> bool
+        requires fits { FitsWant (wanted self.old) answer }
+        requires tables { All IsSound self.old.known.items }
+        requires sound { IsSoundStage self.old.stage }
+        ensures goes { (c : Asked) (outside : Outside) (said : Said) (es : List Entry) (e : Event) → wanted self.old ≡ calls.Book c → IsFrom 1 (length said.bytes) es →
+            follows self.old outside said (entry_for answer e ∷ with_short result said.bytes es) ≡ follows self.new outside (with_call said c) es }
+        ensures level { self.new.level ≡ self.old.level }
+        ensures known { IsKnownAfter self.old.known.items answer self.new.known.items }
+        ensures rest { statements_of self.new ≡ statements_of self.old }
+        ensures owed { (c : Asked) → wanted self.old ≡ calls.Book c → owed_at self.new.stage ≡ owed_after c answer (owed_at self.old.stage) }
+        ensures work { work_of self.new < work_of self.old + running_at self.new.stage }
+        ensures left { IsRunning self.old.stage → left_at self.new.stage < left_at self.old.stage }
+        ensures knows { KnowsTables self.old.stage self.old.known.items → KnowsTables self.new.stage self.new.known.items }
+        ensures sound { IsSoundStage self.new.stage }
+        ensures tables { All IsSound self.new.known.items }
+        ensures busy { IsBusy self.new.stage }
+        ensures some { HasReply self.new.stage self.new.built.items }
+    {
         let stage = std::mem::replace(&mut self.stage, Stage::Finishing);
         let step = answered(self.alloc, stage, &mut self.known, &mut self.built, answer);
         self.stage = step.stage;
@@ -191,7 +166,21 @@ impl Runner {
     }
 
     /// The reply was sent. Answers whether memory was wanting for what follows it.
-    pub fn sent(&mut self) -> bool {
+    pub fn sent(&mut self) -> bool
+        requires holding { IsHolding self.old.stage }
+        requires rest { All IsSoundStatement (statements_of self.old) }
+        ensures goes { (outside : Outside) (said : Said) (es : List Entry) → outside.level ≡ self.old.level → IsFrom (least self.new.stage) (length said.bytes) es →
+            after_reply self.old.stage self.old.known.items (statements_of self.old) outside said (with_short result said.bytes es) ≡ follows self.new outside said es }
+        ensures level { self.new.level ≡ self.old.level }
+        ensures known { self.new.known.items ≡ self.old.known.items }
+        ensures rest { All IsSoundStatement (statements_of self.new) }
+        ensures owed { owed_at self.new.stage ≡ owed_at self.old.stage }
+        ensures work { work_of self.new < work_of self.old }
+        ensures knows { KnowsTables self.new.stage self.new.known.items }
+        ensures silent { IsRunning self.new.stage → ⊥ }
+        ensures sound { IsSoundStage self.new.stage }
+        ensures some { HasReply self.new.stage self.new.built.items }
+    {
         let step = next_step(
             self.alloc,
             self.level,

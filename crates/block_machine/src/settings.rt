@@ -1,6 +1,6 @@
 // The settings that SET and SHOW name.
 ghost use Rattle.std.specs.Prelude.{◌≡◌, ◌≤◌, length, Some, None, IfSome, IsNone};
-ghost use Rattle.block_machine.specs.Settings.{is_own, history_name, level_word, parameter_value, value_of};
+ghost use Rattle.block_machine.specs.Settings.{IsShown, is_own, history_name, level_word, parameter_value, value_of};
 
 use cell_base::Level;
 
@@ -16,7 +16,8 @@ pub fn is_own(name: &str) -> bool
 
 // The word of a level.
 fn level_word(level: Level) -> &'static str
-    ensures { result.now ≡ level_word level }
+    ensures word { result.now ≡ level_word level }
+    ensures short { length result.now ≤ 64 }
 {
     match level {
         Level::Rc => "rc",
@@ -29,6 +30,7 @@ fn level_word(level: Level) -> &'static str
 fn parameter_value(name: &str) -> Option<&'static str>
     ensures some { IfSome result (λ value. parameter_value name.now ≡ Some value.now) }
     ensures none { IsNone result → parameter_value name.now ≡ None }
+    ensures shown { IfSome result (λ value. IsShown name.now × (length value.now ≤ 64)) }
 {
     if name == "server_version" {
         Some("14.0")
@@ -53,6 +55,7 @@ fn parameter_value(name: &str) -> Option<&'static str>
 pub fn value_of(level: Level, name: &str) -> Option<&'static str>
     ensures some { IfSome result (λ value. value_of level name.now ≡ Some value.now) }
     ensures none { IsNone result → value_of level name.now ≡ None }
+    ensures shown { IfSome result (λ value. IsShown name.now × (length value.now ≤ 64)) }
 {
     if name == "monkey.level" {
         Some(level_word(level))
