@@ -272,8 +272,8 @@ fn perform(
     }
 }
 
-// The step of a statement.
-fn take(
+/// The step of a statement.
+pub fn take(
     alloc: Global,
     level: Level,
     statement: Statement,
