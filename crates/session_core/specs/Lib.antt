@@ -1,0 +1,9 @@
+pub mod Users
+pub mod Wants
+pub mod Talk
+pub mod Replies
+pub mod Told
+pub mod Record
+pub mod Stands
+pub mod Sessions
+pub mod Serve
