@@ -61,6 +61,7 @@ on r talk phase known = session (level_of r) phase known talk
 -- What a stage goes on with, given what its runner goes on with, the greeting that was built, and what the client says from here on.
 abbrev pub goes_on : Stage → Runner → List ℕ → Talk → Script
 goes_on (stages.Waiting phase) r greeting talk = on r talk phase (known_of r)
+goes_on (stages.Taking phase) r greeting talk = on r talk phase (known_of r)
 goes_on stages.Opening r greeting talk = opens (on r talk (phases.Normal block_states.Idle) (known_of r))
 goes_on stages.Running r greeting talk = follows r (outside_of (level_of r) (on r talk))
 goes_on stages.Undoing r greeting talk = refuses (level_of r) block_states.Block (known_of r) (on r talk)
@@ -73,6 +74,7 @@ goes_on (stages.Ended finish) r greeting talk = done (end_of finish)
 -- what a stage wants
 abbrev pub wants : Stage → Runner → Want
 wants (stages.Waiting phase) r = wishes.Bytes
+wants (stages.Taking phase) r = wishes.Message
 wants stages.Opening r = wishes.Book calls.Open
 wants stages.Running r = of_message (wanted r)
 wants stages.Undoing r = wishes.Book calls.Rollback
@@ -85,6 +87,7 @@ wants (stages.Ended finish) r = wishes.Ended (end_of finish)
 -- what the session owes its book
 abbrev pub owed_at : Stage → Runner → Owed
 owed_at (stages.Waiting phase) r = owed_by phase
+owed_at (stages.Taking phase) r = owed_by phase
 owed_at stages.Opening r = owed_kinds.Nothing
 owed_at stages.Running r = owes r
 owed_at stages.Undoing r = owed_kinds.Rollback
@@ -128,8 +131,10 @@ IsLast (stages.Parting fatal) = Unit {0}
 IsLast (stages.Ended finish) = Unit {0}
 IsLast _ = ⊥
 
+-- neither bytes nor a message are wanted
 abbrev pub IsBusy : Stage → Type 0
 IsBusy (stages.Waiting phase) = ⊥
+IsBusy (stages.Taking phase) = ⊥
 IsBusy _ = Unit {0}
 
 -- a message is under way exactly where the stage says so
@@ -145,6 +150,7 @@ has_started (phases.Discarding state) = true
 
 abbrev pub InPhase : Stage → Bool → Type 0
 InPhase (stages.Waiting phase) started = started ≡ has_started phase
+InPhase (stages.Taking phase) started = started ≡ has_started phase
 InPhase stages.Opening started = started ≡ true
 InPhase stages.Running started = started ≡ true
 InPhase stages.Undoing started = started ≡ true
@@ -159,9 +165,10 @@ IsFed (stages.Parting fatal) bytes = bytes ≡ []
 IsFed (stages.Ended finish) bytes = bytes ≡ []
 IsFed _ bytes = Unit {0}
 
--- Where bytes are wanted, memory may be wanting at once. Elsewhere a want of memory and a failed write stand where more was told than was sent.
+-- Where bytes or a message are wanted, memory may be wanting at once. Elsewhere a want of memory and a failed write stand where more was told than was sent.
 abbrev pub least : Stage → ℕ
 least (stages.Waiting phase) = 0
+least (stages.Taking phase) = 0
 least _ = 1
 
 -- an end whose cause is the link
@@ -241,24 +248,25 @@ pub record Skips (front : Front) (phase : Phase) : Type 0 where
   pub says : Says front asked
   pub goes : (level : Level) (known : List Table) (rest : Phase → List Table → Script) → handled level asked phase known rest ≡ rest phase known
 
--- The script of what the client says leads to a stage: the next message, a fault or a want of memory is looked at, and what stands held
--- behind it.
-pub record Turns (script : Talk → Script) (before : Held) (stage : Stage) (next : Runner) (wanting : Option Bool) (after : Held) : Type 0 where
+-- Where a message is wanted, the next one, a fault or a want of memory is looked at, or bytes are wanted.
+pub record Steps (phase : Phase) (r : Runner) (before : Held) (stage : Stage) (next : Runner) (wanting : Option Bool) (after : Held) : Type 0 where
   pub turns : Talk → Talk
   pub heard : (bytes : List ℕ) (talk : Talk) → IsFed stage bytes → IsTalk after.started (after.rest ++ bytes) talk → IsTalk before.started (before.rest ++ bytes) (turns talk)
   pub goes : (greeting : List ℕ) (talk : Talk) (said : Said) (es : List Entry) → IsFrom (least stage) (length said.bytes) es →
-      script (turns talk) said (with_wanting wanting said.bytes es) ≡ goes_on stage next greeting talk said es
-  pub waits : (phase : Phase) → stage ≡ stages.Waiting phase → IsPartial after.started after.rest
+      on r (turns talk) phase (known_of r) said (with_wanting wanting said.bytes es) ≡ goes_on stage next greeting talk said es
+  pub waits : (other : Phase) → stage ≡ stages.Waiting other → IsPartial after.started after.rest
 
--- the same, where a message or bytes are wanted
-abbrev pub Steps : Phase → Runner → Held → Stage → Runner → Option Bool → Held → Type 0
-Steps phase r before stage next wanting after = Turns (λ talk. on r talk phase (known_of r)) before stage next wanting after
-
--- A piece that comes in where bytes are wanted leads on, or memory for it is wanting and the session ends.
-abbrev pub Feeds : Phase → Runner → List ℕ → Held → Stage → Runner → Option Bool → Held → Type 0
-Feeds phase r piece before stage next wanting after =
-    Steps phase r (record before { rest = before.rest ++ piece }) stage next wanting after
+-- A piece that comes in where bytes are wanted is held, or memory for it is wanting and the session ends.
+abbrev pub Feeds : Phase → List ℕ → Held → Stage → Option Bool → Held → Type 0
+Feeds phase piece before stage wanting after =
+    ((after ≡ record before { rest = before.rest ++ piece }) × (wanting ≡ None) × (stage ≡ stages.Taking phase))
     ⊎ ((after ≡ before) × (wanting ≡ Some true) × LeadsTo stage (ending (owed_by phase) ends.Memory))
+
+-- A reply that was sent leads on, with a want of memory behind it where there was one.
+abbrev pub Sends : Stage → Runner → Stage → Runner → Option Bool → Type 0
+Sends stage r next after wanting =
+    (greeting : List ℕ) (talk : Talk) (said : Said) (es : List Entry) → IsFrom (least next) (length said.bytes) es →
+    after_reply stage r talk said (with_wanting wanting said.bytes es) ≡ goes_on next after greeting talk said es
 
 -- An answer to a stage's call leads on, with a want of memory behind it where there was one.
 pub record Advances (stage : Stage) (r : Runner) (answer : Answer) (next : Stage) (after : Runner) (wanting : Option Bool) (greeting : List ℕ) : Type 0 where
@@ -283,6 +291,7 @@ pub record StandsFor (stage : Stage) (r : Runner) (greeting : List ℕ) (held : 
 abbrev pub Shows : Level → Want → List ℕ → List Entry → List Call → List ℕ → Type 0
 Shows level wishes.Bytes taken es asked sent = (talk : Talk) × IsTalk false taken talk × (told level talk es ≡ (record { bytes = sent; calls = asked }, more))
 Shows level (wishes.Book c) taken es asked sent = (talk : Talk) × IsTalk false taken talk × (told level talk es ≡ (record { bytes = sent; calls = asked }, call c))
+Shows level wishes.Message taken es asked sent = Unit {0}
 Shows level wishes.Send taken es asked sent = Unit {0}
 Shows level (wishes.Ended end) taken es asked sent = (talk : Talk) × IsTalk false taken talk × (told level talk es ≡ (record { bytes = sent; calls = asked }, ended end))
 
@@ -290,3 +299,23 @@ Shows level (wishes.Ended end) taken es asked sent = (talk : Talk) × IsTalk fal
 abbrev pub FitsWant : Want → Answer → Type 0
 FitsWant (wishes.Book c) a = Fits c a
 FitsWant _ a = ⊥
+
+-- ---- how much work is left
+
+-- how much work a stage leaves until bytes are wanted or the end is there, but for the statements of a message that runs
+abbrev pub work_at : Stage → ℕ
+work_at (stages.Waiting phase) = 4
+work_at (stages.Taking phase) = 5
+work_at stages.Opening = 8
+work_at stages.Running = 6
+work_at stages.Undoing = 7
+work_at (stages.Telling reply) = 6
+work_at (stages.Leaving finish) = 3
+work_at (stages.Closing finish) = 2
+work_at (stages.Parting fatal) = 1
+work_at (stages.Ended finish) = 0
+
+-- 1 where a message runs
+abbrev pub message_at : Stage → ℕ
+message_at stages.Running = 1
+message_at _ = 0

@@ -10,6 +10,8 @@ use Rattle.session_core.specs.declared.want.Want.TheVariants as told
 
 pub data Want : Type 0 where
   Bytes : Want
+  -- the next of the messages that are held
+  Message : Want
   Book : Call → Want
   Send : Want
   Ended : End → Want
@@ -23,6 +25,7 @@ of_message calls.Nothing = Send
 -- the code's want is this one; the table of a definition and the cells of a statement stay with the session
 abbrev pub IsWant : Told → Want → Type 0
 IsWant told.Bytes want = want ≡ Bytes
+IsWant told.Message want = want ≡ Message
 IsWant told.Define want = (table : Table) × (want ≡ Book (calls.Define table))
 IsWant told.Cells want = (demand : Demand) × (asks_cells demand ≡ true) × (want ≡ Book (call_for demand))
 IsWant (told.Book c) want = want ≡ Book (call_of c)
@@ -33,6 +36,7 @@ IsWant (told.Ended end) want = want ≡ Ended end
 abbrev pub IsResting : Want → Type 0
 IsResting Bytes = Unit {0}
 IsResting (Ended end) = Unit {0}
+IsResting Message = ⊥
 IsResting (Book c) = ⊥
 IsResting Send = ⊥
 

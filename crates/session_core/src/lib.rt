@@ -6,9 +6,17 @@
 //! (`specs/Serve`).
 #![tactic(auto)]
 
+mod calls;
+mod messages;
 mod phase;
+mod prepared;
+mod replies;
+mod serve;
+mod session;
 mod stage;
-mod want;
+mod turns;
 mod user;
+mod want;
 
 pub use block_machine::{End, Stop};
+pub use serve::{Served, serve_link};

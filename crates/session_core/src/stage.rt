@@ -45,6 +45,8 @@ pub enum Reply {
 pub enum Stage {
     /// Bytes are wanted.
     Waiting(Phase),
+    /// The next message is to be taken, if one is held.
+    Taking(Phase),
     Opening,
     /// The statements of a message run.
     Running,

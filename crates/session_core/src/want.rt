@@ -6,6 +6,8 @@ use block_machine::{Call, End};
 pub enum Want {
     /// More bytes of its client.
     Bytes,
+    /// The next of the messages that it holds looked at.
+    Message,
     /// Its table defined by its book.
     Define,
     /// What its running statement demands.

@@ -1,0 +1,123 @@
+// Events as text, one a line: `read 1 p.0.1 0 2 1 true` is a read in session 1 of the presence of key 1 in table 0, from transaction 0, of 2
+// that were offered, by the word 1, which found true; `f.0.1.1` is column 1 of that row. Text is shown in hexadecimal behind an `x`.
+use cell_base::{Cell, Items, Key, Text, Value};
+use history_core::Event;
+use std::alloc::{AllocError, Global};
+
+fn push_text(alloc: Global, out: &mut String, text: &Text) -> Result<(), AllocError> {
+    out.push_str("x")?;
+    for byte in text.bytes() {
+        out.push_str(format!(in alloc; "{byte:02x}")?.as_str())?;
+    }
+    Ok(())
+}
+
+fn push_number(alloc: Global, out: &mut String, number: u32) -> Result<(), AllocError> {
+    out.push_str(format!(in alloc; " {number}")?.as_str())
+}
+
+fn push_key(alloc: Global, out: &mut String, key: &Key) -> Result<(), AllocError> {
+    match key {
+        Key::Int(n) => out.push_str(format!(in alloc; "{n}")?.as_str()),
+        Key::Text(text) => push_text(alloc, out, text),
+    }
+}
+
+fn push_cell(alloc: Global, out: &mut String, cell: &Cell) -> Result<(), AllocError> {
+    match cell {
+        Cell::Presence(table, key) => {
+            out.push_str(format!(in alloc; " p.{table}.")?.as_str())?;
+            push_key(alloc, out, key)
+        }
+        Cell::Field(table, key, column) => {
+            out.push_str(format!(in alloc; " f.{table}.")?.as_str())?;
+            push_key(alloc, out, key)?;
+            out.push_str(format!(in alloc; ".{column}")?.as_str())
+        }
+    }
+}
+
+fn push_value(alloc: Global, out: &mut String, value: &Value) -> Result<(), AllocError> {
+    match value {
+        Value::Unset => out.push_str(" unset"),
+        Value::Null => out.push_str(" null"),
+        Value::Flag(flag) => out.push_str(format!(in alloc; " {flag}")?.as_str()),
+        Value::Int(n) => out.push_str(format!(in alloc; " {n}")?.as_str()),
+        Value::Wide(n) => out.push_str(format!(in alloc; " {n}")?.as_str()),
+        Value::Text(text) => {
+            out.push_str(" ")?;
+            push_text(alloc, out, text)
+        }
+    }
+}
+
+fn push_keys(alloc: Global, out: &mut String, keys: &Items<Key>) -> Result<(), AllocError> {
+    for key in keys.as_slice() {
+        out.push_str(" ")?;
+        push_key(alloc, out, key)?;
+    }
+    Ok(())
+}
+
+fn push_name(alloc: Global, out: &mut String, word: &str, session: u32) -> Result<(), AllocError> {
+    out.push_str(word)?;
+    push_number(alloc, out, session)
+}
+
+fn push_read(
+    alloc: Global,
+    out: &mut String,
+    cell: &Cell,
+    numbers: [u32; 3],
+    value: &Value,
+) -> Result<(), AllocError> {
+    push_cell(alloc, out, cell)?;
+    for number in numbers {
+        push_number(alloc, out, number)?;
+    }
+    push_value(alloc, out, value)
+}
+
+/// The event as one line.
+pub fn push_event(alloc: Global, out: &mut String, event: &Event) -> Result<(), AllocError> {
+    match event {
+        Event::Open(s) => push_name(alloc, out, "open", *s)?,
+        Event::Close(s) => push_name(alloc, out, "close", *s)?,
+        Event::Define(s, name) => {
+            push_name(alloc, out, "define", *s)?;
+            out.push_str(" ")?;
+            push_text(alloc, out, name)?;
+        }
+        Event::Look(s, n) => {
+            push_name(alloc, out, "look", *s)?;
+            push_number(alloc, out, *n)?;
+        }
+        Event::Begin(s) => push_name(alloc, out, "begin", *s)?,
+        Event::Scan(s, table, keys) => {
+            push_name(alloc, out, "scan", *s)?;
+            push_number(alloc, out, *table)?;
+            push_keys(alloc, out, keys)?;
+        }
+        Event::Read(s, cell, source, count, word, value) => {
+            push_name(alloc, out, "read", *s)?;
+            push_read(alloc, out, cell, [*source, *count, *word], value)?;
+        }
+        Event::Own(s, cell, value) => {
+            push_name(alloc, out, "own", *s)?;
+            push_cell(alloc, out, cell)?;
+            push_value(alloc, out, value)?;
+        }
+        Event::Write(s, cell, value) => {
+            push_name(alloc, out, "write", *s)?;
+            push_cell(alloc, out, cell)?;
+            push_value(alloc, out, value)?;
+        }
+        Event::Commit(s) => push_name(alloc, out, "commit", *s)?,
+        Event::Rollback(s) => push_name(alloc, out, "rollback", *s)?,
+        Event::Show(s, n) => {
+            push_name(alloc, out, "show", *s)?;
+            push_number(alloc, out, *n)?;
+        }
+    }
+    Ok(())
+}
