@@ -5,5 +5,6 @@ pub mod Replies
 pub mod Told
 pub mod Record
 pub mod Stands
+pub mod Steps
 pub mod Sessions
 pub mod Serve

@@ -1,5 +1,5 @@
 -- What a run of a session over a book, a link and words comes to.
-use Rattle.std.specs.Prelude.{◌≡◌, ℕ, ◌+◌, ◌≤◌, All, List, [], ◌∷◌, ◌++◌, length, Option, Some, None, Bool, false}
+use Rattle.std.specs.Prelude.{◌≡◌, ℕ, ◌+◌, ◌≤◌, List, [], ◌∷◌, ◌++◌, length, Option, Some, None, Bool, false}
 use Rattle.cell_base.specs.declared.level.Level.{Level}
 use Rattle.sound_table.specs.Sound.{IsSound}
 use Rattle.link_traits.specs.Faults.{Rose}
@@ -21,7 +21,7 @@ use Rattle.session_core.specs.declared.session.Session.{Session}
 use Rattle.session_core.specs.Talk.{Talk, IsTalk}
 use Rattle.session_core.specs.Told.{told, opened_in}
 use Rattle.session_core.specs.Record.{Happens, Declines, Draws, Lawful, events_of}
-use Rattle.session_core.specs.Stands.{Lacks, LacksBy, outer, outer_end, owed_at}
+use Rattle.session_core.specs.Stands.{IsFit, Lacks, LacksBy, outer, outer_end, owed_at}
 use Rattle.session_core.specs.Sessions.{Stands}
 
 -- the greatest number of bytes that are read from a link
@@ -66,9 +66,7 @@ owed_of (pending s writes) = owes.Rollback
 pub record Sits (s : Session) (past : Past) : Type 0 where
   pub owed : owed_of past.seat ≡ owed_at s.stage s.runner
   pub known_tables : length (runners.known_of s.runner) ≤ length past.seen.tables
-  pub knows : runners.Knows s.runner
-  pub sound : runners.IsSound s.runner
-  pub tables : All IsSound (runners.known_of s.runner)
+  pub fit : IsFit s.runner
 
 -- A mark, counted from where the link was: what had been sent before the read is told of what had been taken and of a prefix of the
 -- record, and more was wanted.

@@ -5,14 +5,12 @@ use Rattle.cell_base.specs.declared.level.Level.{Level}
 use Rattle.block_machine.specs.Calls.{Call}
 use Rattle.block_machine.specs.Script.{Entry, has_short}
 use Rattle.block_machine.specs.Runners as runners
-use Rattle.block_machine.specs.declared.runner.Runner.{Runner}
 use Rattle.session_core.specs.declared.session.Session.{Session}
-use Rattle.session_core.specs.declared.stage.Stage.{Stage}
-use Rattle.session_core.specs.declared.stage.Stage.TheVariants as stages
 use Rattle.session_core.specs.Told.{opened_in}
 use Rattle.session_core.specs.Wants.{Want}
 use Rattle.session_core.specs.Stands as stands
-use Rattle.session_core.specs.Stands.{StandsFor, IsShort, work_at}
+use Rattle.session_core.specs.Stands.{StandsFor, work_at}
+use Rattle.session_core.specs.Steps.{IsShort}
 
 pub record Stands (s : Session) (taken : List ℕ) (es : List Entry) (asked : List Call) (sent : List ℕ) : Type 0 where
   pub stage : StandsFor s.stage s.runner s.greeting.items s.frames taken es asked sent
@@ -32,18 +30,3 @@ wanted s = stands.wants s.stage s.runner
 -- how much work the state leaves until bytes are wanted or the end is there, but for the statements of a message that runs
 abbrev pub work_of : Session → ℕ
 work_of s = work_at s.stage + 16 * length s.frames.rest
-
--- how much work a message that runs leaves, but for the demands of its running statement
-abbrev pub message_work : Stage → Runner → ℕ
-message_work stages.Running r = 1 + runners.work_of r
-message_work _ r = 0
-
--- 1 where a statement runs
-abbrev pub statement_at : Stage → Runner → ℕ
-statement_at stages.Running r = runners.running_of r
-statement_at _ r = 0
-
--- how many demands of a running statement are left at most
-abbrev pub left_at : Stage → Runner → ℕ
-left_at stages.Running r = runners.left_of r
-left_at _ r = 0

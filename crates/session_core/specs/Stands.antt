@@ -1,18 +1,17 @@
 -- When a stage of a session stands for the bytes that it was fed, the record of what it was answered, the calls that it asked, and
--- the bytes taken from it; and what a step from one stage to the next comes to.
-use Rattle.std.specs.Prelude.{◌≡◌, ℕ, ◌+◌, ◌<◌, ◌≤◌, ◌⊎◌, List, [], ◌∷◌, ◌++◌, length, Option, Some, None, Bool, true, false}
+-- the bytes taken from it.
+use Rattle.std.specs.Prelude.{◌≡◌, ℕ, ◌+◌, ◌<◌, All, List, [], ◌++◌, length, Option, Some, None, Bool, true, false, not}
 use Rattle.cell_base.specs.declared.level.Level.{Level}
 use Rattle.cell_base.specs.declared.sql_state.SqlState.TheVariants as states
-use Rattle.history_core.specs.declared.event.Event.{Event}
 use Rattle.pg_framing.specs.declared.replies.TransactionState.TheVariants as block_states
 use Rattle.sql_tree.specs.declared.table.Table.{Table}
-use Rattle.client_framing.specs.declared.front.Front.{Front}
+use Rattle.sound_table.specs.Sound.{IsSound}
 use Rattle.client_framing.specs.Fronts.{Held, IsPartial}
 use Rattle.block_machine.specs.Calls.{Call}
 use Rattle.block_machine.specs.Calls as calls
-use Rattle.block_machine.specs.Script.{Entry, did, refused, short, unsent, stop, Said, Script, more, call, ended, with_call, ask, tell}
-use Rattle.block_machine.specs.Stages.{IsFrom, entry_for, Fits}
-use Rattle.block_machine.specs.Runners.{follows, behind, wanted, held, owes, level_of, known_of, Holds, IsUnderWay}
+use Rattle.block_machine.specs.Script.{Entry, unsent, stop, Script, more, call, ended, tell}
+use Rattle.block_machine.specs.Stages.{IsFrom, Fits}
+use Rattle.block_machine.specs.Runners.{follows, behind, wanted, held, work_of, left_of, running_of, owes, level_of, known_of, Holds, Knows, IsSoundRunner, is_under_way}
 use Rattle.block_machine.specs.declared.block.Owed.{Owed}
 use Rattle.block_machine.specs.declared.block.Owed.TheVariants as owed_kinds
 use Rattle.block_machine.specs.declared.call.Answer.{Answer}
@@ -27,13 +26,14 @@ use Rattle.session_core.specs.declared.stage.Fatal.{Fatal}
 use Rattle.session_core.specs.declared.stage.Fatal.TheVariants as fatals
 use Rattle.session_core.specs.declared.stage.Finish.{Finish}
 use Rattle.session_core.specs.declared.stage.Finish.TheVariants as finishes
+use Rattle.session_core.specs.declared.stage.Reply.TheVariants as replies
 use Rattle.session_core.specs.declared.stage.Stage.{Stage}
 use Rattle.session_core.specs.declared.stage.Stage.TheVariants as stages
 use Rattle.session_core.specs.Wants.{Want, of_message}
 use Rattle.session_core.specs.Wants as wishes
-use Rattle.session_core.specs.Talk.{Ask, Says, Talk, IsTalk}
+use Rattle.session_core.specs.Talk.{Talk, IsTalk}
 use Rattle.session_core.specs.Replies.{fatal_reply, fatal_state, bytes_of, phase_behind}
-use Rattle.session_core.specs.Told.{owed_by, done, closing, ending, broken, opens, outside_of, refuses, handled, session, told}
+use Rattle.session_core.specs.Told.{owed_by, done, closing, ending, broken, opens, outside_of, refuses, session, told}
 
 -- ---- what the parts of a stage stand for
 
@@ -83,6 +83,19 @@ wants (stages.Leaving finish) r = wishes.Book calls.Rollback
 wants (stages.Closing finish) r = wishes.Book calls.Close
 wants (stages.Parting fatal) r = wishes.Send
 wants (stages.Ended finish) r = wishes.Ended (end_of finish)
+
+-- the same where the session itself wants it; where a message runs its runner wants something
+abbrev pub own_want : Stage → Want
+own_want (stages.Waiting phase) = wishes.Bytes
+own_want (stages.Taking phase) = wishes.Message
+own_want stages.Opening = wishes.Book calls.Open
+own_want stages.Running = wishes.Message
+own_want stages.Undoing = wishes.Book calls.Rollback
+own_want (stages.Telling reply) = wishes.Send
+own_want (stages.Leaving finish) = wishes.Book calls.Rollback
+own_want (stages.Closing finish) = wishes.Book calls.Close
+own_want (stages.Parting fatal) = wishes.Send
+own_want (stages.Ended finish) = wishes.Ended (end_of finish)
 
 -- what the session owes its book
 abbrev pub owed_at : Stage → Runner → Owed
@@ -137,25 +150,51 @@ IsBusy (stages.Waiting phase) = ⊥
 IsBusy (stages.Taking phase) = ⊥
 IsBusy _ = Unit {0}
 
--- a message is under way exactly where the stage says so
-abbrev pub IsUnder : Stage → Runner → Type 0
-IsUnder stages.Running r = IsUnderWay r
-IsUnder _ r = Unit {0}
-
--- whether the startup message was read, where that matters
+-- whether the startup message was read
 abbrev pub has_started : Phase → Bool
 has_started phases.Startup = false
 has_started (phases.Normal state) = true
 has_started (phases.Discarding state) = true
 
+abbrev pub agree : Bool → Bool → Bool
+agree true started = started
+agree false started = not started
+
+-- Before the startup a session is in its first phase, and from there on it has started.
+abbrev pub phase_fits : Stage → Bool → Bool
+phase_fits (stages.Waiting phase) started = agree (has_started phase) started
+phase_fits (stages.Taking phase) started = agree (has_started phase) started
+phase_fits stages.Opening started = started
+phase_fits stages.Running started = started
+phase_fits stages.Undoing started = started
+phase_fits (stages.Telling reply) started = agree (has_started (phase_behind reply)) started
+phase_fits (stages.Leaving finish) started = true
+phase_fits (stages.Closing finish) started = true
+phase_fits (stages.Parting fatal) started = true
+phase_fits (stages.Ended finish) started = true
+
 abbrev pub InPhase : Stage → Bool → Type 0
-InPhase (stages.Waiting phase) started = started ≡ has_started phase
-InPhase (stages.Taking phase) started = started ≡ has_started phase
-InPhase stages.Opening started = started ≡ true
-InPhase stages.Running started = started ≡ true
-InPhase stages.Undoing started = started ≡ true
-InPhase (stages.Telling reply) started = started ≡ has_started (phase_behind reply)
-InPhase _ started = Unit {0}
+InPhase stage started = phase_fits stage started ≡ true
+
+-- where a message runs, its runner has one under way
+abbrev pub is_under : Stage → Runner → Bool
+is_under stages.Running r = is_under_way r
+is_under _ r = true
+
+abbrev pub IsUnder : Stage → Runner → Type 0
+IsUnder stage r = is_under stage r ≡ true
+
+-- the reply that is held, if one is, isn't one that was built
+abbrev pub NoBuilt : Stage → Type 0
+NoBuilt stages.Running = ⊥
+NoBuilt (stages.Telling replies.Greeting) = ⊥
+NoBuilt _ = Unit {0}
+
+-- What holds of a runner whatever the stage: its tables, statements and demands are sound.
+pub record IsFit (r : Runner) : Type 0 where
+  pub knows : Knows r
+  pub sound : IsSoundRunner r
+  pub tables : All IsSound (known_of r)
 
 -- nothing more is fed once the session is about to end
 abbrev pub IsFed : Stage → List ℕ → Type 0
@@ -206,75 +245,6 @@ IsStopped stops.ReadFault (Some ends.ReadFault) = Unit {0}
 IsStopped stops.Spent (Some ends.Spent) = Unit {0}
 IsStopped _ _ = ⊥
 
--- ---- steps
-
--- a want of memory, where there was one, that doesn't end the session
-abbrev pub IsPassing : Option Bool → Type 0
-IsPassing None = Unit {0}
-IsPassing (Some false) = Unit {0}
-IsPassing (Some true) = ⊥
-
--- the entries with a want of memory before them, where there was one
-abbrev pub with_wanting : Option Bool → List ℕ → List Entry → List Entry
-with_wanting None sent es = es
-with_wanting (Some final) sent es = short final (length sent) ∷ es
-
--- the entries that a call adds by the session's own want of memory, where so many bytes were told
-abbrev pub IsShort : List ℕ → List Entry → Type 0
-IsShort sent [] = Unit {0}
-IsShort sent (short final n ∷ []) = n ≡ length sent
-IsShort sent (short final n ∷ e ∷ es) = ⊥
-IsShort sent (did a x ∷ es) = ⊥
-IsShort sent (refused why ∷ es) = ⊥
-IsShort sent (unsent n ∷ es) = ⊥
-IsShort sent (stop cause ∷ es) = ⊥
-
--- an end leads to a stage
-abbrev pub LeadsTo : Stage → Script → Type 0
-LeadsTo stage script = IsLast stage × ((r : Runner) (greeting : List ℕ) (talk : Talk) (said : Said) (es : List Entry) → script said es ≡ goes_on stage r greeting talk said es)
-
--- A message of a client leads to a stage, with a want of memory in its reading where there was one.
-pub record Enters (front : Front) (phase : Phase) (r : Runner) (stage : Stage) (next : Runner) (wanting : Option Bool) : Type 0 where
-  pub asked : Ask
-  pub says : Says front asked
-  pub busy : IsBusy stage
-  pub passing : IsPassing wanting
-  pub goes : (greeting : List ℕ) (talk : Talk) (said : Said) (es : List Entry) → IsFrom 1 (length said.bytes) es →
-      handled (level_of r) asked phase (known_of r) (on r talk) said (with_wanting wanting said.bytes es) ≡ goes_on stage next greeting talk said es
-
--- A message of a client tells nothing and changes nothing.
-pub record Skips (front : Front) (phase : Phase) : Type 0 where
-  pub asked : Ask
-  pub says : Says front asked
-  pub goes : (level : Level) (known : List Table) (rest : Phase → List Table → Script) → handled level asked phase known rest ≡ rest phase known
-
--- Where a message is wanted, the next one, a fault or a want of memory is looked at, or bytes are wanted.
-pub record Steps (phase : Phase) (r : Runner) (before : Held) (stage : Stage) (next : Runner) (wanting : Option Bool) (after : Held) : Type 0 where
-  pub turns : Talk → Talk
-  pub heard : (bytes : List ℕ) (talk : Talk) → IsFed stage bytes → IsTalk after.started (after.rest ++ bytes) talk → IsTalk before.started (before.rest ++ bytes) (turns talk)
-  pub goes : (greeting : List ℕ) (talk : Talk) (said : Said) (es : List Entry) → IsFrom (least stage) (length said.bytes) es →
-      on r (turns talk) phase (known_of r) said (with_wanting wanting said.bytes es) ≡ goes_on stage next greeting talk said es
-  pub waits : (other : Phase) → stage ≡ stages.Waiting other → IsPartial after.started after.rest
-
--- A piece that comes in where bytes are wanted is held, or memory for it is wanting and the session ends.
-abbrev pub Feeds : Phase → List ℕ → Held → Stage → Option Bool → Held → Type 0
-Feeds phase piece before stage wanting after =
-    ((after ≡ record before { rest = before.rest ++ piece }) × (wanting ≡ None) × (stage ≡ stages.Taking phase))
-    ⊎ ((after ≡ before) × (wanting ≡ Some true) × LeadsTo stage (ending (owed_by phase) ends.Memory))
-
--- A reply that was sent leads on, with a want of memory behind it where there was one.
-abbrev pub Sends : Stage → Runner → Stage → Runner → Option Bool → Type 0
-Sends stage r next after wanting =
-    (greeting : List ℕ) (talk : Talk) (said : Said) (es : List Entry) → IsFrom (least next) (length said.bytes) es →
-    after_reply stage r talk said (with_wanting wanting said.bytes es) ≡ goes_on next after greeting talk said es
-
--- An answer to a stage's call leads on, with a want of memory behind it where there was one.
-pub record Advances (stage : Stage) (r : Runner) (answer : Answer) (next : Stage) (after : Runner) (wanting : Option Bool) (greeting : List ℕ) : Type 0 where
-  pub goes : (c : Call) (before : List ℕ) (talk : Talk) (said : Said) (es : List Entry) (e : Event) → wants stage r ≡ wishes.Book c → IsFrom 1 (length said.bytes) es →
-      goes_on stage r before talk said (entry_for answer e ∷ with_wanting wanting said.bytes es) ≡ goes_on next after greeting talk (with_call said c) es
-  pub busy : IsBusy next
-  pub last : IsLast stage → IsLast next
-
 -- ---- what a state stands for
 
 -- Whatever comes, told of the lists grown by it is what the state goes on with. `whole` puts what the client says from here on behind what
@@ -319,3 +289,18 @@ work_at (stages.Ended finish) = 0
 abbrev pub message_at : Stage → ℕ
 message_at stages.Running = 1
 message_at _ = 0
+
+-- how much work a message that runs leaves, but for the demands of its running statement
+abbrev pub message_work : Stage → Runner → ℕ
+message_work stages.Running r = 1 + work_of r
+message_work _ r = 0
+
+-- 1 where a statement runs
+abbrev pub statement_at : Stage → Runner → ℕ
+statement_at stages.Running r = running_of r
+statement_at _ r = 0
+
+-- how many demands of a running statement are left at most
+abbrev pub left_at : Stage → Runner → ℕ
+left_at stages.Running r = left_of r
+left_at _ r = 0

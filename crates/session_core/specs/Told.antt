@@ -28,11 +28,19 @@ use Rattle.session_core.specs.declared.phase.Phase.TheVariants as phases
 use Rattle.session_core.specs.Talk.{Ask, encryption, cancel, start, nameless, version, query, unread_query, terminate, sync, nothing, extended, function, Talk, asks, partial, faulty, unread}
 use Rattle.session_core.specs.Replies.{no_encryption, startup_reply, fatal_reply}
 
+-- the session that is open behind an answer
+abbrev pub opened_after : Option ℕ → Answer → Option ℕ
+opened_after number (answers.Opened session) = Some session
+opened_after number _ = number
+
 -- the session that was opened, where one was
 abbrev pub opened_from : Option ℕ → List Entry → Option ℕ
 opened_from number [] = number
-opened_from number (did (answers.Opened session) e ∷ entries) = opened_from (Some session) entries
-opened_from number (entry ∷ entries) = opened_from number entries
+opened_from number (did a e ∷ entries) = opened_from (opened_after number a) entries
+opened_from number (refused why ∷ entries) = opened_from number entries
+opened_from number (short final n ∷ entries) = opened_from number entries
+opened_from number (unsent n ∷ entries) = opened_from number entries
+opened_from number (stop cause ∷ entries) = opened_from number entries
 
 abbrev pub opened_in : List Entry → Option ℕ
 opened_in entries = opened_from None entries

@@ -6,6 +6,7 @@
 //! (`specs/Serve`).
 #![tactic(auto)]
 
+mod answers;
 mod calls;
 mod messages;
 mod phase;

@@ -1,18 +1,22 @@
-// The stages of a session that need no memory: what it owes, its ends, and what stands behind an answer or a reply.
-ghost use Rattle.std.specs.Prelude.{◌≡◌, ◌≢◌, ℕ, ◌<◌, ◌≤◌, List, [], true, false, None, Some, Bool};
+// The stages of a session that need no memory: what it owes, its ends, and what stands behind an answer of its own.
+ghost use Rattle.std.specs.Prelude.{◌≡◌, ◌≢◌, ℕ, ◌<◌, ◌≤◌, List, [], Bool, true, false, None};
 ghost use Rattle.block_machine.specs.Calls.{Call as Asked};
-ghost use Rattle.block_machine.specs.Messages.{owed_between};
+ghost use Rattle.block_machine.specs.Messages as blocks;
+ghost use Rattle.block_machine.specs.Script.{Said, Entry};
 ghost use Rattle.block_machine.specs.Stages.{owed_after};
+ghost use Rattle.block_machine.specs.Runners.{level_of, known_of};
+ghost use Rattle.block_machine.specs.declared.runner.Runner.{Runner};
 ghost use Rattle.session_core.specs.Replies as replies_spec;
 ghost use Rattle.session_core.specs.Wants as wishes;
-ghost use Rattle.session_core.specs.Wants.{IsWant};
+ghost use Rattle.session_core.specs.Talk.{Talk};
 ghost use Rattle.session_core.specs.Told as told_spec;
-ghost use Rattle.session_core.specs.Told.{closed, ending, broken, stop_end};
-ghost use Rattle.session_core.specs.Stands.{LeadsTo, Advances, FitsWant, InPhase, IsBusy, IsHolding, IsLast, IsPlain, IsQuiet, IsStopped, Lacks, LacksBy, end_of, message_at, outer, outer_end, owed_at, wants, work_at};
+ghost use Rattle.session_core.specs.Told.{closed, ending, refuses, stop_end};
+ghost use Rattle.session_core.specs.Stands.{FitsWant, InPhase, IsBusy, IsStopped, IsUnder, Lacks, LacksBy, NoBuilt, end_of, goes_on, on, outer, outer_end, own_want, owed_at, wants, work_at};
+ghost use Rattle.session_core.specs.Steps.{LeadsTo, Advances, IsPlain};
 
 use crate::phase::Phase;
 use crate::stage::{Fatal, Finish, Reply, Stage};
-use block_machine::{Answer, Call, End, Owed, Stop};
+use block_machine::{Answer, End, Owed, Stop};
 use cell_base::SqlState;
 use history_core::BookFault;
 use pg_framing::TransactionState;
@@ -25,7 +29,9 @@ pub struct Step {
 }
 
 /// The step to a stage for which memory wasn't wanting.
-pub fn calm(stage: Stage) -> Step {
+pub fn calm(stage: Stage) -> Step
+    ensures { result ≡ record { stage = stage; wanting = None } }
+{
     Step {
         stage,
         wanting: None,
@@ -53,15 +59,39 @@ pub fn end_at(finish: Finish) -> End
 }
 
 /// The stage of an end behind its close.
-pub fn part(finish: Finish) -> Stage {
+pub fn part(finish: Finish) -> Stage
+    ensures leads { LeadsTo result (closed (end_of finish)) }
+    ensures owed { (r : Runner) → owed_at result r ≡ Owed.Nothing }
+    ensures outer { outer result ≡ outer_end (end_of finish) }
+    ensures work { work_at result ≤ 1 }
+    ensures lacks { (lost : List ℕ) → LacksBy (end_of finish) lost → lost ≡ [] → Lacks result lost }
+    ensures phase { (started : Bool) → InPhase result started }
+    ensures under { (r : Runner) → IsUnder result r }
+    ensures constant { NoBuilt result }
+{
     match finish {
         Finish::Fatal(fatal) => Stage::Parting(fatal),
-        _ => Stage::Ended(finish),
+        Finish::Terminated => Stage::Ended(finish),
+        Finish::Closed => Stage::Ended(finish),
+        Finish::Cut => Stage::Ended(finish),
+        Finish::Cancelled => Stage::Ended(finish),
+        Finish::ReadFault => Stage::Ended(finish),
+        Finish::WriteFault => Stage::Ended(finish),
+        Finish::Memory => Stage::Ended(finish),
     }
 }
 
 /// The stage of an end, given what is owed.
-pub fn leave(owed: Owed, finish: Finish) -> Stage {
+pub fn leave(owed: Owed, finish: Finish) -> Stage
+    ensures leads { LeadsTo result (ending owed (end_of finish)) }
+    ensures owed { (r : Runner) → owed_at result r ≡ owed }
+    ensures outer { outer result ≡ outer_end (end_of finish) }
+    ensures work { work_at result ≤ 3 }
+    ensures lacks { (lost : List ℕ) → LacksBy (end_of finish) lost → lost ≡ [] → Lacks result lost }
+    ensures phase { (started : Bool) → InPhase result started }
+    ensures under { (r : Runner) → IsUnder result r }
+    ensures constant { NoBuilt result }
+{
     match owed {
         Owed::Nothing => part(finish),
         Owed::Close => Stage::Closing(finish),
@@ -83,7 +113,7 @@ pub fn phase_behind(reply: Reply) -> Phase
 
 /// What a session owes in a state of its block between two messages.
 pub fn owed_in(state: TransactionState) -> Owed
-    ensures { result ≡ owed_between state }
+    ensures { result ≡ blocks.owed_between state }
 {
     match state {
         TransactionState::Block => Owed::Rollback,
@@ -116,17 +146,38 @@ pub fn finish_of(cause: Stop, nothing: bool) -> Finish
 }
 
 /// The stage of a message of the extended query outside of discarding.
-pub fn refuse(state: TransactionState) -> Stage {
+pub fn refuse(state: TransactionState) -> Stage
+    ensures goes { (r : Runner) (greeting : List ℕ) (talk : Talk) (said : Said) (es : List Entry) →
+        refuses (level_of r) state (known_of r) (on r talk) said es ≡ goes_on result r greeting talk said es }
+    ensures owed { (r : Runner) → owed_at result r ≡ blocks.owed_between state }
+    ensures outer { outer result ≡ None }
+    ensures work { work_at result ≤ 7 }
+    ensures lacks { Lacks result [] }
+    ensures phase { InPhase result true }
+    ensures under { (r : Runner) → IsUnder result r }
+    ensures busy { IsBusy result }
+    ensures constant { NoBuilt result }
+{
     match state {
+        TransactionState::Idle => Stage::Telling(Reply::Unsupported(TransactionState::Idle)),
         TransactionState::Block => Stage::Undoing,
-        TransactionState::Idle | TransactionState::Failed => {
-            Stage::Telling(Reply::Unsupported(state))
-        }
+        TransactionState::Failed => Stage::Telling(Reply::Unsupported(TransactionState::Failed)),
     }
 }
 
 /// The stage behind the answer to a call of the session's own, where no memory is needed for it.
-pub fn advance(stage: Stage, answer: &Answer) -> Stage {
+pub fn advance(stage: Stage, answer: &Answer) -> Stage
+    requires fits { FitsWant (own_want stage) answer.now }
+    requires plain { IsPlain stage answer.now }
+    ensures goes { (r : Runner) (greeting : List ℕ) → Advances stage r answer.now result r None greeting }
+    ensures owed { (c : Asked) (r : Runner) → wants stage r ≡ wishes.Book c → owed_at result r ≡ owed_after c answer.now (owed_at stage r) }
+    ensures outer { outer result ≡ outer stage }
+    ensures lacks { (lost : List ℕ) → Lacks stage lost → Lacks result lost }
+    ensures work { work_at result < work_at stage }
+    ensures phase { (started : Bool) → InPhase stage started → InPhase result started }
+    ensures under { (r : Runner) → IsUnder result r }
+    ensures constant { NoBuilt result }
+{
     match (stage, answer) {
         (Stage::Opening, Answer::Refused(BookFault::Full(_))) => Stage::Parting(Fatal::Full),
         (Stage::Opening, Answer::Refused(BookFault::Memory)) => Stage::Ended(Finish::Memory),
