@@ -4,6 +4,7 @@ pub mod Talk
 pub mod Replies
 pub mod Told
 pub mod Record
+pub mod Plays
 pub mod Stands
 pub mod Steps
 pub mod Sessions

@@ -1,4 +1,22 @@
 // Serves a session over a link.
+ghost use Rattle.std.specs.Prelude.{◌≡◌, ℕ, ◌+◌, ◌<◌, ◌≤◌, List, [], length, true, false, IfOk};
+ghost use Rattle.sql_tree.specs.declared.table.Table.{Table as Defined};
+ghost use Rattle.history_core.specs.Book.{Past, away};
+ghost use Rattle.link_traits.specs.Traffic.{Sight, sight_of};
+ghost use Rattle.block_machine.specs.Calls.{Call as Asked, call_of};
+ghost use Rattle.block_machine.specs.Calls as calls;
+ghost use Rattle.block_machine.specs.Script.{Entry, has_short};
+ghost use Rattle.block_machine.specs.Runners.{Runs, level_of, known_of};
+ghost use Rattle.session_core.specs.declared.phase.Phase.TheVariants as phases;
+ghost use Rattle.session_core.specs.declared.stage.Stage.TheVariants as stages;
+ghost use Rattle.session_core.specs.Wants as wishes;
+ghost use Rattle.session_core.specs.Wants.{IsResting, IsOver};
+ghost use Rattle.session_core.specs.Talk.{Talk};
+ghost use Rattle.session_core.specs.Told.{opened_in};
+ghost use Rattle.session_core.specs.Stands.{IsFit, IsHolding, IsLast, left_at, message_at, message_work, statement_at};
+ghost use Rattle.session_core.specs.Sessions.{Stands, wanted, work_of};
+ghost use Rattle.session_core.specs.Serve.{Sits, Ran, Serves};
+
 use crate::calls::{ask, call, define};
 use crate::session::Session;
 use crate::want::Want;
@@ -25,13 +43,33 @@ pub struct Served {
 }
 
 // Defines the table that the session wants defined.
-fn answer_define<B: Book, W: Words>(session: &mut Session, book: &mut B, words: &W) {
+fn answer_define<B: Book, W: Words>(session: &mut Session, book: &mut B, words: &W)
+    requires wanted { (table : Defined) × (wanted session.old ≡ wishes.Book (calls.Define table)) }
+    requires sits { Sits session.old (B.past book.old) }
+    ensures ran { (level : Level) (p : Past) (v : W) (f g : Sight) (many : ℕ) →
+        Ran W.gives level p v f session.old (B.past book.old) words.now g many → Ran W.gives level p v f session.new (B.past book.new) words.now g many }
+    ensures sits { Sits session.new (B.past book.new) }
+    ensures work { work_of session.new < work_of session.old + message_at session.new.stage }
+    ensures message { session.old.stage ≡ stages.Running → message_work session.new.stage session.new.runner < message_work session.old.stage session.old.runner + statement_at session.new.stage session.new.runner }
+    ensures last { IsLast session.old.stage → IsLast session.new.stage }
+    ensures stays { B.stays book.old book.new }
+{
     let answer = define(book, words, session.table());
     session.answer(answer);
 }
 
 // Makes another call that the session wants.
-fn answer_call<B: Book, W: Words>(session: &mut Session, book: &mut B, words: &W, c: Call) {
+fn answer_call<B: Book, W: Words>(session: &mut Session, book: &mut B, words: &W, c: Call)
+    requires wanted { wanted session.old ≡ wishes.Book (call_of c) }
+    requires sits { Sits session.old (B.past book.old) }
+    ensures ran { (level : Level) (p : Past) (v : W) (f g : Sight) (many : ℕ) →
+        Ran W.gives level p v f session.old (B.past book.old) words.now g many → Ran W.gives level p v f session.new (B.past book.new) words.now g many }
+    ensures sits { Sits session.new (B.past book.new) }
+    ensures work { work_of session.new < work_of session.old + message_at session.new.stage }
+    ensures message { session.old.stage ≡ stages.Running → message_work session.new.stage session.new.runner < message_work session.old.stage session.old.runner + statement_at session.new.stage session.new.runner }
+    ensures last { IsLast session.old.stage → IsLast session.new.stage }
+    ensures stays { B.stays book.old book.new }
+{
     let answer = call(book, words, c);
     session.answer(answer);
 }
@@ -42,17 +80,51 @@ fn answer_cells<B: Book, W: Words>(
     session: &mut Session,
     book: &mut B,
     words: &mut W,
-) {
+)
+    requires running { session.old.stage ≡ stages.Running }
+    requires runs { Runs session.old.runner }
+    requires sits { Sits session.old (B.past book.old) }
+    ensures ran { (level : Level) (p : Past) (v : W) (f g : Sight) (many : ℕ) →
+        Ran W.gives level p v f session.old (B.past book.old) words.old g many → Ran W.gives level p v f session.new (B.past book.new) words.new g many }
+    ensures sits { Sits session.new (B.past book.new) }
+    ensures work { work_of session.new < work_of session.old + message_at session.new.stage }
+    ensures message { session.old.stage ≡ stages.Running → message_work session.new.stage session.new.runner < message_work session.old.stage session.old.runner + statement_at session.new.stage session.new.runner }
+    ensures left { left_at session.new.stage session.new.runner < left_at session.old.stage session.old.runner }
+    ensures last { IsLast session.old.stage → IsLast session.new.stage }
+    ensures stays { B.stays book.old book.new }
+{
     let answer = ask(alloc, book, words, session.demanded());
     session.answer(answer);
 }
 
 // Sends the reply that the session holds.
-fn send<L: Link>(session: &mut Session, link: &mut L) {
+fn send<B: Book, L: Link, W: Words>(session: &mut Session, book: &B, link: &mut L, words: &W)
+    requires holding { IsHolding session.old.stage session.old.runner }
+    requires sits { Sits session.old (B.past book.now) }
+    ensures ran { (level : Level) (p : Past) (v : W) (f : Sight) (many : ℕ) →
+        Ran W.gives level p v f session.old (B.past book.now) words.now (sight_of L.traffic L.read_faults L.write_faults link.old) many →
+        Ran W.gives level p v f session.new (B.past book.now) words.now (sight_of L.traffic L.read_faults L.write_faults link.new) many }
+    ensures sits { Sits session.new (B.past book.now) }
+    ensures work { work_of session.new < work_of session.old + message_at session.new.stage }
+    ensures message { session.old.stage ≡ stages.Running → message_work session.new.stage session.new.runner < message_work session.old.stage session.old.runner }
+    ensures last { IsLast session.old.stage → IsLast session.new.stage }
+{
     match send_all(link, session.reply()) {
         Ok(()) => session.sent(),
         Err(_) => session.unsent(),
     }
+}
+
+// Looks at the next message of those that the session holds.
+fn take<B: Book, W: Words>(session: &mut Session, book: &B, words: &W)
+    requires wanted { wanted session.old ≡ wishes.Message }
+    requires sits { Sits session.old (B.past book.now) }
+    ensures ran { (level : Level) (p : Past) (v : W) (f g : Sight) (many : ℕ) →
+        Ran W.gives level p v f session.old (B.past book.now) words.now g many → Ran W.gives level p v f session.new (B.past book.now) words.now g many }
+    ensures sits { Sits session.new (B.past book.now) }
+    ensures work { work_of session.new < work_of session.old }
+{
+    session.take();
 }
 
 // Does what the session wants. Answers whether it wanted something.
@@ -62,13 +134,24 @@ fn serve_want<B: Book, L: Link, W: Words>(
     book: &mut B,
     link: &mut L,
     words: &mut W,
-) -> bool {
+) -> bool
+    requires sits { Sits session.old (B.past book.old) }
+    ensures ran { (level : Level) (p : Past) (v : W) (f : Sight) (many : ℕ) →
+        Ran W.gives level p v f session.old (B.past book.old) words.old (sight_of L.traffic L.read_faults L.write_faults link.old) many →
+        Ran W.gives level p v f session.new (B.past book.new) words.new (sight_of L.traffic L.read_faults L.write_faults link.new) many }
+    ensures sits { Sits session.new (B.past book.new) }
+    ensures work { result ≡ true → work_of session.new < work_of session.old + message_at session.new.stage }
+    ensures message { session.old.stage ≡ stages.Running → message_work session.new.stage session.new.runner < message_work session.old.stage session.old.runner + statement_at session.new.stage session.new.runner }
+    ensures rests { result ≡ false → IsResting (wanted session.new) }
+    ensures last { IsLast session.old.stage → IsLast session.new.stage }
+    ensures stays { B.stays book.old book.new }
+{
     match session.demand() {
-        Want::Message => session.take(),
+        Want::Message => take(session, book, words),
         Want::Define => answer_define(session, book, words),
         Want::Cells => answer_cells(alloc, session, book, words),
         Want::Book(c) => answer_call(session, book, words, c),
-        Want::Send => send(session, link),
+        Want::Send => send(session, book, link, words),
         Want::Bytes | Want::Ended(_) => return false,
     }
     true
@@ -80,7 +163,18 @@ fn step_on<B: Book, W: Words>(
     session: &mut Session,
     book: &mut B,
     words: &mut W,
-) -> bool {
+) -> bool
+    requires sits { Sits session.old (B.past book.old) }
+    ensures ran { (level : Level) (p : Past) (v : W) (f g : Sight) (many : ℕ) →
+        Ran W.gives level p v f session.old (B.past book.old) words.old g many → Ran W.gives level p v f session.new (B.past book.new) words.new g many }
+    ensures sits { Sits session.new (B.past book.new) }
+    ensures work { work_of session.new + message_at session.old.stage ≤ work_of session.old + message_at session.new.stage }
+    ensures message { message_work session.new.stage session.new.runner + statement_at session.old.stage session.old.runner ≤ message_work session.old.stage session.old.runner + statement_at session.new.stage session.new.runner }
+    ensures left { result ≡ true → left_at session.new.stage session.new.runner < left_at session.old.stage session.old.runner }
+    ensures calm { result ≡ false → statement_at session.new.stage session.new.runner ≡ 0 }
+    ensures last { IsLast session.old.stage → IsLast session.new.stage }
+    ensures stays { B.stays book.old book.new }
+{
     match session.demand() {
         Want::Cells => {
             answer_cells(alloc, session, book, words);
@@ -91,7 +185,16 @@ fn step_on<B: Book, W: Words>(
 }
 
 // Makes all calls that a running statement demands.
-fn run_on<B: Book, W: Words>(alloc: Global, session: &mut Session, book: &mut B, words: &mut W) {
+fn run_on<B: Book, W: Words>(alloc: Global, session: &mut Session, book: &mut B, words: &mut W)
+    requires sits { Sits session.old (B.past book.old) }
+    ensures ran { (level : Level) (p : Past) (v : W) (f g : Sight) (many : ℕ) →
+        Ran W.gives level p v f session.old (B.past book.old) words.old g many → Ran W.gives level p v f session.new (B.past book.new) words.new g many }
+    ensures sits { Sits session.new (B.past book.new) }
+    ensures work { work_of session.new + message_at session.old.stage ≤ work_of session.old + message_at session.new.stage }
+    ensures message { message_work session.new.stage session.new.runner + statement_at session.old.stage session.old.runner ≤ message_work session.old.stage session.old.runner }
+    ensures last { IsLast session.old.stage → IsLast session.new.stage }
+    ensures stays { B.stays book.old book.new }
+{
     while step_on(alloc, session, book, words) {}
 }
 
@@ -102,7 +205,18 @@ fn step_message<B: Book, L: Link, W: Words>(
     book: &mut B,
     link: &mut L,
     words: &mut W,
-) -> bool {
+) -> bool
+    requires sits { Sits session.old (B.past book.old) }
+    ensures ran { (level : Level) (p : Past) (v : W) (f : Sight) (many : ℕ) →
+        Ran W.gives level p v f session.old (B.past book.old) words.old (sight_of L.traffic L.read_faults L.write_faults link.old) many →
+        Ran W.gives level p v f session.new (B.past book.new) words.new (sight_of L.traffic L.read_faults L.write_faults link.new) many }
+    ensures sits { Sits session.new (B.past book.new) }
+    ensures work { work_of session.new + message_at session.old.stage ≤ work_of session.old + message_at session.new.stage }
+    ensures message { result ≡ true → message_work session.new.stage session.new.runner < message_work session.old.stage session.old.runner }
+    ensures calm { result ≡ false → message_at session.new.stage ≡ 0 }
+    ensures last { IsLast session.old.stage → IsLast session.new.stage }
+    ensures stays { B.stays book.old book.new }
+{
     if !session.is_running() {
         return false;
     }
@@ -118,7 +232,16 @@ fn run_message<B: Book, L: Link, W: Words>(
     book: &mut B,
     link: &mut L,
     words: &mut W,
-) {
+)
+    requires sits { Sits session.old (B.past book.old) }
+    ensures ran { (level : Level) (p : Past) (v : W) (f : Sight) (many : ℕ) →
+        Ran W.gives level p v f session.old (B.past book.old) words.old (sight_of L.traffic L.read_faults L.write_faults link.old) many →
+        Ran W.gives level p v f session.new (B.past book.new) words.new (sight_of L.traffic L.read_faults L.write_faults link.new) many }
+    ensures sits { Sits session.new (B.past book.new) }
+    ensures work { work_of session.new + message_at session.old.stage ≤ work_of session.old }
+    ensures last { IsLast session.old.stage → IsLast session.new.stage }
+    ensures stays { B.stays book.old book.new }
+{
     while step_message(alloc, session, book, link, words) {}
 }
 
@@ -130,7 +253,17 @@ fn turn<B: Book, L: Link, W: Words>(
     book: &mut B,
     link: &mut L,
     words: &mut W,
-) -> bool {
+) -> bool
+    requires sits { Sits session.old (B.past book.old) }
+    ensures ran { (level : Level) (p : Past) (v : W) (f : Sight) (many : ℕ) →
+        Ran W.gives level p v f session.old (B.past book.old) words.old (sight_of L.traffic L.read_faults L.write_faults link.old) many →
+        Ran W.gives level p v f session.new (B.past book.new) words.new (sight_of L.traffic L.read_faults L.write_faults link.new) many }
+    ensures sits { Sits session.new (B.past book.new) }
+    ensures work { result ≡ true → work_of session.new < work_of session.old }
+    ensures rests { result ≡ false → IsResting (wanted session.new) }
+    ensures last { IsLast session.old.stage → IsLast session.new.stage }
+    ensures stays { B.stays book.old book.new }
+{
     if !serve_want(alloc, session, book, link, words) {
         return false;
     }
@@ -145,7 +278,16 @@ fn drive<B: Book, L: Link, W: Words>(
     book: &mut B,
     link: &mut L,
     words: &mut W,
-) {
+)
+    requires sits { Sits session.old (B.past book.old) }
+    ensures ran { (level : Level) (p : Past) (v : W) (f : Sight) (many : ℕ) →
+        Ran W.gives level p v f session.old (B.past book.old) words.old (sight_of L.traffic L.read_faults L.write_faults link.old) many →
+        Ran W.gives level p v f session.new (B.past book.new) words.new (sight_of L.traffic L.read_faults L.write_faults link.new) many }
+    ensures sits { Sits session.new (B.past book.new) }
+    ensures rests { IsResting (wanted session.new) }
+    ensures last { IsLast session.old.stage → IsLast session.new.stage }
+    ensures stays { B.stays book.old book.new }
+{
     while turn(alloc, session, book, link, words) {}
 }
 
@@ -157,7 +299,17 @@ fn take_in<B: Book, L: Link, W: Words>(
     words: &W,
     room: &mut [u8],
     most: usize,
-) -> usize {
+) -> usize
+    requires wanted { wanted session.old ≡ wishes.Bytes }
+    requires room { 0 < length room.old }
+    requires sits { Sits session.old (B.past book.now) }
+    ensures ran { (level : Level) (p : Past) (v : W) (f : Sight) (many : ℕ) → many + most ≡ 1073741824 →
+        Ran W.gives level p v f session.old (B.past book.now) words.now (sight_of L.traffic L.read_faults L.write_faults link.old) many →
+        Ran W.gives level p v f session.new (B.past book.now) words.now (sight_of L.traffic L.read_faults L.write_faults link.new) (many + result) }
+    ensures sits { Sits session.new (B.past book.now) }
+    ensures within { result ≤ most }
+    ensures stopped { result ≡ 0 → IsLast session.new.stage }
+{
     if most == 0 {
         session.stop(Stop::Spent);
         return 0;
@@ -181,7 +333,12 @@ fn take_in<B: Book, L: Link, W: Words>(
 }
 
 // What became of a session that has ended.
-fn finish(session: &Session) -> Served {
+fn finish(session: &Session) -> Served
+    requires { IsOver (wanted session.now) }
+    ensures end { wanted session.now ≡ wishes.Ended result.end }
+    ensures opened { (taken : List ℕ) (entries : List Entry) (asked : List Asked) (sent : List ℕ) → Stands session.now taken entries asked sent → result.session ≡ opened_in entries }
+    ensures short { (taken : List ℕ) (entries : List Entry) (asked : List Asked) (sent : List ℕ) → Stands session.now taken entries asked sent → result.short ≡ has_short entries }
+{
     let number = session.number();
     let short = session.is_short();
     match session.demand() {
@@ -201,7 +358,14 @@ struct Start {
     room: Vec<u8>,
 }
 
-fn begin(alloc: Global, level: Level) -> Result<Start, Memory> {
+fn begin(alloc: Global, level: Level) -> Result<Start, Memory>
+    ensures empty { IfOk result (λ s. Stands s.session [] [] [] []) }
+    ensures stage { IfOk result (λ s. s.session.stage ≡ stages.Waiting phases.Startup) }
+    ensures level { IfOk result (λ s. level_of s.session.runner ≡ level) }
+    ensures known { IfOk result (λ s. known_of s.session.runner ≡ []) }
+    ensures fit { IfOk result (λ s. IsFit s.session.runner) }
+    ensures room { IfOk result (λ s. 0 < length s.room.items) }
+{
     Ok(Start {
         session: Session::new(alloc, level)?,
         room: vec![in alloc; 0u8; ROOM]?,
@@ -216,7 +380,19 @@ fn run<B: Book, L: Link, W: Words>(
     book: &mut B,
     link: &mut L,
     words: &mut W,
-) -> Served {
+) -> Served
+    requires empty { Stands session.old [] [] [] [] }
+    requires stage { session.old.stage ≡ stages.Waiting phases.Startup }
+    requires known { known_of session.old.runner ≡ [] }
+    requires fit { IsFit session.old.runner }
+    requires room { 0 < length room.old }
+    requires away { (B.past book.old).seat ≡ away }
+    ensures served { (talk : Talk) × (taken : List ℕ) × (es : List Entry) × (asked : List Asked) × (sent : List ℕ) × (lost : List ℕ) ×
+        Serves W.gives (level_of session.old.runner) (B.past book.old) words.old (sight_of L.traffic L.read_faults L.write_faults link.old) result.session result.end result.short
+        (B.past book.new) words.new (sight_of L.traffic L.read_faults L.write_faults link.new) talk taken es asked sent lost }
+    ensures away { (B.past book.new).seat ≡ away }
+    ensures stays { B.stays book.old book.new }
+{
     let mut left = MOST_READ;
     loop {
         drive(alloc, session, book, link, words);
@@ -242,7 +418,14 @@ pub fn serve_link<B: Book, L: Link, W: Words>(
     book: &mut B,
     link: &mut L,
     words: &mut W,
-) -> Served {
+) -> Served
+    requires { (B.past book.old).seat ≡ away }
+    ensures served { (talk : Talk) × (taken : List ℕ) × (es : List Entry) × (asked : List Asked) × (sent : List ℕ) × (lost : List ℕ) ×
+        Serves W.gives level (B.past book.old) words.old (sight_of L.traffic L.read_faults L.write_faults link.old) result.session result.end result.short
+        (B.past book.new) words.new (sight_of L.traffic L.read_faults L.write_faults link.new) talk taken es asked sent lost }
+    ensures away { (B.past book.new).seat ≡ away }
+    ensures stays { B.stays book.old book.new }
+{
     match begin(alloc, level) {
         Ok(mut start) => run(
             alloc,
