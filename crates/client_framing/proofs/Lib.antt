@@ -1,0 +1,10 @@
+pub mod Numbers
+pub mod Zeros
+pub mod PairLists
+pub mod Bodies
+pub mod Types
+pub mod Codes
+pub mod Messages
+pub mod Openings
+pub mod Streams
+pub mod Splits

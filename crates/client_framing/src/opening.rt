@@ -1,0 +1,91 @@
+// Reads a message that stands before the startup's end from the front of what is held.
+ghost use Rattle.std.specs.Prelude.{◌≡◌, ◌≢◌, ◌≤◌, ◌-◌, ◌↔◌, length, take, drop, false, Some, IfOk, IfErr, IfSome, IsNone, IsTrue};
+ghost use Rattle.client_framing.specs.Spelling.{IsBody, code_of};
+ghost use Rattle.client_framing.specs.Fronts.{TakesFront, IsPartial, HasFault};
+ghost use Rattle.client_framing.specs.Reading.{CanBeBody, IsRightlyNamed, opening_code};
+
+use crate::opening_type::{OpeningType, opening_type};
+use crate::pairs::{can_be_pairs, pairs_of};
+use crate::parts::number_at;
+use crate::{FrameFault, Front};
+use cell_base::Memory;
+use std::alloc::Global;
+
+// The greatest length of a message before the startup's end.
+const MOST_LENGTH: u32 = 10_000;
+
+/// The message before the startup's end, and how many bytes it takes.
+pub fn opening_of(alloc: Global, bytes: &[u8]) -> Result<Option<(Front, usize)>, FrameFault>
+    ensures found { IfOk result (λ r. IfSome r (λ x. TakesFront false bytes.now x.0 (drop x.1 bytes.now))) }
+    ensures within { IfOk result (λ r. IfSome r (λ x. x.1 ≤ length bytes.now)) }
+    ensures partial { IfOk result (λ r. IsNone r → IsPartial false bytes.now) }
+    ensures bad { IfErr result (λ e. e ≢ FrameFault.Memory → HasFault false bytes.now e) }
+{
+    if bytes.len() < 4 {
+        return Ok(None);
+    }
+    let len = number_at(bytes, 0);
+    if len < 8 {
+        return Err(FrameFault::BadLength(len));
+    }
+    if len > MOST_LENGTH {
+        return Err(FrameFault::TooLong(len));
+    }
+    if bytes.len() < 8 {
+        return Ok(None);
+    }
+    let kind = opening_type(number_at(bytes, 4));
+    let len = len as usize;
+    let held = held_behind_code(bytes, len);
+    if !can_be_body(kind, held, len - 8) {
+        return Err(FrameFault::BadStartup);
+    }
+    if bytes.len() < len {
+        return Ok(None);
+    }
+    let front = front_of(alloc, kind, held)?;
+    Ok(Some((front, len)))
+}
+
+// What is held of a message's bytes behind its code.
+fn held_behind_code(bytes: &[u8], len: usize) -> &[u8]
+    requires held { 8 ≤ length bytes.now }
+    requires low { 8 ≤ len }
+    ensures { result.now ≡ take (len - 8) (drop 8 bytes.now) }
+{
+    if bytes.len() < len {
+        &bytes[8..]
+    } else {
+        &bytes[8..len]
+    }
+}
+
+// Whether the bytes can go on to be the body of a message of this type, so many bytes in all.
+fn can_be_body(kind: OpeningType, held: &[u8], size: usize) -> bool
+    requires short { length held.now ≤ size }
+    requires named { IsRightlyNamed kind }
+    ensures { IsTrue result ↔ CanBeBody (opening_code kind) size held.now }
+{
+    match kind {
+        OpeningType::Startup => can_be_pairs(held, size),
+        OpeningType::Cancel => size == 8,
+        OpeningType::Ssl | OpeningType::Gss => size == 0,
+        OpeningType::Version(_) => true,
+    }
+}
+
+// The message of this type and body.
+fn front_of(alloc: Global, kind: OpeningType, body: &[u8]) -> Result<Front, Memory>
+    requires body { CanBeBody (opening_code kind) (length body.now) body.now }
+    requires named { IsRightlyNamed kind }
+    ensures code { IfOk result (λ front. code_of front ≡ Some (opening_code kind)) }
+    ensures body { IfOk result (λ front. IsBody front body.now) }
+{
+    match kind {
+        OpeningType::Startup => Ok(Front::Startup(pairs_of(alloc, body)?)),
+        OpeningType::Cancel => Ok(Front::Cancel(number_at(body, 0), number_at(body, 4))),
+        OpeningType::Ssl => Ok(Front::Ssl),
+        OpeningType::Gss => Ok(Front::Gss),
+        OpeningType::Version(code) => Ok(Front::Version(code)),
+    }
+}
