@@ -70,6 +70,37 @@ pub fn write(book: &mut SoloBook, cell: Cell, value: Value) -> Result<(), BookFa
     Ok(())
 }
 
+/// Whether the transaction has written the cell.
+pub fn wrote(book: &mut SoloBook, cell: &Cell) -> bool
+    requires { IsBusy book.old }
+    ensures { IsBusy book.new }
+{
+    book.wrote(cell)
+}
+
+/// What the transaction sees at the cell: what it wrote last, or else what the word picks.
+pub fn see(book: &mut SoloBook, cell: &Cell, word: u32) -> Result<Value, BookFault>
+    requires busy { IsBusy book.old }
+    requires table { table_of cell.now ≡ 0 }
+    ensures { OnOk result (IsBusy book.new) }
+{
+    if book.wrote(cell) {
+        let own = book.own(cell)?;
+        return Ok(own);
+    }
+    let value = book.read(cell, word)?;
+    Ok(value)
+}
+
+/// The number of the event that tells it.
+pub fn show(book: &mut SoloBook) -> Result<u32, BookFault>
+    requires { IsReady book.old }
+    ensures { OnOk result (IsReady book.new) }
+{
+    let number = book.show()?;
+    Ok(number)
+}
+
 pub fn commit(book: &mut SoloBook)
     requires { IsBusy book.old }
     ensures { IsReady book.new }

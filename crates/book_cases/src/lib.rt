@@ -1,4 +1,4 @@
-//! Tests of books: that the calls succeed with ample memory, and offers, values and scans that were found by hand.
+//! Tests of books: that the calls succeed with ample memory, and offers, values, scans and numbers that were found by hand.
 //!
 //! No clause says that memory is left, and a definition could say something else than its reader thinks. The crate has nothing but
 //! tests, so that `solo_book` is proved once.
@@ -8,6 +8,8 @@
 mod calls;
 #[cfg(test)]
 mod keys;
+#[cfg(test)]
+mod own_reads;
 #[cfg(test)]
 mod reads;
 #[cfg(test)]

@@ -1,5 +1,5 @@
-// The reads of a history.
-use cell_base::{Items, Memory, Value};
+// The reads of a history, external and own, and what it told of its length.
+use cell_base::{Cell, Items, Memory, Value};
 use history_core::Event;
 use solo_book::SoloBook;
 use std::alloc::Global;
@@ -46,5 +46,23 @@ pub fn is_told(
                 && told.value.is_same(value)
         }
         None => false,
+    }
+}
+
+/// Whether the event of the number is an own read of the cell in session 1, which gave the value.
+pub fn is_own(book: &SoloBook, number: usize, cell: &Cell, value: &Value) -> bool {
+    match book.history().events().get(number - 1) {
+        Some(Event::Own(session, own, last)) => {
+            *session == 1 && own.is_same(cell) && last.is_same(value)
+        }
+        _ => false,
+    }
+}
+
+/// Whether the event of the number tells it in session 1.
+pub fn is_shown(book: &SoloBook, number: usize) -> bool {
+    match book.history().events().get(number - 1) {
+        Some(Event::Show(session, own)) => *session == 1 && *own as usize == number,
+        _ => false,
     }
 }

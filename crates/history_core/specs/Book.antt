@@ -1,5 +1,5 @@
 -- A book: one session's way to a history that others may add to as well.
-use Rattle.std.specs.Prelude.{◌≡◌, ◌≢◌, ◌<◌, ℕ, ℤ, Some, List, [], ◌∷◌, ◌++◌, length, slice_get, All, Contains}
+use Rattle.std.specs.Prelude.{◌≡◌, ◌≢◌, ◌<◌, ℕ, ℤ, Some, List, [], ◌∷◌, ◌++◌, length, slice_get, All, Any, Contains}
 use Rattle.cell_base.specs.declared.cell.Cell.{Cell}
 use Rattle.cell_base.specs.declared.key.Key.{Key}
 use Rattle.cell_base.specs.declared.value.Value.{Value}
@@ -55,6 +55,21 @@ writes_of (pending s writes) = writes
 -- the pending transaction has not written the cell
 abbrev pub IsUnwritten : Cell → Seat → Type 0
 IsUnwritten cell seat = All (λ write. write.0 ≢ cell) (writes_of seat)
+
+-- the pending transaction has written the cell
+abbrev pub HasWrite : Cell → Seat → Type 0
+HasWrite cell seat = Any (λ write. write.0 ≡ cell) (writes_of seat)
+
+-- the last of these writes to the cell writes the value
+pub record WritesLast (writes : List (Cell × Value)) (cell : Cell) (value : Value) : Type 0 where
+  pub before : List (Cell × Value)
+  pub after : List (Cell × Value)
+  pub split : writes ≡ before ++ (cell, value) ∷ after
+  pub last : All (λ write. write.0 ≢ cell) after
+
+-- the value is what the pending transaction wrote last to the cell
+abbrev pub LastWrite : Cell → Value → Seat → Type 0
+LastWrite cell value seat = WritesLast (writes_of seat) cell value
 
 -- the table of the cell is defined, as the book has seen it
 abbrev pub HasTable : Past → ℕ → Type 0

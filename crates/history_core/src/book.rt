@@ -3,12 +3,12 @@ use crate::{BookFault, DefineAnswer};
 use cell_base::{Cell, Items, Key, Value};
 use sql_tree::Table;
 
-/// One session's way to a history, which others may add to as well. Each call adds just the event of its name behind
+/// One session's way to a history, which others may add to as well. Each call but `wrote` adds just the event of its name behind
 /// what others added, and a call that is refused adds none; a definition of a name that is taken adds a look.
 /// A call answers `Full` exactly where the history is full for it, tested in the order load, name, count, memory. The history
 /// seen after a call is legal: each read in it was offered exactly what the level permits.
 pub trait Book {
-    ghost use Rattle.std.specs.Prelude.{◌≡◌, ◌≢◌, ◌≤◌, ◌<◌, [], ◌∷◌, ◌++◌, ℕ, length, Some, IfOk, OnOk, OnErr, Contains};
+    ghost use Rattle.std.specs.Prelude.{◌≡◌, ◌≢◌, ◌≤◌, ◌<◌, ◌↔◌, [], ◌∷◌, ◌++◌, ℕ, false, length, Some, IsTrue, IfOk, OnOk, OnErr, Contains};
     ghost use Rattle.sound_table.specs.Sound.{IsSound};
     ghost use Rattle.history_core.specs.declared.event.Event.TheVariants as events;
     ghost use Rattle.history_core.specs.declared.fault.Limit.{Limit};
@@ -16,7 +16,7 @@ pub trait Book {
     ghost use Rattle.history_core.specs.Events.{table_of, begun, names};
     ghost use Rattle.history_core.specs.Legal.{full_for, full_load};
     ghost use Rattle.history_core.specs.Chronicle.{IsLegalChronicle};
-    ghost use Rattle.history_core.specs.Book.{Past, Seat, away, seated, pending, IsSeated, IsIdle, IsInTransaction, IsUnwritten, IsStorable, HasTable, IsKeyList, session_of, writes_of, GoesOn, Adds, AddsRead, AnswersTables, AnswersDefine};
+    ghost use Rattle.history_core.specs.Book.{Past, Seat, away, seated, pending, IsSeated, IsIdle, IsInTransaction, IsUnwritten, HasWrite, LastWrite, IsStorable, HasTable, IsKeyList, session_of, writes_of, GoesOn, Adds, AddsRead, AnswersTables, AnswersDefine};
 
     /// The history seen, the own events, and where the session stands.
     ghost past: { Self → Past };
@@ -88,6 +88,27 @@ pub trait Book {
         ensures legal { IsLegalChronicle (past self.new).seen }
         ensures stays { stays self.old self.new };
 
+    /// Whether the pending transaction has written the cell. Adds no event and takes no memory.
+    fn wrote(&mut self, cell: &Cell) -> bool
+        requires { IsInTransaction (past self.old).seat }
+        ensures answer { IsTrue result ↔ HasWrite cell.now (past self.old).seat }
+        ensures unwritten { result ≡ false → IsUnwritten cell.now (past self.old).seat }
+        ensures goes_on { GoesOn (past self.old) (past self.new) }
+        ensures legal { IsLegalChronicle (past self.new).seen }
+        ensures stays { stays self.old self.new };
+
+    /// Reads a cell that the pending transaction has written: what it wrote last.
+    fn own(&mut self, cell: &Cell) -> Result<Value, BookFault>
+        requires pending { IsInTransaction (past self.old).seat }
+        requires written { HasWrite cell.now (past self.old).seat }
+        ensures ok { IfOk result (λ value. Adds (past self.old) (events.Own (session_of (past self.old).seat) cell.now value) (past self.new)) }
+        ensures last { IfOk result (λ value. LastWrite cell.now value (past self.old).seat) }
+        ensures seat { (past self.new).seat ≡ (past self.old).seat }
+        ensures err { OnErr result (GoesOn (past self.old) (past self.new)) }
+        ensures full { (limit : Limit) → result ≡ Err (BookFault.Full limit) → full_load (past self.new).seen.events ≡ Some limit }
+        ensures legal { IsLegalChronicle (past self.new).seen }
+        ensures stays { stays self.old self.new };
+
     /// Reads a cell that the pending transaction hasn't written: the committed write that the word picks of those that the
     /// level permits.
     fn read(&mut self, cell: &Cell, word: u32) -> Result<Value, BookFault>
@@ -126,6 +147,17 @@ pub trait Book {
         requires { IsInTransaction (past self.old).seat }
         ensures adds { Adds (past self.old) (events.Rollback (session_of (past self.old).seat)) (past self.new) }
         ensures seat { (past self.new).seat ≡ seated (session_of (past self.old).seat) }
+        ensures legal { IsLegalChronicle (past self.new).seen }
+        ensures stays { stays self.old self.new };
+
+    /// Tells the number of the event that tells it. Events are numbered from 1.
+    fn show(&mut self) -> Result<u32, BookFault>
+        requires { IsSeated (past self.old).seat }
+        ensures ok { IfOk result (λ number. Adds (past self.old) (events.Show (session_of (past self.old).seat) number) (past self.new)) }
+        ensures number { IfOk result (λ number. number ≡ length (past self.new).seen.events) }
+        ensures seat { (past self.new).seat ≡ (past self.old).seat }
+        ensures err { OnErr result (GoesOn (past self.old) (past self.new)) }
+        ensures full { (limit : Limit) → result ≡ Err (BookFault.Full limit) → full_load (past self.new).seen.events ≡ Some limit }
         ensures legal { IsLegalChronicle (past self.new).seen }
         ensures stays { stays self.old self.new };
 

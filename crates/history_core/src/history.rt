@@ -1,5 +1,5 @@
 // The history, as callers use it.
-ghost use Rattle.std.specs.Prelude.{◌≡◌, ◌≤◌, ◌<◌, ◌↔◌, ℕ, [], Some, Err, OnOk, OnErr, IsTrue};
+ghost use Rattle.std.specs.Prelude.{◌≡◌, ◌≤◌, ◌<◌, ◌+◌, ◌↔◌, ℕ, [], length, Some, Err, OnOk, OnErr, IsTrue};
 ghost use Rattle.sound_table.specs.Sound.{IsSound};
 ghost use Rattle.history_core.specs.declared.event.Event.{Event};
 ghost use Rattle.history_core.specs.declared.fault.Limit.{Limit};
@@ -10,7 +10,7 @@ ghost use Rattle.history_core.specs.Chronicle.{followed_by, with_table, IsFormed
 ghost use Rattle.history_core.specs.Records.{IsNoDefinition, IsRecordOf, is_any_end};
 
 use crate::ends::end_event;
-use crate::kept::{self, Kept, count_begun, pending_of, txn_of};
+use crate::kept::{self, Kept, count_begun, next_number, pending_of, txn_of};
 use crate::limits::{define_limit, limit_for};
 use crate::pushes::{push_event, push_table};
 use crate::{BookFault, Event, Limit, Txn};
@@ -112,6 +112,13 @@ impl History {
         ensures formed { IsFormedChronicle self.now }
     {
         self.kept.events.as_slice()
+    }
+
+    /// The number that the next event takes.
+    pub fn next_number(&self) -> u32
+        ensures { result ≡ length self.now.events + 1 }
+    {
+        next_number(&self.kept)
     }
 
     /// The tables, by their numbers from 0.

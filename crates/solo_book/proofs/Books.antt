@@ -4,7 +4,6 @@ use Rattle.std.specs.Prelude.{IfOk, OnOk, OnErr}
 use Rattle.std.specs.List.{Contains, All}
 use Rattle.std.proofs.lemmas.List.{append-nil, take-append-drop, length-drop, take_all, length-take-le}
 use Rattle.std.proofs.lemmas.List.Elements.{Contains-append_left, Contains-push, All-contains}
-use Rattle.cell_base.specs.declared.key.Key.{Key}
 use Rattle.cell_base.specs.declared.cell.Cell.{Cell}
 use Rattle.cell_base.specs.declared.value.Value.{Value}
 use Rattle.sql_tree.specs.declared.table.Table.{Table}
@@ -246,11 +245,12 @@ reads_seat old new cell word (Ok value) is reads same =
     seat_stays old new (Read old.sessions cell reads.source reads.count word value) Pending (λ w. refl) is reads.goes
 reads_seat old new cell word (Err e) is reads same = seat_same old new same
 
-pub scans_seat :
-    {E : Type 0} (old new : Desk) (table : ℕ) (r : Result (List Key) E) → old.stage ≡ Pending →
-    IfOk r (λ keys. GoesTo old (Scan old.sessions table keys) old.sessions Pending new) → OnErr r (new ≡ old) → (past_of new).seat ≡ (past_of old).seat
-scans_seat old new table (Ok keys) is goes same = seat_stays old new (Scan old.sessions table keys) Pending (λ w. refl) is goes
-scans_seat old new table (Err e) is goes same = seat_same old new same
+-- a call whose event notes no write leaves the seat
+pub call_seat :
+    {A E : Type 0} (old new : Desk) (f : A → Event) (stage : Stage) (r : Result A E) → ((a : A) (writes : List (Cell × Value)) → note writes (f a) ≡ writes) →
+    old.stage ≡ stage → IfOk r (λ a. GoesTo old (f a) old.sessions stage new) → OnErr r (new ≡ old) → (past_of new).seat ≡ (past_of old).seat
+call_seat old new f stage (Ok a) still is goes same = seat_stays old new (f a) stage (still a) is goes
+call_seat old new f stage (Err e) still is goes same = seat_same old new same
 
 defines_adds : (old new : Desk) (table : Table) → DefinesTo old table new → Adds (past_of old) (Define old.sessions table.name) (past_of new)
 defines_adds old new table defines =

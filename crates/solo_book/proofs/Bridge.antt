@@ -9,8 +9,8 @@ use Rattle.cell_base.specs.declared.cell.Cell.TheVariants.{Presence, Field}
 use Rattle.history_core.specs.declared.event.Event.{Event}
 use Rattle.history_core.specs.declared.event.Event.TheVariants.{Open, Close, Define, Look, Begin, Scan, Read, Own, Write, Commit, Rollback, Show}
 use Rattle.history_core.specs.Events.{begun, session_in}
-use Rattle.history_core.specs.Transactions.{IsStart, IsOf}
-use Rattle.history_core.specs.Relations.{HasWritten, LastWrites, Writes, WritesValue, Gives, Reads, IsSessionOrdered, ReadsFrom, Demands}
+use Rattle.history_core.specs.Transactions.{IsStart, IsOf, IsCommitted}
+use Rattle.history_core.specs.Relations.{HasWritten, LastWrites, Writes, Gives, Reads, IsSessionOrdered, ReadsFrom, Demands}
 use Rattle.history_core.proofs.Places.{start_session}
 use Rattle.history_core.proofs.Prefixes.{start_bounded}
 use Rattle.history_core.proofs.Greatest.{greatest}
@@ -305,9 +305,8 @@ forced_initial events a b initial bounded (inr d) =
     let apart : b ≡ 0 → ⊥ = λ same. other (initial ∙ sym same) in
     initial_ordered events a b initial (omega arith) bounded
 
-pub value_written :
-    (events : List Event) (k : ℕ) (txn : Txn) (x : Cell) (v : Value) → 0 < k → IsRecordOf events k txn → Writes events k x → Contains txn.buffer.writes (x, v) →
-    WritesValue events k x v
-value_written events k txn x v positive is writes member =
-    let own = writes_own events k txn x positive is writes in
-    inr (is.committed.0 own.0, (is.writes x v).0 member)
+-- a writer but the initial transaction has committed, and wrote the cell
+pub writes_later :
+    (events : List Event) (k : ℕ) (x : Cell) → 0 < k → Writes events k x → IsCommitted events k × HasWritten events k x
+writes_later events k x positive (inl initial) = absurd (omega arith)
+writes_later events k x positive (inr own) = own

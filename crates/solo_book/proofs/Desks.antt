@@ -1,32 +1,40 @@
 -- How a desk goes on with each event.
-use Rattle.std.proofs.Common.{◌≡◌, ℕ, ◌+◌, ◌<◌, List, [], ◌∷◌, ◌++◌, true, false, Ok, Err, Result, length, arith, refl, ap, sym, ◌∙◌, subst, inl, inr}
+use Rattle.std.proofs.Common.{◌≡◌, ◌≢◌, ℕ, ◌+◌, ◌<◌, List, [], ◌∷◌, ◌++◌, true, false, Ok, Err, Result, length, arith, refl, ap, sym, ◌∙◌, subst, inl, inr}
 use Rattle.std.specs.Prelude.{OnOk, OnErr}
 use Rattle.std.specs.List.{Contains}
-use Rattle.std.proofs.lemmas.List.Elements.{Contains-push_cases, Contains-push}
+use Rattle.std.proofs.lemmas.List.{append_assoc}
+use Rattle.std.proofs.lemmas.List.Elements.{All-nil, All-push, Contains-push_cases, Contains-push}
 use Rattle.std.proofs.lemmas.Bool.{false≢true}
 use Rattle.graph_base.proofs.Places.{count_by-push}
 use Rattle.cell_base.specs.declared.key.Key.{Key}
 use Rattle.cell_base.specs.declared.cell.Cell.{Cell}
 use Rattle.cell_base.specs.declared.value.Value.{Value}
 use Rattle.history_core.specs.declared.event.Event.{Event}
-use Rattle.history_core.specs.declared.event.Event.TheVariants.{Open, Close, Define, Look, Begin, Scan, Read, Write}
+use Rattle.history_core.specs.declared.event.Event.TheVariants.{Open, Close, Define, Look, Begin, Scan, Read, Own, Write, Show}
 use Rattle.history_core.specs.Events.{begun, opened, session_in, is_end, is_open_event, table_of}
 use Rattle.history_core.specs.Transactions.{IsPending}
-use Rattle.history_core.specs.Legal.{IsFormed, Follows, WroteItself}
-use Rattle.history_core.specs.Relations.{WritesValue}
+use Rattle.history_core.specs.Legal.{IsFormed, IsOpen, Follows, WroteItself}
+use Rattle.history_core.specs.Relations.{HasWritten, WritesValue}
+use Rattle.history_core.specs.Book.{WritesLast}
 use Rattle.solo_book.proofs.Legality.{tables_defined}
 use Rattle.history_core.specs.Chronicle.{Chronicle, IsLegalChronicle, followed_by, with_table}
 use Rattle.sql_tree.specs.declared.table.Table.{Table}
 use Rattle.history_core.specs.declared.fault.BookFault.{BookFault}
-use Rattle.history_core.proofs.Prefixes.{begun-push_start, begun-push_other, sound_of}
+use Rattle.history_core.proofs.Prefixes.{begun-push_start, begun-push_other, of_kept, sound_of}
 use Rattle.history_core.proofs.Offers.{pending_unique}
 use Rattle.solo_book.specs.Index.{IsLast}
-use Rattle.history_core.proofs.Next.{pending_kept, pending_back, pending_begin}
+use Rattle.history_core.proofs.Next.{of_new, of_none, pending_kept, pending_back, pending_begin, last_back, last_new}
 use Rattle.history_core.proofs.Numbers.{opened_bounds, pending_opened, closed_opened}
 use Rattle.history_core.proofs.SessionLemmas.{open_still, IsPlain, opened-push_other}
 use Rattle.solo_book.specs.declared.desk.Stage.{Stage}
 use Rattle.solo_book.specs.declared.desk.Stage.TheVariants.{Away, Seated, Pending}
-use Rattle.solo_book.specs.Desk.{note, noted, last_writes, Stands, IsServed}
+use Rattle.solo_book.specs.Desk.{note, noted, last_writes, AreWritesOf, Stands, IsServed}
+
+-- a plain event that isn't a write
+pub record WritesNone (e : Event) : Type 0 where
+  pub plain : IsPlain e
+  pub notes_none : (writes : List (Cell × Value)) → note writes e ≡ writes
+  pub no_write : (s : ℕ) (cell : Cell) (value : Value) → e ≡ Write s cell value → ⊥
 
 -- the new history is the old one with the event, and is legal
 pub record GoesWith (old new : Chronicle) (e : Event) : Type 0 where
@@ -41,21 +49,105 @@ noted-push writes (f ∷ fs) e = noted-push (note writes f) fs e
 pub last_writes-push : (events : List Event) (e : Event) → last_writes (events ++ e ∷ []) ≡ note (last_writes events) e
 last_writes-push events e = noted-push [] events e
 
-pub stands_plain :
-    (events : List Event) (e : Event) (s : ℕ) (stage : Stage) → IsPlain e → Stands stage s events → Stands stage s (events ++ e ∷ [])
-stands_plain events e s Away plain stands = tt
-stands_plain events e s Seated plain (open_is, none) = (
-  (open_still events e s (plain.no_open s) (plain.no_close s)).1 open_is,
-  λ (k, pending). elim (pending_back events e k s pending) [
-    | inl before ↦ none (k, before.0)
-    | inr new ↦ plain.no_begin s new.0
-  ],
-)
-stands_plain events e s Pending plain (open_is, pending) =
+plain_write : (s : ℕ) (cell : Cell) (value : Value) → IsPlain (Write s cell value)
+plain_write s cell value =
+    record { no_open = λ t is. cc; no_close = λ t is. cc; no_begin = λ t is. cc; no_end = refl; opens_none = refl; begins_none = refl }
+
+written_kept : (events : List Event) (e : Event) (k : ℕ) (cell : Cell) → HasWritten events k cell → HasWritten (events ++ e ∷ []) k cell
+written_kept events e k cell has = record {
+  place = has.place;
+  session = has.session;
+  value = has.value;
+  write = of_kept events e k has.place (Write has.session cell has.value) has.write;
+}
+
+-- an event that isn't a write leaves what a transaction wrote
+own_still :
+    (events : List Event) (e : Event) (k : ℕ) (writes : List (Cell × Value)) → WritesNone e → AreWritesOf events k writes →
+    AreWritesOf (events ++ e ∷ []) k writes
+own_still events e k writes quiet own = record {
+  written = λ cell value member. written_kept events e k cell (own.written cell value member);
+  last = λ cell value is. elim (last_back events e k cell value is) [
+    | inl before ↦ own.last cell value before
+    | inr new ↦ absurd (quiet.no_write new.0 cell value new.1.0)
+  ];
+}
+
+-- a further write of the pending transaction
+own_more :
+    (events : List Event) (s k : ℕ) (cell : Cell) (value : Value) (writes : List (Cell × Value)) → IsPending events k s → AreWritesOf events k writes →
+    AreWritesOf (events ++ Write s cell value ∷ []) k (writes ++ (cell, value) ∷ [])
+own_more events s k cell value writes is_pending own = record {
+  written = λ x v member. elim (Contains-push_cases writes (cell, value) (x, v) member) [
+    | inl before ↦ written_kept events (Write s cell value) k x (own.written x v before)
+    | inr here ↦
+        let made : HasWritten (events ++ Write s cell value ∷ []) k cell = record {
+          place = length events;
+          session = s;
+          value = value;
+          write = of_new events (Write s cell value) k is_pending;
+        } in
+        subst (λ (y : Cell). HasWritten (events ++ Write s cell value ∷ []) k y) (ap (λ (w : Cell × Value). w.0) here) made
+  ];
+  last = λ x v is. elim ((last_new events s k cell value is_pending x v).0 is) [
+    | inl same ↦
+        subst (λ (y : Cell). WritesLast (writes ++ (cell, value) ∷ []) y v) (sym same.0)
+        (subst (λ (u : Value). WritesLast (writes ++ (cell, value) ∷ []) cell u) (sym same.1) (record {
+          before = writes;
+          after = [];
+          split = refl;
+          last = All-nil (λ (write : Cell × Value). write.0 ≢ cell);
+        }))
+    | inr other ↦
+        let old = own.last x v other.1 in record {
+          before = old.before;
+          after = old.after ++ (cell, value) ∷ [];
+          split = ap (λ (ws : List (Cell × Value)). ws ++ (cell, value) ∷ []) old.split ∙ append_assoc old.before ((x, v) ∷ old.after) ((cell, value) ∷ []);
+          last = All-push (λ (write : Cell × Value). write.0 ≢ x) old.after (cell, value) old.last (λ same. other.0 (sym same));
+        }
+  ];
+}
+
+-- a transaction that begins wrote nothing yet
+own_first : (events : List Event) (s : ℕ) → AreWritesOf (events ++ Begin s ∷ []) (begun events + 1) []
+own_first events s = record {
+  written = λ cell value (k, within, is). absurd (omega arith);
+  last = λ cell value last. absurd (of_none events (Begin s) (begun events + 1) last.place (Write last.session cell value) (omega arith) last.write);
+}
+
+-- the session stays open, and its transaction pending
+pending_plain :
+    (events : List Event) (e : Event) (s : ℕ) → IsPlain e → IsOpen events s → IsPending events (begun events) s →
+    IsOpen (events ++ e ∷ []) s × IsPending (events ++ e ∷ []) (begun (events ++ e ∷ [])) s
+pending_plain events e s plain open_is pending =
     let same : begun (events ++ e ∷ []) ≡ begun events = begun-push_other events e plain.begins_none in (
       (open_still events e s (plain.no_open s) (plain.no_close s)).1 open_is,
       subst (λ (k : ℕ). IsPending (events ++ e ∷ []) k s) (sym same) (pending_kept events e (begun events) s (λ _. plain.no_end) pending),
     )
+
+pub stands_plain :
+    (events : List Event) (e : Event) (s : ℕ) (stage : Stage) → WritesNone e → Stands stage s events → Stands stage s (events ++ e ∷ [])
+stands_plain events e s Away quiet stands = tt
+stands_plain events e s Seated quiet (open_is, none) = (
+  (open_still events e s (quiet.plain.no_open s) (quiet.plain.no_close s)).1 open_is,
+  λ (k, pending). elim (pending_back events e k s pending) [
+    | inl before ↦ none (k, before.0)
+    | inr new ↦ quiet.plain.no_begin s new.0
+  ],
+)
+stands_plain events e s Pending quiet (open_is, pending, own) =
+    let on = pending_plain events e s quiet.plain open_is pending in
+    let same : begun (events ++ e ∷ []) ≡ begun events = begun-push_other events e quiet.plain.begins_none in
+    let notes : last_writes (events ++ e ∷ []) ≡ last_writes events = last_writes-push events e ∙ quiet.notes_none (last_writes events) in
+    (on.0, on.1, rw (same, notes) (own_still events e (begun events) (last_writes events) quiet own))
+
+pub stands_write :
+    (events : List Event) (s : ℕ) (cell : Cell) (value : Value) → Stands Pending s events → Stands Pending s (events ++ Write s cell value ∷ [])
+stands_write events s cell value (open_is, pending, own) =
+    let on = pending_plain events (Write s cell value) s (plain_write s cell value) open_is pending in
+    let same : begun (events ++ Write s cell value ∷ []) ≡ begun events = begun-push_other events (Write s cell value) refl in
+    let notes : last_writes (events ++ Write s cell value ∷ []) ≡ last_writes events ++ (cell, value) ∷ [] = last_writes-push events (Write s cell value) in
+    (on.0, on.1, rw (same, notes) (own_more events s (begun events) cell value (last_writes events) pending own))
 
 pub stands_open : (events : List Event) (s : ℕ) → IsFormed events → s ≡ opened events + 1 → Stands Seated s (events ++ Open s ∷ [])
 stands_open events s formed number = (
@@ -74,15 +166,17 @@ stands_open events s formed number = (
 
 pub stands_begin : (events : List Event) (s : ℕ) → Stands Seated s events → Stands Pending s (events ++ Begin s ∷ [])
 stands_begin events s (open_is, none) =
-    let more : begun (events ++ Begin s ∷ []) ≡ begun events + 1 = begun-push_start events s in (
+    let more : begun (events ++ Begin s ∷ []) ≡ begun events + 1 = begun-push_start events s in
+    let notes : last_writes (events ++ Begin s ∷ []) ≡ [] = last_writes-push events (Begin s) in (
       (open_still events (Begin s) s (λ same. cc) (λ same. cc)).1 open_is,
       subst (λ (k : ℕ). IsPending (events ++ Begin s ∷ []) k s) (sym more) (pending_begin events s),
+      rw (more, notes) (own_first events s),
     )
 
 pub stands_end :
     (events : List Event) (e : Event) (s : ℕ) → session_in e ≡ s → is_end e ≡ true → (e ≡ Open s → ⊥) → (e ≡ Close s → ⊥) → (e ≡ Begin s → ⊥) →
     Stands Pending s events → Stands Seated s (events ++ e ∷ [])
-stands_end events e s same ends no_open no_close no_begin (open_is, pending_is) = (
+stands_end events e s same ends no_open no_close no_begin (open_is, pending_is, own) = (
   (open_still events e s no_open no_close).1 open_is,
   λ (k, pending). elim (pending_back events e k s pending) [
     | inl before ↦ false≢true (sym (before.1 same) ∙ ends)
@@ -103,12 +197,21 @@ served_opens old new n stage is follows =
     }
 
 pub served_plain :
-    (old new : Chronicle) (n : ℕ) (stage : Stage) (e : Event) → IsPlain e → IsServed old n stage → GoesWith old new e → IsServed new n stage
-served_plain old new n stage e plain is follows = record {
+    (old new : Chronicle) (n : ℕ) (stage : Stage) (e : Event) → WritesNone e → IsServed old n stage → GoesWith old new e → IsServed new n stage
+served_plain old new n stage e quiet is follows = record {
   level = follows.level ∙ is.level;
   legal = follows.legal;
-  count = rw follows.events (is.count ∙ sym (opened-push_other old.events e plain.opens_none));
-  stands = rw follows.events (stands_plain old.events e n stage plain is.stands);
+  count = rw follows.events (is.count ∙ sym (opened-push_other old.events e quiet.plain.opens_none));
+  stands = rw follows.events (stands_plain old.events e n stage quiet is.stands);
+}
+
+pub served_writes :
+    (old new : Chronicle) (n : ℕ) (cell : Cell) (value : Value) → IsServed old n Pending → GoesWith old new (Write n cell value) → IsServed new n Pending
+served_writes old new n cell value is follows = record {
+  level = follows.level ∙ is.level;
+  legal = follows.legal;
+  count = rw follows.events (is.count ∙ sym (opened-push_other old.events (Write n cell value) refl));
+  stands = rw follows.events (stands_write old.events n cell value is.stands);
 }
 
 pub served_begins :
@@ -146,37 +249,63 @@ goes_with old new e is legal =
 pub at_stage : (history : Chronicle) (n : ℕ) (stage there : Stage) → stage ≡ there → IsServed history n stage → IsServed history n there
 at_stage history n stage there is served = subst (λ (t : Stage). IsServed history n t) is served
 
-pub plain_look : (s count : ℕ) → IsPlain (Look s count)
-plain_look s count = record { no_open = λ t is. cc; no_close = λ t is. cc; no_begin = λ t is. cc; no_end = refl; opens_none = refl; begins_none = refl }
+pub quiet_look : (s count : ℕ) → WritesNone (Look s count)
+quiet_look s count = record {
+  plain = record { no_open = λ t is. cc; no_close = λ t is. cc; no_begin = λ t is. cc; no_end = refl; opens_none = refl; begins_none = refl };
+  notes_none = λ writes. refl;
+  no_write = λ t x v is. cc;
+}
 
-pub plain_define : (s : ℕ) (name : List ℕ) → IsPlain (Define s name)
-plain_define s name = record { no_open = λ t is. cc; no_close = λ t is. cc; no_begin = λ t is. cc; no_end = refl; opens_none = refl; begins_none = refl }
+pub quiet_define : (s : ℕ) (name : List ℕ) → WritesNone (Define s name)
+quiet_define s name = record {
+  plain = record { no_open = λ t is. cc; no_close = λ t is. cc; no_begin = λ t is. cc; no_end = refl; opens_none = refl; begins_none = refl };
+  notes_none = λ writes. refl;
+  no_write = λ t x v is. cc;
+}
 
-pub plain_read : (s : ℕ) (cell : Cell) (source count word : ℕ) (value : Value) → IsPlain (Read s cell source count word value)
-plain_read s cell source count word value =
-    record { no_open = λ t is. cc; no_close = λ t is. cc; no_begin = λ t is. cc; no_end = refl; opens_none = refl; begins_none = refl }
+pub quiet_read : (s : ℕ) (cell : Cell) (source count word : ℕ) (value : Value) → WritesNone (Read s cell source count word value)
+quiet_read s cell source count word value = record {
+  plain = record { no_open = λ t is. cc; no_close = λ t is. cc; no_begin = λ t is. cc; no_end = refl; opens_none = refl; begins_none = refl };
+  notes_none = λ writes. refl;
+  no_write = λ t x v is. cc;
+}
 
-pub plain_scan : (s table : ℕ) (keys : List Key) → IsPlain (Scan s table keys)
-plain_scan s table keys =
-    record { no_open = λ t is. cc; no_close = λ t is. cc; no_begin = λ t is. cc; no_end = refl; opens_none = refl; begins_none = refl }
+pub quiet_own : (s : ℕ) (cell : Cell) (value : Value) → WritesNone (Own s cell value)
+quiet_own s cell value = record {
+  plain = record { no_open = λ t is. cc; no_close = λ t is. cc; no_begin = λ t is. cc; no_end = refl; opens_none = refl; begins_none = refl };
+  notes_none = λ writes. refl;
+  no_write = λ t x v is. cc;
+}
 
-pub plain_write : (s : ℕ) (cell : Cell) (value : Value) → IsPlain (Write s cell value)
-plain_write s cell value =
-    record { no_open = λ t is. cc; no_close = λ t is. cc; no_begin = λ t is. cc; no_end = refl; opens_none = refl; begins_none = refl }
+pub quiet_scan : (s table : ℕ) (keys : List Key) → WritesNone (Scan s table keys)
+quiet_scan s table keys = record {
+  plain = record { no_open = λ t is. cc; no_close = λ t is. cc; no_begin = λ t is. cc; no_end = refl; opens_none = refl; begins_none = refl };
+  notes_none = λ writes. refl;
+  no_write = λ t x v is. cc;
+}
+
+pub quiet_show : (s number : ℕ) → WritesNone (Show s number)
+quiet_show s number = record {
+  plain = record { no_open = λ t is. cc; no_close = λ t is. cc; no_begin = λ t is. cc; no_end = refl; opens_none = refl; begins_none = refl };
+  notes_none = λ writes. refl;
+  no_write = λ t x v is. cc;
+}
 
 pub served_defines :
     (old new : Chronicle) (n : ℕ) (stage : Stage) (table : Table) → IsServed old n stage → new ≡ with_table old n table → IsLegalChronicle new →
     IsServed new n stage
 served_defines old new n stage table served is legal =
-    served_plain old new n stage (Define n table.name) (plain_define n table.name) served
+    served_plain old new n stage (Define n table.name) (quiet_define n table.name) served
     (record { level = ap (λ (h : Chronicle). h.level) is; events = ap (λ (h : Chronicle). h.events) is; legal = legal })
 
--- an event was added, or nothing changed
+-- a write of the pending transaction was added, or nothing changed
 pub served_either :
-    (old new : Chronicle) (n : ℕ) (stage : Stage) (e : Event) → IsPlain e → (r : Result (Unit {0}) BookFault) → OnOk r (new ≡ followed_by old e) →
-    OnErr r (new ≡ old) → IsLegalChronicle new → IsServed old n stage → IsServed new n stage
-served_either old new n stage e plain (Ok u) ok err legal served = served_plain old new n stage e plain served (goes_with old new e ok legal)
-served_either old new n stage e plain (Err fault) ok err legal served = subst (λ (h : Chronicle). IsServed h n stage) (sym err) served
+    (old new : Chronicle) (n : ℕ) (stage : Stage) (cell : Cell) (value : Value) → stage ≡ Pending → (r : Result (Unit {0}) BookFault) →
+    OnOk r (new ≡ followed_by old (Write n cell value)) → OnErr r (new ≡ old) → IsLegalChronicle new → IsServed old n stage → IsServed new n stage
+served_either old new n stage cell value is (Ok u) ok err legal served =
+    at_stage new n Pending stage (sym is)
+    (served_writes old new n cell value (at_stage old n stage Pending is served) (goes_with old new (Write n cell value) ok legal))
+served_either old new n stage cell value is (Err fault) ok err legal served = subst (λ (h : Chronicle). IsServed h n stage) (sym err) served
 
 -- a read of the pending transaction follows
 pub read_follows :

@@ -10,3 +10,4 @@ pub mod Picks
 pub mod Cells
 pub mod KeyLists
 pub mod Scans
+pub mod OwnWrites

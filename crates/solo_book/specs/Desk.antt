@@ -10,10 +10,10 @@ use Rattle.history_core.specs.declared.fault.DefineAnswer.{DefineAnswer}
 use Rattle.history_core.specs.declared.fault.DefineAnswer.TheVariants.{Defined, Taken}
 use Rattle.history_core.specs.Events.{begun, opened, names}
 use Rattle.history_core.specs.Transactions.{IsPending, HasPending}
-use Rattle.history_core.specs.Relations.{Writes}
+use Rattle.history_core.specs.Relations.{HasWritten, LastWrites, Writes}
 use Rattle.history_core.specs.Legal.{IsOpen, IsOffered}
 use Rattle.history_core.specs.Chronicle.{Chronicle, IsLegalChronicle, followed_by, with_table}
-use Rattle.history_core.specs.Book.{Past, Seat, away, seated, pending}
+use Rattle.history_core.specs.Book.{Past, Seat, away, seated, pending, WritesLast}
 use Rattle.solo_book.specs.declared.desk.Stage.{Stage}
 use Rattle.solo_book.specs.declared.desk.Stage.TheVariants.{Away, Seated, Pending}
 use Rattle.solo_book.specs.declared.desk.Desk.{Desk}
@@ -41,11 +41,17 @@ seat_of Pending session events = pending session (last_writes events)
 abbrev pub past_of : Desk → Past
 past_of desk = record { seen = desk.history; own = desk.history.events; seat = seat_of desk.stage desk.sessions desk.history.events }
 
+-- the transaction of the number wrote each cell that is noted, and what it wrote last to a cell is noted last of that cell
+pub record AreWritesOf (events : List Event) (number : ℕ) (writes : List (Cell × Value)) : Type 0 where
+  pub written : (cell : Cell) (value : Value) → Contains writes (cell, value) → HasWritten events number cell
+  pub last : (cell : Cell) (value : Value) → LastWrites events number cell value → WritesLast writes cell value
+
 -- the session that was opened last stands so
 abbrev pub Stands : Stage → ℕ → List Event → Type 0
 Stands Away session events = Unit {0}
 Stands Seated session events = IsOpen events session × (¬ HasPending events session)
-Stands Pending session events = IsOpen events session × IsPending events (begun events) session
+Stands Pending session events =
+    IsOpen events session × IsPending events (begun events) session × AreWritesOf events (begun events) (last_writes events)
 
 -- a legal history at Read Committed of so many sessions, of which the last one stands so
 pub record IsServed (history : Chronicle) (sessions : ℕ) (stage : Stage) : Type 0 where

@@ -1,10 +1,11 @@
 // The book of one session after another.
 use crate::calls::{
     begin_transaction, close_session, commit_transaction, open_session, roll_back_transaction,
-    write_cell,
+    show_number, write_cell,
 };
 use crate::desk::{Desk, Stage};
 use crate::indexed::IndexedHistory;
+use crate::own::{own_cell, wrote_cell};
 use crate::reading::read_cell;
 use crate::scanning::scan_table;
 use crate::tables::{define_table, look_at_tables};
@@ -97,6 +98,14 @@ impl Book for SoloBook {
         scan_table(&mut self.desk, table)
     }
 
+    fn wrote(&mut self, cell: &Cell) -> bool {
+        wrote_cell(&self.desk, cell)
+    }
+
+    fn own(&mut self, cell: &Cell) -> Result<Value, BookFault> {
+        own_cell(&mut self.desk, cell)
+    }
+
     fn read(&mut self, cell: &Cell, word: u32) -> Result<Value, BookFault> {
         read_cell(&mut self.desk, cell, word)
     }
@@ -111,6 +120,10 @@ impl Book for SoloBook {
 
     fn rollback(&mut self) {
         roll_back_transaction(&mut self.desk);
+    }
+
+    fn show(&mut self) -> Result<u32, BookFault> {
+        show_number(&mut self.desk)
     }
 
     ghost stays_same = { λ _. tt };

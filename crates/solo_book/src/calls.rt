@@ -103,3 +103,21 @@ pub fn roll_back_transaction(desk: &mut Desk)
     append_end(&mut desk.history, Event::Rollback(desk.sessions));
     desk.stage = Stage::Seated;
 }
+
+/// Tells the number of the event that tells it.
+pub fn show_number(desk: &mut Desk) -> Result<u32, BookFault>
+    requires kept { IsDesk desk.old }
+    requires open { desk.old.stage ≢ stages.Away }
+    ensures kept { IsDesk desk.new }
+    ensures number { IfOk result (λ number. number ≡ length desk.new.history.events) }
+    ensures ok { IfOk result (λ number. GoesTo desk.old (Event.Show desk.old.sessions number) desk.old.sessions desk.old.stage desk.new) }
+    ensures full { (limit : Limit) → result ≡ Err (BookFault.Full limit) → full_load desk.new.history.events ≡ Some limit }
+    ensures err { OnErr result (desk.new ≡ desk.old) }
+{
+    let number = desk.history.history().next_number();
+    let session = desk.sessions;
+    match append(&mut desk.history, Event::Show(session, number)) {
+        Ok(()) => Ok(number),
+        Err(fault) => Err(fault),
+    }
+}

@@ -3,8 +3,9 @@
 //! `SoloBook` meets `Book` over a history of its own: each call adds just its event, and a read takes what its word picks of
 //! the ascending list of all writes that may be read next. As long as one session was opened, these are the writers of the cell
 //! that no later writer has passed, from which the same transaction has read before, as `one_session_permits` says. In later
-//! sessions each writer is tried: it may be read where some order extends all pairs that the history and the read force. The
-//! crate stands on `history_core`, which has the definitions, and on `order_witness`.
+//! sessions each writer is tried: it may be read where some order extends all pairs that the history and the read force. A cell
+//! that the pending transaction has written is read from its own writes, which are found by a hash. The crate stands on
+//! `history_core`, which has the definitions, and on `order_witness`.
 //!
 //! An index keeps the writers of each cell as they write. So a read in the first session looks at no other transaction: it
 //! finds the cell's writers by a hash, and of those the ones that are passed by a binary search for each read that the same
@@ -23,6 +24,7 @@ mod indexed;
 mod keys;
 mod laws;
 mod offering;
+mod own;
 mod pairs;
 mod reading;
 mod scanning;

@@ -10,6 +10,7 @@ ghost use Rattle.solo_book.specs.Desk.{IsDesk, IsChosen, ReadsTo};
 use crate::append::append;
 use crate::desk::{Choice, Desk};
 use crate::offering::tried_choice;
+use crate::own::last_write;
 use crate::single::single_choice;
 use cell_base::{Cell, Memory, Value};
 use history_core::{BookFault, Event, History, Limit};
@@ -33,13 +34,7 @@ fn value_of(alloc: Global, history: &History, source: u32, cell: &Cell) -> Resul
     if source == 0 {
         return Ok(initial(cell));
     }
-    match history.txn(source).buffer.get(cell) {
-        Some(value) => {
-            let copy = value.copy(alloc)?;
-            Ok(copy)
-        }
-        None => unreachable!(),
-    }
+    last_write(alloc, history, source, cell)
 }
 
 /// What a read of the pending transaction takes.

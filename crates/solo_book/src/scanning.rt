@@ -2,7 +2,7 @@
 ghost use Rattle.std.specs.Prelude.{◌≡◌, ◌↔◌, ◌<◌, ℕ, length, Some, Err, IsTrue, IfOk, OnOk, OnErr};
 ghost use Rattle.cell_base.specs.declared.key.Key.{Key as KeyValue};
 ghost use Rattle.history_core.specs.declared.fault.Limit.{Limit};
-ghost use Rattle.history_core.specs.Legal.{WroteItself, ListsKeys, full_load};
+ghost use Rattle.history_core.specs.Legal.{ListsKeys, full_load};
 ghost use Rattle.history_core.specs.Book.{IsKeyList};
 ghost use Rattle.solo_book.specs.declared.desk.Stage.TheVariants as stages;
 ghost use Rattle.solo_book.specs.Desk.{IsDesk, GoesTo};
@@ -12,20 +12,10 @@ use crate::append::append;
 use crate::desk::Desk;
 use crate::indexed::IndexedHistory;
 use crate::keys::Keys;
-use crate::tests_of_records::writes_cell;
+use crate::own::wrote_itself;
 use cell_base::{Cell, Items, Key, Memory};
-use history_core::{BookFault, Event, History, Limit};
+use history_core::{BookFault, Event, Limit};
 use std::alloc::Global;
-
-/// Whether the pending transaction of the session wrote the cell.
-fn wrote_itself(history: &History, session: u32, cell: &Cell) -> bool
-    ensures { IsTrue result ↔ WroteItself history.now.events session cell.now }
-{
-    match history.pending(session) {
-        Some(number) => writes_cell(&history.txn(number).buffer, cell),
-        None => false,
-    }
-}
 
 /// Whether a scan lists the key of the presence cell.
 fn is_listed(history: &IndexedHistory, session: u32, cell: &Cell) -> bool

@@ -1,12 +1,11 @@
-use Rattle.history_core.specs.declared.event.Event.TheVariants.{Write}
 use Rattle.solo_book.specs.declared.desk.Stage.TheVariants.{Pending}
-use Rattle.solo_book.proofs.Desks.{served_either, plain_write, at_stage, pending_last}
+use Rattle.solo_book.proofs.Desks.{served_either, at_stage, pending_last}
 use Rattle.solo_book.proofs.calls.write_cell.Goals as goal
 
 pub returns-clause-kept : goal.returns-clause-kept
 returns-clause-kept c =
     served_either c.args.desk.now.history c.append_write.new.history c.args.desk.now.sessions c.args.desk.now.stage
-    (Write c.args.desk.now.sessions c.args.cell c.args.value) (plain_write c.args.desk.now.sessions c.args.cell c.args.value)
+    c.args.cell c.args.value c.requires.pending
     c.append_write.result c.append_write.ensures.ok c.append_write.ensures.err c.append_write.ensures.legal c.requires.kept
 
 pub append_write-requires-clause-last : goal.append_write-requires-clause-last

@@ -4,7 +4,7 @@ use Rattle.history_core.specs.declared.event.Event.TheVariants.{Read}
 use Rattle.history_core.specs.Chronicle.{Chronicle}
 use Rattle.history_core.specs.Relations.{WritesValue}
 use Rattle.history_core.specs.Legal.{Follows, IsOffered}
-use Rattle.solo_book.proofs.Desks.{read_follows, served_plain, plain_read, goes_with}
+use Rattle.solo_book.proofs.Desks.{read_follows, served_plain, quiet_read, goes_with}
 use Rattle.solo_book.proofs.reading.read_cell.Goals as goal
 
 pub append-requires-clause-follows : goal.append-requires-clause-follows
@@ -24,5 +24,5 @@ append-requires-clause-offered c =
 pub returns-in-Ok-append-clause-kept : goal.returns-in-Ok-append-clause-kept
 returns-in-Ok-append-clause-kept c =
     served_plain c.args.desk.now.history c.append.new.history c.args.desk.now.sessions c.args.desk.now.stage _
-    (plain_read c.args.desk.now.sessions c.in-Ok-copy-2.read c.in-Ok.choice.source c.in-Ok.choice.count c.args.word c.in-Ok-value_of.value) c.requires.kept
+    (quiet_read c.args.desk.now.sessions c.in-Ok-copy-2.read c.in-Ok.choice.source c.in-Ok.choice.count c.args.word c.in-Ok-value_of.value) c.requires.kept
     (goes_with c.args.desk.now.history c.append.new.history _ c.in-Ok-append.ensures.ok c.append.ensures.legal)

@@ -1,8 +1,8 @@
-use Rattle.std.proofs.Common.{sym, subst}
+use Rattle.std.proofs.Common.{refl, sym, subst}
 use Rattle.history_core.specs.Book.{Past, IsInTransaction}
 use Rattle.history_core.specs.declared.event.Event.TheVariants.{Scan}
 use Rattle.solo_book.specs.declared.desk.Stage.TheVariants.{Pending}
-use Rattle.solo_book.proofs.Books.{if_ok, stage_pending, pending_open, adds_seated, scans_seat, err_goes}
+use Rattle.solo_book.proofs.Books.{if_ok, stage_pending, pending_open, adds_seated, call_seat, err_goes}
 use Rattle.solo_book.proofs.book.SoloBookBook.scan.Goals as goal
 
 pub returns-clause-ok : goal.returns-clause-ok
@@ -17,7 +17,8 @@ pub returns-clause-seat : goal.returns-clause-seat
 returns-clause-seat c =
     let is = stage_pending c.self.inside.desk.stage c.self.inside.desk.sessions c.self.inside.desk.history.events
     (subst (λ (p : Past). IsInTransaction p.seat) (sym c.self.view_is) c.requires.pending) in
-    rw (← c.self.view_is) (scans_seat c.self.inside.desk c.scan_table.new.desk c.args.table c.scan_table.result is c.scan_table.ensures.ok c.scan_table.ensures.err)
+    rw (← c.self.view_is) (call_seat c.self.inside.desk c.scan_table.new.desk (λ keys. Scan c.self.inside.desk.sessions c.args.table keys) Pending c.scan_table.result (λ keys writes. refl) is
+    c.scan_table.ensures.ok c.scan_table.ensures.err)
 
 pub returns-clause-err : goal.returns-clause-err
 returns-clause-err c = rw (← c.self.view_is) (err_goes c.self.inside.desk c.scan_table.new.desk c.scan_table.result c.scan_table.ensures.err)

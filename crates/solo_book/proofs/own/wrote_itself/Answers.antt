@@ -4,7 +4,7 @@ use Rattle.history_core.proofs.Next.{pending_bounded}
 use Rattle.history_core.proofs.Numbers.{pending_positive}
 use Rattle.solo_book.proofs.Bridge.{true_unless, written_from_buffer, none_from_buffer}
 use Rattle.solo_book.proofs.Scans.{none_pending, wrote_last}
-use Rattle.solo_book.proofs.scanning.wrote_itself.Goals as goal
+use Rattle.solo_book.proofs.own.wrote_itself.Goals as goal
 
 pub txn-requires-clause-some : goal.txn-requires-clause-some
 txn-requires-clause-some c =
