@@ -72,11 +72,15 @@ block_at ready.Idle = Implicit false
 block_at ready.Block = Regular
 block_at ready.Failed = Failed
 
+-- A message without a statement is told so.
+abbrev pub opens : List Statement → Block → List Table → Outside → Script
+opens [] block known outside = succeeds empty_reply block known (before [] outside)
+opens (s ∷ more) block known outside = statements (s ∷ more) block known outside
+
 -- A message that can't be read fails before its first statement, also in a failed block.
 abbrev pub message : Message → TransactionState → List Table → Outside → Script
 message (messages.Unread code) state known outside = fails code (block_at state) known (before [] outside)
-message (messages.Statements []) state known outside = succeeds empty_reply (block_at state) known (before [] outside)
-message (messages.Statements (s ∷ more)) state known outside = statements (s ∷ more) (block_at state) known outside
+message (messages.Statements asked) state known outside = opens asked (block_at state) known outside
 
 -- what the bytes of a message ask for
 pub data IsMessage (text : List ℕ) : Message → Type 0 where

@@ -1,11 +1,13 @@
 -- The replies to the statements of a message, but for those of statements that read or write rows (outcome_replies).
-use Rattle.std.specs.Prelude.{ℕ, List, [], ◌∷◌, ◌++◌, codes, true, false}
+use Rattle.std.specs.Prelude.{ℕ, List, [], ◌∷◌, ◌++◌, codes, Bool, true, false}
 use Rattle.cell_base.specs.declared.sql_state.SqlState.{SqlState}
 use Rattle.cell_base.specs.declared.sql_state.SqlState.TheVariants as states
 use Rattle.cell_base.specs.declared.sql_type.SqlType.TheVariants as types
 use Rattle.cell_base.specs.declared.value.Value.TheVariants as values
 use Rattle.pg_framing.specs.declared.replies.TransactionState.{TransactionState}
 use Rattle.pg_framing.specs.Replies.{ready, command_complete, empty_query, error_response, notice_response, row_description, data_row}
+use Rattle.block_machine.specs.declared.reply.Fixed.{Fixed}
+use Rattle.block_machine.specs.declared.reply.Fixed.TheVariants as fixed
 use Rattle.block_machine.specs.declared.reply.Reply.{Reply}
 use Rattle.block_machine.specs.declared.reply.Reply.TheVariants as replies
 
@@ -61,17 +63,21 @@ show_reply name value =
     row_description (record { name = name; kind = types.Text } ∷ [])
     ++ (data_row (values.Text value ∷ []) ++ command_complete (codes "SHOW"))
 
+-- a reply that is known beforehand
+abbrev pub fixed_reply : Fixed → List ℕ
+fixed_reply fixed.Empty = empty_reply
+fixed_reply fixed.Created = created_reply
+fixed_reply fixed.Set = set_reply
+fixed_reply fixed.Begun = start_reply false
+fixed_reply fixed.Started = start_reply true
+fixed_reply fixed.BegunAgain = needless_start_reply false
+fixed_reply fixed.StartedAgain = needless_start_reply true
+fixed_reply fixed.Committed = commit_reply
+fixed_reply fixed.CommittedNothing = needless_commit_reply
+fixed_reply fixed.RolledBack = rollback_reply
+fixed_reply fixed.RolledBackNothing = needless_rollback_reply
+
 -- the bytes of a reply, given those that were built
 abbrev pub bytes_of : List ℕ → Reply → List ℕ
 bytes_of built replies.Built = built
-bytes_of built replies.Empty = empty_reply
-bytes_of built replies.Created = created_reply
-bytes_of built replies.Set = set_reply
-bytes_of built replies.Begun = start_reply false
-bytes_of built replies.Started = start_reply true
-bytes_of built replies.BegunAgain = needless_start_reply false
-bytes_of built replies.StartedAgain = needless_start_reply true
-bytes_of built replies.Committed = commit_reply
-bytes_of built replies.CommittedNothing = needless_commit_reply
-bytes_of built replies.RolledBack = rollback_reply
-bytes_of built replies.RolledBackNothing = needless_rollback_reply
+bytes_of built (replies.Fixed reply) = fixed_reply reply

@@ -9,11 +9,11 @@ use Rattle.block_machine.specs.Messages.{Outside}
 use Rattle.block_machine.specs.Stages.{goes_on, wants, reply_of, work_at}
 
 -- the statements that its message still has
-abbrev pub rest_of : Runner → List Statement
-rest_of r = into_iter_items r.rest
+abbrev pub statements_of : Runner → List Statement
+statements_of r = into_iter_items r.rest
 
 abbrev pub follows : Runner → Outside → Script
-follows r outside = goes_on r.stage r.built.items r.known.items (rest_of r) outside
+follows r outside = goes_on r.stage r.built.items r.known.items (statements_of r) outside
 
 abbrev pub wanted : Runner → Want
 wanted r = wants r.stage r.known.items
@@ -23,4 +23,4 @@ held r = reply_of r.built.items r.stage
 
 -- how much work is left until the message is done, but for the demands of a running statement
 abbrev pub work_of : Runner → ℕ
-work_of r = work_at r.stage + 8 * length (rest_of r)
+work_of r = work_at r.stage + 8 * length (statements_of r)

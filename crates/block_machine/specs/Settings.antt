@@ -1,7 +1,8 @@
 -- The settings that SET and SHOW name (PostgreSQL's documentation, "SET", "SHOW"; those whose names begin `monkey.` are this server's own).
-use Rattle.std.specs.Prelude.{ℕ, ◌==◌, ◌||◌, List, codes, if◌then◌else◌, Bool, Option, Some, None}
+use Rattle.std.specs.Prelude.{ℕ, ◌≤◌, length, ◌==◌, ◌||◌, List, codes, if◌then◌else◌, Bool, Option, Some, None}
 use Rattle.std.specs.List.{starts_with}
 use Rattle.std.specs.Str.{bytes_eq}
+use Rattle.pg_framing.specs.Spelling.{HasNoZero}
 use Rattle.cell_base.specs.declared.level.Level.{Level}
 use Rattle.cell_base.specs.declared.level.Level.TheVariants.{Rc, Ra, Cc}
 
@@ -33,3 +34,8 @@ parameter_value name =
 -- the value of a setting but for the history's; none where there is no such setting
 abbrev pub value_of : Level → List ℕ → Option (List ℕ)
 value_of level name = if bytes_eq name (codes "monkey.level") then Some (level_word level) else parameter_value name
+
+-- a name that can be told as that of a column
+pub record IsShown (name : List ℕ) : Type 0 where
+  pub no_zero : HasNoZero name
+  pub short : length name ≤ 64

@@ -1,5 +1,6 @@
 -- What each stage of a message goes on with, what it wants and owes, and what a step from one to the next comes to.
 use Rattle.std.specs.Prelude.{◌≡◌, ℕ, ◌+◌, ◌<◌, ◌≤◌, ◌⊎◌, List, [], ◌∷◌, ◌++◌, length, All, Bool, true, false, Ok}
+use Rattle.cell_base.specs.declared.level.Level.{Level}
 use Rattle.cell_base.specs.declared.sql_state.SqlState.{SqlState}
 use Rattle.history_core.specs.declared.event.Event.{Event}
 use Rattle.history_core.specs.declared.fault.BookFault.TheVariants as faults
@@ -19,7 +20,7 @@ use Rattle.statement_course.specs.declared.demand.PlanAnswer.TheVariants as plan
 use Rattle.cell_compile.specs.Plans.{rest_of, left_of}
 use Rattle.block_machine.specs.Calls.{Call, Want, call_for}
 use Rattle.block_machine.specs.Calls as calls
-use Rattle.block_machine.specs.Replies.{ready_reply, error_reply, bytes_of}
+use Rattle.block_machine.specs.Replies.{ready_reply, error_reply, fixed_reply, bytes_of}
 use Rattle.block_machine.specs.Script.{Entry, did, refused, short, unsent, stop, Said, Script, with_call, ask}
 use Rattle.block_machine.specs.Statements.{Around, owed_in, succeeds, refused_with, fails, starts, defines, runs, continues, begins, looks, shows_history}
 use Rattle.block_machine.specs.Messages.{Outside, owed_between, readied, ends, statements, before}
@@ -31,6 +32,8 @@ use Rattle.block_machine.specs.declared.block.Pending.{Pending}
 use Rattle.block_machine.specs.declared.block.Pending.TheVariants as pending
 use Rattle.block_machine.specs.declared.call.Answer.{Answer}
 use Rattle.block_machine.specs.declared.call.Answer.TheVariants as answers
+use Rattle.block_machine.specs.declared.message.Message.{Message}
+use Rattle.block_machine.specs.declared.message.Message.TheVariants as messages
 use Rattle.block_machine.specs.declared.reply.Reply.TheVariants as replies
 use Rattle.block_machine.specs.declared.stage.Stage.{Stage}
 use Rattle.block_machine.specs.declared.stage.Stage.TheVariants as stages
@@ -49,8 +52,8 @@ goes_on (stages.Beginning plan) built known more outside = begins (rest_of plan)
 goes_on (stages.Running run p) built known more outside = runs (rest_of run.plan) (block_of p) known (before more outside)
 goes_on (stages.Starting start) built known more outside = starts start (Implicit false) known (before more outside)
 goes_on (stages.Showing block) built known more outside = shows_history block known (before more outside)
-goes_on (stages.Committing reply) built known more outside = ask calls.Commit (λ _. succeeds (bytes_of built reply) (Implicit false) known (before more outside))
-goes_on (stages.RollingBack reply) built known more outside = ask calls.Rollback (λ _. succeeds (bytes_of built reply) (Implicit false) known (before more outside))
+goes_on (stages.Committing reply) built known more outside = ask calls.Commit (λ _. succeeds (fixed_reply reply) (Implicit false) known (before more outside))
+goes_on (stages.RollingBack reply) built known more outside = ask calls.Rollback (λ _. succeeds (fixed_reply reply) (Implicit false) known (before more outside))
 goes_on (stages.Telling reply block) built known more outside = succeeds (bytes_of built reply) block known (before more outside)
 goes_on (stages.Undoing code p) built known more outside = fails code (block_of p) known (before more outside)
 goes_on (stages.Failing code state) built known more outside = refused_with code state known (before more outside)
@@ -121,10 +124,14 @@ after_reply (stages.Failing code state) known more outside = readied state known
 after_reply (stages.Readying state) known more outside = outside.next state known
 after_reply stage known more outside = outside.broken owes.Nothing
 
--- no reply is held that was built of an answer
+-- the reply that is held isn't one that was built
 abbrev pub NoBuilt : Stage → Type 0
 NoBuilt (stages.Telling replies.Built block) = ⊥
 NoBuilt _ = Unit {0}
+
+-- a held reply has bytes
+abbrev pub HasReply : Stage → List ℕ → Type 0
+HasReply stage built = IsHolding stage → 0 < length (reply_of built stage)
 
 -- ---- entries
 
@@ -186,15 +193,32 @@ wants_memory _ = false
 
 -- ---- steps
 
--- A script leads to a stage, with a want of memory before it where there was one.
-abbrev pub LeadsTo : (Outside → Script) → Stage → Bool → List ℕ → List Table → List Statement → Type 0
-LeadsTo script next wanting built known more =
-    (outside : Outside) (said : Said) (es : List Entry) → IsFrom (least next) (length said.bytes) es →
-    script outside said (with_short wanting said.bytes es) ≡ goes_on next built known more outside said es
+-- the script of a statement is what a stage goes on with
+abbrev pub IsScriptAt : (Around → Script) → Stage → List ℕ → List Table → Type 0
+IsScriptAt script stage built known =
+    (more : List Statement) (outside : Outside) (said : Said) (es : List Entry) → script (before more outside) said es ≡ goes_on stage built known more outside said es
 
--- The same of a script of a statement, whatever the tables and the other statements are.
-abbrev pub Becomes : (List Table → Around → Script) → Stage → Bool → List ℕ → Type 0
-Becomes script next wanting built = (known : List Table) (more : List Statement) → LeadsTo (λ outside. script known (before more outside)) next wanting built known more
+-- whatever the tables are
+abbrev pub IsScriptOf : (List Table → Around → Script) → Stage → List ℕ → Type 0
+IsScriptOf script stage built = (known : List Table) → IsScriptAt (script known) stage built known
+
+-- the script of a statement leads to a stage, with a want of memory before it where there was one
+abbrev pub LeadsTo : (Around → Script) → Stage → Bool → List ℕ → List Table → Type 0
+LeadsTo script next wanting built known =
+    (more : List Statement) (outside : Outside) (said : Said) (es : List Entry) → IsFrom 1 (length said.bytes) es →
+    script (before more outside) said (with_short wanting said.bytes es) ≡ goes_on next built known more outside said es
+
+-- the same, whatever the tables are, where this level is served
+abbrev pub LeadsAt : Level → (List Table → Around → Script) → Stage → Bool → List ℕ → Type 0
+LeadsAt level script next wanting built =
+    (known : List Table) (more : List Statement) (outside : Outside) (said : Said) (es : List Entry) → outside.level ≡ level → IsFrom 1 (length said.bytes) es →
+    script known (before more outside) said (with_short wanting said.bytes es) ≡ goes_on next built known more outside said es
+
+-- a message, or what follows a reply, leads to a stage and the statements that are then left
+abbrev pub TurnsTo : Level → (List Table → Outside → Script) → Stage → Bool → List ℕ → List Statement → Type 0
+TurnsTo level script next wanting built more =
+    (known : List Table) (outside : Outside) (said : Said) (es : List Entry) → outside.level ≡ level → IsFrom (least next) (length said.bytes) es →
+    script known outside said (with_short wanting said.bytes es) ≡ goes_on next built known more outside said es
 
 -- An answer to a stage's call leads on, with a want of memory behind it where there was one.
 abbrev pub Advances : Stage → List Table → Answer → Stage → Bool → List ℕ → List Table → Type 0
@@ -228,6 +252,20 @@ abbrev pub IsRunning : Stage → Type 0
 IsRunning (stages.Running run p) = Unit {0}
 IsRunning _ = ⊥
 
+-- no statement begins to run or runs
+abbrev pub IsNoStatement : Stage → Type 0
+IsNoStatement (stages.Beginning plan) = ⊥
+IsNoStatement (stages.Running run p) = ⊥
+IsNoStatement _ = Unit {0}
+
+-- neither a table nor a statement is kept
+abbrev pub IsQuiet : Stage → Type 0
+IsQuiet (stages.Defining table block) = ⊥
+IsQuiet (stages.Looking statement block) = ⊥
+IsQuiet (stages.Beginning plan) = ⊥
+IsQuiet (stages.Running run p) = ⊥
+IsQuiet _ = Unit {0}
+
 -- a message is under way
 abbrev pub IsBusy : Stage → Type 0
 IsBusy (stages.Over state) = ⊥
@@ -243,6 +281,15 @@ KnowsTables _ known = Unit {0}
 abbrev pub IsSoundStatement : Statement → Type 0
 IsSoundStatement (tree.Create create) = (table : Table) → built create ≡ Ok table → IsSound table
 IsSoundStatement statement = HasPlainNames statement
+
+abbrev pub IsSoundMessage : Message → Type 0
+IsSoundMessage (messages.Statements statements) = All IsSoundStatement statements
+IsSoundMessage (messages.Unread code) = Unit {0}
+
+-- how many statements a message has
+abbrev pub length_of : Message → ℕ
+length_of (messages.Statements statements) = length statements
+length_of (messages.Unread code) = 0
 
 -- the table that is about to be defined is sound, and what a statement comes to can be told
 abbrev pub IsSoundStage : Stage → Type 0

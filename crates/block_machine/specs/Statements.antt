@@ -174,33 +174,37 @@ abbrev pub shows_history : Block → List Table → Around → Script
 shows_history block known around =
     ask calls.Show (λ a. on_shown a (λ n. unless_short_in block known around (succeeds (show_reply history_name (decimal n)) block known around)) (declined block known around))
 
-abbrev pub shows : List ℕ → Block → List Table → Around → Script
-shows name block known around =
+abbrev pub shows_at : Level → List ℕ → Block → List Table → Around → Script
+shows_at level name block known around =
     if bytes_eq name history_name then shows_history block known around
-    else shows_value name (value_of around.level name) block known around
+    else shows_value name (value_of level name) block known around
+
+abbrev pub shows : List ℕ → Block → List Table → Around → Script
+shows name block known around = shows_at around.level name block known around
 
 -- ---- all of them
 
--- a statement that doesn't begin or end a block
+-- a statement outside a failed block
 abbrev pub performs : Statement → Block → List Table → Around → Script
 performs (tree.Select select) block known around = selects select.from (tree.Select select) block known around
 performs (tree.Insert insert) block known around = looks (tree.Insert insert) block known around
 performs (tree.Update update) block known around = looks (tree.Update update) block known around
 performs (tree.Delete delete) block known around = looks (tree.Delete delete) block known around
 performs (tree.Create create) block known around = unless_short_in block known around (defines (built create) block known around)
+performs (tree.Begin start) block known around = starts start block known around
+performs tree.Commit block known around = commits block known around
+performs tree.Rollback block known around = rolls_back block known around
 performs (tree.Set name values) block known around = sets name block known around
 performs tree.SetModes block known around = succeeds set_reply block known around
 performs (tree.Show name) block known around = shows name block known around
-performs _ block known around = lost
 
--- a failed block takes no such statement
-abbrev pub performs_in : Block → Statement → List Table → Around → Script
-performs_in (Implicit pending) statement known around = performs statement (Implicit pending) known around
-performs_in Regular statement known around = performs statement Regular known around
-performs_in Failed statement known around = fails states.S25P02 Failed known around
+-- a failed block takes its end alone
+abbrev pub in_failed : Statement → List Table → Around → Script
+in_failed tree.Commit known around = commits Failed known around
+in_failed tree.Rollback known around = rolls_back Failed known around
+in_failed _ known around = fails states.S25P02 Failed known around
 
 abbrev pub told_of : Statement → Block → List Table → Around → Script
-told_of (tree.Begin start) block known around = starts start block known around
-told_of tree.Commit block known around = commits block known around
-told_of tree.Rollback block known around = rolls_back block known around
-told_of statement block known around = performs_in block statement known around
+told_of statement (Implicit pending) known around = performs statement (Implicit pending) known around
+told_of statement Regular known around = performs statement Regular known around
+told_of statement Failed known around = in_failed statement known around

@@ -1,11 +1,9 @@
 // The replies of statements that succeed.
 
-/// The reply of a statement that succeeded, or of a message without a statement.
+/// A reply that is known beforehand: the tag of a statement, behind a notice where it wasn't needed.
 #[derive(Clone, Copy, Debug, PartialEq, Eq)]
-pub enum Reply {
-    /// The reply that was built.
-    Built,
-    /// The message had no statement.
+pub enum Fixed {
+    /// A message without a statement.
     Empty,
     /// CREATE TABLE.
     Created,
@@ -15,16 +13,24 @@ pub enum Reply {
     Begun,
     /// START TRANSACTION.
     Started,
-    /// BEGIN inside a block: a notice, and then its tag.
+    /// BEGIN inside a block.
     BegunAgain,
-    /// START TRANSACTION inside a block: a notice, and then its tag.
+    /// START TRANSACTION inside a block.
     StartedAgain,
     /// COMMIT.
     Committed,
-    /// COMMIT outside a block: a notice, and then its tag.
+    /// COMMIT outside a block.
     CommittedNothing,
     /// ROLLBACK, and COMMIT of a failed block.
     RolledBack,
-    /// ROLLBACK outside a block: a notice, and then its tag.
+    /// ROLLBACK outside a block.
     RolledBackNothing,
+}
+
+/// The reply of a statement that succeeded, or of a message without a statement.
+#[derive(Clone, Copy, Debug, PartialEq, Eq)]
+pub enum Reply {
+    /// The reply that was built.
+    Built,
+    Fixed(Fixed),
 }

@@ -6,7 +6,7 @@ ghost use Rattle.block_machine.specs.Calls.{asks_cells};
 
 use crate::block::{Block, Pending};
 use crate::kept::Kept;
-use crate::reply::Reply;
+use crate::reply::{Fixed, Reply};
 use cell_base::SqlState;
 use cell_compile::Plan;
 use pg_framing::TransactionState;
@@ -37,9 +37,9 @@ pub enum Stage {
     /// SHOW monkey.history asks for its number.
     Showing(Block),
     /// COMMIT commits, and is then told so.
-    Committing(Reply),
+    Committing(Fixed),
     /// ROLLBACK rolls back, and is then told so.
-    RollingBack(Reply),
+    RollingBack(Fixed),
     /// A statement's reply is held, behind which the next one follows in this block.
     Telling(Reply, Block),
     /// The rollback of a statement that failed with this code.

@@ -21,7 +21,7 @@ use Rattle.expr_eval.specs.Values.{Row, value_of}
 use Rattle.row_meaning.specs.declared.picture.TableRows.{TableRows}
 use Rattle.row_meaning.specs.Pictures.{values_shown}
 use Rattle.row_meaning.specs.Combinations.{combinations, kept_by}
-use Rattle.row_meaning.specs.Groups.{group_value, group_values, operands_of}
+use Rattle.row_meaning.specs.Groups.{Call, call_value, calls_of, group_value, group_values, operand_values}
 use Rattle.row_meaning.specs.Ordering.{Sorted, order_by, placed, ordered, count_of, cut}
 use Rattle.row_meaning.specs.Selection.{sorted_row, plain_rows, group_row, result_rows, limited, selected, most_bytes}
 use Rattle.outcome_replies.specs.Replies.{IsShortRow}
@@ -83,8 +83,10 @@ plain_wide select rows =
 group_wide : (select : TypedSelect) (rows : List Row) → Holds (AllByRecursion (HasWidth (length select.items))) (group_row select rows)
 group_wide select rows =
     then_holds (HasWidth (length select.items)) (AllByRecursion (HasWidth (length select.items))) (group_values select.items rows) _
-    (then_holds (λ (evaluated : List (List Value)). Unit {0}) (HasWidth (length select.items)) (all_of (map (λ row. all_of (map (λ operand. operand row) (operands_of select.items))) rows)) _
-    (anything (all_of (map (λ row. all_of (map (λ operand. operand row) (operands_of select.items))) rows))) (λ evaluated _. all_length (λ e. group_value e rows) select.items))
+    (then_holds (λ (evaluated : List (List Value)). Unit {0}) (HasWidth (length select.items)) (all_of (map (operand_values (calls_of select.items)) rows)) _
+    (anything (all_of (map (operand_values (calls_of select.items)) rows))) (λ evaluated _.
+    then_holds (λ (totals : List Value). Unit {0}) (HasWidth (length select.items)) (all_of (map (λ (call : Call). call_value call rows) (calls_of select.items))) _
+    (anything (all_of (map (λ (call : Call). call_value call rows) (calls_of select.items)))) (λ totals _. all_length (λ e. group_value e rows) select.items)))
     (λ values is. (is, tt))
 
 results_wide : (grouped : Bool) (select : TypedSelect) (rows : List Row) → Holds (AllByRecursion (HasWidth (length select.items))) (result_rows grouped select rows)

@@ -3,7 +3,7 @@
 ghost use Rattle.std.specs.Prelude.{◌<◌, ◌^◌, length};
 
 use cell_base::{Memory, SqlState};
-use query_request::{Access, Request, request_of};
+use query_request::{Request, request_of};
 use std::alloc::Global;
 use std::test::Fail;
 
@@ -12,7 +12,8 @@ use std::test::Fail;
 enum Asked {
     // The numbers of columns and CHECKs of the table, and the number of its key.
     Define(usize, usize, u32),
-    Look(Option<Access>),
+    Look,
+    Alone,
     Refused(SqlState),
 }
 
@@ -21,7 +22,8 @@ fn answer_to(alloc: Global, text: &[u8]) -> Result<Asked, Memory>
 {
     Ok(match request_of(alloc, text)? {
         Request::Define(table) => Asked::Define(table.columns.len(), table.checks.len(), table.key),
-        Request::Look(_, access) => Asked::Look(access),
+        Request::Look(_) => Asked::Look,
+        Request::Alone(_) => Asked::Alone,
         Request::Refused(code) => Asked::Refused(code),
     })
 }
@@ -84,37 +86,25 @@ fn defines_tables(rt: HostRuntime) -> Result<(), Fail> {
 #[test]
 fn looks_at_tables(rt: HostRuntime) -> Result<(), Fail> {
     let alloc = rt.alloc();
-    assert!(rt;
-        asks(
-            alloc,
-            b"SELECT v FROM t WHERE k = 1",
-            Asked::Look(Some(Access::Get(1)))
-        )?
-    );
+    assert!(rt; asks(alloc, b"SELECT v FROM t WHERE k = 1", Asked::Look)?);
     assert!(rt;
         asks(
             alloc,
             b"select V from T where K = (-7) ; -- seven",
-            Asked::Look(Some(Access::Get(-7)))
+            Asked::Look
         )?
     );
     assert!(rt;
         asks(
             alloc,
             b"INSERT INTO t VALUES (-1,\n9223372036854775807)",
-            Asked::Look(Some(Access::Put(-1, i64::MAX)))
+            Asked::Look
         )?
     );
-    assert!(rt; asks(alloc, b"SELECT v FROM u WHERE k = 1", Asked::Look(None))?);
-    assert!(rt;
-        asks(
-            alloc,
-            b"INSERT INTO t VALUES (1, 10), (2, 20)",
-            Asked::Look(None)
-        )?
-    );
-    assert!(rt; asks(alloc, b"UPDATE t SET v = 1", Asked::Look(None))?);
-    assert!(rt; asks(alloc, b"DELETE FROM t", Asked::Look(None))?);
+    assert!(rt; asks(alloc, b"SELECT v FROM u WHERE k = 1", Asked::Look)?);
+    assert!(rt; asks(alloc, b"INSERT INTO t VALUES (1, 10), (2, 20)", Asked::Look)?);
+    assert!(rt; asks(alloc, b"UPDATE t SET v = 1", Asked::Look)?);
+    assert!(rt; asks(alloc, b"DELETE FROM t", Asked::Look)?);
     Ok(())
 }
 
@@ -122,7 +112,7 @@ fn looks_at_tables(rt: HostRuntime) -> Result<(), Fail> {
 fn refuses_what_it_does_not_run(rt: HostRuntime) -> Result<(), Fail> {
     let alloc = rt.alloc();
     assert!(rt; refused(alloc, b"", SqlState::S0A000)?);
-    assert!(rt; refused(alloc, b"SELECT 1", SqlState::S0A000)?);
+    assert!(rt; asks(alloc, b"SELECT 1", Asked::Alone)?);
     assert!(rt; refused(alloc, b"SELECT 1 + true", SqlState::S42883)?);
     assert!(rt; refused(alloc, b"SELECT nosuch", SqlState::S42703)?);
     assert!(rt; refused(alloc, b"BEGIN", SqlState::S0A000)?);

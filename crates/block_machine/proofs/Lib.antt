@@ -1,0 +1,7 @@
+mod Passes
+mod Somes
+mod Holding
+mod Answered
+mod Tables
+mod Alone
+mod Wanting
