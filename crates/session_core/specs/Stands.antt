@@ -144,6 +144,11 @@ IsLast (stages.Parting fatal) = Unit {0}
 IsLast (stages.Ended finish) = Unit {0}
 IsLast _ = ⊥
 
+-- bytes aren't wanted
+abbrev pub IsAwake : Stage → Type 0
+IsAwake (stages.Waiting phase) = ⊥
+IsAwake _ = Unit {0}
+
 -- neither bytes nor a message are wanted
 abbrev pub IsBusy : Stage → Type 0
 IsBusy (stages.Waiting phase) = ⊥

@@ -6,7 +6,7 @@ ghost use Rattle.block_machine.specs.Runners.{Runs, level_of, known_of};
 ghost use Rattle.block_machine.specs.declared.runner.Runner.{Runner as Machine};
 ghost use Rattle.session_core.specs.Told.{opened_after};
 ghost use Rattle.session_core.specs.Wants as wishes;
-ghost use Rattle.session_core.specs.Stands.{FitsWant, HasReply, InPhase, IsFit, IsHolding, IsLast, IsUnder, Lacks, NoBuilt, left_at, message_at, message_work, outer, own_want, owed_at, statement_at, wants, work_at};
+ghost use Rattle.session_core.specs.Stands.{FitsWant, HasReply, InPhase, IsAwake, IsFit, IsHolding, IsLast, IsUnder, Lacks, NoBuilt, left_at, message_at, message_work, outer, own_want, owed_at, statement_at, wants, work_at};
 ghost use Rattle.session_core.specs.Steps.{Advances, Sends};
 
 use crate::messages::passing;
@@ -33,6 +33,7 @@ fn run_on(runner: &mut Runner) -> Step
     ensures known { known_of runner.new ≡ known_of runner.old }
     ensures fit { IsFit runner.new }
     ensures under { IsUnder result.stage runner.new }
+    ensures awake { IsAwake result.stage }
     ensures phase { InPhase result.stage true }
     ensures some { (greeting : List ℕ) → HasReply result.stage runner.new greeting }
 {
@@ -60,6 +61,7 @@ pub fn sent(stage: Stage, runner: &mut Runner) -> Step
     ensures known { known_of runner.new ≡ known_of runner.old }
     ensures fit { IsFit runner.new }
     ensures under { IsUnder result.stage runner.new }
+    ensures awake { IsAwake result.stage }
     ensures phase { (started : Bool) → InPhase stage started → InPhase result.stage started }
     ensures last { IsLast stage → IsLast result.stage }
     ensures some { (greeting : List ℕ) → HasReply result.stage runner.new greeting }

@@ -8,6 +8,7 @@
 
 mod answers;
 mod calls;
+mod drive;
 mod messages;
 mod phase;
 mod prepared;
