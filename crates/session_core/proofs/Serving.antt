@@ -34,7 +34,7 @@ use Rattle.session_core.specs.Sessions.{Stands, StandsShort}
 use Rattle.session_core.specs.Plays.{Plays, owed_of}
 use Rattle.session_core.specs.Stands.{StandsFor, IsFit, Lacks, LacksBy, owed_at, outer_end, IsStopped, outer, end_of, wants, IsHolding, Shows, IsLast}
 use Rattle.session_core.specs.Serve.{Carries, IsAtEnd, Blames, Ran, Serves, Sits, most_read}
-use Rattle.session_core.proofs.Grows.{Shows-stands}
+use Rattle.session_core.proofs.Grows.{IsAsked, Shows-stands}
 use Rattle.session_core.proofs.Lawfuls.{Lawful-plays, Lawful-short, Lawful-quiet, own_events}
 use Rattle.session_core.proofs.Carrying.{Carries-record, Carries-wrote, Carries-took, Both-then, Both-weaker, Blames-same, Blames-none, Blames-wrote}
 
@@ -77,7 +77,7 @@ shows_more : (s : Session) (level : Level) (taken : List ℕ) (es : List Entry) 
     (talk : Talk) × IsTalk false taken talk × (told level talk es ≡ (record { bytes = sent; calls = asked }, more))
 shows_more s level taken es asked sent served w st =
     let (phase, is) = stage_waiting s.stage s.runner w in
-    let not_running : s.stage ≡ stages.Running → _ = λ e. absurd (let clash : stages.Waiting phase ≡ stages.Running = sym is ∙ e in cc clash) in
+    let not_running : s.stage ≡ stages.Running → IsAsked s.runner = λ e. absurd (let clash : stages.Waiting phase ≡ stages.Running = sym is ∙ e in cc clash) in
     subst (λ (l : Level). Shows l wishes.Bytes taken es asked sent) served
     (subst (λ (x : Want). Shows (level_of s.runner) x taken es asked sent) w (Shows-stands s.stage s.runner s.greeting.items s.frames taken es asked sent not_running st.stage))
 
@@ -312,7 +312,7 @@ pub Serves-ran : {W : Type 0} (gives : W → ℕ → W → Type 0) (level : Leve
 Serves-ran gives level p v f s number end wanting q w g many within over opened flag ran =
     let (taken, es, asked, sent, lost, many_is, run) = ran in
     let (finish, is, end_is) = stage_over s.stage s.runner end over in
-    let not_running : s.stage ≡ stages.Running → _ = λ e. absurd (let clash : stages.Ended finish ≡ stages.Running = sym is ∙ e in cc clash) in
+    let not_running : s.stage ≡ stages.Running → IsAsked s.runner = λ e. absurd (let clash : stages.Ended finish ≡ stages.Running = sym is ∙ e in cc clash) in
     let shows : Shows level (wishes.Ended end) taken es asked sent =
         subst (λ (l : Level). Shows l (wishes.Ended end) taken es asked sent) run.served_level
         (subst (λ (x : Want). Shows (level_of s.runner) x taken es asked sent) over (Shows-stands s.stage s.runner s.greeting.items s.frames taken es asked sent not_running run.stands.stage)) in (
