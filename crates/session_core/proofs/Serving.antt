@@ -314,8 +314,8 @@ Serves-ran gives level p v f s number end wanting q w g many within over opened 
     let (finish, is, end_is) = stage_over s.stage s.runner end over in
     let not_running : s.stage ≡ stages.Running → IsAsked s.runner = λ e. absurd (let clash : stages.Ended finish ≡ stages.Running = sym is ∙ e in cc clash) in
     let shows : Shows level (wishes.Ended end) taken es asked sent =
-        subst (λ (l : Level). Shows l (wishes.Ended end) taken es asked sent) run.served_level
-        (subst (λ (x : Want). Shows (level_of s.runner) x taken es asked sent) over (Shows-stands s.stage s.runner s.greeting.items s.frames taken es asked sent not_running run.stands.stage)) in (
+    subst (λ (l : Level). Shows l (wishes.Ended end) taken es asked sent) run.served_level
+    (subst (λ (x : Want). Shows (level_of s.runner) x taken es asked sent) over (Shows-stands s.stage s.runner s.greeting.items s.frames taken es asked sent not_running run.stands.stage)) in (
       shows.0,
       taken,
       es,

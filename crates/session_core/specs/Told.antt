@@ -116,7 +116,7 @@ abbrev pub refuses : Level → TransactionState → List Table → (Phase → Li
 refuses level state known rest =
     fails states.S0A000 (block_at state) known (record {
       level = level;
-      succeeded = λ _ _. lost;
+      succeeded = λ block k. lost;
       failed = λ after k. rest (phases.Discarding after) k;
       broken = broken;
     })

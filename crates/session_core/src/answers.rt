@@ -48,7 +48,7 @@ fn run_on(runner: &mut Runner) -> Step
 }
 
 /// The step behind a reply that was sent.
-pub fn sent(stage: Stage, runner: &mut Runner) -> Step
+pub fn after_sent(stage: Stage, runner: &mut Runner) -> Step
     requires holding { IsHolding stage runner.old }
     requires fit { IsFit runner.old }
     ensures sends { Sends stage runner.old result.stage runner.new result.wanting }

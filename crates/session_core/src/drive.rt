@@ -127,14 +127,28 @@ fn serve_want<B: Book, L: Link, W: Words>(
     ensures stays { B.stays book.old book.new }
 {
     match session.demand() {
-        Want::Message => take(session, book, words),
-        Want::Define => answer_define(session, book, words),
-        Want::Cells => answer_cells(alloc, session, book, words),
-        Want::Book(c) => answer_call(session, book, words, c),
-        Want::Send => send(session, book, link, words),
-        Want::Bytes | Want::Ended(_) => return false,
+        Want::Message => {
+            take(session, book, words);
+            true
+        }
+        Want::Define => {
+            answer_define(session, book, words);
+            true
+        }
+        Want::Cells => {
+            answer_cells(alloc, session, book, words);
+            true
+        }
+        Want::Book(c) => {
+            answer_call(session, book, words, c);
+            true
+        }
+        Want::Send => {
+            send(session, book, link, words);
+            true
+        }
+        Want::Bytes | Want::Ended(_) => false,
     }
-    true
 }
 
 // Where a statement runs, makes the call that it demands. Answers whether one runs.

@@ -206,7 +206,7 @@ fn break_off(fault: FrameFault, phase: Phase) -> Step
 }
 
 /// The step to the next message that is held whole, or to where bytes are wanted.
-pub fn take(alloc: Global, frames: &mut Frames, phase: Phase, runner: &mut Runner) -> Step
+pub fn take_message(alloc: Global, frames: &mut Frames, phase: Phase, runner: &mut Runner) -> Step
     requires started { frames.old.started ≡ has_started phase }
     requires fit { IsFit runner.old }
     ensures goes { Steps phase runner.old frames.old result.stage runner.new result.wanting frames.new }
@@ -222,7 +222,7 @@ pub fn take(alloc: Global, frames: &mut Frames, phase: Phase, runner: &mut Runne
 }
 
 /// The step behind a piece that comes in where bytes are wanted.
-pub fn feed(frames: &mut Frames, phase: Phase, piece: &[u8]) -> Step
+pub fn feed_piece(frames: &mut Frames, phase: Phase, piece: &[u8]) -> Step
     requires started { frames.old.started ≡ has_started phase }
     ensures feeds { Feeds phase piece.now frames.old result.stage result.wanting frames.new }
     ensures leads { (r : Machine) → IsFit r → Leads (told_spec.owed_by phase) r result.stage r }

@@ -16,8 +16,8 @@ ghost use Rattle.session_core.specs.Wants.{IsWant};
 ghost use Rattle.session_core.specs.Told.{opened_in};
 ghost use Rattle.session_core.specs.Stands.{FitsWant, InPhase, IsFit, IsHolding, IsLast, IsStopped, IsUnder, Lacks, Shows, left_at, message_at, message_work, outer, owed_at, reply_of, statement_at, wants, work_at};
 
-use crate::answers::{answered, is_want, number_after, owed_holding, sent};
-use crate::messages::{feed, take};
+use crate::answers::{after_sent, answered, is_want, number_after, owed_holding};
+use crate::messages::{feed_piece, take_message};
 use crate::phase::Phase;
 use crate::prepared::Prepared;
 use crate::stage::{Finish, Stage};
@@ -204,7 +204,7 @@ impl Session {
         ensures runner { self.new.runner ≡ self.old.runner }
     {
         let phase = phase_at(self.stage);
-        let step = feed(&mut self.frames, phase, piece);
+        let step = feed_piece(&mut self.frames, phase, piece);
         self.short = either(self.short, step.wanting.is_some());
         self.stage = step.stage;
     }
@@ -224,7 +224,7 @@ impl Session {
         ensures fit { IsFit self.new.runner }
     {
         let phase = phase_taking(self.stage);
-        let step = take(self.alloc, &mut self.frames, phase, &mut self.runner);
+        let step = take_message(self.alloc, &mut self.frames, phase, &mut self.runner);
         self.short = either(self.short, step.wanting.is_some());
         self.stage = step.stage;
     }
@@ -276,7 +276,7 @@ impl Session {
         ensures fit { IsFit self.new.runner }
         ensures last { IsLast self.old.stage → IsLast self.new.stage }
     {
-        let step = sent(self.stage, &mut self.runner);
+        let step = after_sent(self.stage, &mut self.runner);
         self.short = either(self.short, step.wanting.is_some());
         self.stage = step.stage;
     }

@@ -4,7 +4,7 @@ use Rattle.client_framing.specs.declared.front.Front.{Front}
 use Rattle.client_framing.specs.Fronts.{Held, TakesFront}
 use Rattle.client_framing.specs.Spelling.{phase_after}
 use Rattle.session_core.proofs.Stepping.{Steps-partial, Steps-front, Steps-faulty, Steps-memory}
-use Rattle.session_core.proofs.messages.take.Goals as goal
+use Rattle.session_core.proofs.messages.take_message.Goals as goal
 
 pub returns-in-Ok-None-clause-goes : goal.returns-in-Ok-None-clause-goes
 returns-in-Ok-None-clause-goes c =
