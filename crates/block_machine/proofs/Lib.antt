@@ -5,3 +5,5 @@ mod Answered
 mod Tables
 mod Alone
 mod Wanting
+mod Advancing
+mod Asking

@@ -20,6 +20,12 @@ level_word Rc = codes "rc"
 level_word Ra = codes "ra"
 level_word Cc = codes "cc"
 
+-- those that are on
+abbrev pub switch_value : List ℕ → Option (List ℕ)
+switch_value name =
+    if bytes_eq name (codes "integer_datetimes") then Some (codes "on")
+    else (if bytes_eq name (codes "standard_conforming_strings") then Some (codes "on") else None)
+
 -- What a session is told at its start is the same for each session. A name that is written without quotes has small letters.
 abbrev pub parameter_value : List ℕ → Option (List ℕ)
 parameter_value name =
@@ -27,9 +33,7 @@ parameter_value name =
     else (if bytes_eq name (codes "server_encoding") then Some (codes "UTF8")
     else (if bytes_eq name (codes "client_encoding") then Some (codes "UTF8")
     else (if bytes_eq name (codes "DateStyle") then Some (codes "ISO, MDY")
-    else (if bytes_eq name (codes "datestyle") then Some (codes "ISO, MDY")
-    else (if bytes_eq name (codes "integer_datetimes") then Some (codes "on")
-    else (if bytes_eq name (codes "standard_conforming_strings") then Some (codes "on") else None))))))
+    else (if bytes_eq name (codes "datestyle") then Some (codes "ISO, MDY") else switch_value name))))
 
 -- the value of a setting but for the history's; none where there is no such setting
 abbrev pub value_of : Level → List ℕ → Option (List ℕ)

@@ -21,7 +21,7 @@ use Rattle.cell_compile.specs.Plans.{rest_of, left_of}
 use Rattle.block_machine.specs.Calls.{Call, Want, call_for}
 use Rattle.block_machine.specs.Calls as calls
 use Rattle.block_machine.specs.Replies.{ready_reply, error_reply, fixed_reply, bytes_of}
-use Rattle.block_machine.specs.Script.{Entry, did, refused, short, unsent, stop, Said, Script, with_call, ask}
+use Rattle.block_machine.specs.Script.{Entry, did, refused, short, unsent, stop, Said, Script, lost, with_call, ask}
 use Rattle.block_machine.specs.Statements.{Around, owed_in, succeeds, refused_with, fails, starts, defines, runs, continues, begins, looks, shows_history}
 use Rattle.block_machine.specs.Messages.{Outside, owed_between, readied, ends, statements, before}
 use Rattle.block_machine.specs.declared.block.Block.{Block}
@@ -122,7 +122,7 @@ abbrev pub after_reply : Stage → List Table → List Statement → Outside →
 after_reply (stages.Telling reply block) known more outside = statements more block known outside
 after_reply (stages.Failing code state) known more outside = readied state known outside
 after_reply (stages.Readying state) known more outside = outside.next state known
-after_reply stage known more outside = outside.broken owes.Nothing
+after_reply _ known more outside = lost
 
 -- the reply that is held isn't one that was built
 abbrev pub NoBuilt : Stage → Type 0

@@ -147,6 +147,10 @@ abbrev pub looks : Statement → Block → List Table → Around → Script
 looks statement block known around =
     ask (calls.Look (length known)) (λ a. on_looked a (λ tables. typed_over statement block known tables around) (declined block known around))
 
+-- the statement is kept meanwhile, for which memory may be wanting
+abbrev pub prepares : Statement → Block → List Table → Around → Script
+prepares statement block known around = unless_short_in block known around (looks statement block known around)
+
 -- A SELECT without FROM is answered at once. It begins no transaction, and its course asks for nothing.
 abbrev pub at_once : Course → Block → List Table → Around → Script
 at_once (done outcome) block known around = concludes outcome block known around
@@ -158,7 +162,7 @@ judged_at_once (Err code) block known around = fails code block known around
 
 abbrev pub selects : List TableRef → Statement → Block → List Table → Around → Script
 selects [] statement block known around = unless_short_in block known around (judged_at_once (typed [] statement) block known around)
-selects (entry ∷ more) statement block known around = looks statement block known around
+selects (entry ∷ more) statement block known around = prepares statement block known around
 
 -- ---- SET, SHOW
 
@@ -187,9 +191,9 @@ shows name block known around = shows_at around.level name block known around
 -- a statement outside a failed block
 abbrev pub performs : Statement → Block → List Table → Around → Script
 performs (tree.Select select) block known around = selects select.from (tree.Select select) block known around
-performs (tree.Insert insert) block known around = looks (tree.Insert insert) block known around
-performs (tree.Update update) block known around = looks (tree.Update update) block known around
-performs (tree.Delete delete) block known around = looks (tree.Delete delete) block known around
+performs (tree.Insert insert) block known around = prepares (tree.Insert insert) block known around
+performs (tree.Update update) block known around = prepares (tree.Update update) block known around
+performs (tree.Delete delete) block known around = prepares (tree.Delete delete) block known around
 performs (tree.Create create) block known around = unless_short_in block known around (defines (built create) block known around)
 performs (tree.Begin start) block known around = starts start block known around
 performs tree.Commit block known around = commits block known around

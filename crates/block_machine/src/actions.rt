@@ -14,7 +14,7 @@ ghost use Rattle.statement_course.specs.Statements.{course_of};
 ghost use Rattle.block_machine.specs.Script.{Said, Entry};
 ghost use Rattle.block_machine.specs.Replies.{show_reply};
 ghost use Rattle.block_machine.specs.Settings.{IsShown, history_name, value_of};
-ghost use Rattle.block_machine.specs.Statements.{Around, owed_in, succeeds, concludes, defines, looks, at_once, judged_at_once, sets, shows_at, shows_value, performs, told_of};
+ghost use Rattle.block_machine.specs.Statements.{Around, owed_in, succeeds, concludes, defines, prepares, at_once, judged_at_once, sets, shows_at, shows_value, performs, told_of};
 ghost use Rattle.block_machine.specs.Messages.{statements};
 ghost use Rattle.block_machine.specs.Stages.{IsScriptOf, LeadsTo, LeadsAt, TurnsTo, Advances, IsQuiet, IsBusy, IsRunning, IsSoundStage, IsSoundStatement, KnowsTables, NoBuilt, HasReply, owed_at, work_at};
 
@@ -50,7 +50,7 @@ fn define(alloc: Global, create: &CreateTable, block: Block) -> Result<Stage, Me
     ensures constant { IfOk result NoBuilt }
 {
     match build(alloc, create) {
-        Ok(table) => Ok(Stage::Defining(Kept::new(table), block)),
+        Ok(table) => Ok(Stage::Defining(Kept::new(alloc, table)?, block)),
         Err(SchemaFault::State(code)) => Ok(fail(code, block)),
         Err(SchemaFault::Memory) => Err(Memory),
     }
@@ -222,7 +222,7 @@ fn act(
     requires { IsSoundStatement statement.now }
     ensures goes { IfSome result (λ step. LeadsAt level (performs statement.now block) step.stage step.wanting built.new.items) }
     ensures looks { IsNone result → (known : List Defined) (around : Around) (said : Said) (es : List Entry) →
-        performs statement.now block known around said es ≡ looks statement.now block known around said es }
+        performs statement.now block known around said es ≡ prepares statement.now block known around said es }
     ensures plain { IsNone result → HasPlainNames statement.now }
     ensures owed { IfSome result (λ step. owed_at step.stage ≡ owed_in block) }
     ensures work { IfSome result (λ step. work_at step.stage ≤ 4) }
@@ -248,6 +248,13 @@ fn act(
     }
 }
 
+// The stage of a statement that looks at the tables.
+fn keep(alloc: Global, statement: Statement, block: Block) -> Result<Stage, Memory>
+    ensures { IfOk result (λ stage. stage ≡ Stage.Looking statement block) }
+{
+    Ok(Stage::Looking(Kept::new(alloc, statement)?, block))
+}
+
 // The step of a statement outside a failed block.
 fn perform(
     alloc: Global,
@@ -268,12 +275,12 @@ fn perform(
 {
     match act(alloc, level, &statement, block, built) {
         Some(step) => step,
-        None => calm(Stage::Looking(Kept::new(statement), block)),
+        None => or_short(keep(alloc, statement, block), block),
     }
 }
 
-// The step of a statement.
-fn take(
+/// The step of a statement.
+pub fn take(
     alloc: Global,
     level: Level,
     statement: Statement,

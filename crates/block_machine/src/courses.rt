@@ -9,6 +9,8 @@ ghost use Rattle.outcome_replies.specs.Ends.{EndsIn};
 ghost use Rattle.statement_course.specs.declared.demand.Demand.{Demand as Demanded};
 ghost use Rattle.statement_course.specs.Laws.{ReadsFirst};
 ghost use Rattle.statement_course.specs.Course.{first_demand, behind, FitsDemand};
+ghost use Rattle.statement_course.specs.Statements.{course_of};
+ghost use Rattle.cell_compile.specs.Narrow.{AreNarrow};
 ghost use Rattle.cell_compile.specs.Plans.{rest_of, left_of};
 ghost use Rattle.block_machine.specs.Calls as calls;
 ghost use Rattle.block_machine.specs.Calls.{asks_cells, call_for};
@@ -27,7 +29,7 @@ use cell_base::{Items, Memory, SqlState};
 use cell_compile::Plan;
 use history_core::BookFault;
 use outcome_replies::reply_of;
-use sql_tree::{Statement, Table};
+use sql_tree::{Statement, Table, Typed};
 use sql_types::{TypeFault, typed};
 use statement_course::{Demand, Outcome, PlanAnswer};
 use std::alloc::Global;
@@ -88,6 +90,7 @@ pub fn settle(
 }
 
 /// The stage of a statement whose course begins.
+#[tactic(auto, using(crate::proofs::Holding::holding_some))]
 pub fn begin_course(
     alloc: Global,
     plan: Kept<Plan>,
@@ -130,9 +133,9 @@ fn go_on(
     ensures busy { IfOk result IsBusy }
     ensures some { IfOk result (λ stage. HasReply stage built.new.items) }
 {
-    let mut plan = plan.into_inner();
+    let mut plan = plan.into_box();
     match plan.answer(answer) {
-        Ok(()) => settle(alloc, Kept::new(plan), pending, built),
+        Ok(()) => settle(alloc, Kept::from_box(plan), pending, built),
         Err(Memory) => Err(Memory),
     }
 }
@@ -202,6 +205,15 @@ pub fn start_course(alloc: Global, plan: Kept<Plan>, answer: Answer, built: &mut
     }
 }
 
+// The plan of a statement over tables.
+fn planned(alloc: Global, typed: Typed, tables: &[Table]) -> Result<Kept<Plan>, Memory>
+    requires { AreNarrow tables.now }
+    ensures { IfOk result (λ plan. rest_of plan ≡ course_of tables.now typed) }
+{
+    let plan = Plan::new(alloc, typed, tables)?;
+    Kept::new(alloc, plan)
+}
+
 // The stage of a statement over the tables that are known.
 fn judge(
     alloc: Global,
@@ -222,7 +234,10 @@ fn judge(
     ensures some { IfOk result (λ stage. HasReply stage built.new.items) }
 {
     match typed(alloc, statement, known) {
-        Ok(t) => begin_course(alloc, Kept::new(Plan::new(alloc, t, known)?), block, built),
+        Ok(t) => {
+            let plan = planned(alloc, t, known)?;
+            begin_course(alloc, plan, block, built)
+        }
         Err(TypeFault::State(code)) => Ok(fail(code, block)),
         Err(TypeFault::Memory) => Err(Memory),
     }

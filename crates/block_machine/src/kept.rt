@@ -1,12 +1,14 @@
-// A value that contracts see as itself.
-ghost use Rattle.std.specs.Prelude.{◌≡◌};
+// A value in a box, which contracts see as itself.
+ghost use Rattle.std.specs.Prelude.{◌≡◌, IfOk};
 
+use cell_base::Memory;
+use std::alloc::Global;
 use std::marker::Model;
 
-/// A value that is dropped by one call, however many forms it has.
+/// A value in a box: it is moved and dropped by one call, however many forms it has.
 #[derive(Debug, Drop)]
 pub struct Kept<T> {
-    value: T,
+    inner: Box<T>,
 }
 
 impl<T> Model for Kept<T> {
@@ -14,29 +16,40 @@ impl<T> Model for Kept<T> {
 
     ghost coded = { T.code };
 
-    ghost view = { λ k. k.value };
+    ghost view = { λ k. k.inner.value };
 }
 
 impl<T> Kept<T> {
-    /// Keeps a value.
-    pub fn new(value: T) -> Kept<T>
-        ensures { result ≡ value }
+    /// Takes a box over.
+    pub fn from_box(inner: Box<T>) -> Kept<T>
+        ensures { result ≡ inner.value }
     {
-        Kept { value }
+        Kept { inner }
+    }
+
+    /// The box itself.
+    pub fn into_box(self) -> Box<T>
+        ensures { result.value ≡ self }
+    {
+        let Kept { inner } = self;
+        inner
     }
 
     /// The value.
     pub fn get(&self) -> &T
         ensures { result.now ≡ self.now }
     {
-        &self.value
+        &self.inner
     }
+}
 
-    /// The value itself.
-    pub fn into_inner(self) -> T
-        ensures { result ≡ self }
+impl<T: Drop> Kept<T> {
+    /// Puts a value into a box.
+    pub fn new(alloc: Global, value: T) -> Result<Kept<T>, Memory>
+        ensures { IfOk result (λ k. k ≡ value) }
     {
-        let Kept { value } = self;
-        value
+        Ok(Kept {
+            inner: Box::new(alloc, value)?,
+        })
     }
 }

@@ -1,5 +1,5 @@
 // A step of a message, and how a want of memory becomes the failure of a statement.
-ghost use Rattle.std.specs.Prelude.{◌≡◌, ℕ, ◌≤◌, List, true, false, IfOk};
+ghost use Rattle.std.specs.Prelude.{◌≡◌, ℕ, ◌+◌, ◌≤◌, List, true, false, IfOk};
 ghost use Rattle.sql_tree.specs.declared.table.Table.{Table as Defined};
 ghost use Rattle.block_machine.specs.Script.{Script};
 ghost use Rattle.block_machine.specs.Statements.{Around, owed_in, fails, unless_short_in};

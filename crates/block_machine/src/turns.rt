@@ -10,7 +10,7 @@ ghost use Rattle.block_machine.specs.Statements.{owed_in};
 ghost use Rattle.block_machine.specs.Messages.{Outside, block_at as block_before, message as told, opens};
 ghost use Rattle.block_machine.specs.Stages.{Advances, FitsWant, IsBusy, IsHolding, IsKnownAfter, IsNoStatement, IsRunning, IsSoundMessage, IsSoundStage, IsSoundStatement, KnowsTables, HasReply, TurnsTo, after_reply, left_at, length_of, owed_after, owed_at, running_at, wants, work_at};
 
-use crate::actions::{next_statement, show_history};
+use crate::actions::{next_statement, show_history, take};
 use crate::advance::advance;
 use crate::block::Block;
 use crate::blocks::block_at;
@@ -65,10 +65,10 @@ fn open(
     ensures busy { IsBusy result.stage }
     ensures some { HasReply result.stage built.new.items }
 {
-    if rest.len() == 0 {
-        return calm(Stage::Telling(Reply::Fixed(Fixed::Empty), block));
+    match rest.next() {
+        Some(statement) => take(alloc, level, statement, block, built),
+        None => calm(Stage::Telling(Reply::Fixed(Fixed::Empty), block)),
     }
-    next_statement(alloc, level, rest, block, built)
 }
 
 /// The step to what a message asks for first.
