@@ -12,6 +12,8 @@ mod extended_rows;
 #[cfg(test)]
 mod first_rows;
 #[cfg(test)]
+mod key_rows;
+#[cfg(test)]
 mod list_words;
 #[cfg(test)]
 mod message_rows;
