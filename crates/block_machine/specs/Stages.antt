@@ -266,6 +266,11 @@ IsQuiet (stages.Beginning plan) = ⊥
 IsQuiet (stages.Running run p) = ⊥
 IsQuiet _ = Unit {0}
 
+-- whether a message is under way
+abbrev pub is_busy : Stage → Bool
+is_busy (stages.Over state) = false
+is_busy _ = true
+
 -- a message is under way
 abbrev pub IsBusy : Stage → Type 0
 IsBusy (stages.Over state) = ⊥

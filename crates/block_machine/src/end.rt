@@ -1,6 +1,6 @@
 // How a session ends.
 use cell_base::SqlState;
-use pg_framing::FrameFault;
+use client_framing::FrameFault;
 
 /// How a session ended.
 #[derive(Clone, Copy, Debug, PartialEq, Eq)]

@@ -1,23 +1,27 @@
 // The statements of a session's messages as a machine: answers come in, calls and replies go out. It keeps the tables that the session was
 // shown, and what its running statement needs.
-ghost use Rattle.std.specs.Prelude.{◌≡◌, ℕ, ◌+◌, ◌*◌, ◌<◌, ◌≤◌, ◌^◌, List, [], ◌∷◌, length, All, IfOk};
+ghost use Rattle.std.specs.Prelude.{◌≡◌, ℕ, ◌+◌, ◌*◌, ◌<◌, ◌≤◌, ◌^◌, List, [], ◌∷◌, length, All, IfOk, IfSome, IsNone};
 ghost use Rattle.sql_tree.specs.declared.table.Table.{Table as Defined};
 ghost use Rattle.sound_table.specs.Sound.{IsSound};
 ghost use Rattle.history_core.specs.declared.event.Event.{Event};
 ghost use Rattle.block_machine.specs.Calls as calls;
 ghost use Rattle.block_machine.specs.Calls.{Call as Asked, IsWant, asks_cells, call_for};
 ghost use Rattle.block_machine.specs.Script.{Said, Entry, call as asking, with_call, tell};
-ghost use Rattle.block_machine.specs.Messages.{Outside, message as told};
+ghost use Rattle.block_machine.specs.Messages.{Outside, message as told, owed_between};
+ghost use Rattle.block_machine.specs.Statements.{owed_in};
 ghost use Rattle.block_machine.specs.Stages.{FitsWant, IsFrom, IsHolding, IsKnownAfter, IsBusy, IsRunning, IsSoundMessage, IsSoundStage, IsSoundStatement, KnowsTables, HasReply, after_reply, entry_for, least, left_at, length_of, owed_after, owed_at, running_at, with_short};
 
 use crate::advance::want_of;
+use crate::block::{Block, Owed};
+use crate::blocks::block_at;
 use crate::call::Answer;
 use crate::message::Message;
 use crate::prepared::Prepared;
 use crate::stage::Stage;
+use crate::step::fail;
 use crate::turns::{answered, begin_message, block_between, next_step};
 use crate::want::Want;
-use cell_base::{Level, Memory};
+use cell_base::{Level, Memory, SqlState};
 use pg_framing::TransactionState;
 use sql_tree::{Statement, Table};
 use statement_course::Demand;
@@ -35,6 +39,40 @@ pub struct Runner {
     rest: IntoIter<Statement>,
     stage: Stage,
     ghost few: { length known.items < 2 ^ 32 },
+}
+
+// What a session owes its book, given the state in which the last message left it.
+fn owed_in_state(state: TransactionState) -> Owed
+    ensures { result ≡ owed_between state }
+{
+    match state {
+        TransactionState::Block => Owed::Rollback,
+        TransactionState::Idle | TransactionState::Failed => Owed::Close,
+    }
+}
+
+// What a session owes its book in a block.
+fn owed_in_block(block: Block) -> Owed
+    ensures { result ≡ owed_in block }
+{
+    match block {
+        Block::Implicit(true) | Block::Regular => Owed::Rollback,
+        Block::Implicit(false) | Block::Failed => Owed::Close,
+    }
+}
+
+// What a session owes its book.
+fn owed_of(stage: &Stage) -> Owed
+    ensures { result ≡ owed_at stage.now }
+{
+    match stage {
+        Stage::Over(state) | Stage::Readying(state) => owed_in_state(*state),
+        Stage::Defining(_, block) | Stage::Looking(_, block) => owed_in_block(*block),
+        Stage::Showing(block) | Stage::Telling(_, block) => owed_in_block(*block),
+        Stage::Beginning(_) | Stage::Starting(_) | Stage::Failing(_, _) => Owed::Close,
+        Stage::Running(_, _) | Stage::Committing(_) | Stage::RollingBack(_) => Owed::Rollback,
+        Stage::Undoing(_, _) | Stage::Finishing => Owed::Rollback,
+    }
 }
 
 impl Runner {
@@ -190,5 +228,50 @@ impl Runner {
         );
         self.stage = step.stage;
         step.wanting
+    }
+
+    /// Takes it that the session stands in this state between two messages.
+    pub fn stand(&mut self, state: TransactionState)
+        ensures { self.new ≡ record self.old { stage = Stage.Over state } }
+    {
+        let next = Stage::Over(state);
+        self.stage = next;
+    }
+
+    /// Begins with a message that fails before its first statement, with this code.
+    pub fn refuse(&mut self, code: SqlState, state: TransactionState)
+        ensures goes { (outside : Outside) (said : Said) (es : List Entry) → told (Message.Unread code) state self.old.known.items outside said es ≡ follows self.new outside said es }
+        ensures level { self.new.level ≡ self.old.level }
+        ensures known { self.new.known.items ≡ self.old.known.items }
+        ensures rest { All IsSoundStatement (statements_of self.new) }
+        ensures owed { owed_at self.new.stage ≡ owed_between state }
+        ensures work { work_of self.new ≤ 8 }
+        ensures knows { KnowsTables self.new.stage self.new.known.items }
+        ensures silent { IsRunning self.new.stage → ⊥ }
+        ensures sound { IsSoundStage self.new.stage }
+        ensures busy { IsBusy self.new.stage }
+        ensures some { HasReply self.new.stage self.new.built.items }
+    {
+        self.rest = Vec::new(self.alloc).into_iter();
+        let next = fail(code, block_at(state));
+        self.stage = next;
+    }
+
+    /// The state in which the last message left the session; none while a message is under way.
+    pub fn left(&self) -> Option<TransactionState>
+        ensures some { IfSome result (λ state. self.now.stage ≡ Stage.Over state) }
+        ensures none { IsNone result → IsBusy self.now.stage }
+    {
+        match &self.stage {
+            Stage::Over(state) => Some(*state),
+            _ => None,
+        }
+    }
+
+    /// What the session owes its book.
+    pub fn owed(&self) -> Owed
+        ensures { result ≡ owed_at self.now.stage }
+    {
+        owed_of(&self.stage)
     }
 }
