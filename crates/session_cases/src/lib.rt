@@ -12,8 +12,6 @@ mod extended_rows;
 #[cfg(test)]
 mod first_rows;
 #[cfg(test)]
-mod list_words;
-#[cfg(test)]
 mod message_rows;
 #[cfg(test)]
 mod rows;
