@@ -65,12 +65,24 @@ fn told(bench: &mut Bench, text: &[u8]) -> Vec<u8> {
 
 const CASES: [(&[u8], &[u8]); 30] = [
     (b"", b"I ZI "),
-    (b"CREATE TABLE t (k bigint PRIMARY KEY, v bigint)", b"CCREATE TABLE ZI "),
-    (b"CREATE TABLE t (k bigint PRIMARY KEY, v bigint)", b"EC42P07 ZI "),
+    (
+        b"CREATE TABLE t (k bigint PRIMARY KEY, v bigint)",
+        b"CCREATE TABLE ZI ",
+    ),
+    (
+        b"CREATE TABLE t (k bigint PRIMARY KEY, v bigint)",
+        b"EC42P07 ZI ",
+    ),
     (b"INSERT INTO t VALUES (1, 10)", b"CINSERT 0 1 ZI "),
     (b"SELECT v FROM t WHERE k = 1", b"Tv D10 CSELECT 1 ZI "),
-    (b"SELECT 1; SELECT 2", b"T?column? D1 CSELECT 1 T?column? D2 CSELECT 1 ZI "),
-    (b"SELECT 1; SELECT 1 / 0; SELECT 2", b"T?column? D1 CSELECT 1 EC22012 ZI "),
+    (
+        b"SELECT 1; SELECT 2",
+        b"T?column? D1 CSELECT 1 T?column? D2 CSELECT 1 ZI ",
+    ),
+    (
+        b"SELECT 1; SELECT 1 / 0; SELECT 2",
+        b"T?column? D1 CSELECT 1 EC22012 ZI ",
+    ),
     (b"BEGIN", b"CBEGIN ZT "),
     (b"BEGIN", b"NC25001 CBEGIN ZT "),
     (b"", b"I ZT "),
@@ -78,16 +90,25 @@ const CASES: [(&[u8], &[u8]); 30] = [
     (b"COMMIT", b"CCOMMIT ZI "),
     (b"COMMIT", b"NC25P01 CCOMMIT ZI "),
     (b"ROLLBACK", b"NC25P01 CROLLBACK ZI "),
-    (b"START TRANSACTION; INSERT INTO t VALUES (3, 30)", b"CSTART TRANSACTION CINSERT 0 1 ZT "),
+    (
+        b"START TRANSACTION; INSERT INTO t VALUES (3, 30)",
+        b"CSTART TRANSACTION CINSERT 0 1 ZT ",
+    ),
     (b"SELECT nosuch FROM t", b"EC42703 ZE "),
     (b"SELECT 1", b"EC25P02 ZE "),
     (b"SELECT", b"EC42601 ZE "),
     (b"", b"I ZE "),
     (b"COMMIT; SELECT 1", b"CROLLBACK T?column? D1 CSELECT 1 ZI "),
     (b"SELECT k FROM t ORDER BY k", b"Tk D1 D2 CSELECT 2 ZI "),
-    (b"INSERT INTO t VALUES (4, 40); SELECT 1 / 0", b"CINSERT 0 1 EC22012 ZI "),
+    (
+        b"INSERT INTO t VALUES (4, 40); SELECT 1 / 0",
+        b"CINSERT 0 1 EC22012 ZI ",
+    ),
     (b"SELECT k FROM t ORDER BY k", b"Tk D1 D2 CSELECT 2 ZI "),
-    (b"INSERT INTO t VALUES (5, 50); COMMIT; SELECT 1 / 0", b"CINSERT 0 1 NC25P01 CCOMMIT EC22012 ZI "),
+    (
+        b"INSERT INTO t VALUES (5, 50); COMMIT; SELECT 1 / 0",
+        b"CINSERT 0 1 NC25P01 CCOMMIT EC22012 ZI ",
+    ),
     (b"SELECT k FROM t ORDER BY k", b"Tk D1 D2 D5 CSELECT 3 ZI "),
     (b"SET client_encoding TO 'UTF8'", b"CSET ZI "),
     (b"SET monkey.level TO rc", b"EC0A000 ZI "),

@@ -1,6 +1,7 @@
 -- Steps with a want of memory, and without one.
-use Rattle.std.proofs.Common.{◌≡◌, ℕ, Bool, true, false, List, [], ◌∷◌, length, refl, sym, ◌∙◌, ap, subst}
+use Rattle.std.proofs.Common.{◌≡◌, ℕ, Bool, true, false, List, [], ◌∷◌, length, refl, sym, ◌∙◌, ap, subst, Result, Ok, Err, IfOk}
 use Rattle.cell_base.specs.declared.level.Level.{Level}
+use Rattle.cell_base.specs.declared.memory.Memory.{Memory}
 use Rattle.cell_base.specs.declared.sql_state.SqlState.TheVariants as states
 use Rattle.sql_tree.specs.declared.statement.Statement.{Statement}
 use Rattle.sql_tree.specs.declared.table.Table.{Table}
@@ -48,3 +49,8 @@ pub turns_end : (level : Level) (all more : List Statement) (block : Block) (nex
     TurnsTo level (statements all block) next false built more
 turns_end level all more block next built is goes known outside said es same from =
     ap (λ (xs : List Statement). statements xs block known outside said es) is ∙ goes known outside said es
+
+-- a script of any tables, at these
+pub ok_at : (r : Result Stage Memory) (script : List Table → Around → Script) (built : List ℕ) (known : List Table) → IfOk r (λ it. IsScriptOf script it built) → IfOk r (λ it. IsScriptAt (script known) it built known)
+ok_at (Ok stage) script built known h = h known
+ok_at (Err e) script built known h = h

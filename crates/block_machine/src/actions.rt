@@ -11,6 +11,7 @@ ghost use Rattle.described_columns.specs.Described.{HasPlainNames};
 ghost use Rattle.outcome_replies.specs.Replies.{CanBeTold};
 ghost use Rattle.statement_course.specs.declared.demand.Outcome.{Outcome as CameTo};
 ghost use Rattle.statement_course.specs.Statements.{course_of};
+ghost use Rattle.block_machine.specs.declared.call.Answer.{Answer};
 ghost use Rattle.block_machine.specs.Script.{Said, Entry};
 ghost use Rattle.block_machine.specs.Replies.{show_reply};
 ghost use Rattle.block_machine.specs.Settings.{IsShown, history_name, value_of};

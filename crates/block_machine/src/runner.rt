@@ -1,6 +1,6 @@
 // The statements of a session's messages as a machine: answers come in, calls and replies go out. It keeps the tables that the session was
 // shown, and what its running statement needs.
-ghost use Rattle.std.specs.Prelude.{◌≡◌, ℕ, ◌+◌, ◌*◌, ◌<◌, ◌≤◌, ◌^◌, List, [], ◌∷◌, length, All, IfOk, IfSome, IsNone};
+ghost use Rattle.std.specs.Prelude.{◌≡◌, ℕ, ◌+◌, ◌*◌, ◌<◌, ◌≤◌, ◌^◌, List, [], ◌∷◌, length, All, true, IfOk, IfSome, IsNone};
 ghost use Rattle.sql_tree.specs.declared.table.Table.{Table as Defined};
 ghost use Rattle.sound_table.specs.Sound.{IsSound};
 ghost use Rattle.history_core.specs.declared.event.Event.{Event};
