@@ -1,16 +1,3 @@
-pub mod Passes
-pub mod Grows
-pub mod Stepping
-pub mod Lawfuls
-pub mod Carrying
-pub mod Serving
 pub mod Digits
 pub mod Commas
-pub mod LastUser
-pub mod Texts
-pub mod Somes
-pub mod Holding
-pub mod Flags
-pub mod Running
-pub mod Playing
 pub mod Words

@@ -1,12 +1,2 @@
-pub mod Users
-pub mod Calls
-pub mod Talk
-pub mod Replies
-pub mod Told
-pub mod Record
-pub mod Stands
-pub mod Sessions
-pub mod Serve
-pub mod Choices
 pub mod Command
 pub mod Program

@@ -6,15 +6,15 @@ use Rattle.link_traits.specs.Traffic.{Both, Wrote, WrotePart, Sight}
 use Rattle.link_traits.specs.Host.{HostCall, standard_link_called}
 use Rattle.history_core.specs.Chronicle.{IsLegalChronicle}
 use Rattle.history_core.specs.Book.{Past, away}
-use Rattle.monkey_server.specs.Calls.{Call}
-use Rattle.monkey_server.specs.declared.end.End.{End}
-use Rattle.monkey_server.specs.declared.end.End.TheVariants as ends
-use Rattle.monkey_server.specs.Talk.{Talk}
-use Rattle.monkey_server.specs.Told.{Entry}
-use Rattle.monkey_server.specs.Record.{events_of}
-use Rattle.monkey_server.specs.Choices.{DrawsFirst}
+use Rattle.block_machine.specs.Calls.{Call}
+use Rattle.block_machine.specs.Script.{Entry}
+use Rattle.block_machine.specs.declared.end.End.{End}
+use Rattle.block_machine.specs.declared.end.End.TheVariants as ends
+use Rattle.session_core.specs.Talk.{Talk}
+use Rattle.session_core.specs.Record.{events_of}
+use Rattle.session_core.specs.Serve.{Serves}
+use Rattle.choice_stream.specs.Choices.{DrawsFirst}
 use Rattle.monkey_server.specs.Command.{IsPipe}
-use Rattle.monkey_server.specs.Serve.{Serves}
 
 -- what a host tells at a moment
 pub record Hosted : Type 0 where
@@ -41,13 +41,14 @@ no_past = record { seen = record { level = Rc; events = []; tables = [] }; own =
 pub record ServesAlone (words : List ℕ) (f g : Sight) (end : End) (wanting : Bool) : Type 0 where
   pub past : Past
   pub rest : List ℕ
+  pub number : Option ℕ
   pub talk : Talk
   pub taken : List ℕ
   pub es : List Entry
   pub asked : List Call
   pub sent : List ℕ
   pub lost : List ℕ
-  pub serves : Serves DrawsFirst no_past words f end wanting past rest g talk taken es asked sent lost
+  pub serves : Serves DrawsFirst Rc no_past words f number end wanting past rest g talk taken es asked sent lost
   pub level : past.seen.level ≡ Rc
   pub legal : IsLegalChronicle past.seen
   pub events : past.seen.events ≡ events_of es
@@ -58,6 +59,7 @@ abbrev pub status_of : End → Bool → ℕ
 status_of end true = 5
 status_of ends.Terminated false = 0
 status_of ends.Closed false = 0
+status_of ends.Cancelled false = 0
 status_of ends.ReadFault false = 3
 status_of ends.WriteFault false = 4
 status_of ends.Memory false = 5

@@ -5,11 +5,10 @@ ghost use Rattle.monkey_server.specs.Program.{hosted_of, status_of, ServesAlone,
 ghost use Rattle.link_traits.specs.Traffic.{sight_of};
 
 use crate::command::command_of;
-use crate::end::End;
-use crate::list_words::ListWords;
-use crate::serve::{Served, serve_link};
-use cell_base::{Items, Memory, Text};
+use cell_base::{Items, Level, Memory, Text};
+use choice_stream::ListWords;
 use link_traits::{Host, HostFault, Link, send_all};
+use session_core::{End, Served, serve_link};
 use solo_book::SoloBook;
 use std::alloc::Global;
 
@@ -30,7 +29,7 @@ fn status_for(served: Served) -> Status
         return Status { code: 5 };
     }
     let code = match served.end {
-        End::Terminated | End::Closed => 0,
+        End::Terminated | End::Closed | End::Cancelled => 0,
         End::ReadFault => 3,
         End::WriteFault => 4,
         End::Memory => 5,
@@ -45,7 +44,7 @@ fn serve_alone<L: Link>(alloc: Global, link: &mut L, words: Items<u32>) -> Serve
 {
     let mut book = SoloBook::new(alloc);
     let mut words = ListWords::new(words);
-    let served = serve_link(alloc, &mut book, link, &mut words);
+    let served = serve_link(alloc, Level::Rc, &mut book, link, &mut words);
     let _ = book.history();
     served
 }
@@ -86,7 +85,7 @@ fn misuse<H: Host>(host: &mut H) -> Status
 /// at Read Committed over the host's standard link, with the numbers of WORDS as the choice words and 0 behind them; other words
 /// print the usage line.
 ///
-/// The status is 0 where the session ended well, 1 where its bytes were at fault, 2 for the usage line, 3 where reading failed,
+/// The status is 0 where the session ended well or was a cancel request, 1 where its bytes were at fault, 2 for the usage line, 3 where reading failed,
 /// 4 where writing failed, 5 where memory was wanting and 6 where the host gave no link.
 pub fn monkey_main<H: Host>(alloc: Global, host: &mut H, words: &[Text]) -> Status
     requires objects { H.objects_out host.old ≡ 0 }

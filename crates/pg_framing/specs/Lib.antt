@@ -1,4 +1,2 @@
 pub mod Spelling
-pub mod Fronts
-pub mod Reading
 pub mod Replies

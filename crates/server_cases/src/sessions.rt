@@ -1,7 +1,8 @@
 // Sessions with what is sent in them. The bytes were put together by hand from the messages.
 use crate::hosts::{answers, link};
-use cell_base::{Items, Memory};
-use monkey_server::{ListWords, serve_link};
+use cell_base::{Items, Level, Memory};
+use choice_stream::ListWords;
+use session_core::serve_link;
 use solo_book::SoloBook;
 use std::alloc::Global;
 use std::test::Fail;
@@ -21,7 +22,7 @@ const NO_USER: &[u8] = b"\0\0\0\x09\0\x03\0\0\0";
 const REFUSED: &[u8] = b"E\0\0\0;SFATAL\0VFATAL\0C28000\0Mno user name in startup message\0\0";
 // A read of a table that is not there, and a statement that the server doesn't run.
 const NO_TABLE: &[u8] =
-    b"\0\0\0\x10\0\x03\0\0user\0a\0\0Q\0\0\0 SELECT v FROM t WHERE k = 1\0Q\0\0\0\x0aBEGIN\0";
+    b"\0\0\0\x10\0\x03\0\0user\0a\0\0Q\0\0\0 SELECT v FROM t WHERE k = 1\0Q\0\0\0\x0bVACUUM\0";
 // Their errors.
 const ERRORS: &[u8] =
     b"R\0\0\0\x08\0\0\0\0S\0\0\0\x18server_version\014.0\0S\0\0\0\x19server_encoding\0UTF8\0S\0\0\0\x19client_encoding\0UTF8\0S\0\0\0\x17DateStyle\0ISO, MDY\0S\0\0\0\x19integer_datetimes\0on\0S\0\0\0#standard_conforming_strings\0on\0K\0\0\0\x0c\0\0\0\x01\0\0\0\0Z\0\0\0\x05IE\0\0\03SERROR\0VERROR\0C42P01\0Mrelation does not exist\0\0Z\0\0\0\x05IE\0\0\01SERROR\0VERROR\0C0A000\0Mfeature not supported\0\0Z\0\0\0\x05I";
@@ -51,7 +52,7 @@ fn events(alloc: Global, words: &[u32], input: &[u8]) -> Result<usize, Memory> {
     let mut book = SoloBook::new(alloc);
     let mut link = link(alloc, input, 64)?;
     let mut words = ListWords::new(Items::from_slice(alloc, words)?);
-    serve_link(alloc, &mut book, &mut link, &mut words);
+    serve_link(alloc, Level::Rc, &mut book, &mut link, &mut words);
     Ok(book.history().events().len())
 }
 

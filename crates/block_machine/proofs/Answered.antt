@@ -1,0 +1,125 @@
+-- A course behind each answer, and as a script.
+use Rattle.std.proofs.Common.{◌≡◌, ◌<◌, ℕ, Bool, true, false, List, [], ◌∷◌, length, refl, sym, ap, subst}
+use Rattle.cell_base.specs.declared.key.Key.{Key}
+use Rattle.cell_base.specs.declared.sql_state.SqlState.{SqlState}
+use Rattle.history_core.specs.declared.event.Event.{Event}
+use Rattle.history_core.specs.declared.fault.BookFault.{BookFault}
+use Rattle.sql_tree.specs.declared.table.Table.{Table}
+use Rattle.statement_course.specs.declared.demand.Demand.{Demand}
+use Rattle.statement_course.specs.declared.demand.Demand.TheVariants as demands
+use Rattle.statement_course.specs.declared.demand.Outcome.{Outcome}
+use Rattle.statement_course.specs.declared.demand.Outcome.TheVariants as outcomes
+use Rattle.statement_course.specs.declared.demand.PlanAnswer.{PlanAnswer}
+use Rattle.statement_course.specs.declared.demand.PlanAnswer.TheVariants as plan_answers
+use Rattle.statement_course.specs.Course.{Course, scan, touch, write, first_demand, behind, FitsDemand}
+use Rattle.statement_course.specs.Course as course
+use Rattle.statement_course.specs.Laws.{ReadsFirst, OnlyWrites}
+use Rattle.outcome_replies.specs.Replies.{outcome_reply}
+use Rattle.outcome_replies.specs.Ends.{EndsIn}
+use Rattle.block_machine.specs.declared.block.Block.{Block}
+use Rattle.block_machine.specs.declared.call.Answer.{Answer}
+use Rattle.block_machine.specs.declared.call.Answer.TheVariants as answers
+use Rattle.block_machine.specs.Calls.{Call, asks_cells, call_for}
+use Rattle.block_machine.specs.Script.{Entry, Said, call, with_call}
+use Rattle.block_machine.specs.Statements.{Around, refusal_state, succeeds, fails, concludes, runs, continues}
+use Rattle.block_machine.specs.Stages.{Fits, answer_with, entry_for}
+
+pub asks_by : (d : Demand) → ((outcome : Outcome) → d ≡ demands.Reply outcome → ⊥) → asks_cells d ≡ true
+asks_by (demands.Scan table) h = refl
+asks_by (demands.Touch cell) h = refl
+asks_by (demands.Write cell value) h = refl
+asks_by (demands.Reply outcome) h = absurd (h outcome refl)
+
+pub done_by : (c : Course) (outcome : Outcome) → demands.Reply outcome ≡ first_demand c → c ≡ course.done outcome
+done_by (scan table next) outcome h = absurd (cc h)
+done_by (touch cell next) outcome h = absurd (cc h)
+done_by (write cell value next) outcome h = absurd (cc h)
+done_by (course.done other) outcome h = ap course.done (sym (cc h))
+
+pub not_done : (outcome : Outcome) (d : Demand) → asks_cells d ≡ true → d ≡ demands.Reply outcome → ⊥
+not_done outcome (demands.Scan table) h e = cc e
+not_done outcome (demands.Touch cell) h e = cc e
+not_done outcome (demands.Write cell value) h e = cc e
+not_done outcome (demands.Reply other) h e = cc h
+
+pub fits_demand : (c : Course) (b : PlanAnswer) → asks_cells (first_demand c) ≡ true → Fits (call_for (first_demand c)) (answer_with b) → FitsDemand c b
+fits_demand (scan table next) (plan_answers.Keys keys) a h = h
+fits_demand (touch cell next) (plan_answers.Value value) a h = tt
+fits_demand (write cell value next) plan_answers.Written a h = tt
+fits_demand (course.done outcome) b a h = absurd (cc a)
+fits_demand (scan table next) (plan_answers.Value value) a h = absurd h
+fits_demand (scan table next) plan_answers.Written a h = absurd h
+fits_demand (touch cell next) (plan_answers.Keys keys) a h = absurd h
+fits_demand (touch cell next) plan_answers.Written a h = absurd h
+fits_demand (write cell value next) (plan_answers.Keys keys) a h = absurd h
+fits_demand (write cell value next) (plan_answers.Value v) a h = absurd h
+
+only_first : (n : ℕ) (c : Course) → OnlyWrites n c → ReadsFirst n c
+only_first n (scan table next) h = absurd h
+only_first n (touch cell next) h = absurd h
+only_first n (write cell value next) h = h
+only_first n (course.done outcome) h = tt
+
+pub behind_first : (n : ℕ) (c : Course) (b : PlanAnswer) → FitsDemand c b → ReadsFirst n c → ReadsFirst n (behind c b)
+behind_first n (scan table next) (plan_answers.Keys keys) f h = h.1 keys
+behind_first n (touch cell next) (plan_answers.Value value) f h = h.1 value
+behind_first n (write cell value next) plan_answers.Written f h = only_first n next h.2
+behind_first n (course.done outcome) b f h = absurd f
+behind_first n (scan table next) (plan_answers.Value value) f h = absurd f
+behind_first n (scan table next) plan_answers.Written f h = absurd f
+behind_first n (touch cell next) (plan_answers.Keys keys) f h = absurd f
+behind_first n (touch cell next) plan_answers.Written f h = absurd f
+behind_first n (write cell value next) (plan_answers.Keys keys) f h = absurd f
+behind_first n (write cell value next) (plan_answers.Value v) f h = absurd f
+
+pub behind_ends : (P : Outcome → Type 0) (c : Course) (b : PlanAnswer) → FitsDemand c b → EndsIn P c → EndsIn P (behind c b)
+behind_ends P (scan table next) (plan_answers.Keys keys) f h = h keys
+behind_ends P (touch cell next) (plan_answers.Value value) f h = h value
+behind_ends P (write cell value next) plan_answers.Written f h = h
+behind_ends P (course.done outcome) b f h = absurd f
+behind_ends P (scan table next) (plan_answers.Value value) f h = absurd f
+behind_ends P (scan table next) plan_answers.Written f h = absurd f
+behind_ends P (touch cell next) (plan_answers.Keys keys) f h = absurd f
+behind_ends P (touch cell next) plan_answers.Written f h = absurd f
+behind_ends P (write cell value next) (plan_answers.Keys keys) f h = absurd f
+behind_ends P (write cell value next) (plan_answers.Value v) f h = absurd f
+
+pub ends_done : (P : Outcome → Type 0) (c : Course) (outcome : Outcome) → c ≡ course.done outcome → EndsIn P c → P outcome
+ends_done P c outcome is h = subst (EndsIn P) is h
+
+-- ---- scripts
+
+pub runs_asks : (c : Course) (block : Block) (known : List Table) (around : Around) (said : Said) → asks_cells (first_demand c) ≡ true → runs c block known around said [] ≡ (said, call (call_for (first_demand c)))
+runs_asks (scan table next) block known around said h = refl
+runs_asks (touch cell next) block known around said h = refl
+runs_asks (write cell value next) block known around said h = refl
+runs_asks (course.done outcome) block known around said h = absurd (cc h)
+
+pub runs_answered : (c : Course) (b : PlanAnswer) (block : Block) (known : List Table) (around : Around) (said : Said) (e : Event) (es : List Entry) → FitsDemand c b →
+    runs c block known around said (entry_for (answer_with b) e ∷ es) ≡ continues (behind c b) block known around (with_call said (call_for (first_demand c))) es
+runs_answered (scan table next) (plan_answers.Keys keys) block known around said e es f = refl
+runs_answered (touch cell next) (plan_answers.Value value) block known around said e es f = refl
+runs_answered (write cell value next) plan_answers.Written block known around said e es f = refl
+runs_answered (course.done outcome) b block known around said e es f = absurd f
+runs_answered (scan table next) (plan_answers.Value value) block known around said e es f = absurd f
+runs_answered (scan table next) plan_answers.Written block known around said e es f = absurd f
+runs_answered (touch cell next) (plan_answers.Keys keys) block known around said e es f = absurd f
+runs_answered (touch cell next) plan_answers.Written block known around said e es f = absurd f
+runs_answered (write cell value next) (plan_answers.Keys keys) block known around said e es f = absurd f
+runs_answered (write cell value next) (plan_answers.Value v) block known around said e es f = absurd f
+
+pub runs_refused : (c : Course) (why : BookFault) (block : Block) (known : List Table) (around : Around) (said : Said) (e : Event) (es : List Entry) → asks_cells (first_demand c) ≡ true →
+    runs c block known around said (entry_for (answers.Refused why) e ∷ es) ≡ fails (refusal_state why) block known around (with_call said (call_for (first_demand c))) es
+runs_refused (scan table next) why block known around said e es h = refl
+runs_refused (touch cell next) why block known around said e es h = refl
+runs_refused (write cell value next) why block known around said e es h = refl
+runs_refused (course.done outcome) why block known around said e es h = absurd (cc h)
+
+-- a statement that is done, and didn't fail
+pub concludes_told : (outcome : Outcome) (block : Block) (known : List Table) (around : Around) (said : Said) (es : List Entry) → ((code : SqlState) → outcome ≡ outcomes.Failed code → ⊥) →
+    concludes outcome block known around said es ≡ succeeds (outcome_reply outcome) block known around said es
+concludes_told (outcomes.Failed code) block known around said es h = absurd (h code refl)
+concludes_told (outcomes.Rows fields rows) block known around said es h = refl
+concludes_told (outcomes.Inserted n) block known around said es h = refl
+concludes_told (outcomes.Updated n) block known around said es h = refl
+concludes_told (outcomes.Deleted n) block known around said es h = refl

@@ -1,0 +1,9 @@
+mod Passes
+mod Somes
+mod Holding
+mod Answered
+mod Tables
+mod Alone
+mod Wanting
+mod Advancing
+mod Asking

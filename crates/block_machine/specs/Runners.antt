@@ -1,0 +1,76 @@
+-- What a runner goes on with.
+use Rattle.std.specs.Prelude.{ℕ, ◌+◌, ◌*◌, All, List, length, Bool}
+use Rattle.std.specs.Vec.Iter.{into_iter_items}
+use Rattle.cell_base.specs.declared.level.Level.{Level}
+use Rattle.sql_tree.specs.declared.statement.Statement.{Statement}
+use Rattle.sql_tree.specs.declared.table.Table.{Table}
+use Rattle.block_machine.specs.declared.block.Owed.{Owed}
+use Rattle.block_machine.specs.declared.runner.Runner.{Runner}
+use Rattle.block_machine.specs.Calls.{Want}
+use Rattle.block_machine.specs.Script.{Script}
+use Rattle.block_machine.specs.Messages.{Outside}
+use Rattle.block_machine.specs.Stages.{goes_on, wants, reply_of, after_reply, owed_at, work_at, left_at, running_at, is_busy, IsHolding, IsRunning, KnowsTables, IsSoundStage, IsSoundStatement}
+
+-- the statements that its message still has
+abbrev pub statements_of : Runner → List Statement
+statements_of r = into_iter_items r.rest
+
+abbrev pub follows : Runner → Outside → Script
+follows r outside = goes_on r.stage r.built.items r.known.items (statements_of r) outside
+
+abbrev pub wanted : Runner → Want
+wanted r = wants r.stage r.known.items
+
+abbrev pub held : Runner → List ℕ
+held r = reply_of r.built.items r.stage
+
+-- how much work is left until the message is done, but for the demands of a running statement
+abbrev pub work_of : Runner → ℕ
+work_of r = work_at r.stage + 8 * length (statements_of r)
+
+-- ---- words for what stands above
+
+-- the level that is served
+abbrev pub level_of : Runner → Level
+level_of r = r.level
+
+-- the tables known
+abbrev pub known_of : Runner → List Table
+known_of r = r.known.items
+
+-- what follows the reply that is held
+abbrev pub behind : Runner → Outside → Script
+behind r outside = after_reply r.stage r.known.items (statements_of r) outside
+
+-- what the session owes its book
+abbrev pub owes : Runner → Owed
+owes r = owed_at r.stage
+
+-- whether a message is under way
+abbrev pub is_under_way : Runner → Bool
+is_under_way r = is_busy r.stage
+
+-- a reply is held
+abbrev pub Holds : Runner → Type 0
+Holds r = IsHolding r.stage
+
+-- a statement runs
+abbrev pub Runs : Runner → Type 0
+Runs r = IsRunning r.stage
+
+-- a statement that begins or runs asks only for cells of the tables that are known
+abbrev pub Knows : Runner → Type 0
+Knows r = KnowsTables r.stage r.known.items
+
+-- the table that is about to be defined is sound, and so are the statements that wait; what a statement comes to can be told
+pub record IsSoundRunner (r : Runner) : Type 0 where
+  pub stage : IsSoundStage r.stage
+  pub rest : All IsSoundStatement (statements_of r)
+
+-- how many demands of a running statement are left at most
+abbrev pub left_of : Runner → ℕ
+left_of r = left_at r.stage
+
+-- 1 where a statement runs
+abbrev pub running_of : Runner → ℕ
+running_of r = running_at r.stage

@@ -1,0 +1,45 @@
+-- The settings that SET and SHOW name (PostgreSQL's documentation, "SET", "SHOW"; those whose names begin `monkey.` are this server's own).
+use Rattle.std.specs.Prelude.{ℕ, ◌≤◌, length, ◌==◌, ◌||◌, List, codes, if◌then◌else◌, Bool, Option, Some, None}
+use Rattle.std.specs.List.{starts_with}
+use Rattle.std.specs.Str.{bytes_eq}
+use Rattle.pg_framing.specs.Spelling.{HasNoZero}
+use Rattle.cell_base.specs.declared.level.Level.{Level}
+use Rattle.cell_base.specs.declared.level.Level.TheVariants.{Rc, Ra, Cc}
+
+-- the server's own settings can't be set
+abbrev pub is_own : List ℕ → Bool
+is_own name = starts_with ◌==◌ name (codes "monkey.")
+
+-- how many events the history has
+abbrev pub history_name : List ℕ
+history_name = codes "monkey.history"
+
+-- the word of a level, by which the server is started
+abbrev pub level_word : Level → List ℕ
+level_word Rc = codes "rc"
+level_word Ra = codes "ra"
+level_word Cc = codes "cc"
+
+-- those that are on
+abbrev pub switch_value : List ℕ → Option (List ℕ)
+switch_value name =
+    if bytes_eq name (codes "integer_datetimes") then Some (codes "on")
+    else (if bytes_eq name (codes "standard_conforming_strings") then Some (codes "on") else None)
+
+-- What a session is told at its start is the same for each session. A name that is written without quotes has small letters.
+abbrev pub parameter_value : List ℕ → Option (List ℕ)
+parameter_value name =
+    if bytes_eq name (codes "server_version") then Some (codes "14.0")
+    else (if bytes_eq name (codes "server_encoding") then Some (codes "UTF8")
+    else (if bytes_eq name (codes "client_encoding") then Some (codes "UTF8")
+    else (if bytes_eq name (codes "DateStyle") then Some (codes "ISO, MDY")
+    else (if bytes_eq name (codes "datestyle") then Some (codes "ISO, MDY") else switch_value name))))
+
+-- the value of a setting but for the history's; none where there is no such setting
+abbrev pub value_of : Level → List ℕ → Option (List ℕ)
+value_of level name = if bytes_eq name (codes "monkey.level") then Some (level_word level) else parameter_value name
+
+-- a name that can be told as that of a column
+pub record IsShown (name : List ℕ) : Type 0 where
+  pub no_zero : HasNoZero name
+  pub short : length name ≤ 64

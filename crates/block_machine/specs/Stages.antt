@@ -1,0 +1,334 @@
+-- What each stage of a message goes on with, what it wants and owes, and what a step from one to the next comes to.
+use Rattle.std.specs.Prelude.{◌≡◌, ℕ, ◌+◌, ◌<◌, ◌≤◌, ◌⊎◌, List, [], ◌∷◌, ◌++◌, length, All, Bool, true, false, Ok}
+use Rattle.cell_base.specs.declared.level.Level.{Level}
+use Rattle.cell_base.specs.declared.sql_state.SqlState.{SqlState}
+use Rattle.history_core.specs.declared.event.Event.{Event}
+use Rattle.history_core.specs.declared.fault.BookFault.TheVariants as faults
+use Rattle.pg_framing.specs.declared.replies.TransactionState.{TransactionState}
+use Rattle.sql_tree.specs.declared.statement.Statement.{Statement}
+use Rattle.sql_tree.specs.declared.statement.Statement.TheVariants as tree
+use Rattle.sql_tree.specs.declared.table.Table.{Table}
+use Rattle.sql_typing.specs.Building.{built}
+use Rattle.sound_table.specs.Sound.{IsSound}
+use Rattle.described_columns.specs.Described.{HasPlainNames}
+use Rattle.outcome_replies.specs.Replies.{CanBeTold}
+use Rattle.outcome_replies.specs.Ends.{EndsIn}
+use Rattle.statement_course.specs.Course.{Course, first_demand, behind}
+use Rattle.statement_course.specs.Laws.{ReadsFirst}
+use Rattle.statement_course.specs.declared.demand.PlanAnswer.{PlanAnswer}
+use Rattle.statement_course.specs.declared.demand.PlanAnswer.TheVariants as plan_answers
+use Rattle.cell_compile.specs.Plans.{rest_of, left_of}
+use Rattle.block_machine.specs.Calls.{Call, Want, call_for}
+use Rattle.block_machine.specs.Calls as calls
+use Rattle.block_machine.specs.Replies.{ready_reply, error_reply, fixed_reply, bytes_of}
+use Rattle.block_machine.specs.Script.{Entry, did, refused, short, unsent, stop, Said, Script, lost, with_call, ask}
+use Rattle.block_machine.specs.Statements.{Around, owed_in, succeeds, refused_with, fails, starts, defines, runs, continues, begins, looks, shows_history}
+use Rattle.block_machine.specs.Messages.{Outside, owed_between, readied, ends, statements, before}
+use Rattle.block_machine.specs.declared.block.Block.{Block}
+use Rattle.block_machine.specs.declared.block.Block.TheVariants.{Implicit, Regular, Failed}
+use Rattle.block_machine.specs.declared.block.Owed.{Owed}
+use Rattle.block_machine.specs.declared.block.Owed.TheVariants as owes
+use Rattle.block_machine.specs.declared.block.Pending.{Pending}
+use Rattle.block_machine.specs.declared.block.Pending.TheVariants as pending
+use Rattle.block_machine.specs.declared.call.Answer.{Answer}
+use Rattle.block_machine.specs.declared.call.Answer.TheVariants as answers
+use Rattle.block_machine.specs.declared.message.Message.{Message}
+use Rattle.block_machine.specs.declared.message.Message.TheVariants as messages
+use Rattle.block_machine.specs.declared.reply.Reply.TheVariants as replies
+use Rattle.block_machine.specs.declared.stage.Stage.{Stage}
+use Rattle.block_machine.specs.declared.stage.Stage.TheVariants as stages
+
+-- a block whose transaction is pending
+abbrev pub block_of : Pending → Block
+block_of pending.Implicit = Implicit true
+block_of pending.Regular = Regular
+
+-- What a stage goes on with, given the reply that was built, the tables known, and the statements that the message still has.
+abbrev pub goes_on : Stage → List ℕ → List Table → List Statement → Outside → Script
+goes_on (stages.Over state) built known more outside = outside.next state known
+goes_on (stages.Defining table block) built known more outside = defines (Ok table) block known (before more outside)
+goes_on (stages.Looking statement block) built known more outside = looks statement block known (before more outside)
+goes_on (stages.Beginning plan) built known more outside = begins (rest_of plan) (Implicit false) known (before more outside)
+goes_on (stages.Running run p) built known more outside = runs (rest_of run.plan) (block_of p) known (before more outside)
+goes_on (stages.Starting start) built known more outside = starts start (Implicit false) known (before more outside)
+goes_on (stages.Showing block) built known more outside = shows_history block known (before more outside)
+goes_on (stages.Committing reply) built known more outside = ask calls.Commit (λ _. succeeds (fixed_reply reply) (Implicit false) known (before more outside))
+goes_on (stages.RollingBack reply) built known more outside = ask calls.Rollback (λ _. succeeds (fixed_reply reply) (Implicit false) known (before more outside))
+goes_on (stages.Telling reply block) built known more outside = succeeds (bytes_of built reply) block known (before more outside)
+goes_on (stages.Undoing code p) built known more outside = fails code (block_of p) known (before more outside)
+goes_on (stages.Failing code state) built known more outside = refused_with code state known (before more outside)
+goes_on stages.Finishing built known more outside = ends (Implicit true) known outside
+goes_on (stages.Readying state) built known more outside = readied state known outside
+
+-- what a stage wants, given the tables known
+abbrev pub wants : Stage → List Table → Want
+wants (stages.Over state) known = calls.Nothing
+wants (stages.Defining table block) known = calls.Book (calls.Define table)
+wants (stages.Looking statement block) known = calls.Book (calls.Look (length known))
+wants (stages.Beginning plan) known = calls.Book calls.Begin
+wants (stages.Running run p) known = calls.Book (call_for (first_demand (rest_of run.plan)))
+wants (stages.Starting start) known = calls.Book calls.Begin
+wants (stages.Showing block) known = calls.Book calls.Show
+wants (stages.Committing reply) known = calls.Book calls.Commit
+wants (stages.RollingBack reply) known = calls.Book calls.Rollback
+wants (stages.Telling reply block) known = calls.Send
+wants (stages.Undoing code p) known = calls.Book calls.Rollback
+wants (stages.Failing code state) known = calls.Send
+wants stages.Finishing known = calls.Book calls.Commit
+wants (stages.Readying state) known = calls.Send
+
+-- what the session owes its book
+abbrev pub owed_at : Stage → Owed
+owed_at (stages.Over state) = owed_between state
+owed_at (stages.Defining table block) = owed_in block
+owed_at (stages.Looking statement block) = owed_in block
+owed_at (stages.Beginning plan) = owes.Close
+owed_at (stages.Running run p) = owes.Rollback
+owed_at (stages.Starting start) = owes.Close
+owed_at (stages.Showing block) = owed_in block
+owed_at (stages.Committing reply) = owes.Rollback
+owed_at (stages.RollingBack reply) = owes.Rollback
+owed_at (stages.Telling reply block) = owed_in block
+owed_at (stages.Undoing code p) = owes.Rollback
+owed_at (stages.Failing code state) = owes.Close
+owed_at stages.Finishing = owes.Rollback
+owed_at (stages.Readying state) = owed_between state
+
+abbrev pub owed_after : Call → Answer → Owed → Owed
+owed_after calls.Open (answers.Opened s) owed = owes.Close
+owed_after calls.Close answers.Closed owed = owes.Nothing
+owed_after calls.Begin (answers.Begun n) owed = owes.Rollback
+owed_after calls.Commit answers.Committed owed = owes.Close
+owed_after calls.Rollback answers.RolledBack owed = owes.Close
+owed_after _ _ owed = owed
+
+-- ---- replies
+
+-- a reply is held
+abbrev pub IsHolding : Stage → Type 0
+IsHolding (stages.Telling reply block) = Unit {0}
+IsHolding (stages.Failing code state) = Unit {0}
+IsHolding (stages.Readying state) = Unit {0}
+IsHolding _ = ⊥
+
+abbrev pub reply_of : List ℕ → Stage → List ℕ
+reply_of built (stages.Telling reply block) = bytes_of built reply
+reply_of built (stages.Failing code state) = error_reply code
+reply_of built (stages.Readying state) = ready_reply state
+reply_of built _ = []
+
+-- what follows a reply that was sent
+abbrev pub after_reply : Stage → List Table → List Statement → Outside → Script
+after_reply (stages.Telling reply block) known more outside = statements more block known outside
+after_reply (stages.Failing code state) known more outside = readied state known outside
+after_reply (stages.Readying state) known more outside = outside.next state known
+after_reply _ known more outside = lost
+
+-- the reply that is held isn't one that was built
+abbrev pub NoBuilt : Stage → Type 0
+NoBuilt (stages.Telling replies.Built block) = ⊥
+NoBuilt _ = Unit {0}
+
+-- a held reply has bytes
+abbrev pub HasReply : Stage → List ℕ → Type 0
+HasReply stage built = IsHolding stage → 0 < length (reply_of built stage)
+
+-- ---- entries
+
+-- Between two messages memory may be wanting at once. Elsewhere a want of memory and a failed write stand where more was told than was sent.
+abbrev pub least : Stage → ℕ
+least (stages.Over state) = 0
+least _ = 1
+
+abbrev pub IsFrom : ℕ → ℕ → List Entry → Type 0
+IsFrom least sent [] = Unit {0}
+IsFrom least sent (did a e ∷ es) = Unit {0}
+IsFrom least sent (refused why ∷ es) = Unit {0}
+IsFrom least sent (short final n ∷ es) = least + sent ≤ n
+IsFrom least sent (unsent n ∷ es) = sent < n
+IsFrom least sent (stop cause ∷ es) = Unit {0}
+
+-- the entries with a want of memory of the session before them, where there was one
+abbrev pub with_short : Bool → List ℕ → List Entry → List Entry
+with_short false sent es = es
+with_short true sent es = short false (length sent) ∷ es
+
+-- the entry of an answer, with the event that it made
+abbrev pub entry_for : Answer → Event → Entry
+entry_for (answers.Refused why) e = refused why
+entry_for a e = did a e
+
+-- the answer is one of the call's name, or a refusal where the call may be refused
+abbrev pub Fits : Call → Answer → Type 0
+Fits calls.Open (answers.Opened s) = Unit {0}
+Fits calls.Open (answers.Refused why) = Unit {0}
+Fits calls.Close answers.Closed = Unit {0}
+Fits (calls.Look known) (answers.Looked tables) = (known + length tables < 4294967296) × All IsSound tables
+Fits (calls.Look known) (answers.Refused why) = Unit {0}
+Fits (calls.Define table) (answers.Defined a) = Unit {0}
+Fits (calls.Define table) (answers.Refused why) = Unit {0}
+Fits calls.Begin (answers.Begun n) = Unit {0}
+Fits calls.Begin (answers.Refused why) = Unit {0}
+Fits (calls.Scan table) (answers.Listed keys) = length keys < 4294967296
+Fits (calls.Scan table) (answers.Refused why) = Unit {0}
+Fits (calls.Touch cell) (answers.Found value) = Unit {0}
+Fits (calls.Touch cell) (answers.Refused why) = Unit {0}
+Fits (calls.Write cell value) answers.Written = Unit {0}
+Fits (calls.Write cell value) (answers.Refused why) = Unit {0}
+Fits calls.Commit answers.Committed = Unit {0}
+Fits calls.Rollback answers.RolledBack = Unit {0}
+Fits calls.Show (answers.Shown n) = Unit {0}
+Fits calls.Show (answers.Refused why) = Unit {0}
+Fits _ _ = ⊥
+
+abbrev pub FitsWant : Want → Answer → Type 0
+FitsWant (calls.Book c) a = Fits c a
+FitsWant _ a = ⊥
+
+-- the answer is a want of memory of the book
+abbrev pub wants_memory : Answer → Bool
+wants_memory (answers.Refused faults.Memory) = true
+wants_memory (answers.Refused (faults.Full limit)) = false
+wants_memory _ = false
+
+-- ---- steps
+
+-- the script of a statement is what a stage goes on with
+abbrev pub IsScriptAt : (Around → Script) → Stage → List ℕ → List Table → Type 0
+IsScriptAt script stage built known =
+    (more : List Statement) (outside : Outside) (said : Said) (es : List Entry) → script (before more outside) said es ≡ goes_on stage built known more outside said es
+
+-- whatever the tables are
+abbrev pub IsScriptOf : (List Table → Around → Script) → Stage → List ℕ → Type 0
+IsScriptOf script stage built = (known : List Table) → IsScriptAt (script known) stage built known
+
+-- the script of a statement leads to a stage, with a want of memory before it where there was one
+abbrev pub LeadsTo : (Around → Script) → Stage → Bool → List ℕ → List Table → Type 0
+LeadsTo script next wanting built known =
+    (more : List Statement) (outside : Outside) (said : Said) (es : List Entry) → IsFrom 1 (length said.bytes) es →
+    script (before more outside) said (with_short wanting said.bytes es) ≡ goes_on next built known more outside said es
+
+-- the same, whatever the tables are, where this level is served
+abbrev pub LeadsAt : Level → (List Table → Around → Script) → Stage → Bool → List ℕ → Type 0
+LeadsAt level script next wanting built =
+    (known : List Table) (more : List Statement) (outside : Outside) (said : Said) (es : List Entry) → outside.level ≡ level → IsFrom 1 (length said.bytes) es →
+    script known (before more outside) said (with_short wanting said.bytes es) ≡ goes_on next built known more outside said es
+
+-- a message, or what follows a reply, leads to a stage and the statements that are then left
+abbrev pub TurnsTo : Level → (List Table → Outside → Script) → Stage → Bool → List ℕ → List Statement → Type 0
+TurnsTo level script next wanting built more =
+    (known : List Table) (outside : Outside) (said : Said) (es : List Entry) → outside.level ≡ level → IsFrom (least next) (length said.bytes) es →
+    script known outside said (with_short wanting said.bytes es) ≡ goes_on next built known more outside said es
+
+-- An answer to a stage's call leads on, with a want of memory behind it where there was one.
+abbrev pub Advances : Stage → List Table → Answer → Stage → Bool → List ℕ → List Table → Type 0
+Advances stage known answer next wanting built after =
+    (c : Call) (unbuilt : List ℕ) (more : List Statement) (outside : Outside) (said : Said) (es : List Entry) (e : Event) →
+    wants stage known ≡ calls.Book c → IsFrom 1 (length said.bytes) es →
+    goes_on stage unbuilt known more outside said (entry_for answer e ∷ with_short wanting said.bytes es) ≡ goes_on next built after more outside (with_call said c) es
+
+-- The tables known behind an answer are those known before, and, behind a look, perhaps those that it showed.
+abbrev pub IsKnownAfter : List Table → Answer → List Table → Type 0
+IsKnownAfter known (answers.Looked tables) after = (after ≡ known) ⊎ (after ≡ known ++ tables)
+IsKnownAfter known _ after = after ≡ known
+
+-- an answer to a statement's demand
+abbrev pub answer_with : PlanAnswer → Answer
+answer_with (plan_answers.Keys keys) = answers.Listed keys
+answer_with (plan_answers.Value value) = answers.Found value
+answer_with plan_answers.Written = answers.Written
+
+-- the answers that need memory are left out, and those of a statement that runs or begins to
+abbrev pub IsPlain : Stage → Answer → Type 0
+IsPlain (stages.Looking statement block) (answers.Looked tables) = ⊥
+IsPlain (stages.Showing block) (answers.Shown n) = ⊥
+IsPlain (stages.Beginning plan) _ = ⊥
+IsPlain (stages.Running run p) _ = ⊥
+IsPlain _ _ = Unit {0}
+
+-- ---- what holds of a stage
+
+abbrev pub IsRunning : Stage → Type 0
+IsRunning (stages.Running run p) = Unit {0}
+IsRunning _ = ⊥
+
+-- no statement begins to run or runs
+abbrev pub IsNoStatement : Stage → Type 0
+IsNoStatement (stages.Beginning plan) = ⊥
+IsNoStatement (stages.Running run p) = ⊥
+IsNoStatement _ = Unit {0}
+
+-- neither a table nor a statement is kept
+abbrev pub IsQuiet : Stage → Type 0
+IsQuiet (stages.Defining table block) = ⊥
+IsQuiet (stages.Looking statement block) = ⊥
+IsQuiet (stages.Beginning plan) = ⊥
+IsQuiet (stages.Running run p) = ⊥
+IsQuiet _ = Unit {0}
+
+-- whether a message is under way
+abbrev pub is_busy : Stage → Bool
+is_busy (stages.Over state) = false
+is_busy _ = true
+
+-- a message is under way
+abbrev pub IsBusy : Stage → Type 0
+IsBusy (stages.Over state) = ⊥
+IsBusy _ = Unit {0}
+
+-- A statement that begins or runs asks only for cells of the tables that are known, and reads before it writes.
+abbrev pub KnowsTables : Stage → List Table → Type 0
+KnowsTables (stages.Beginning plan) known = ReadsFirst (length known) (rest_of plan)
+KnowsTables (stages.Running run p) known = ReadsFirst (length known) (rest_of run.plan)
+KnowsTables _ known = Unit {0}
+
+-- A statement as the grammar gives it for a text without a zero byte: a table that it creates is sound, and the names of its columns are plain.
+abbrev pub IsSoundStatement : Statement → Type 0
+IsSoundStatement (tree.Create create) = (table : Table) → built create ≡ Ok table → IsSound table
+IsSoundStatement statement = HasPlainNames statement
+
+abbrev pub IsSoundMessage : Message → Type 0
+IsSoundMessage (messages.Statements statements) = All IsSoundStatement statements
+IsSoundMessage (messages.Unread code) = Unit {0}
+
+-- how many statements a message has
+abbrev pub length_of : Message → ℕ
+length_of (messages.Statements statements) = length statements
+length_of (messages.Unread code) = 0
+
+-- the table that is about to be defined is sound, and what a statement comes to can be told
+abbrev pub IsSoundStage : Stage → Type 0
+IsSoundStage (stages.Defining table block) = IsSound table
+IsSoundStage (stages.Looking statement block) = HasPlainNames statement
+IsSoundStage (stages.Beginning plan) = EndsIn CanBeTold (rest_of plan)
+IsSoundStage (stages.Running run p) = EndsIn CanBeTold (rest_of run.plan)
+IsSoundStage _ = Unit {0}
+
+-- ---- how much work is left
+
+-- how much work a stage leaves until the message is done, but for the demands of a running statement and for the statements behind it
+abbrev pub work_at : Stage → ℕ
+work_at (stages.Over state) = 0
+work_at (stages.Defining table block) = 4
+work_at (stages.Looking statement block) = 7
+work_at (stages.Beginning plan) = 6
+work_at (stages.Running run p) = 5
+work_at (stages.Starting start) = 4
+work_at (stages.Showing block) = 4
+work_at (stages.Committing reply) = 4
+work_at (stages.RollingBack reply) = 4
+work_at (stages.Telling reply block) = 3
+work_at (stages.Undoing code p) = 3
+work_at (stages.Failing code state) = 2
+work_at stages.Finishing = 2
+work_at (stages.Readying state) = 1
+
+-- how many demands of a running statement are left at most
+abbrev pub left_at : Stage → ℕ
+left_at (stages.Running run p) = 1 + left_of run.plan
+left_at _ = 0
+
+-- 1 where a statement runs
+abbrev pub running_at : Stage → ℕ
+running_at (stages.Running run p) = 1
+running_at _ = 0

@@ -1,0 +1,214 @@
+-- One statement: what it asks of the book, what is told of it, and in which block it leaves the session, by the block in which it stands
+-- (PostgreSQL's documentation, "Multiple Statements in a Simple Query", and "BEGIN", "COMMIT", "ROLLBACK", "SET", "SHOW").
+use Rattle.std.specs.Prelude.{ℕ, List, [], ◌∷◌, ◌++◌, length, if◌then◌else◌, Bool, true, false, Option, Some, None, Ok, Err}
+use Rattle.std.specs.Fmt.{decimal}
+use Rattle.std.specs.Str.{bytes_eq}
+use Rattle.cell_base.specs.declared.level.Level.{Level}
+use Rattle.cell_base.specs.declared.sql_state.SqlState.{SqlState}
+use Rattle.cell_base.specs.declared.sql_state.SqlState.TheVariants as states
+use Rattle.history_core.specs.declared.fault.BookFault.{BookFault}
+use Rattle.history_core.specs.declared.fault.BookFault.TheVariants as faults
+use Rattle.pg_framing.specs.declared.replies.TransactionState.{TransactionState}
+use Rattle.pg_framing.specs.declared.replies.TransactionState.TheVariants as ready
+use Rattle.sql_tree.specs.declared.statement.Select.{Select}
+use Rattle.sql_tree.specs.declared.statement.Statement.{Statement}
+use Rattle.sql_tree.specs.declared.statement.Statement.TheVariants as tree
+use Rattle.sql_tree.specs.declared.statement.TableRef.{TableRef}
+use Rattle.sql_tree.specs.declared.table.Table.{Table}
+use Rattle.sql_tree.specs.declared.typed.Typed.{Typed}
+use Rattle.sql_typing.specs.Outcome.{Outcome as Result}
+use Rattle.sql_typing.specs.Building.{built}
+use Rattle.sql_typing.specs.Typed.{typed}
+use Rattle.statement_course.specs.declared.demand.Outcome.{Outcome}
+use Rattle.statement_course.specs.declared.demand.Outcome.TheVariants as outcomes
+use Rattle.statement_course.specs.Course.{Course, scan, touch, write, done}
+use Rattle.statement_course.specs.Statements.{course_of}
+use Rattle.outcome_replies.specs.Replies.{outcome_reply}
+use Rattle.block_machine.specs.Calls as calls
+use Rattle.block_machine.specs.Settings.{is_own, history_name, value_of}
+use Rattle.block_machine.specs.Replies.{error_reply, created_reply, set_reply, commit_reply, rollback_reply, needless_commit_reply, needless_rollback_reply, start_reply, needless_start_reply, show_reply}
+use Rattle.block_machine.specs.Script.{Script, lost, ask, tell, unless_short, on_looked, on_defined, on_begun, on_listed, on_found, on_written, on_shown}
+use Rattle.block_machine.specs.declared.block.Block.{Block}
+use Rattle.block_machine.specs.declared.block.Block.TheVariants.{Implicit, Regular, Failed}
+use Rattle.block_machine.specs.declared.block.Owed.{Owed}
+use Rattle.block_machine.specs.declared.block.Owed.TheVariants as owes
+
+-- What a statement stands in: the level that is served, and what follows it. Where it succeeded, that is by the block in which it leaves
+-- the session and the tables that are then known; where it failed, by the state of its block behind it; where its reply could not be sent,
+-- by what the session owes.
+pub record Around : Type 0 where
+  pub level : Level
+  pub succeeded : Block → List Table → Script
+  pub failed : TransactionState → List Table → Script
+  pub broken : Owed → Script
+
+-- a pending transaction is rolled back before the session is closed
+abbrev pub owed_in : Block → Owed
+owed_in (Implicit false) = owes.Close
+owed_in (Implicit true) = owes.Rollback
+owed_in Regular = owes.Rollback
+owed_in Failed = owes.Close
+
+-- a statement that succeeds is told so
+abbrev pub succeeds : List ℕ → Block → List Table → Around → Script
+succeeds reply block known around = tell reply (around.broken (owed_in block)) (around.succeeded block known)
+
+abbrev pub refused_with : SqlState → TransactionState → List Table → Around → Script
+refused_with code state known around = tell (error_reply code) (around.broken owes.Close) (around.failed state known)
+
+-- A statement that fails: the transaction that is pending is rolled back first, and then the error is told. A regular block is then failed.
+abbrev pub fails : SqlState → Block → List Table → Around → Script
+fails code (Implicit false) known around = refused_with code ready.Idle known around
+fails code (Implicit true) known around = ask calls.Rollback (λ _. refused_with code ready.Idle known around)
+fails code Regular known around = ask calls.Rollback (λ _. refused_with code ready.Failed known around)
+fails code Failed known around = refused_with code ready.Failed known around
+
+-- the code of a statement whose call was refused
+abbrev pub refusal_state : BookFault → SqlState
+refusal_state (faults.Full limit) = states.S54000
+refusal_state faults.Memory = states.S53200
+
+abbrev pub declined : Block → List Table → Around → BookFault → Script
+declined block known around why = fails (refusal_state why) block known around
+
+-- a want of memory of the session itself, in a statement
+abbrev pub unless_short_in : Block → List Table → Around → Script → Script
+unless_short_in block known around rest = unless_short false (fails states.S53200 block known around) rest
+
+-- ---- BEGIN, COMMIT, ROLLBACK: one for each block
+
+-- BEGIN, and START TRANSACTION where the flag is true
+abbrev pub starts : Bool → Block → List Table → Around → Script
+starts start (Implicit false) known around = ask calls.Begin (λ a. on_begun a (succeeds (start_reply start) Regular known around) (declined (Implicit false) known around))
+starts start (Implicit true) known around = succeeds (start_reply start) Regular known around
+starts start Regular known around = succeeds (needless_start_reply start) Regular known around
+starts start Failed known around = fails states.S25P02 Failed known around
+
+-- COMMIT, END
+abbrev pub commits : Block → List Table → Around → Script
+commits (Implicit false) known around = succeeds needless_commit_reply (Implicit false) known around
+commits (Implicit true) known around = ask calls.Commit (λ _. succeeds needless_commit_reply (Implicit false) known around)
+commits Regular known around = ask calls.Commit (λ _. succeeds commit_reply (Implicit false) known around)
+commits Failed known around = succeeds rollback_reply (Implicit false) known around
+
+-- ROLLBACK, ABORT
+abbrev pub rolls_back : Block → List Table → Around → Script
+rolls_back (Implicit false) known around = succeeds needless_rollback_reply (Implicit false) known around
+rolls_back (Implicit true) known around = ask calls.Rollback (λ _. succeeds needless_rollback_reply (Implicit false) known around)
+rolls_back Regular known around = ask calls.Rollback (λ _. succeeds rollback_reply (Implicit false) known around)
+rolls_back Failed known around = succeeds rollback_reply (Implicit false) known around
+
+-- ---- CREATE TABLE
+
+abbrev pub defines : Result Table → Block → List Table → Around → Script
+defines (Err code) block known around = fails code block known around
+defines (Ok table) block known around =
+    ask (calls.Define table) (λ a. on_defined a (succeeds created_reply block known around) (fails states.S42P07 block known around) (declined block known around))
+
+-- ---- SELECT, INSERT, UPDATE, DELETE
+
+-- what a statement comes to
+abbrev pub concludes : Outcome → Block → List Table → Around → Script
+concludes (outcomes.Failed code) block known around = fails code block known around
+concludes outcome block known around = succeeds (outcome_reply outcome) block known around
+
+-- A statement in its transaction asks for what its course demands, one call for each demand. A want of memory of the session itself may
+-- stand behind each answer.
+abbrev pub runs : Course → Block → List Table → Around → Script
+runs (scan table next) block known around =
+    ask (calls.Scan table) (λ a. on_listed a (λ keys. unless_short_in block known around (runs (next keys) block known around)) (declined block known around))
+runs (touch cell next) block known around =
+    ask (calls.Touch cell) (λ a. on_found a (λ value. unless_short_in block known around (runs (next value) block known around)) (declined block known around))
+runs (write cell value next) block known around =
+    ask (calls.Write cell value) (λ a. on_written a (unless_short_in block known around (runs next block known around)) (declined block known around))
+runs (done outcome) block known around = concludes outcome block known around
+
+-- the same, behind an answer
+abbrev pub continues : Course → Block → List Table → Around → Script
+continues c block known around = unless_short_in block known around (runs c block known around)
+
+-- an implicit block begins its transaction where none is pending
+abbrev pub begins : Course → Block → List Table → Around → Script
+begins c (Implicit false) known around = ask calls.Begin (λ a. on_begun a (continues c (Implicit true) known around) (declined (Implicit false) known around))
+begins c (Implicit true) known around = runs c (Implicit true) known around
+begins c Regular known around = runs c Regular known around
+begins c Failed known around = fails states.S25P02 Failed known around
+
+-- a statement that has its types runs over the tables that are known
+abbrev pub judged : Result Typed → Block → List Table → Around → Script
+judged (Ok t) block known around = begins (course_of known t) block known around
+judged (Err code) block known around = fails code block known around
+
+-- A statement is typed over the tables that are known behind its look. A want of memory in its typing forgets what the look showed.
+abbrev pub typed_over : Statement → Block → List Table → List Table → Around → Script
+typed_over statement block known tables around = unless_short_in block known around (judged (typed (known ++ tables) statement) block (known ++ tables) around)
+
+abbrev pub looks : Statement → Block → List Table → Around → Script
+looks statement block known around =
+    ask (calls.Look (length known)) (λ a. on_looked a (λ tables. typed_over statement block known tables around) (declined block known around))
+
+-- the statement is kept meanwhile, for which memory may be wanting
+abbrev pub prepares : Statement → Block → List Table → Around → Script
+prepares statement block known around = unless_short_in block known around (looks statement block known around)
+
+-- A SELECT without FROM is answered at once. It begins no transaction, and its course asks for nothing.
+abbrev pub at_once : Course → Block → List Table → Around → Script
+at_once (done outcome) block known around = concludes outcome block known around
+at_once _ block known around = lost
+
+abbrev pub judged_at_once : Result Typed → Block → List Table → Around → Script
+judged_at_once (Ok t) block known around = at_once (course_of [] t) block known around
+judged_at_once (Err code) block known around = fails code block known around
+
+abbrev pub selects : List TableRef → Statement → Block → List Table → Around → Script
+selects [] statement block known around = unless_short_in block known around (judged_at_once (typed [] statement) block known around)
+selects (entry ∷ more) statement block known around = prepares statement block known around
+
+-- ---- SET, SHOW
+
+-- a setting of the server's own can't be set, and to set another one has no effect
+abbrev pub sets : List ℕ → Block → List Table → Around → Script
+sets name block known around = if is_own name then fails states.S0A000 block known around else succeeds set_reply block known around
+
+abbrev pub shows_value : List ℕ → Option (List ℕ) → Block → List Table → Around → Script
+shows_value name None block known around = fails states.S0A000 block known around
+shows_value name (Some value) block known around = unless_short_in block known around (succeeds (show_reply name value) block known around)
+
+abbrev pub shows_history : Block → List Table → Around → Script
+shows_history block known around =
+    ask calls.Show (λ a. on_shown a (λ n. unless_short_in block known around (succeeds (show_reply history_name (decimal n)) block known around)) (declined block known around))
+
+abbrev pub shows_at : Level → List ℕ → Block → List Table → Around → Script
+shows_at level name block known around =
+    if bytes_eq name history_name then shows_history block known around
+    else shows_value name (value_of level name) block known around
+
+abbrev pub shows : List ℕ → Block → List Table → Around → Script
+shows name block known around = shows_at around.level name block known around
+
+-- ---- all of them
+
+-- a statement outside a failed block
+abbrev pub performs : Statement → Block → List Table → Around → Script
+performs (tree.Select select) block known around = selects select.from (tree.Select select) block known around
+performs (tree.Insert insert) block known around = prepares (tree.Insert insert) block known around
+performs (tree.Update update) block known around = prepares (tree.Update update) block known around
+performs (tree.Delete delete) block known around = prepares (tree.Delete delete) block known around
+performs (tree.Create create) block known around = unless_short_in block known around (defines (built create) block known around)
+performs (tree.Begin start) block known around = starts start block known around
+performs tree.Commit block known around = commits block known around
+performs tree.Rollback block known around = rolls_back block known around
+performs (tree.Set name values) block known around = sets name block known around
+performs tree.SetModes block known around = succeeds set_reply block known around
+performs (tree.Show name) block known around = shows name block known around
+
+-- a failed block takes its end alone
+abbrev pub in_failed : Statement → List Table → Around → Script
+in_failed tree.Commit known around = commits Failed known around
+in_failed tree.Rollback known around = rolls_back Failed known around
+in_failed _ known around = fails states.S25P02 Failed known around
+
+abbrev pub told_of : Statement → Block → List Table → Around → Script
+told_of statement (Implicit pending) known around = performs statement (Implicit pending) known around
+told_of statement Regular known around = performs statement Regular known around
+told_of statement Failed known around = in_failed statement known around

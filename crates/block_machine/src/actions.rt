@@ -1,0 +1,333 @@
+// One statement as it begins.
+ghost use Rattle.std.specs.Prelude.{◌≡◌, ℕ, ◌+◌, ◌*◌, ◌<◌, ◌≤◌, List, [], length, All, true, false, Ok, IfOk, IfSome, IsNone};
+ghost use Rattle.std.specs.Fmt.{decimal};
+ghost use Rattle.std.specs.Vec.Iter.{into_iter_items};
+ghost use Rattle.sql_tree.specs.declared.statement.Statement.{Statement as Tree};
+ghost use Rattle.sql_tree.specs.declared.table.Table.{Table as Defined};
+ghost use Rattle.sql_typing.specs.Building.{built as table_built};
+ghost use Rattle.sql_typing.specs.Typed.{typed};
+ghost use Rattle.sound_table.specs.Sound.{IsSound};
+ghost use Rattle.described_columns.specs.Described.{HasPlainNames};
+ghost use Rattle.outcome_replies.specs.Replies.{CanBeTold};
+ghost use Rattle.statement_course.specs.declared.demand.Outcome.{Outcome as CameTo};
+ghost use Rattle.statement_course.specs.Statements.{course_of};
+ghost use Rattle.block_machine.specs.declared.call.Answer.{Answer};
+ghost use Rattle.block_machine.specs.Script.{Said, Entry};
+ghost use Rattle.block_machine.specs.Replies.{show_reply};
+ghost use Rattle.block_machine.specs.Settings.{IsShown, history_name, value_of};
+ghost use Rattle.block_machine.specs.Statements.{Around, owed_in, succeeds, concludes, defines, prepares, at_once, judged_at_once, sets, shows_at, shows_value, performs, told_of};
+ghost use Rattle.block_machine.specs.Messages.{statements};
+ghost use Rattle.block_machine.specs.Stages.{IsScriptOf, LeadsTo, LeadsAt, TurnsTo, Advances, IsQuiet, IsBusy, IsRunning, IsSoundStage, IsSoundStatement, KnowsTables, NoBuilt, HasReply, owed_at, work_at};
+
+use crate::block::Block;
+use crate::blocks::{commit, finish, refuse, roll_back, start};
+use crate::courses::conclude;
+use crate::kept::Kept;
+use crate::replies::shown;
+use crate::reply::{Fixed, Reply};
+use crate::settings::{HISTORY, is_own, value_of};
+use crate::stage::Stage;
+use crate::step::{Step, calm, fail, or_short};
+use cell_base::{Level, Memory, SqlState, Text};
+use cell_compile::Plan;
+use itoa::Buffer;
+use sql_tree::{CreateTable, Statement, Typed};
+use sql_types::{TypeFault, typed};
+use statement_course::Demand;
+use std::alloc::Global;
+use std::vec::IntoIter;
+use table_schema::{SchemaFault, build};
+
+// The stage of a CREATE TABLE.
+fn define(alloc: Global, create: &CreateTable, block: Block) -> Result<Stage, Memory>
+    requires { (table : Defined) → table_built create.now ≡ Ok table → IsSound table }
+    ensures goes { IfOk result (λ stage. (built : List ℕ) → IsScriptOf (defines (table_built create.now) block) stage built) }
+    ensures owed { IfOk result (λ stage. owed_at stage ≡ owed_in block) }
+    ensures work { IfOk result (λ stage. work_at stage ≤ 4) }
+    ensures knows { IfOk result (λ stage. (known : List Defined) → KnowsTables stage known) }
+    ensures silent { IfOk result (λ stage. IsRunning stage → ⊥) }
+    ensures sound { IfOk result IsSoundStage }
+    ensures busy { IfOk result IsBusy }
+    ensures constant { IfOk result NoBuilt }
+{
+    match build(alloc, create) {
+        Ok(table) => Ok(Stage::Defining(Kept::new(alloc, table)?, block)),
+        Err(SchemaFault::State(code)) => Ok(fail(code, block)),
+        Err(SchemaFault::Memory) => Err(Memory),
+    }
+}
+
+// The stage of a statement that demands nothing.
+fn conclude_demand(
+    alloc: Global,
+    demand: &Demand,
+    block: Block,
+    built: &mut Vec<u8>,
+) -> Result<Stage, Memory>
+    requires { (outcome : CameTo) × (demand.now ≡ Demand.Reply outcome) × CanBeTold outcome }
+    ensures goes { (outcome : CameTo) → demand.now ≡ Demand.Reply outcome → IfOk result (λ stage. IsScriptOf (concludes outcome block) stage built.new.items) }
+    ensures owed { IfOk result (λ stage. owed_at stage ≡ owed_in block) }
+    ensures work { IfOk result (λ stage. work_at stage ≤ 3) }
+    ensures quiet { IfOk result IsQuiet }
+    ensures busy { IfOk result IsBusy }
+    ensures some { IfOk result (λ stage. HasReply stage built.new.items) }
+{
+    match demand {
+        Demand::Reply(outcome) => conclude(alloc, outcome, block, built),
+        _ => unreachable!(),
+    }
+}
+
+// The stage of a SELECT without FROM that has its types.
+fn answer_typed(
+    alloc: Global,
+    alone: Typed,
+    block: Block,
+    built: &mut Vec<u8>,
+) -> Result<Stage, Memory>
+    requires { (statement : Tree) × HasPlainNames statement × (typed [] statement ≡ Ok alone) }
+    ensures goes { IfOk result (λ stage. IsScriptOf (at_once (course_of [] alone) block) stage built.new.items) }
+    ensures owed { IfOk result (λ stage. owed_at stage ≡ owed_in block) }
+    ensures work { IfOk result (λ stage. work_at stage ≤ 3) }
+    ensures quiet { IfOk result IsQuiet }
+    ensures busy { IfOk result IsBusy }
+    ensures some { IfOk result (λ stage. HasReply stage built.new.items) }
+{
+    let plan = Plan::new(alloc, alone, &[])?;
+    conclude_demand(alloc, plan.demand(), block, built)
+}
+
+// The stage of a SELECT without FROM.
+fn answer_alone(
+    alloc: Global,
+    statement: &Statement,
+    block: Block,
+    built: &mut Vec<u8>,
+) -> Result<Stage, Memory>
+    requires { HasPlainNames statement.now }
+    ensures goes { IfOk result (λ stage. IsScriptOf (judged_at_once (typed [] statement.now) block) stage built.new.items) }
+    ensures owed { IfOk result (λ stage. owed_at stage ≡ owed_in block) }
+    ensures work { IfOk result (λ stage. work_at stage ≤ 3) }
+    ensures quiet { IfOk result IsQuiet }
+    ensures busy { IfOk result IsBusy }
+    ensures some { IfOk result (λ stage. HasReply stage built.new.items) }
+{
+    match typed(alloc, statement, &[]) {
+        Ok(alone) => answer_typed(alloc, alone, block, built),
+        Err(TypeFault::State(code)) => Ok(fail(code, block)),
+        Err(TypeFault::Memory) => Err(Memory),
+    }
+}
+
+// The stage of a SET.
+fn set(name: &Text, block: Block) -> Stage
+    ensures goes { (built : List ℕ) → IsScriptOf (sets name.now block) result built }
+    ensures owed { owed_at result ≡ owed_in block }
+    ensures work { work_at result ≤ 3 }
+    ensures quiet { IsQuiet result }
+    ensures busy { IsBusy result }
+    ensures constant { NoBuilt result }
+{
+    if is_own(name.as_str()) {
+        fail(SqlState::S0A000, block)
+    } else {
+        Stage::Telling(Reply::Fixed(Fixed::Set), block)
+    }
+}
+
+// The stage of a SHOW whose value is known.
+fn tell_setting(
+    alloc: Global,
+    name: &str,
+    value: &str,
+    block: Block,
+    built: &mut Vec<u8>,
+) -> Result<Stage, Memory>
+    requires name { IsShown name.now }
+    requires value { length value.now ≤ 64 }
+    ensures goes { IfOk result (λ stage. IsScriptOf (succeeds (show_reply name.now value.now) block) stage built.new.items) }
+    ensures owed { IfOk result (λ stage. owed_at stage ≡ owed_in block) }
+    ensures work { IfOk result (λ stage. work_at stage ≤ 3) }
+    ensures quiet { IfOk result IsQuiet }
+    ensures busy { IfOk result IsBusy }
+    ensures some { IfOk result (λ stage. HasReply stage built.new.items) }
+{
+    *built = shown(alloc, name, value)?;
+    Ok(Stage::Telling(Reply::Built, block))
+}
+
+// The step of a SHOW of another setting than the history.
+fn show_value(alloc: Global, level: Level, name: &str, block: Block, built: &mut Vec<u8>) -> Step
+    ensures goes { (known : List Defined) → LeadsTo (shows_value name.now (value_of level name.now) block known) result.stage result.wanting built.new.items known }
+    ensures owed { owed_at result.stage ≡ owed_in block }
+    ensures work { work_at result.stage ≤ 3 }
+    ensures quiet { IsQuiet result.stage }
+    ensures busy { IsBusy result.stage }
+    ensures some { HasReply result.stage built.new.items }
+{
+    match value_of(level, name) {
+        Some(value) => or_short(tell_setting(alloc, name, value, block, built), block),
+        None => calm(fail(SqlState::S0A000, block)),
+    }
+}
+
+// The step of a SHOW.
+fn show(alloc: Global, level: Level, name: &str, block: Block, built: &mut Vec<u8>) -> Step
+    ensures goes { (known : List Defined) → LeadsTo (shows_at level name.now block known) result.stage result.wanting built.new.items known }
+    ensures owed { owed_at result.stage ≡ owed_in block }
+    ensures work { work_at result.stage ≤ 4 }
+    ensures quiet { IsQuiet result.stage }
+    ensures busy { IsBusy result.stage }
+    ensures some { HasReply result.stage built.new.items }
+{
+    if name == HISTORY {
+        calm(Stage::Showing(block))
+    } else {
+        show_value(alloc, level, name, block, built)
+    }
+}
+
+// The stage of SHOW monkey.history behind its number.
+fn tell_history(alloc: Global, n: u32, block: Block, built: &mut Vec<u8>) -> Result<Stage, Memory>
+    ensures goes { IfOk result (λ stage. IsScriptOf (succeeds (show_reply history_name (decimal n)) block) stage built.new.items) }
+    ensures owed { IfOk result (λ stage. owed_at stage ≡ owed_in block) }
+    ensures work { IfOk result (λ stage. work_at stage ≤ 3) }
+    ensures quiet { IfOk result IsQuiet }
+    ensures busy { IfOk result IsBusy }
+    ensures some { IfOk result (λ stage. HasReply stage built.new.items) }
+{
+    let mut buffer = Buffer::new();
+    tell_setting(alloc, HISTORY, buffer.format(n), block, built)
+}
+
+/// The step of SHOW monkey.history behind its number.
+pub fn show_history(alloc: Global, n: u32, block: Block, built: &mut Vec<u8>) -> Step
+    ensures goes { (known : List Defined) → Advances (Stage.Showing block) known (Answer.Shown n) result.stage result.wanting built.new.items known }
+    ensures owed { owed_at result.stage ≡ owed_in block }
+    ensures work { work_at result.stage ≤ 3 }
+    ensures quiet { IsQuiet result.stage }
+    ensures busy { IsBusy result.stage }
+    ensures some { HasReply result.stage built.new.items }
+{
+    or_short(tell_history(alloc, n, block, built), block)
+}
+
+// The step of a statement outside a failed block that doesn't look at the tables; none for one that does.
+fn act(
+    alloc: Global,
+    level: Level,
+    statement: &Statement,
+    block: Block,
+    built: &mut Vec<u8>,
+) -> Option<Step>
+    requires { IsSoundStatement statement.now }
+    ensures goes { IfSome result (λ step. LeadsAt level (performs statement.now block) step.stage step.wanting built.new.items) }
+    ensures looks { IsNone result → (known : List Defined) (around : Around) (said : Said) (es : List Entry) →
+        performs statement.now block known around said es ≡ prepares statement.now block known around said es }
+    ensures plain { IsNone result → HasPlainNames statement.now }
+    ensures owed { IfSome result (λ step. owed_at step.stage ≡ owed_in block) }
+    ensures work { IfSome result (λ step. work_at step.stage ≤ 4) }
+    ensures knows { IfSome result (λ step. (known : List Defined) → KnowsTables step.stage known) }
+    ensures silent { IfSome result (λ step. IsRunning step.stage → ⊥) }
+    ensures sound { IfSome result (λ step. IsSoundStage step.stage) }
+    ensures busy { IfSome result (λ step. IsBusy step.stage) }
+    ensures some { IfSome result (λ step. HasReply step.stage built.new.items) }
+{
+    match statement {
+        Statement::Select(select) => match select.from.as_slice() {
+            [] => Some(or_short(answer_alone(alloc, statement, block, built), block)),
+            [_, ..] => None,
+        },
+        Statement::Insert(_) | Statement::Update(_) | Statement::Delete(_) => None,
+        Statement::Create(create) => Some(or_short(define(alloc, create, block), block)),
+        Statement::Begin(flag) => Some(calm(start(*flag, block))),
+        Statement::Commit => Some(calm(commit(block))),
+        Statement::Rollback => Some(calm(roll_back(block))),
+        Statement::Set(name, _) => Some(calm(set(name, block))),
+        Statement::SetModes => Some(calm(Stage::Telling(Reply::Fixed(Fixed::Set), block))),
+        Statement::Show(name) => Some(show(alloc, level, name.as_str(), block, built)),
+    }
+}
+
+// The stage of a statement that looks at the tables.
+fn keep(alloc: Global, statement: Statement, block: Block) -> Result<Stage, Memory>
+    ensures { IfOk result (λ stage. stage ≡ Stage.Looking statement block) }
+{
+    Ok(Stage::Looking(Kept::new(alloc, statement)?, block))
+}
+
+// The step of a statement outside a failed block.
+fn perform(
+    alloc: Global,
+    level: Level,
+    statement: Statement,
+    block: Block,
+    built: &mut Vec<u8>,
+) -> Step
+    requires { IsSoundStatement statement }
+    ensures goes { LeadsAt level (performs statement block) result.stage result.wanting built.new.items }
+    ensures owed { owed_at result.stage ≡ owed_in block }
+    ensures work { work_at result.stage ≤ 7 }
+    ensures knows { (known : List Defined) → KnowsTables result.stage known }
+    ensures silent { IsRunning result.stage → ⊥ }
+    ensures sound { IsSoundStage result.stage }
+    ensures busy { IsBusy result.stage }
+    ensures some { HasReply result.stage built.new.items }
+{
+    match act(alloc, level, &statement, block, built) {
+        Some(step) => step,
+        None => or_short(keep(alloc, statement, block), block),
+    }
+}
+
+/// The step of a statement.
+pub fn take(
+    alloc: Global,
+    level: Level,
+    statement: Statement,
+    block: Block,
+    built: &mut Vec<u8>,
+) -> Step
+    requires { IsSoundStatement statement }
+    ensures goes { LeadsAt level (told_of statement block) result.stage result.wanting built.new.items }
+    ensures owed { owed_at result.stage ≡ owed_in block }
+    ensures work { work_at result.stage ≤ 7 }
+    ensures knows { (known : List Defined) → KnowsTables result.stage known }
+    ensures silent { IsRunning result.stage → ⊥ }
+    ensures sound { IsSoundStage result.stage }
+    ensures busy { IsBusy result.stage }
+    ensures some { HasReply result.stage built.new.items }
+{
+    match block {
+        Block::Failed => calm(refuse(&statement)),
+        Block::Implicit(pending) => {
+            perform(alloc, level, statement, Block::Implicit(pending), built)
+        }
+        Block::Regular => perform(alloc, level, statement, Block::Regular, built),
+    }
+}
+
+/// The step to the next statement, or to the end of the message.
+pub fn next_statement(
+    alloc: Global,
+    level: Level,
+    rest: &mut IntoIter<Statement>,
+    block: Block,
+    built: &mut Vec<u8>,
+) -> Step
+    requires { All IsSoundStatement (into_iter_items rest.old) }
+    ensures goes { TurnsTo level (statements (into_iter_items rest.old) block) result.stage result.wanting built.new.items (into_iter_items rest.new) }
+    ensures rest { All IsSoundStatement (into_iter_items rest.new) }
+    ensures owed { owed_at result.stage ≡ owed_in block }
+    ensures work { work_at result.stage + 8 * length (into_iter_items rest.new) < 3 + 8 * length (into_iter_items rest.old) }
+    ensures knows { (known : List Defined) → KnowsTables result.stage known }
+    ensures silent { IsRunning result.stage → ⊥ }
+    ensures sound { IsSoundStage result.stage }
+    ensures busy { IsBusy result.stage }
+    ensures some { HasReply result.stage built.new.items }
+{
+    match rest.next() {
+        Some(statement) => take(alloc, level, statement, block, built),
+        None => calm(finish(block)),
+    }
+}

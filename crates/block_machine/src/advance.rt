@@ -1,0 +1,88 @@
+// The steps of a message behind an answer or a reply, where no memory is needed for them.
+ghost use Rattle.std.specs.Prelude.{◌≡◌, ℕ, ◌<◌, ◌≤◌, List, [], length, false};
+ghost use Rattle.sql_tree.specs.declared.table.Table.{Table as Defined};
+ghost use Rattle.block_machine.specs.Calls as calls;
+ghost use Rattle.block_machine.specs.Calls.{Call as Asked, IsWant};
+ghost use Rattle.block_machine.specs.Stages.{Advances, FitsWant, IsPlain, IsQuiet, IsBusy, IsHolding, IsRunning, NoBuilt, wants, owed_at, owed_after, work_at, running_at};
+
+use crate::block::{Block, Pending};
+use crate::blocks::started;
+use crate::call::{Answer, Call};
+use crate::courses::refusal;
+use crate::reply::{Fixed, Reply};
+use crate::stage::Stage;
+use crate::step::fail;
+use crate::want::Want;
+use cell_base::SqlState;
+use history_core::DefineAnswer;
+use pg_framing::TransactionState;
+
+// The state of a block behind a statement that failed in it.
+fn failed(pending: Pending) -> TransactionState {
+    match pending {
+        Pending::Implicit => TransactionState::Idle,
+        Pending::Regular => TransactionState::Failed,
+    }
+}
+
+// The stage in which a statement that succeeded is told so.
+fn tell(reply: Fixed, block: Block) -> Stage
+    ensures { result ≡ Stage.Telling (Reply.Fixed reply) block }
+{
+    Stage::Telling(Reply::Fixed(reply), block)
+}
+
+/// The stage behind the answer to a stage's call, where no memory is needed for it.
+pub fn advance(stage: &Stage, answer: &Answer) -> Stage
+    requires fits { FitsWant (wants stage.now []) answer.now }
+    requires plain { IsPlain stage.now answer.now }
+    ensures goes { (built : List ℕ) (known : List Defined) → Advances stage.now known answer.now result false built known }
+    ensures owed { (c : Asked) (known : List Defined) → wants stage.now known ≡ calls.Book c → owed_at result ≡ owed_after c answer.now (owed_at stage.now) }
+    ensures work { work_at result < work_at stage.now }
+    ensures quiet { IsQuiet result }
+    ensures busy { IsBusy result }
+    ensures constant { NoBuilt result }
+{
+    match (stage, answer) {
+        (Stage::Defining(_, block), Answer::Defined(DefineAnswer::Defined(_))) => {
+            tell(Fixed::Created, *block)
+        }
+        (Stage::Defining(_, block), Answer::Defined(DefineAnswer::Taken(_))) => {
+            fail(SqlState::S42P07, *block)
+        }
+        (
+            Stage::Defining(_, block) | Stage::Looking(_, block) | Stage::Showing(block),
+            Answer::Refused(why),
+        ) => fail(refusal(why), *block),
+        (Stage::Starting(flag), Answer::Begun(_)) => tell(started(*flag), Block::Regular),
+        (Stage::Starting(_), Answer::Refused(why)) => fail(refusal(why), Block::Implicit(false)),
+        (Stage::Committing(reply), Answer::Committed) => tell(*reply, Block::Implicit(false)),
+        (Stage::RollingBack(reply), Answer::RolledBack) => tell(*reply, Block::Implicit(false)),
+        (Stage::Undoing(code, pending), Answer::RolledBack) => {
+            Stage::Failing(*code, failed(*pending))
+        }
+        (Stage::Finishing, Answer::Committed) => Stage::Readying(TransactionState::Idle),
+        _ => unreachable!(),
+    }
+}
+
+/// What a stage wants, given how many tables are known.
+pub fn want_of(stage: &Stage, known: u32) -> Want
+    ensures want { (tables : List Defined) → length tables ≡ known → IsWant result (wants stage.now tables) }
+    ensures holding { result ≡ Want.Send → IsHolding stage.now }
+    ensures running { result ≡ Want.Cells → IsRunning stage.now }
+    ensures calm { (result ≡ Want.Cells → ⊥) → running_at stage.now ≡ 0 }
+    ensures over { result ≡ Want.Nothing → IsBusy stage.now → ⊥ }
+{
+    match stage {
+        Stage::Over(_) => Want::Nothing,
+        Stage::Defining(_, _) => Want::Define,
+        Stage::Looking(_, _) => Want::Book(Call::Look(known)),
+        Stage::Beginning(_) | Stage::Starting(_) => Want::Book(Call::Begin),
+        Stage::Running(_, _) => Want::Cells,
+        Stage::Showing(_) => Want::Book(Call::Show),
+        Stage::Committing(_) | Stage::Finishing => Want::Book(Call::Commit),
+        Stage::RollingBack(_) | Stage::Undoing(_, _) => Want::Book(Call::Rollback),
+        Stage::Telling(_, _) | Stage::Failing(_, _) | Stage::Readying(_) => Want::Send,
+    }
+}

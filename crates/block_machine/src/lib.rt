@@ -1,0 +1,38 @@
+//! The statements of a session's query messages: one after another, in implicit, regular and failed blocks.
+//!
+//! A [`Runner`] takes a message (its statements, or the code with which it can't be read), asks for the calls of its statements, takes their
+//! answers, and hands out replies until the message is done. What a message asks for and is told stands in `specs/Statements` and
+//! `specs/Messages`, as scripts over what became of it; each step of the runner is one step of a script, whatever follows the message.
+#![tactic(auto)]
+
+mod actions;
+mod advance;
+mod block;
+mod blocks;
+mod call;
+mod courses;
+mod end;
+mod errors;
+mod kept;
+mod message;
+mod prepared;
+mod reading;
+mod replies;
+mod reply;
+mod runner;
+mod settings;
+mod stage;
+mod step;
+mod turns;
+mod want;
+
+pub use block::{Block, Owed, Pending};
+pub use call::{Answer, Call};
+pub use end::{End, Stop};
+pub use kept::Kept;
+pub use message::Message;
+pub use reading::read_message;
+pub use reply::{Fixed, Reply};
+pub use runner::Runner;
+pub use stage::{Run, Stage};
+pub use want::Want;

@@ -1,0 +1,172 @@
+// The replies that a message may need, made before it needs them, so that no want of memory stands between a call and the
+// reply that tells it.
+ghost use Rattle.std.specs.Prelude.{◌≡◌, codes, true, false};
+ghost use Rattle.block_machine.specs.Replies.{ready_reply, error_reply, empty_reply, created_reply, set_reply, start_reply, needless_start_reply, commit_reply, needless_commit_reply, rollback_reply, needless_rollback_reply, fixed_reply, bytes_of};
+ghost use Rattle.pg_framing.specs.declared.replies.TransactionState.TheVariants as ready_states;
+
+use crate::errors::Errors;
+use crate::replies::{done, empty, ready, warned};
+use crate::reply::{Fixed, Reply};
+use cell_base::{Memory, SqlState};
+use pg_framing::TransactionState;
+use std::alloc::Global;
+
+/// The replies whose bytes are known beforehand.
+#[derive(Debug, Drop)]
+pub struct Prepared {
+    states: States,
+    plain: Plain,
+    starts: Starts,
+    stops: Stops,
+    errors: Errors,
+}
+
+// That the next message may come, by the state of the session.
+#[derive(Debug, Drop)]
+struct States {
+    idle: Vec<u8>,
+    block: Vec<u8>,
+    failed: Vec<u8>,
+    ghost idle_is: { idle.items ≡ ready_reply ready_states.Idle },
+    ghost block_is: { block.items ≡ ready_reply ready_states.Block },
+    ghost failed_is: { failed.items ≡ ready_reply ready_states.Failed },
+}
+
+// The replies that no block has a part in.
+#[derive(Debug, Drop)]
+struct Plain {
+    empty: Vec<u8>,
+    created: Vec<u8>,
+    set: Vec<u8>,
+    ghost empty_is: { empty.items ≡ empty_reply },
+    ghost created_is: { created.items ≡ created_reply },
+    ghost set_is: { set.items ≡ set_reply },
+}
+
+// The replies of the statements that begin a block.
+#[derive(Debug, Drop)]
+struct Starts {
+    begun: Vec<u8>,
+    started: Vec<u8>,
+    begun_again: Vec<u8>,
+    started_again: Vec<u8>,
+    ghost begun_is: { begun.items ≡ start_reply false },
+    ghost started_is: { started.items ≡ start_reply true },
+    ghost begun_again_is: { begun_again.items ≡ needless_start_reply false },
+    ghost started_again_is: { started_again.items ≡ needless_start_reply true },
+}
+
+// The replies of the statements that end a block.
+#[derive(Debug, Drop)]
+struct Stops {
+    committed: Vec<u8>,
+    committed_nothing: Vec<u8>,
+    rolled_back: Vec<u8>,
+    rolled_back_nothing: Vec<u8>,
+    ghost committed_is: { committed.items ≡ commit_reply },
+    ghost committed_nothing_is: { committed_nothing.items ≡ needless_commit_reply },
+    ghost rolled_back_is: { rolled_back.items ≡ rollback_reply },
+    ghost rolled_back_nothing_is: { rolled_back_nothing.items ≡ needless_rollback_reply },
+}
+
+impl States {
+    fn new(alloc: Global) -> Result<States, Memory> {
+        Ok(States {
+            idle: ready(alloc, TransactionState::Idle)?,
+            block: ready(alloc, TransactionState::Block)?,
+            failed: ready(alloc, TransactionState::Failed)?,
+        })
+    }
+}
+
+impl Plain {
+    fn new(alloc: Global) -> Result<Plain, Memory> {
+        Ok(Plain {
+            empty: empty(alloc)?,
+            created: done(alloc, b"CREATE TABLE")?,
+            set: done(alloc, b"SET")?,
+        })
+    }
+}
+
+impl Starts {
+    fn new(alloc: Global) -> Result<Starts, Memory> {
+        Ok(Starts {
+            begun: done(alloc, b"BEGIN")?,
+            started: done(alloc, b"START TRANSACTION")?,
+            begun_again: warned(alloc, SqlState::S25001, b"BEGIN")?,
+            started_again: warned(alloc, SqlState::S25001, b"START TRANSACTION")?,
+        })
+    }
+}
+
+impl Stops {
+    fn new(alloc: Global) -> Result<Stops, Memory> {
+        Ok(Stops {
+            committed: done(alloc, b"COMMIT")?,
+            committed_nothing: warned(alloc, SqlState::S25P01, b"COMMIT")?,
+            rolled_back: done(alloc, b"ROLLBACK")?,
+            rolled_back_nothing: warned(alloc, SqlState::S25P01, b"ROLLBACK")?,
+        })
+    }
+}
+
+impl Prepared {
+    /// Makes all of them.
+    pub fn new(alloc: Global) -> Result<Prepared, Memory> {
+        Ok(Prepared {
+            states: States::new(alloc)?,
+            plain: Plain::new(alloc)?,
+            starts: Starts::new(alloc)?,
+            stops: Stops::new(alloc)?,
+            errors: Errors::new(alloc)?,
+        })
+    }
+
+    /// The bytes of a reply that is known beforehand.
+    fn fixed(&self, reply: Fixed) -> &[u8]
+        ensures { result.now ≡ fixed_reply reply }
+    {
+        match reply {
+            Fixed::Empty => self.plain.empty.as_slice(),
+            Fixed::Created => self.plain.created.as_slice(),
+            Fixed::Set => self.plain.set.as_slice(),
+            Fixed::Begun => self.starts.begun.as_slice(),
+            Fixed::Started => self.starts.started.as_slice(),
+            Fixed::BegunAgain => self.starts.begun_again.as_slice(),
+            Fixed::StartedAgain => self.starts.started_again.as_slice(),
+            Fixed::Committed => self.stops.committed.as_slice(),
+            Fixed::CommittedNothing => self.stops.committed_nothing.as_slice(),
+            Fixed::RolledBack => self.stops.rolled_back.as_slice(),
+            Fixed::RolledBackNothing => self.stops.rolled_back_nothing.as_slice(),
+        }
+    }
+
+    /// The bytes of the reply of a statement that succeeded, given those that were built.
+    pub fn bytes<'a>(&'a self, built: &'a [u8], reply: Reply) -> &'a [u8]
+        ensures { result.now ≡ bytes_of built.now reply }
+    {
+        match reply {
+            Reply::Built => built,
+            Reply::Fixed(reply) => self.fixed(reply),
+        }
+    }
+
+    /// The bytes of the error with this code.
+    pub fn error(&self, state: SqlState) -> &[u8]
+        ensures { result.now ≡ error_reply state }
+    {
+        self.errors.bytes(state)
+    }
+
+    /// The bytes that say that the next message may come.
+    pub fn ready(&self, state: TransactionState) -> &[u8]
+        ensures { result.now ≡ ready_reply state }
+    {
+        match state {
+            TransactionState::Idle => self.states.idle.as_slice(),
+            TransactionState::Block => self.states.block.as_slice(),
+            TransactionState::Failed => self.states.failed.as_slice(),
+        }
+    }
+}

@@ -1,0 +1,39 @@
+// What the bytes of a query message ask for.
+ghost use Rattle.std.specs.Prelude.{◌≢◌, ◌<◌, ◌^◌, length, IfOk};
+ghost use Rattle.std.specs.Str.{IsUtf8};
+ghost use Rattle.sql_grammar.specs.Limited.{HasNoZero};
+ghost use Rattle.block_machine.specs.Messages.{IsMessage};
+ghost use Rattle.block_machine.specs.Stages.{IsSoundMessage};
+
+use crate::message::Message;
+use cell_base::{Memory, SqlState, Text, TextFault};
+use sql_statements::{ParseFault, statements};
+use std::alloc::Global;
+
+// What a text asks for.
+fn read_text(alloc: Global, text: &Text) -> Result<Message, Memory>
+    requires short { length text.now < 2 ^ 32 }
+    requires utf8 { IsUtf8 text.now }
+    ensures message { IfOk result (IsMessage text.now) }
+    ensures sound { HasNoZero text.now → IfOk result IsSoundMessage }
+{
+    match statements(alloc, text) {
+        Ok(found) => Ok(Message::Statements(found)),
+        Err(ParseFault::Memory) => Err(Memory),
+        Err(fault) => Ok(Message::Unread(fault.state())),
+    }
+}
+
+/// What the bytes of a query message ask for, fewer than 4,294,967,296. Bytes that aren't UTF-8 are 22021, and a text that isn't read has the
+/// code of its fault.
+pub fn read_message(alloc: Global, text: &[u8]) -> Result<Message, Memory>
+    requires { length text.now < 2 ^ 32 }
+    ensures message { IfOk result (IsMessage text.now) }
+    ensures sound { HasNoZero text.now → IfOk result IsSoundMessage }
+{
+    match Text::from_bytes(alloc, text) {
+        Ok(text) => read_text(alloc, &text),
+        Err(TextFault::NotUtf8) => Ok(Message::Unread(SqlState::S22021)),
+        Err(TextFault::Memory) => Err(Memory),
+    }
+}

@@ -1,0 +1,104 @@
+// The replies to the statements of a message as bytes.
+ghost use Rattle.std.specs.Prelude.{◌≡◌, ◌≤◌, length, IfOk};
+ghost use Rattle.pg_framing.specs.Spelling.{HasNoZero};
+ghost use Rattle.block_machine.specs.Settings.{IsShown};
+ghost use Rattle.block_machine.specs.Replies.{ready_reply, error_reply, empty_reply, done_reply, warned_reply, show_reply};
+
+use cell_base::{Memory, SqlState, SqlType, Text, Value};
+use pg_framing::{
+    TransactionState, append_complete, append_empty, append_error, append_fields, append_notice,
+    append_ready, append_row,
+};
+use sql_tree::OutField;
+use std::alloc::Global;
+
+/// That the next message may come.
+#[tactic(auto, unfolding(crate::specs::Replies::ready_reply))]
+pub fn ready(alloc: Global, state: TransactionState) -> Result<Vec<u8>, Memory>
+    ensures { IfOk result (λ reply. reply.items ≡ ready_reply state) }
+{
+    let mut reply = Vec::new(alloc);
+    append_ready(alloc, &mut reply, state)?;
+    Ok(reply)
+}
+
+/// The error of a statement.
+#[tactic(auto, unfolding(crate::specs::Replies::error_reply))]
+pub fn error(alloc: Global, state: SqlState) -> Result<Vec<u8>, Memory>
+    ensures { IfOk result (λ reply. reply.items ≡ error_reply state) }
+{
+    let mut reply = Vec::new(alloc);
+    append_error(alloc, &mut reply, false, state)?;
+    Ok(reply)
+}
+
+/// The reply of a message without a statement.
+#[tactic(auto, unfolding(crate::specs::Replies::empty_reply))]
+pub fn empty(alloc: Global) -> Result<Vec<u8>, Memory>
+    ensures { IfOk result (λ reply. reply.items ≡ empty_reply) }
+{
+    let mut reply = Vec::new(alloc);
+    append_empty(alloc, &mut reply)?;
+    Ok(reply)
+}
+
+/// The tag of a statement.
+#[tactic(auto, unfolding(crate::specs::Replies::done_reply))]
+pub fn done(alloc: Global, tag: &[u8]) -> Result<Vec<u8>, Memory>
+    requires no_zero { HasNoZero tag.now }
+    requires short { length tag.now ≤ 32 }
+    ensures { IfOk result (λ reply. reply.items ≡ done_reply tag.now) }
+{
+    let mut reply = Vec::new(alloc);
+    append_complete(alloc, &mut reply, tag)?;
+    Ok(reply)
+}
+
+/// The tag of a statement that wasn't needed, behind a notice.
+#[tactic(auto, unfolding(crate::specs::Replies::warned_reply))]
+pub fn warned(alloc: Global, state: SqlState, tag: &[u8]) -> Result<Vec<u8>, Memory>
+    requires no_zero { HasNoZero tag.now }
+    requires short { length tag.now ≤ 32 }
+    ensures { IfOk result (λ reply. reply.items ≡ warned_reply state tag.now) }
+{
+    let mut reply = Vec::new(alloc);
+    append_notice(alloc, &mut reply, state)?;
+    append_complete(alloc, &mut reply, tag)?;
+    Ok(reply)
+}
+
+// A text as its own.
+fn text_of(alloc: Global, text: &str) -> Result<Text, Memory>
+    ensures { IfOk result (λ it. it ≡ text.now) }
+{
+    match Text::from_bytes(alloc, text.as_bytes()) {
+        Ok(text) => Ok(text),
+        Err(_) => Err(Memory),
+    }
+}
+
+// The one column of a SHOW.
+fn column(alloc: Global, name: &str) -> Result<OutField, Memory>
+    ensures { IfOk result (λ field. field ≡ record { name = name.now; kind = SqlType.Text }) }
+{
+    Ok(OutField {
+        name: text_of(alloc, name)?,
+        kind: SqlType::Text,
+    })
+}
+
+/// The value of a setting under the name that was asked for.
+#[tactic(auto, unfolding(crate::specs::Replies::show_reply))]
+pub fn shown(alloc: Global, name: &str, value: &str) -> Result<Vec<u8>, Memory>
+    requires name { IsShown name.now }
+    requires value { length value.now ≤ 64 }
+    ensures { IfOk result (λ reply. reply.items ≡ show_reply name.now value.now) }
+{
+    let field = column(alloc, name)?;
+    let value = text_of(alloc, value)?;
+    let mut reply = Vec::new(alloc);
+    append_fields(alloc, &mut reply, &[field])?;
+    append_row(alloc, &mut reply, &[Value::Text(value)])?;
+    append_complete(alloc, &mut reply, b"SHOW")?;
+    Ok(reply)
+}

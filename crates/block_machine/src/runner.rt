@@ -1,0 +1,277 @@
+// The statements of a session's messages as a machine: answers come in, calls and replies go out. It keeps the tables that the session was
+// shown, and what its running statement needs.
+ghost use Rattle.std.specs.Prelude.{◌≡◌, ℕ, ◌+◌, ◌*◌, ◌<◌, ◌≤◌, ◌^◌, List, [], ◌∷◌, length, All, true, IfOk, IfSome, IsNone};
+ghost use Rattle.sql_tree.specs.declared.table.Table.{Table as Defined};
+ghost use Rattle.sound_table.specs.Sound.{IsSound};
+ghost use Rattle.history_core.specs.declared.event.Event.{Event};
+ghost use Rattle.block_machine.specs.Calls as calls;
+ghost use Rattle.block_machine.specs.Calls.{Call as Asked, IsWant, asks_cells, call_for};
+ghost use Rattle.block_machine.specs.Script.{Said, Entry, call as asking, with_call, tell};
+ghost use Rattle.block_machine.specs.Messages.{Outside, message as told, owed_between};
+ghost use Rattle.block_machine.specs.Statements.{owed_in};
+ghost use Rattle.block_machine.specs.Stages.{FitsWant, IsFrom, IsHolding, IsKnownAfter, IsBusy, IsRunning, IsSoundMessage, IsSoundStage, IsSoundStatement, KnowsTables, HasReply, after_reply, entry_for, least, left_at, length_of, owed_after, owed_at, running_at, with_short};
+
+use crate::advance::want_of;
+use crate::block::{Block, Owed};
+use crate::blocks::block_at;
+use crate::call::Answer;
+use crate::message::Message;
+use crate::prepared::Prepared;
+use crate::stage::Stage;
+use crate::step::fail;
+use crate::turns::{answered, begin_message, block_between, next_step};
+use crate::want::Want;
+use cell_base::{Level, Memory, SqlState};
+use pg_framing::TransactionState;
+use sql_tree::{Statement, Table};
+use statement_course::Demand;
+use std::alloc::Global;
+use std::vec::IntoIter;
+
+/// The statements of a session's messages. One message is run after another.
+#[derive(Debug, Drop)]
+pub struct Runner {
+    alloc: Global,
+    level: Level,
+    prepared: Prepared,
+    built: Vec<u8>,
+    known: Vec<Table>,
+    rest: IntoIter<Statement>,
+    stage: Stage,
+    ghost few: { length known.items < 2 ^ 32 },
+}
+
+// What a session owes its book, given the state in which the last message left it.
+fn owed_in_state(state: TransactionState) -> Owed
+    ensures { result ≡ owed_between state }
+{
+    match state {
+        TransactionState::Block => Owed::Rollback,
+        TransactionState::Idle | TransactionState::Failed => Owed::Close,
+    }
+}
+
+// What a session owes its book in a block.
+fn owed_in_block(block: Block) -> Owed
+    ensures { result ≡ owed_in block }
+{
+    match block {
+        Block::Implicit(true) | Block::Regular => Owed::Rollback,
+        Block::Implicit(false) | Block::Failed => Owed::Close,
+    }
+}
+
+// What a session owes its book.
+fn owed_of(stage: &Stage) -> Owed
+    ensures { result ≡ owed_at stage.now }
+{
+    match stage {
+        Stage::Over(state) | Stage::Readying(state) => owed_in_state(*state),
+        Stage::Defining(_, block) | Stage::Looking(_, block) => owed_in_block(*block),
+        Stage::Showing(block) | Stage::Telling(_, block) => owed_in_block(*block),
+        Stage::Beginning(_) | Stage::Starting(_) | Stage::Failing(_, _) => Owed::Close,
+        Stage::Running(_, _) | Stage::Committing(_) | Stage::RollingBack(_) => Owed::Rollback,
+        Stage::Undoing(_, _) | Stage::Finishing => Owed::Rollback,
+    }
+}
+
+impl Runner {
+    ghost use Rattle.block_machine.specs.Runners.{statements_of, follows, wanted, held, work_of};
+
+    /// Runs no message yet, and knows no tables.
+    pub fn new(alloc: Global, level: Level) -> Result<Runner, Memory>
+        ensures stage { IfOk result (λ r. r.stage ≡ Stage.Over TransactionState.Idle) }
+        ensures known { IfOk result (λ r. r.known.items ≡ []) }
+        ensures level { IfOk result (λ r. r.level ≡ level) }
+    {
+        Ok(Runner {
+            alloc,
+            level,
+            prepared: Prepared::new(alloc)?,
+            built: Vec::new(alloc),
+            known: Vec::new(alloc),
+            rest: Vec::new(alloc).into_iter(),
+            stage: Stage::Over(TransactionState::Idle),
+        })
+    }
+
+    /// What the message wants.
+    pub fn demand(&self) -> Want
+        ensures stage { IsWant result (wanted self.now) }
+        ensures holding { result ≡ Want.Send → IsHolding self.now.stage }
+        ensures running { result ≡ Want.Cells → IsRunning self.now.stage }
+        ensures calm { (result ≡ Want.Cells → ⊥) → running_at self.now.stage ≡ 0 }
+        // The call that is wanted is the one that the script asks.
+        ensures asks { (c : Asked) (outside : Outside) (said : Said) → wanted self.now ≡ calls.Book c → follows self.now outside said [] ≡ (said, asking c) }
+    {
+        want_of(&self.stage, self.known.len() as u32)
+    }
+
+    /// The table that is to be defined.
+    pub fn table(&self) -> &Table
+        requires wanted { (table : Defined) × (wanted self.now ≡ calls.Book (calls.Define table)) }
+        requires sound { IsSoundStage self.now.stage }
+        ensures table { wanted self.now ≡ calls.Book (calls.Define result.now) }
+        ensures sound { IsSound result.now }
+    {
+        match &self.stage {
+            Stage::Defining(table, _) => table.get(),
+            _ => unreachable!(),
+        }
+    }
+
+    /// What the running statement demands.
+    pub fn demanded(&self) -> &Demand
+        requires { IsRunning self.now.stage }
+        ensures wanted { wanted self.now ≡ calls.Book (call_for result.now) }
+        ensures asks { asks_cells result.now ≡ true }
+    {
+        match &self.stage {
+            Stage::Running(run, _) => run.plan.get().demand(),
+            _ => unreachable!(),
+        }
+    }
+
+    /// The reply that is to be sent.
+    pub fn reply(&self) -> &[u8]
+        requires { IsHolding self.now.stage }
+        ensures held { result.now ≡ held self.now }
+        // The reply is what the script tells next.
+        ensures tells { (outside : Outside) (said : Said) (es : List Entry) → follows self.now outside said es ≡
+            tell (held self.now) (outside.broken (owed_at self.now.stage)) (after_reply self.now.stage self.now.known.items (statements_of self.now) outside) said es }
+    {
+        match &self.stage {
+            Stage::Telling(reply, _) => self.prepared.bytes(self.built.as_slice(), *reply),
+            Stage::Failing(code, _) => self.prepared.error(*code),
+            Stage::Readying(state) => self.prepared.ready(*state),
+            _ => unreachable!(),
+        }
+    }
+
+    /// Begins with a message, where none is under way. Answers whether memory was wanting.
+    pub fn begin(&mut self, message: Message) -> bool
+        requires over { (state : TransactionState) × (self.old.stage ≡ Stage.Over state) }
+        requires sound { IsSoundMessage message }
+        ensures goes { (state : TransactionState) (outside : Outside) (said : Said) (es : List Entry) → self.old.stage ≡ Stage.Over state → outside.level ≡ self.old.level → IsFrom 1 (length said.bytes) es →
+            told message state self.old.known.items outside said (with_short result said.bytes es) ≡ follows self.new outside said es }
+        ensures level { self.new.level ≡ self.old.level }
+        ensures known { self.new.known.items ≡ self.old.known.items }
+        ensures rest { All IsSoundStatement (statements_of self.new) }
+        ensures owed { owed_at self.new.stage ≡ owed_at self.old.stage }
+        ensures work { work_of self.new ≤ 8 + 8 * length_of message }
+        ensures knows { KnowsTables self.new.stage self.new.known.items }
+        ensures silent { IsRunning self.new.stage → ⊥ }
+        ensures sound { IsSoundStage self.new.stage }
+        ensures busy { IsBusy self.new.stage }
+        ensures some { HasReply self.new.stage self.new.built.items }
+    {
+        let block = block_between(&self.stage);
+        let step = begin_message(
+            self.alloc,
+            self.level,
+            message,
+            &mut self.rest,
+            block,
+            &mut self.built,
+        );
+        self.stage = step.stage;
+        step.wanting
+    }
+
+    /// Takes the answer to the call that is wanted. Answers whether memory was wanting.
+    pub fn answer(&mut self, answer: Answer) -> bool
+        requires fits { FitsWant (wanted self.old) answer }
+        requires tables { All IsSound self.old.known.items }
+        requires sound { IsSoundStage self.old.stage }
+        ensures goes { (c : Asked) (outside : Outside) (said : Said) (es : List Entry) (e : Event) → wanted self.old ≡ calls.Book c → IsFrom 1 (length said.bytes) es →
+            follows self.old outside said (entry_for answer e ∷ with_short result said.bytes es) ≡ follows self.new outside (with_call said c) es }
+        ensures level { self.new.level ≡ self.old.level }
+        ensures known { IsKnownAfter self.old.known.items answer self.new.known.items }
+        ensures rest { statements_of self.new ≡ statements_of self.old }
+        ensures owed { (c : Asked) → wanted self.old ≡ calls.Book c → owed_at self.new.stage ≡ owed_after c answer (owed_at self.old.stage) }
+        ensures work { work_of self.new < work_of self.old + running_at self.new.stage }
+        ensures left { IsRunning self.old.stage → left_at self.new.stage < left_at self.old.stage }
+        ensures knows { KnowsTables self.old.stage self.old.known.items → KnowsTables self.new.stage self.new.known.items }
+        ensures sound { IsSoundStage self.new.stage }
+        ensures tables { All IsSound self.new.known.items }
+        ensures busy { IsBusy self.new.stage }
+        ensures some { HasReply self.new.stage self.new.built.items }
+    {
+        let stage = std::mem::replace(&mut self.stage, Stage::Finishing);
+        let step = answered(self.alloc, stage, &mut self.known, &mut self.built, answer);
+        self.stage = step.stage;
+        step.wanting
+    }
+
+    /// The reply was sent. Answers whether memory was wanting for what follows it.
+    pub fn sent(&mut self) -> bool
+        requires holding { IsHolding self.old.stage }
+        requires rest { All IsSoundStatement (statements_of self.old) }
+        ensures goes { (outside : Outside) (said : Said) (es : List Entry) → outside.level ≡ self.old.level → IsFrom (least self.new.stage) (length said.bytes) es →
+            after_reply self.old.stage self.old.known.items (statements_of self.old) outside said (with_short result said.bytes es) ≡ follows self.new outside said es }
+        ensures level { self.new.level ≡ self.old.level }
+        ensures known { self.new.known.items ≡ self.old.known.items }
+        ensures rest { All IsSoundStatement (statements_of self.new) }
+        ensures owed { owed_at self.new.stage ≡ owed_at self.old.stage }
+        ensures work { work_of self.new < work_of self.old }
+        ensures knows { KnowsTables self.new.stage self.new.known.items }
+        ensures silent { IsRunning self.new.stage → ⊥ }
+        ensures sound { IsSoundStage self.new.stage }
+        ensures some { HasReply self.new.stage self.new.built.items }
+    {
+        let step = next_step(
+            self.alloc,
+            self.level,
+            &self.stage,
+            &mut self.rest,
+            &mut self.built,
+        );
+        self.stage = step.stage;
+        step.wanting
+    }
+
+    /// Takes it that the session stands in this state between two messages.
+    pub fn stand(&mut self, state: TransactionState)
+        ensures { self.new ≡ record self.old { stage = Stage.Over state } }
+    {
+        let next = Stage::Over(state);
+        self.stage = next;
+    }
+
+    /// Begins with a message that fails before its first statement, with this code.
+    pub fn refuse(&mut self, code: SqlState, state: TransactionState)
+        ensures goes { (outside : Outside) (said : Said) (es : List Entry) → told (Message.Unread code) state self.old.known.items outside said es ≡ follows self.new outside said es }
+        ensures level { self.new.level ≡ self.old.level }
+        ensures known { self.new.known.items ≡ self.old.known.items }
+        ensures rest { All IsSoundStatement (statements_of self.new) }
+        ensures owed { owed_at self.new.stage ≡ owed_between state }
+        ensures work { work_of self.new ≤ 8 }
+        ensures knows { KnowsTables self.new.stage self.new.known.items }
+        ensures silent { IsRunning self.new.stage → ⊥ }
+        ensures sound { IsSoundStage self.new.stage }
+        ensures busy { IsBusy self.new.stage }
+        ensures some { HasReply self.new.stage self.new.built.items }
+    {
+        self.rest = Vec::new(self.alloc).into_iter();
+        let next = fail(code, block_at(state));
+        self.stage = next;
+    }
+
+    /// The state in which the last message left the session; none while a message is under way.
+    pub fn left(&self) -> Option<TransactionState>
+        ensures some { IfSome result (λ state. self.now.stage ≡ Stage.Over state) }
+        ensures none { IsNone result → IsBusy self.now.stage }
+    {
+        match &self.stage {
+            Stage::Over(state) => Some(*state),
+            _ => None,
+        }
+    }
+
+    /// What the session owes its book.
+    pub fn owed(&self) -> Owed
+        ensures { result ≡ owed_at self.now.stage }
+    {
+        owed_of(&self.stage)
+    }
+}

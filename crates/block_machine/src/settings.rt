@@ -1,0 +1,76 @@
+// The settings that SET and SHOW name.
+ghost use Rattle.std.specs.Prelude.{◌≡◌, ◌≤◌, length, Some, None, IfSome, IsNone};
+ghost use Rattle.block_machine.specs.Settings.{IsShown, is_own, history_name, level_word, switch_value, parameter_value, value_of};
+
+use cell_base::Level;
+
+/// The setting whose value is the number of events of the history.
+pub const HISTORY: &str = "monkey.history";
+
+/// Whether a setting is one of the server's own.
+pub fn is_own(name: &str) -> bool
+    ensures { result ≡ is_own name.now }
+{
+    name.starts_with("monkey.")
+}
+
+// The word of a level.
+fn level_word(level: Level) -> &'static str
+    ensures word { result.now ≡ level_word level }
+    ensures short { length result.now ≤ 64 }
+{
+    match level {
+        Level::Rc => "rc",
+        Level::Ra => "ra",
+        Level::Cc => "cc",
+    }
+}
+
+// The value of a setting that is on.
+fn switch_value(name: &str) -> Option<&'static str>
+    ensures some { IfSome result (λ value. switch_value name.now ≡ Some value.now) }
+    ensures none { IsNone result → switch_value name.now ≡ None }
+    ensures shown { IfSome result (λ value. IsShown name.now × (length value.now ≤ 64)) }
+{
+    if name == "integer_datetimes" {
+        Some("on")
+    } else if name == "standard_conforming_strings" {
+        Some("on")
+    } else {
+        None
+    }
+}
+
+// The value of a setting that a session is told at its start.
+fn parameter_value(name: &str) -> Option<&'static str>
+    ensures some { IfSome result (λ value. parameter_value name.now ≡ Some value.now) }
+    ensures none { IsNone result → parameter_value name.now ≡ None }
+    ensures shown { IfSome result (λ value. IsShown name.now × (length value.now ≤ 64)) }
+{
+    if name == "server_version" {
+        Some("14.0")
+    } else if name == "server_encoding" {
+        Some("UTF8")
+    } else if name == "client_encoding" {
+        Some("UTF8")
+    } else if name == "DateStyle" {
+        Some("ISO, MDY")
+    } else if name == "datestyle" {
+        Some("ISO, MDY")
+    } else {
+        switch_value(name)
+    }
+}
+
+/// The value of a setting but for the history's; none where there is no such setting.
+pub fn value_of(level: Level, name: &str) -> Option<&'static str>
+    ensures some { IfSome result (λ value. value_of level name.now ≡ Some value.now) }
+    ensures none { IsNone result → value_of level name.now ≡ None }
+    ensures shown { IfSome result (λ value. IsShown name.now × (length value.now ≤ 64)) }
+{
+    if name == "monkey.level" {
+        Some(level_word(level))
+    } else {
+        parameter_value(name)
+    }
+}

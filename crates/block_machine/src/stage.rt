@@ -1,0 +1,53 @@
+// What the statements of a message do next.
+ghost use Rattle.std.specs.Prelude.{◌≡◌, true};
+ghost use Rattle.statement_course.specs.Course.{first_demand};
+ghost use Rattle.cell_compile.specs.Plans.{rest_of};
+ghost use Rattle.block_machine.specs.Calls.{asks_cells};
+
+use crate::block::{Block, Pending};
+use crate::kept::Kept;
+use crate::reply::{Fixed, Reply};
+use cell_base::SqlState;
+use cell_compile::Plan;
+use pg_framing::TransactionState;
+use sql_tree::{Statement, Table};
+
+/// A statement that runs in its transaction, and isn't done.
+#[derive(Debug, Drop)]
+pub struct Run {
+    pub plan: Kept<Plan>,
+    ghost asks: { asks_cells (first_demand (rest_of plan)) ≡ true },
+}
+
+/// What comes next. A block is the one in which the statement stands, or which it leaves.
+#[derive(Debug, Drop)]
+pub enum Stage {
+    /// No message is under way. This is where it left the session.
+    Over(TransactionState),
+    /// A CREATE TABLE defines its table.
+    Defining(Kept<Table>, Block),
+    /// A statement looks at the tables.
+    Looking(Kept<Statement>, Block),
+    /// A statement that has its types begins the transaction of the implicit block.
+    Beginning(Kept<Plan>),
+    /// A statement asks for cells and writes them.
+    Running(Run, Pending),
+    /// BEGIN, or START TRANSACTION where the flag is true, begins a transaction.
+    Starting(bool),
+    /// SHOW monkey.history asks for its number.
+    Showing(Block),
+    /// COMMIT commits, and is then told so.
+    Committing(Fixed),
+    /// ROLLBACK rolls back, and is then told so.
+    RollingBack(Fixed),
+    /// A statement's reply is held, behind which the next one follows in this block.
+    Telling(Reply, Block),
+    /// The rollback of a statement that failed with this code.
+    Undoing(SqlState, Pending),
+    /// The error of a statement is held; the state that its block is in.
+    Failing(SqlState, TransactionState),
+    /// The end of the message commits its own transaction.
+    Finishing,
+    /// The message's last reply is held: the next one may come.
+    Readying(TransactionState),
+}

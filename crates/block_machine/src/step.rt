@@ -1,0 +1,80 @@
+// A step of a message, and how a want of memory becomes the failure of a statement.
+ghost use Rattle.std.specs.Prelude.{◌≡◌, ℕ, ◌+◌, ◌≤◌, List, true, false, IfOk};
+ghost use Rattle.sql_tree.specs.declared.table.Table.{Table as Defined};
+ghost use Rattle.block_machine.specs.Script.{Script};
+ghost use Rattle.block_machine.specs.Statements.{Around, owed_in, fails, unless_short_in};
+ghost use Rattle.block_machine.specs.Stages.{IsScriptAt, IsScriptOf, LeadsTo, IsQuiet, IsRunning, IsBusy, IsSoundStage, KnowsTables, NoBuilt, HasReply, owed_at, work_at, running_at, left_at};
+
+use crate::block::{Block, Pending};
+use crate::stage::Stage;
+use cell_base::{Memory, SqlState};
+use pg_framing::TransactionState;
+
+/// A stage, and whether memory was wanting on the way to it.
+#[derive(Debug, Drop)]
+pub struct Step {
+    pub stage: Stage,
+    pub wanting: bool,
+}
+
+/// The step to a stage for which memory wasn't wanting.
+pub fn calm(stage: Stage) -> Step
+    ensures { result ≡ record { stage = stage; wanting = false } }
+{
+    Step {
+        stage,
+        wanting: false,
+    }
+}
+
+/// The stage of a statement that fails with this code.
+pub fn fail(code: SqlState, block: Block) -> Stage
+    ensures goes { (built : List ℕ) → IsScriptOf (fails code block) result built }
+    ensures owed { owed_at result ≡ owed_in block }
+    ensures work { work_at result ≤ 3 }
+    ensures quiet { IsQuiet result }
+    ensures busy { IsBusy result }
+    ensures constant { NoBuilt result }
+{
+    match block {
+        Block::Implicit(false) => Stage::Failing(code, TransactionState::Idle),
+        Block::Implicit(true) => Stage::Undoing(code, Pending::Implicit),
+        Block::Regular => Stage::Undoing(code, Pending::Regular),
+        Block::Failed => Stage::Failing(code, TransactionState::Failed),
+    }
+}
+
+/// The step of a statement for which memory was wanting.
+pub fn short(block: Block) -> Step
+    ensures goes { (script : Around → Script) (built : List ℕ) (known : List Defined) →
+        LeadsTo (λ around. unless_short_in block known around (script around)) result.stage result.wanting built known }
+    ensures owed { owed_at result.stage ≡ owed_in block }
+    ensures work { work_at result.stage ≤ 3 }
+    ensures quiet { IsQuiet result.stage }
+    ensures busy { IsBusy result.stage }
+    ensures constant { NoBuilt result.stage }
+{
+    Step {
+        stage: fail(SqlState::S53200, block),
+        wanting: true,
+    }
+}
+
+/// The step to a stage, or that of a statement for which memory was wanting.
+pub fn or_short(stage: Result<Stage, Memory>, block: Block) -> Step
+    ensures goes { (script : Around → Script) (built : List ℕ) (known : List Defined) → IfOk stage (λ it. IsScriptAt script it built known) →
+        LeadsTo (λ around. unless_short_in block known around (script around)) result.stage result.wanting built known }
+    ensures owed { IfOk stage (λ it. owed_at it ≡ owed_in block) → owed_at result.stage ≡ owed_in block }
+    ensures work { (n : ℕ) → 3 ≤ n → IfOk stage (λ it. work_at it ≤ n + running_at it) → work_at result.stage ≤ n + running_at result.stage }
+    ensures left { (n : ℕ) → IfOk stage (λ it. left_at it ≤ n) → left_at result.stage ≤ n }
+    ensures silent { IfOk stage (λ it. IsRunning it → ⊥) → IsRunning result.stage → ⊥ }
+    ensures busy { IfOk stage IsBusy → IsBusy result.stage }
+    ensures sound { IfOk stage IsSoundStage → IsSoundStage result.stage }
+    ensures knows { (known : List Defined) → IfOk stage (λ it. KnowsTables it known) → KnowsTables result.stage known }
+    ensures some { (built : List ℕ) → IfOk stage (λ it. HasReply it built) → HasReply result.stage built }
+{
+    match stage {
+        Ok(stage) => calm(stage),
+        Err(Memory) => short(block),
+    }
+}

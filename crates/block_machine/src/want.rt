@@ -1,0 +1,17 @@
+// What a message wants.
+use crate::call::Call;
+
+/// What a message wants next.
+#[derive(Debug, Drop)]
+pub enum Want {
+    /// Its table defined by the book.
+    Define,
+    /// What its running statement demands.
+    Cells,
+    /// Another call of the book.
+    Book(Call),
+    /// Its reply sent.
+    Send,
+    /// Nothing: it is done.
+    Nothing,
+}

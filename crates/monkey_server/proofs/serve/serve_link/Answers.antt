@@ -1,7 +1,0 @@
-use Rattle.link_traits.specs.Traffic.{sight_of}
-use Rattle.monkey_server.proofs.Serving.{Serves-none}
-use Rattle.monkey_server.proofs.serve.serve_link.Goals as goal
-
-pub returns-in-Err-clause-served : goal.returns-in-Err-clause-served
-returns-in-Err-clause-served g c =
-    Serves-none g.W.Words.gives (g.B.Book.past c.args.book.now) c.args.words.now (sight_of g.L.Sides.traffic g.L.Sides.read_faults g.L.Sides.write_faults c.args.link.now)

@@ -1,7 +1,0 @@
-use Rattle.std.proofs.Common.{refl}
-use Rattle.monkey_server.specs.Calls as calls
-use Rattle.monkey_server.proofs.Playing.{wanting}
-use Rattle.monkey_server.proofs.serve.write_copy.Goals as goal
-
-pub returns-in-Err-clause-plays : goal.returns-in-Err-clause-plays
-returns-in-Err-clause-plays g c = wanting g.W.Words.gives (g.B.Book.past c.args.book.now) c.args.words.now (calls.Write c.args.cell.now c.args.value.now) tt refl

@@ -1,8 +1,0 @@
--- What the loop of `has_user` keeps.
-use Rattle.std.proofs.Common.{take}
-use Rattle.std.specs.Prelude.{◌↔◌, IsTrue}
-use Rattle.monkey_server.specs.Users.{HasUser}
-use Rattle.monkey_server.proofs.user.has_user.Given as goal
-
-abbrev pub invariant-loop-name : goal.invariant-loop-name
-invariant-loop-name l = IsTrue l.has ↔ HasUser (take l.name-index l.pairs)

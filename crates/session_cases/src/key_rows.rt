@@ -1,0 +1,84 @@
+// Sessions that insert a key that is there already.
+use crate::rows::{GREETING, READY, Row, STARTUP, TERMINATE};
+use session_core::End;
+
+// A duplicate key that is seen.
+const SEEN_DUPLICATE: Row = Row {
+    words: &[0, 1],
+    input: &[
+        STARTUP,
+        b"Q\0\0\04CREATE TABLE t (k bigint PRIMARY KEY, v bigint)\0",
+        b"Q\0\0\0!INSERT INTO t VALUES (1, 10)\0",
+        b"Q\0\0\0!INSERT INTO t VALUES (1, 99)\0",
+        TERMINATE,
+    ],
+    sent: &[
+        GREETING,
+        b"C\0\0\0\x11CREATE TABLE\0",
+        READY,
+        b"C\0\0\0\x0fINSERT 0 1\0",
+        READY,
+        b"E\0\0\0JSERROR\0VERROR\0C23505\0Mduplicate key value violates unique constraint\0\0",
+        READY,
+    ],
+    events: &[
+        "open 1",
+        "define 1 x74",
+        "look 1 1",
+        "begin 1",
+        "read 1 p.0.1 0 1 0 false",
+        "write 1 p.0.1 true",
+        "write 1 f.0.1.1 10",
+        "commit 1",
+        "look 1 1",
+        "begin 1",
+        "read 1 p.0.1 1 2 1 true",
+        "rollback 1",
+        "close 1",
+    ],
+    end: End::Terminated,
+    session: Some(1),
+};
+
+// A duplicate key that is not seen.
+const UNSEEN_DUPLICATE: Row = Row {
+    words: &[0, 0],
+    input: &[
+        STARTUP,
+        b"Q\0\0\04CREATE TABLE t (k bigint PRIMARY KEY, v bigint)\0",
+        b"Q\0\0\0!INSERT INTO t VALUES (1, 10)\0",
+        b"Q\0\0\0!INSERT INTO t VALUES (1, 99)\0",
+        TERMINATE,
+    ],
+    sent: &[
+        GREETING,
+        b"C\0\0\0\x11CREATE TABLE\0",
+        READY,
+        b"C\0\0\0\x0fINSERT 0 1\0",
+        READY,
+        b"C\0\0\0\x0fINSERT 0 1\0",
+        READY,
+    ],
+    events: &[
+        "open 1",
+        "define 1 x74",
+        "look 1 1",
+        "begin 1",
+        "read 1 p.0.1 0 1 0 false",
+        "write 1 p.0.1 true",
+        "write 1 f.0.1.1 10",
+        "commit 1",
+        "look 1 1",
+        "begin 1",
+        "read 1 p.0.1 0 2 0 false",
+        "write 1 p.0.1 true",
+        "write 1 f.0.1.1 99",
+        "commit 1",
+        "close 1",
+    ],
+    end: End::Terminated,
+    session: Some(1),
+};
+
+/// All of them.
+pub const KEYS: &[Row] = &[SEEN_DUPLICATE, UNSEEN_DUPLICATE];

@@ -1,0 +1,12 @@
+pub mod Passes
+pub mod Somes
+pub mod Entering
+pub mod Stepping
+pub mod Grows
+pub mod Flags
+pub mod LastUser
+pub mod Texts
+pub mod Lawfuls
+pub mod Carrying
+pub mod Playing
+pub mod Serving

@@ -1,0 +1,11 @@
+pub mod Users
+pub mod Wants
+pub mod Talk
+pub mod Replies
+pub mod Told
+pub mod Record
+pub mod Plays
+pub mod Stands
+pub mod Steps
+pub mod Sessions
+pub mod Serve

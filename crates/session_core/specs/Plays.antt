@@ -1,0 +1,48 @@
+-- The calls of a book: when one may be asked, what it comes to, and where it leaves the book's session.
+use Rattle.std.specs.Prelude.{◌≡◌, ℕ, ◌≤◌, List, [], ◌∷◌, ◌++◌, length}
+use Rattle.sound_table.specs.Sound.{IsSound}
+use Rattle.history_core.specs.declared.event.Event.{Event}
+use Rattle.history_core.specs.Events.{table_of}
+use Rattle.history_core.specs.Book.{Seat, away, seated, pending, Past, IsSeated, IsIdle, IsInTransaction, IsStorable, HasTable, session_of, writes_of}
+use Rattle.block_machine.specs.Calls.{Call}
+use Rattle.block_machine.specs.Calls as calls
+use Rattle.block_machine.specs.Script.{did, refused}
+use Rattle.block_machine.specs.declared.block.Owed.{Owed}
+use Rattle.block_machine.specs.declared.block.Owed.TheVariants as owes
+use Rattle.block_machine.specs.declared.call.Answer.{Answer}
+use Rattle.block_machine.specs.declared.call.Answer.TheVariants as answers
+use Rattle.session_core.specs.Record.{Happens, Declines, Draws}
+
+-- A call may be asked of a book.
+abbrev pub MayAsk : Call → Past → Type 0
+MayAsk calls.Open past = past.seat ≡ away
+MayAsk calls.Close past = IsIdle past.seat
+MayAsk (calls.Look known) past = IsSeated past.seat × (known ≤ length past.seen.tables)
+MayAsk (calls.Define table) past = IsSeated past.seat × IsSound table
+MayAsk calls.Begin past = IsIdle past.seat
+MayAsk (calls.Scan table) past = IsInTransaction past.seat × HasTable past table
+MayAsk (calls.Touch cell) past = IsInTransaction past.seat × HasTable past (table_of cell)
+MayAsk (calls.Write cell value) past = IsInTransaction past.seat × IsStorable value × HasTable past (table_of cell)
+MayAsk calls.Commit past = IsInTransaction past.seat
+MayAsk calls.Rollback past = IsInTransaction past.seat
+MayAsk calls.Show past = IsSeated past.seat
+
+-- A call was made of a book and got this answer. The event is the one that it made, if it made one.
+abbrev pub Plays : {W : Type 0} → (W → ℕ → W → Type 0) → Past → W → Call → Answer → Event → Past → W → Type 0
+Plays gives p v c (answers.Refused why) e q w = Declines p c why q × Draws gives p v c (refused why) w
+Plays gives p v c a e q w = Happens p c a e q × Draws gives p v c (did a e) w
+
+-- where an answer leaves the session of a book
+abbrev pub SeatAfter : Call → Answer → Seat → Seat → Type 0
+SeatAfter calls.Open (answers.Opened s) old new = new ≡ seated s
+SeatAfter calls.Close answers.Closed old new = new ≡ away
+SeatAfter calls.Begin (answers.Begun n) old new = new ≡ pending (session_of old) []
+SeatAfter (calls.Write cell value) answers.Written old new = new ≡ pending (session_of old) (writes_of old ++ (cell, value) ∷ [])
+SeatAfter calls.Commit answers.Committed old new = new ≡ seated (session_of old)
+SeatAfter calls.Rollback answers.RolledBack old new = new ≡ seated (session_of old)
+SeatAfter _ _ old new = new ≡ old
+
+abbrev pub owed_of : Seat → Owed
+owed_of away = owes.Nothing
+owed_of (seated s) = owes.Close
+owed_of (pending s writes) = owes.Rollback

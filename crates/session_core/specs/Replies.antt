@@ -1,0 +1,50 @@
+-- The replies of a session, but for those of the statements of its messages (block_machine).
+use Rattle.std.specs.Prelude.{ℕ, List, [], ◌∷◌, ◌++◌, codes}
+use Rattle.cell_base.specs.declared.sql_state.SqlState.{SqlState}
+use Rattle.cell_base.specs.declared.sql_state.SqlState.TheVariants as states
+use Rattle.pg_framing.specs.declared.replies.TransactionState.TheVariants as ready_states
+use Rattle.pg_framing.specs.Replies.{auth_ok, parameter, key_data, ready, error_response}
+use Rattle.block_machine.specs.Replies.{ready_reply, error_reply}
+use Rattle.session_core.specs.declared.phase.Phase.{Phase}
+use Rattle.session_core.specs.declared.phase.Phase.TheVariants as phases
+use Rattle.session_core.specs.declared.stage.Fatal.{Fatal}
+use Rattle.session_core.specs.declared.stage.Fatal.TheVariants as fatals
+use Rattle.session_core.specs.declared.stage.Reply.{Reply}
+use Rattle.session_core.specs.declared.stage.Reply.TheVariants as replies
+
+-- the one byte that refuses encryption, the letter N
+abbrev pub no_encryption : List ℕ
+no_encryption = codes "N"
+
+-- what a session is told at its start
+unfoldable pub startup_reply : ℕ → List ℕ
+startup_reply session =
+    auth_ok ++ (parameter (codes "server_version") (codes "14.0") ++ (parameter (codes "server_encoding") (codes "UTF8")
+    ++ (parameter (codes "client_encoding") (codes "UTF8") ++ (parameter (codes "DateStyle") (codes "ISO, MDY")
+    ++ (parameter (codes "integer_datetimes") (codes "on") ++ (parameter (codes "standard_conforming_strings") (codes "on")
+    ++ (key_data session 0 ++ ready ready_states.Idle)))))))
+
+unfoldable pub fatal_reply : SqlState → List ℕ
+fatal_reply state = error_response true state
+
+-- the code of an end that a FATAL reply tells
+abbrev pub fatal_state : Fatal → SqlState
+fatal_state (fatals.Protocol fault) = states.S08P01
+fatal_state fatals.NoUser = states.S28000
+fatal_state fatals.OtherVersion = states.S0A000
+fatal_state fatals.Full = states.S54000
+fatal_state fatals.Spent = states.S54000
+
+-- the bytes of a reply, given the greeting that was built
+abbrev pub bytes_of : List ℕ → Reply → List ℕ
+bytes_of greeting replies.NoEncryption = no_encryption
+bytes_of greeting replies.Greeting = greeting
+bytes_of greeting (replies.Ready state) = ready_reply state
+bytes_of greeting (replies.Unsupported state) = error_reply states.S0A000
+
+-- the phase behind a reply
+abbrev pub phase_behind : Reply → Phase
+phase_behind replies.NoEncryption = phases.Startup
+phase_behind replies.Greeting = phases.Normal ready_states.Idle
+phase_behind (replies.Ready state) = phases.Normal state
+phase_behind (replies.Unsupported state) = phases.Discarding state

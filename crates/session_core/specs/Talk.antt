@@ -1,0 +1,67 @@
+-- What a client says: its messages, each as what it asks for.
+use Rattle.std.specs.Prelude.{◌≡◌, ℕ, List, Bool}
+use Rattle.client_framing.specs.declared.front.Front.{Front}
+use Rattle.client_framing.specs.declared.front.Front.TheVariants.{Ssl, Gss, Cancel, Startup, Version, Query, Terminate, Sync, Flush, Extended, Function, Copy}
+use Rattle.client_framing.specs.declared.front.FrameFault.{FrameFault}
+use Rattle.client_framing.specs.Spelling.{phase_after}
+use Rattle.client_framing.specs.Fronts.{TakesFront, IsPartial, HasFault}
+use Rattle.block_machine.specs.declared.message.Message.{Message}
+use Rattle.block_machine.specs.Messages.{IsMessage}
+use Rattle.session_core.specs.Users.{HasUser}
+
+-- what a message asks for
+pub data Ask : Type 0 where
+  -- a request for encryption, of either kind
+  encryption : Ask
+  -- that what another session runs be cancelled
+  cancel : Ask
+  -- a startup that names a user
+  start : Ask
+  -- a startup that names none
+  nameless : Ask
+  -- a startup of another version
+  version : Ask
+  query : Message → Ask
+  -- a query that nobody reads: it is discarded, or memory is wanting
+  unread_query : Ask
+  terminate : Ask
+  sync : Ask
+  -- nothing: a Flush, or a message of a copy
+  nothing : Ask
+  -- a step of the extended query
+  extended : Ask
+  -- a function call
+  function : Ask
+
+abbrev pub Says : Front → Ask → Type 0
+Says Ssl encryption = Unit {0}
+Says Gss encryption = Unit {0}
+Says (Cancel pid secret) cancel = Unit {0}
+Says (Startup pairs) start = HasUser pairs
+Says (Startup pairs) nameless = ¬ (HasUser pairs)
+Says (Version code) version = Unit {0}
+Says (Query text) (query message) = IsMessage text message
+Says (Query text) unread_query = Unit {0}
+Says Terminate terminate = Unit {0}
+Says Sync sync = Unit {0}
+Says Flush nothing = Unit {0}
+Says (Copy part) nothing = Unit {0}
+Says (Extended step) extended = Unit {0}
+Says Function function = Unit {0}
+Says _ _ = ⊥
+
+-- a stream as a session hears it: what is asked for, message after message, and then bytes that are no whole message, or a
+-- fault, or what nobody has looked at
+pub data Talk : Type 0 where
+  asks : Ask → Talk → Talk
+  partial : List ℕ → Talk
+  faulty : FrameFault → Talk
+  unread : Talk
+
+-- the bytes, before the startup or after it, are that talk
+abbrev pub IsTalk : Bool → List ℕ → Talk → Type 0
+IsTalk started bytes (asks ask talk) =
+    (front : Front) × (more : List ℕ) × TakesFront started bytes front more × Says front ask × IsTalk (phase_after started front) more talk
+IsTalk started bytes (partial rest) = (rest ≡ bytes) × IsPartial started bytes
+IsTalk started bytes (faulty fault) = HasFault started bytes fault
+IsTalk started bytes unread = Unit {0}

@@ -1,0 +1,179 @@
+// The calls that a session asks of its book.
+ghost use Rattle.std.specs.Prelude.{◌≡◌, true, IfOk};
+ghost use Rattle.sound_table.specs.Sound.{IsSound};
+ghost use Rattle.history_core.specs.declared.event.Event.{Event};
+ghost use Rattle.history_core.specs.Book.{IsSeated, IsUnwritten, HasWrite};
+ghost use Rattle.block_machine.specs.Calls as calls;
+ghost use Rattle.block_machine.specs.Calls.{asks_cells, call_for, call_of};
+ghost use Rattle.block_machine.specs.Stages.{Fits};
+ghost use Rattle.session_core.specs.Plays.{MayAsk, Plays, SeatAfter};
+
+use block_machine::{Answer, Call};
+use cell_base::{Cell, Memory, Value};
+use history_core::{Book, BookFault};
+use link_traits::Words;
+use sql_tree::Table;
+use statement_course::Demand;
+use std::alloc::Global;
+
+/// Defines a table in the book.
+pub fn define<B: Book, W: Words>(book: &mut B, words: &W, table: &Table) -> Answer
+    requires may { IsSeated (B.past book.old).seat }
+    requires sound { IsSound table.now }
+    ensures fits { Fits (calls.Define table.now) result }
+    ensures plays { (e : Event) × Plays W.gives (B.past book.old) words.now (calls.Define table.now) result e (B.past book.new) words.now }
+    ensures seat { SeatAfter (calls.Define table.now) result (B.past book.old).seat (B.past book.new).seat }
+    ensures stays { B.stays book.old book.new }
+{
+    match book.define(table) {
+        Ok(answer) => Answer::Defined(answer),
+        Err(why) => Answer::Refused(why),
+    }
+}
+
+/// Makes another call of the book.
+pub fn call<B: Book, W: Words>(book: &mut B, words: &W, c: Call) -> Answer
+    requires may { MayAsk (call_of c) (B.past book.old) }
+    ensures fits { Fits (call_of c) result }
+    ensures plays { (e : Event) × Plays W.gives (B.past book.old) words.now (call_of c) result e (B.past book.new) words.now }
+    ensures seat { SeatAfter (call_of c) result (B.past book.old).seat (B.past book.new).seat }
+    ensures stays { B.stays book.old book.new }
+{
+    match c {
+        Call::Open => match book.open() {
+            Ok(session) => Answer::Opened(session),
+            Err(why) => Answer::Refused(why),
+        },
+        Call::Close => {
+            book.close();
+            Answer::Closed
+        }
+        Call::Look(known) => match book.look(known) {
+            Ok(tables) => Answer::Looked(tables),
+            Err(why) => Answer::Refused(why),
+        },
+        Call::Begin => match book.begin() {
+            Ok(number) => Answer::Begun(number),
+            Err(why) => Answer::Refused(why),
+        },
+        Call::Commit => {
+            book.commit();
+            Answer::Committed
+        }
+        Call::Rollback => {
+            book.rollback();
+            Answer::RolledBack
+        }
+        Call::Show => match book.show() {
+            Ok(number) => Answer::Shown(number),
+            Err(why) => Answer::Refused(why),
+        },
+    }
+}
+
+// Reads a cell of which nothing is pending. A word is drawn before the read.
+fn read<B: Book, W: Words>(book: &mut B, words: &mut W, cell: &Cell) -> Answer
+    requires may { MayAsk (calls.Touch cell.now) (B.past book.old) }
+    requires unwritten { IsUnwritten cell.now (B.past book.old).seat }
+    ensures fits { Fits (calls.Touch cell.now) result }
+    ensures plays { (e : Event) × Plays W.gives (B.past book.old) words.old (calls.Touch cell.now) result e (B.past book.new) words.new }
+    ensures seat { SeatAfter (calls.Touch cell.now) result (B.past book.old).seat (B.past book.new).seat }
+    ensures stays { B.stays book.old book.new }
+{
+    let word = words.next();
+    match book.read(cell, word) {
+        Ok(value) => Answer::Found(value),
+        Err(why) => Answer::Refused(why),
+    }
+}
+
+// Reads a cell back that the pending transaction wrote.
+fn own<B: Book, W: Words>(book: &mut B, words: &W, cell: &Cell) -> Answer
+    requires may { MayAsk (calls.Touch cell.now) (B.past book.old) }
+    requires written { HasWrite cell.now (B.past book.old).seat }
+    ensures fits { Fits (calls.Touch cell.now) result }
+    ensures plays { (e : Event) × Plays W.gives (B.past book.old) words.now (calls.Touch cell.now) result e (B.past book.new) words.now }
+    ensures seat { SeatAfter (calls.Touch cell.now) result (B.past book.old).seat (B.past book.new).seat }
+    ensures stays { B.stays book.old book.new }
+{
+    match book.own(cell) {
+        Ok(value) => Answer::Found(value),
+        Err(why) => Answer::Refused(why),
+    }
+}
+
+// Reads a cell: what the pending transaction wrote to it, or else from the history.
+fn touch<B: Book, W: Words>(book: &mut B, words: &mut W, cell: &Cell) -> Answer
+    requires may { MayAsk (calls.Touch cell.now) (B.past book.old) }
+    ensures fits { Fits (calls.Touch cell.now) result }
+    ensures plays { (e : Event) × Plays W.gives (B.past book.old) words.old (calls.Touch cell.now) result e (B.past book.new) words.new }
+    ensures seat { SeatAfter (calls.Touch cell.now) result (B.past book.old).seat (B.past book.new).seat }
+    ensures stays { B.stays book.old book.new }
+{
+    if book.wrote(cell) {
+        own(book, words, cell)
+    } else {
+        read(book, words, cell)
+    }
+}
+
+// Writes a cell.
+fn write<B: Book, W: Words>(book: &mut B, words: &W, cell: Cell, value: Value) -> Answer
+    requires may { MayAsk (calls.Write cell value) (B.past book.old) }
+    ensures fits { Fits (calls.Write cell value) result }
+    ensures plays { (e : Event) × Plays W.gives (B.past book.old) words.now (calls.Write cell value) result e (B.past book.new) words.now }
+    ensures seat { SeatAfter (calls.Write cell value) result (B.past book.old).seat (B.past book.new).seat }
+    ensures stays { B.stays book.old book.new }
+{
+    match book.write(cell, value) {
+        Ok(()) => Answer::Written,
+        Err(why) => Answer::Refused(why),
+    }
+}
+
+// A cell and its value once more.
+fn copy(alloc: Global, cell: &Cell, value: &Value) -> Result<(Cell, Value), Memory>
+    ensures { IfOk result (λ p. (p.0 ≡ cell.now) × (p.1 ≡ value.now)) }
+{
+    Ok((cell.copy(alloc)?, value.copy(alloc)?))
+}
+
+// Writes a cell with its value, of which the book gets copies.
+fn write_copy<B: Book, W: Words>(
+    alloc: Global,
+    book: &mut B,
+    words: &W,
+    cell: &Cell,
+    value: &Value,
+) -> Answer
+    requires may { MayAsk (calls.Write cell.now value.now) (B.past book.old) }
+    ensures fits { Fits (calls.Write cell.now value.now) result }
+    ensures plays { (e : Event) × Plays W.gives (B.past book.old) words.now (calls.Write cell.now value.now) result e (B.past book.new) words.now }
+    ensures seat { SeatAfter (calls.Write cell.now value.now) result (B.past book.old).seat (B.past book.new).seat }
+    ensures stays { B.stays book.old book.new }
+{
+    match copy(alloc, cell, value) {
+        Ok((cell, value)) => write(book, words, cell, value),
+        Err(Memory) => Answer::Refused(BookFault::Memory),
+    }
+}
+
+/// Makes the call that a statement demands.
+pub fn ask<B: Book, W: Words>(alloc: Global, book: &mut B, words: &mut W, demand: &Demand) -> Answer
+    requires may { MayAsk (call_for demand.now) (B.past book.old) }
+    requires asks { asks_cells demand.now ≡ true }
+    ensures fits { Fits (call_for demand.now) result }
+    ensures plays { (e : Event) × Plays W.gives (B.past book.old) words.old (call_for demand.now) result e (B.past book.new) words.new }
+    ensures seat { SeatAfter (call_for demand.now) result (B.past book.old).seat (B.past book.new).seat }
+    ensures stays { B.stays book.old book.new }
+{
+    match demand {
+        Demand::Scan(table) => match book.scan(*table) {
+            Ok(keys) => Answer::Listed(keys),
+            Err(why) => Answer::Refused(why),
+        },
+        Demand::Touch(cell) => touch(book, words, cell),
+        Demand::Write(cell, value) => write_copy(alloc, book, words, cell, value),
+        Demand::Reply(_) => unreachable!(),
+    }
+}

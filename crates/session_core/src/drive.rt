@@ -1,0 +1,286 @@
+// The turns of a session: a call is made, a reply sent or a message looked at, until bytes are wanted or the end is there.
+ghost use Rattle.std.specs.Prelude.{◌≡◌, ℕ, ◌+◌, ◌<◌, ◌≤◌, true, false};
+ghost use Rattle.sql_tree.specs.declared.table.Table.{Table as Defined};
+ghost use Rattle.history_core.specs.Book.{Past};
+ghost use Rattle.link_traits.specs.Traffic.{Sight, sight_of};
+ghost use Rattle.block_machine.specs.Calls.{call_of};
+ghost use Rattle.block_machine.specs.Calls as calls;
+ghost use Rattle.block_machine.specs.Runners.{Runs};
+ghost use Rattle.session_core.specs.declared.stage.Stage.TheVariants as stages;
+ghost use Rattle.session_core.specs.Wants as wishes;
+ghost use Rattle.session_core.specs.Wants.{IsResting};
+ghost use Rattle.session_core.specs.Stands.{IsHolding, IsLast, left_at, message_at, message_work, statement_at};
+ghost use Rattle.session_core.specs.Sessions.{wanted, work_of};
+ghost use Rattle.session_core.specs.Serve.{Sits, Ran};
+ghost use Rattle.cell_base.specs.declared.level.Level.{Level};
+
+use crate::calls::{ask, call, define};
+use crate::session::Session;
+use crate::want::Want;
+use block_machine::Call;
+use history_core::Book;
+use link_traits::{Link, Words, send_all};
+use std::alloc::Global;
+
+// Defines the table that the session wants defined.
+fn answer_define<B: Book, W: Words>(session: &mut Session, book: &mut B, words: &W)
+    requires wanted { (table : Defined) × (wanted session.old ≡ wishes.Book (calls.Define table)) }
+    requires sits { Sits session.old (B.past book.old) }
+    ensures ran { (level : Level) (p : Past) (v : W) (f g : Sight) (many : ℕ) →
+        Ran W.gives level p v f session.old (B.past book.old) words.now g many → Ran W.gives level p v f session.new (B.past book.new) words.now g many }
+    ensures sits { Sits session.new (B.past book.new) }
+    ensures work { work_of session.new < work_of session.old + message_at session.new.stage }
+    ensures message { session.old.stage ≡ stages.Running → message_work session.new.stage session.new.runner < message_work session.old.stage session.old.runner + statement_at session.new.stage session.new.runner }
+    ensures last { IsLast session.old.stage → IsLast session.new.stage }
+    ensures stays { B.stays book.old book.new }
+{
+    let answer = define(book, words, session.table());
+    session.answer(answer);
+}
+
+// Makes another call that the session wants.
+fn answer_call<B: Book, W: Words>(session: &mut Session, book: &mut B, words: &W, c: Call)
+    requires wanted { wanted session.old ≡ wishes.Book (call_of c) }
+    requires sits { Sits session.old (B.past book.old) }
+    ensures ran { (level : Level) (p : Past) (v : W) (f g : Sight) (many : ℕ) →
+        Ran W.gives level p v f session.old (B.past book.old) words.now g many → Ran W.gives level p v f session.new (B.past book.new) words.now g many }
+    ensures sits { Sits session.new (B.past book.new) }
+    ensures work { work_of session.new < work_of session.old + message_at session.new.stage }
+    ensures message { session.old.stage ≡ stages.Running → message_work session.new.stage session.new.runner < message_work session.old.stage session.old.runner + statement_at session.new.stage session.new.runner }
+    ensures last { IsLast session.old.stage → IsLast session.new.stage }
+    ensures stays { B.stays book.old book.new }
+{
+    let answer = call(book, words, c);
+    session.answer(answer);
+}
+
+// Makes the call that the running statement demands.
+fn answer_cells<B: Book, W: Words>(
+    alloc: Global,
+    session: &mut Session,
+    book: &mut B,
+    words: &mut W,
+)
+    requires running { session.old.stage ≡ stages.Running }
+    requires runs { Runs session.old.runner }
+    requires sits { Sits session.old (B.past book.old) }
+    ensures ran { (level : Level) (p : Past) (v : W) (f g : Sight) (many : ℕ) →
+        Ran W.gives level p v f session.old (B.past book.old) words.old g many → Ran W.gives level p v f session.new (B.past book.new) words.new g many }
+    ensures sits { Sits session.new (B.past book.new) }
+    ensures work { work_of session.new < work_of session.old + message_at session.new.stage }
+    ensures message { session.old.stage ≡ stages.Running → message_work session.new.stage session.new.runner < message_work session.old.stage session.old.runner + statement_at session.new.stage session.new.runner }
+    ensures left { left_at session.new.stage session.new.runner < left_at session.old.stage session.old.runner }
+    ensures last { IsLast session.old.stage → IsLast session.new.stage }
+    ensures stays { B.stays book.old book.new }
+{
+    let answer = ask(alloc, book, words, session.demanded());
+    session.answer(answer);
+}
+
+// Sends the reply that the session holds.
+fn send<B: Book, L: Link, W: Words>(session: &mut Session, book: &B, link: &mut L, words: &W)
+    requires holding { IsHolding session.old.stage session.old.runner }
+    requires sits { Sits session.old (B.past book.now) }
+    ensures ran { (level : Level) (p : Past) (v : W) (f : Sight) (many : ℕ) →
+        Ran W.gives level p v f session.old (B.past book.now) words.now (sight_of L.traffic L.read_faults L.write_faults link.old) many →
+        Ran W.gives level p v f session.new (B.past book.now) words.now (sight_of L.traffic L.read_faults L.write_faults link.new) many }
+    ensures sits { Sits session.new (B.past book.now) }
+    ensures work { work_of session.new < work_of session.old + message_at session.new.stage }
+    ensures message { session.old.stage ≡ stages.Running → message_work session.new.stage session.new.runner < message_work session.old.stage session.old.runner }
+    ensures last { IsLast session.old.stage → IsLast session.new.stage }
+{
+    match send_all(link, session.reply()) {
+        Ok(()) => session.sent(),
+        Err(_) => session.unsent(),
+    }
+}
+
+// Looks at the next message of those that the session holds.
+fn take<B: Book, W: Words>(session: &mut Session, book: &B, words: &W)
+    requires wanted { wanted session.old ≡ wishes.Message }
+    requires sits { Sits session.old (B.past book.now) }
+    ensures ran { (level : Level) (p : Past) (v : W) (f g : Sight) (many : ℕ) →
+        Ran W.gives level p v f session.old (B.past book.now) words.now g many → Ran W.gives level p v f session.new (B.past book.now) words.now g many }
+    ensures sits { Sits session.new (B.past book.now) }
+    ensures work { work_of session.new < work_of session.old }
+{
+    session.take();
+}
+
+// Does what the session wants. Answers whether it wanted something.
+fn serve_want<B: Book, L: Link, W: Words>(
+    alloc: Global,
+    session: &mut Session,
+    book: &mut B,
+    link: &mut L,
+    words: &mut W,
+) -> bool
+    requires sits { Sits session.old (B.past book.old) }
+    ensures ran { (level : Level) (p : Past) (v : W) (f : Sight) (many : ℕ) →
+        Ran W.gives level p v f session.old (B.past book.old) words.old (sight_of L.traffic L.read_faults L.write_faults link.old) many →
+        Ran W.gives level p v f session.new (B.past book.new) words.new (sight_of L.traffic L.read_faults L.write_faults link.new) many }
+    ensures sits { Sits session.new (B.past book.new) }
+    ensures work { result ≡ true → work_of session.new < work_of session.old + message_at session.new.stage }
+    ensures message { session.old.stage ≡ stages.Running → message_work session.new.stage session.new.runner < message_work session.old.stage session.old.runner + statement_at session.new.stage session.new.runner }
+    ensures rests { result ≡ false → IsResting (wanted session.new) }
+    ensures last { IsLast session.old.stage → IsLast session.new.stage }
+    ensures stays { B.stays book.old book.new }
+{
+    match session.demand() {
+        Want::Message => {
+            take(session, book, words);
+            true
+        }
+        Want::Define => {
+            answer_define(session, book, words);
+            true
+        }
+        Want::Cells => {
+            answer_cells(alloc, session, book, words);
+            true
+        }
+        Want::Book(c) => {
+            answer_call(session, book, words, c);
+            true
+        }
+        Want::Send => {
+            send(session, book, link, words);
+            true
+        }
+        Want::Bytes | Want::Ended(_) => false,
+    }
+}
+
+// Where a statement runs, makes the call that it demands. Answers whether one runs.
+fn step_on<B: Book, W: Words>(
+    alloc: Global,
+    session: &mut Session,
+    book: &mut B,
+    words: &mut W,
+) -> bool
+    requires sits { Sits session.old (B.past book.old) }
+    ensures ran { (level : Level) (p : Past) (v : W) (f g : Sight) (many : ℕ) →
+        Ran W.gives level p v f session.old (B.past book.old) words.old g many → Ran W.gives level p v f session.new (B.past book.new) words.new g many }
+    ensures sits { Sits session.new (B.past book.new) }
+    ensures work { work_of session.new + message_at session.old.stage ≤ work_of session.old + message_at session.new.stage }
+    ensures message { message_work session.new.stage session.new.runner + statement_at session.old.stage session.old.runner ≤ message_work session.old.stage session.old.runner + statement_at session.new.stage session.new.runner }
+    ensures left { result ≡ true → left_at session.new.stage session.new.runner < left_at session.old.stage session.old.runner }
+    ensures calm { result ≡ false → statement_at session.new.stage session.new.runner ≡ 0 }
+    ensures last { IsLast session.old.stage → IsLast session.new.stage }
+    ensures stays { B.stays book.old book.new }
+{
+    match session.demand() {
+        Want::Cells => {
+            answer_cells(alloc, session, book, words);
+            true
+        }
+        _ => false,
+    }
+}
+
+// Makes all calls that a running statement demands.
+fn run_on<B: Book, W: Words>(alloc: Global, session: &mut Session, book: &mut B, words: &mut W)
+    requires sits { Sits session.old (B.past book.old) }
+    ensures ran { (level : Level) (p : Past) (v : W) (f g : Sight) (many : ℕ) →
+        Ran W.gives level p v f session.old (B.past book.old) words.old g many → Ran W.gives level p v f session.new (B.past book.new) words.new g many }
+    ensures sits { Sits session.new (B.past book.new) }
+    ensures work { work_of session.new + message_at session.old.stage ≤ work_of session.old + message_at session.new.stage }
+    ensures message { message_work session.new.stage session.new.runner + statement_at session.old.stage session.old.runner ≤ message_work session.old.stage session.old.runner }
+    ensures last { IsLast session.old.stage → IsLast session.new.stage }
+    ensures stays { B.stays book.old book.new }
+{
+    while step_on(alloc, session, book, words) {}
+}
+
+// Where a message runs, makes a call or sends a reply, and runs a statement to its end. Answers whether a message runs.
+fn step_message<B: Book, L: Link, W: Words>(
+    alloc: Global,
+    session: &mut Session,
+    book: &mut B,
+    link: &mut L,
+    words: &mut W,
+) -> bool
+    requires sits { Sits session.old (B.past book.old) }
+    ensures ran { (level : Level) (p : Past) (v : W) (f : Sight) (many : ℕ) →
+        Ran W.gives level p v f session.old (B.past book.old) words.old (sight_of L.traffic L.read_faults L.write_faults link.old) many →
+        Ran W.gives level p v f session.new (B.past book.new) words.new (sight_of L.traffic L.read_faults L.write_faults link.new) many }
+    ensures sits { Sits session.new (B.past book.new) }
+    ensures work { work_of session.new + message_at session.old.stage ≤ work_of session.old + message_at session.new.stage }
+    ensures message { result ≡ true → message_work session.new.stage session.new.runner < message_work session.old.stage session.old.runner }
+    ensures calm { result ≡ false → message_at session.new.stage ≡ 0 }
+    ensures last { IsLast session.old.stage → IsLast session.new.stage }
+    ensures stays { B.stays book.old book.new }
+{
+    if !session.is_running() {
+        return false;
+    }
+    serve_want(alloc, session, book, link, words);
+    run_on(alloc, session, book, words);
+    true
+}
+
+// Runs a message to its end.
+fn run_message<B: Book, L: Link, W: Words>(
+    alloc: Global,
+    session: &mut Session,
+    book: &mut B,
+    link: &mut L,
+    words: &mut W,
+)
+    requires sits { Sits session.old (B.past book.old) }
+    ensures ran { (level : Level) (p : Past) (v : W) (f : Sight) (many : ℕ) →
+        Ran W.gives level p v f session.old (B.past book.old) words.old (sight_of L.traffic L.read_faults L.write_faults link.old) many →
+        Ran W.gives level p v f session.new (B.past book.new) words.new (sight_of L.traffic L.read_faults L.write_faults link.new) many }
+    ensures sits { Sits session.new (B.past book.new) }
+    ensures work { work_of session.new + message_at session.old.stage ≤ work_of session.old }
+    ensures last { IsLast session.old.stage → IsLast session.new.stage }
+    ensures stays { B.stays book.old book.new }
+{
+    while step_message(alloc, session, book, link, words) {}
+}
+
+// One turn: a call is made, a reply sent or a message looked at, and a message that runs is run to its end. Answers whether the
+// session wanted it.
+fn turn<B: Book, L: Link, W: Words>(
+    alloc: Global,
+    session: &mut Session,
+    book: &mut B,
+    link: &mut L,
+    words: &mut W,
+) -> bool
+    requires sits { Sits session.old (B.past book.old) }
+    ensures ran { (level : Level) (p : Past) (v : W) (f : Sight) (many : ℕ) →
+        Ran W.gives level p v f session.old (B.past book.old) words.old (sight_of L.traffic L.read_faults L.write_faults link.old) many →
+        Ran W.gives level p v f session.new (B.past book.new) words.new (sight_of L.traffic L.read_faults L.write_faults link.new) many }
+    ensures sits { Sits session.new (B.past book.new) }
+    ensures work { result ≡ true → work_of session.new < work_of session.old }
+    ensures rests { result ≡ false → IsResting (wanted session.new) }
+    ensures last { IsLast session.old.stage → IsLast session.new.stage }
+    ensures stays { B.stays book.old book.new }
+{
+    if !serve_want(alloc, session, book, link, words) {
+        return false;
+    }
+    run_message(alloc, session, book, link, words);
+    true
+}
+
+/// Serves until bytes are wanted or the end is there.
+pub fn drive<B: Book, L: Link, W: Words>(
+    alloc: Global,
+    session: &mut Session,
+    book: &mut B,
+    link: &mut L,
+    words: &mut W,
+)
+    requires sits { Sits session.old (B.past book.old) }
+    ensures ran { (level : Level) (p : Past) (v : W) (f : Sight) (many : ℕ) →
+        Ran W.gives level p v f session.old (B.past book.old) words.old (sight_of L.traffic L.read_faults L.write_faults link.old) many →
+        Ran W.gives level p v f session.new (B.past book.new) words.new (sight_of L.traffic L.read_faults L.write_faults link.new) many }
+    ensures sits { Sits session.new (B.past book.new) }
+    ensures rests { IsResting (wanted session.new) }
+    ensures last { IsLast session.old.stage → IsLast session.new.stage }
+    ensures stays { B.stays book.old book.new }
+{
+    while turn(alloc, session, book, link, words) {}
+}

@@ -1,0 +1,24 @@
+//! One session over a link: the messages of a client come in, calls are made of a book, and replies go out.
+//!
+//! What a session is told is a function of the bytes that its client sent and of the record of what became of its calls (`specs/Told`). A
+//! record is lawful where its calls were made of the book in order, and its events are those that the book made (`specs/Record`).
+//! [`serve_link`] runs a session over any book, link and choice words: what it sent is told of what it read and of a lawful record
+//! (`specs/Serve`).
+#![tactic(auto)]
+
+mod answers;
+mod calls;
+mod drive;
+mod messages;
+mod phase;
+mod prepared;
+mod replies;
+mod serve;
+mod session;
+mod stage;
+mod turns;
+mod user;
+mod want;
+
+pub use block_machine::{End, Stop};
+pub use serve::{Served, serve_link};

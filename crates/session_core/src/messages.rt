@@ -1,0 +1,238 @@
+// The stages that messages lead to.
+ghost use Rattle.std.specs.Prelude.{◌≡◌, ◌≢◌, ℕ, ◌+◌, ◌*◌, ◌<◌, ◌≤◌, ◌^◌, List, [], length, Bool, true, false, None, Some};
+ghost use Rattle.sql_grammar.specs.Limited.{HasNoZero};
+ghost use Rattle.client_framing.specs.Spelling.{phase_after};
+ghost use Rattle.block_machine.specs.Messages as blocks;
+ghost use Rattle.block_machine.specs.Script.{Said, Entry};
+ghost use Rattle.block_machine.specs.Stages.{IsFrom, IsSoundMessage};
+ghost use Rattle.block_machine.specs.Runners.{level_of, known_of};
+ghost use Rattle.block_machine.specs.declared.runner.Runner.{Runner as Machine};
+ghost use Rattle.session_core.specs.Talk.{Talk};
+ghost use Rattle.session_core.specs.Told as told_spec;
+ghost use Rattle.session_core.specs.Told.{ending, outside_of};
+ghost use Rattle.session_core.specs.Stands.{IsFit, InPhase, goes_on, has_started, on, work_at};
+ghost use Rattle.session_core.specs.Steps.{Feeds, Steps, Meets, Leads, LeadsTo, IsHeard, IsPlainFront, IsReadable, IsPassing, is_main, with_wanting};
+
+use crate::phase::Phase;
+use crate::stage::{Fatal, Finish, Reply, Stage};
+use crate::turns::{Step, calm, leave, owed_by, owed_in, refuse};
+use crate::user::has_user;
+use block_machine::{End, Message, Owed, Runner, read_message};
+use cell_base::{Memory, SqlState};
+use client_framing::{FrameFault, Frames, Front};
+use pg_framing::TransactionState;
+use std::alloc::Global;
+
+/// A want of memory that doesn't end the session, where there was one.
+pub fn passing(wanting: bool) -> Option<bool>
+    ensures passing { IsPassing result }
+    ensures calm { wanting ≡ false → result ≡ None }
+    ensures short { wanting ≡ true → result ≡ Some false }
+{
+    if wanting { Some(false) } else { None }
+}
+
+// The step to a message whose statements run.
+fn run(message: Message, state: TransactionState, runner: &mut Runner) -> Step
+    requires sound { IsSoundMessage message }
+    requires fit { IsFit runner.old }
+    ensures goes { (greeting : List ℕ) (talk : Talk) (said : Said) (es : List Entry) → IsFrom 1 (length said.bytes) es →
+        blocks.message message state (known_of runner.old) (outside_of (level_of runner.old) (on runner.old talk)) said (with_wanting result.wanting said.bytes es) ≡ goes_on Stage.Running runner.new greeting talk said es }
+    ensures stage { result.stage ≡ Stage.Running }
+    ensures passing { IsPassing result.wanting }
+    ensures leads { Leads (blocks.owed_between state) runner.old Stage.Running runner.new }
+{
+    runner.stand(state);
+    let wanting = runner.begin(message);
+    Step {
+        stage: Stage::Running,
+        wanting: passing(wanting),
+    }
+}
+
+// Runs a message that fails before its first statement, with this code.
+fn fail(code: SqlState, state: TransactionState, runner: &mut Runner)
+    requires fit { IsFit runner.old }
+    ensures goes { (greeting : List ℕ) (talk : Talk) (said : Said) (es : List Entry) →
+        blocks.message (Message.Unread code) state (known_of runner.old) (outside_of (level_of runner.old) (on runner.old talk)) said es ≡ goes_on Stage.Running runner.new greeting talk said es }
+    ensures leads { Leads (blocks.owed_between state) runner.old Stage.Running runner.new }
+{
+    runner.refuse(code, state);
+}
+
+// The step that a query leads to.
+fn query(alloc: Global, text: &[u8], state: TransactionState, runner: &mut Runner) -> Step
+    requires short { length text.now < 2 ^ 32 }
+    requires no_zero { HasNoZero text.now }
+    requires fit { IsFit runner.old }
+    ensures goes { Meets (Front.Query text.now) (Phase.Normal state) runner.old result.stage runner.new result.wanting }
+    ensures leads { Leads (blocks.owed_between state) runner.old result.stage runner.new }
+    ensures stage { result.stage ≡ Stage.Running }
+{
+    match read_message(alloc, text) {
+        Ok(message) => run(message, state, runner),
+        Err(Memory) => {
+            fail(SqlState::S53200, state, runner);
+            Step {
+                stage: Stage::Running,
+                wanting: Some(false),
+            }
+        }
+    }
+}
+
+// The stage that a message before the startup leads to.
+fn open(front: &Front) -> Stage
+    requires { is_main front.now ≡ false }
+    ensures goes { (r : Machine) → Meets front.now Phase.Startup r result r None }
+    ensures leads { (r : Machine) → IsFit r → Leads Owed.Nothing r result r }
+    ensures work { work_at result ≤ 8 }
+    ensures phase { InPhase result (phase_after false front.now) }
+{
+    match front {
+        Front::Ssl => Stage::Telling(Reply::NoEncryption),
+        Front::Gss => Stage::Telling(Reply::NoEncryption),
+        Front::Cancel(_, _) => Stage::Ended(Finish::Cancelled),
+        Front::Startup(pairs) => {
+            if has_user(pairs.as_slice()) {
+                Stage::Opening
+            } else {
+                Stage::Parting(Fatal::NoUser)
+            }
+        }
+        Front::Version(_) => Stage::Parting(Fatal::OtherVersion),
+        _ => unreachable!(),
+    }
+}
+
+// The stage that a message leads to which is served and runs no statement.
+fn serve_plain(front: &Front, state: TransactionState) -> Stage
+    requires main { is_main front.now ≡ true }
+    requires plain { IsPlainFront front.now }
+    ensures goes { (r : Machine) → Meets front.now (Phase.Normal state) r result r None }
+    ensures leads { (r : Machine) → IsFit r → Leads (blocks.owed_between state) r result r }
+    ensures work { work_at result ≤ 8 }
+    ensures phase { InPhase result true }
+{
+    match front {
+        Front::Terminate => leave(owed_in(state), Finish::Terminated),
+        Front::Sync => Stage::Telling(Reply::Ready(state)),
+        Front::Extended(_) => refuse(state),
+        Front::Flush => Stage::Taking(Phase::Normal(state)),
+        Front::Copy(_) => Stage::Taking(Phase::Normal(state)),
+        _ => unreachable!(),
+    }
+}
+
+// The step that a function call leads to.
+fn call_function(state: TransactionState, runner: &mut Runner) -> Step
+    requires fit { IsFit runner.old }
+    ensures goes { Meets Front.Function (Phase.Normal state) runner.old result.stage runner.new result.wanting }
+    ensures leads { Leads (blocks.owed_between state) runner.old result.stage runner.new }
+    ensures stage { result.stage ≡ Stage.Running }
+{
+    fail(SqlState::S0A000, state, runner);
+    calm(Stage::Running)
+}
+
+// The step that a message leads to which is served.
+fn serve(alloc: Global, front: &Front, state: TransactionState, runner: &mut Runner) -> Step
+    requires main { is_main front.now ≡ true }
+    requires readable { IsReadable front.now }
+    requires fit { IsFit runner.old }
+    ensures goes { Meets front.now (Phase.Normal state) runner.old result.stage runner.new result.wanting }
+    ensures leads { Leads (blocks.owed_between state) runner.old result.stage runner.new }
+    ensures work { work_at result.stage ≤ 8 }
+    ensures phase { InPhase result.stage true }
+{
+    match front {
+        Front::Query(text) => query(alloc, text.as_slice(), state, runner),
+        Front::Function => call_function(state, runner),
+        _ => calm(serve_plain(front, state)),
+    }
+}
+
+// The stage that a message leads to where messages are discarded.
+fn discard(front: &Front, state: TransactionState) -> Stage
+    requires { is_main front.now ≡ true }
+    ensures goes { (r : Machine) → Meets front.now (Phase.Discarding state) r result r None }
+    ensures leads { (r : Machine) → IsFit r → Leads (blocks.owed_between state) r result r }
+    ensures work { work_at result ≤ 8 }
+    ensures phase { InPhase result true }
+{
+    match front {
+        Front::Terminate => leave(owed_in(state), Finish::Terminated),
+        Front::Sync => Stage::Telling(Reply::Ready(state)),
+        Front::Query(_) => Stage::Taking(Phase::Discarding(state)),
+        Front::Flush => Stage::Taking(Phase::Discarding(state)),
+        Front::Extended(_) => Stage::Taking(Phase::Discarding(state)),
+        Front::Function => Stage::Taking(Phase::Discarding(state)),
+        Front::Copy(_) => Stage::Taking(Phase::Discarding(state)),
+        _ => unreachable!(),
+    }
+}
+
+// The step that a message leads to.
+fn enter(alloc: Global, front: &Front, phase: Phase, runner: &mut Runner) -> Step
+    requires heard { IsHeard phase front.now }
+    requires fit { IsFit runner.old }
+    ensures goes { Meets front.now phase runner.old result.stage runner.new result.wanting }
+    ensures leads { Leads (told_spec.owed_by phase) runner.old result.stage runner.new }
+    ensures work { work_at result.stage ≤ 8 }
+    ensures phase { InPhase result.stage (phase_after (has_started phase) front.now) }
+{
+    match phase {
+        Phase::Startup => calm(open(front)),
+        Phase::Normal(state) => serve(alloc, front, state, runner),
+        Phase::Discarding(state) => calm(discard(front, state)),
+    }
+}
+
+// The step that a fault of the stream leads to.
+fn break_off(fault: FrameFault, phase: Phase) -> Step
+    ensures memory { fault ≡ FrameFault.Memory → (result.wanting ≡ Some true) × LeadsTo result.stage (ending (told_spec.owed_by phase) End.Memory) }
+    ensures protocol { fault ≢ FrameFault.Memory → (result.wanting ≡ None) × LeadsTo result.stage (ending (told_spec.owed_by phase) (End.Protocol fault)) }
+    ensures leads { (r : Machine) → IsFit r → Leads (told_spec.owed_by phase) r result.stage r }
+    ensures work { work_at result.stage ≤ 3 }
+    ensures phase { (started : Bool) → InPhase result.stage started }
+{
+    match fault {
+        FrameFault::Memory => Step {
+            stage: leave(owed_by(phase), Finish::Memory),
+            wanting: Some(true),
+        },
+        _ => calm(leave(owed_by(phase), Finish::Fatal(Fatal::Protocol(fault)))),
+    }
+}
+
+/// The step to the next message that is held whole, or to where bytes are wanted.
+pub fn take_message(alloc: Global, frames: &mut Frames, phase: Phase, runner: &mut Runner) -> Step
+    requires started { frames.old.started ≡ has_started phase }
+    requires fit { IsFit runner.old }
+    ensures goes { Steps phase runner.old frames.old result.stage runner.new result.wanting frames.new }
+    ensures leads { Leads (told_spec.owed_by phase) runner.old result.stage runner.new }
+    ensures work { work_at result.stage + 16 * length frames.new.rest < 5 + 16 * length frames.old.rest }
+    ensures phase { InPhase result.stage frames.new.started }
+{
+    match frames.next() {
+        Ok(None) => calm(Stage::Waiting(phase)),
+        Ok(Some(front)) => enter(alloc, &front, phase, runner),
+        Err(fault) => break_off(fault, phase),
+    }
+}
+
+/// The step behind a piece that comes in where bytes are wanted.
+pub fn feed_piece(frames: &mut Frames, phase: Phase, piece: &[u8]) -> Step
+    requires started { frames.old.started ≡ has_started phase }
+    ensures feeds { Feeds phase piece.now frames.old result.stage result.wanting frames.new }
+    ensures leads { (r : Machine) → IsFit r → Leads (told_spec.owed_by phase) r result.stage r }
+    ensures phase { InPhase result.stage frames.new.started }
+{
+    match frames.feed(piece) {
+        Ok(()) => calm(Stage::Taking(phase)),
+        Err(_) => Step {
+            stage: leave(owed_by(phase), Finish::Memory),
+            wanting: Some(true),
+        },
+    }
+}

@@ -1,0 +1,58 @@
+// The replies of a session as bytes.
+ghost use Rattle.std.specs.Prelude.{◌≡◌, IfOk};
+ghost use Rattle.block_machine.specs.Replies.{ready_reply, error_reply};
+ghost use Rattle.session_core.specs.Replies.{startup_reply, fatal_reply};
+
+use cell_base::{Memory, SqlState};
+use pg_framing::{
+    TransactionState, append_auth_ok, append_error, append_key, append_parameter, append_ready,
+};
+use std::alloc::Global;
+
+/// That the next message may come.
+#[tactic(auto, unfolding(block_machine::specs::Replies::ready_reply))]
+pub fn ready(alloc: Global, state: TransactionState) -> Result<Vec<u8>, Memory>
+    ensures { IfOk result (λ reply. reply.items ≡ ready_reply state) }
+{
+    let mut reply = Vec::new(alloc);
+    append_ready(alloc, &mut reply, state)?;
+    Ok(reply)
+}
+
+/// The error of a message.
+#[tactic(auto, unfolding(block_machine::specs::Replies::error_reply))]
+pub fn error(alloc: Global, state: SqlState) -> Result<Vec<u8>, Memory>
+    ensures { IfOk result (λ reply. reply.items ≡ error_reply state) }
+{
+    let mut reply = Vec::new(alloc);
+    append_error(alloc, &mut reply, false, state)?;
+    Ok(reply)
+}
+
+/// The error that ends a session.
+#[tactic(auto, unfolding(crate::specs::Replies::fatal_reply))]
+pub fn fatal(alloc: Global, state: SqlState) -> Result<Vec<u8>, Memory>
+    ensures { IfOk result (λ reply. reply.items ≡ fatal_reply state) }
+{
+    let mut reply = Vec::new(alloc);
+    append_error(alloc, &mut reply, true, state)?;
+    Ok(reply)
+}
+
+/// What a session is told at its start.
+#[tactic(auto, unfolding(crate::specs::Replies::startup_reply))]
+pub fn startup(alloc: Global, session: u32) -> Result<Vec<u8>, Memory>
+    ensures { IfOk result (λ reply. reply.items ≡ startup_reply session) }
+{
+    let mut reply = Vec::new(alloc);
+    append_auth_ok(alloc, &mut reply)?;
+    append_parameter(alloc, &mut reply, b"server_version", b"14.0")?;
+    append_parameter(alloc, &mut reply, b"server_encoding", b"UTF8")?;
+    append_parameter(alloc, &mut reply, b"client_encoding", b"UTF8")?;
+    append_parameter(alloc, &mut reply, b"DateStyle", b"ISO, MDY")?;
+    append_parameter(alloc, &mut reply, b"integer_datetimes", b"on")?;
+    append_parameter(alloc, &mut reply, b"standard_conforming_strings", b"on")?;
+    append_key(alloc, &mut reply, session, 0)?;
+    append_ready(alloc, &mut reply, TransactionState::Idle)?;
+    Ok(reply)
+}

@@ -1,0 +1,315 @@
+// One session as a machine: bytes and answers come in, calls and replies go out. It keeps neither the bytes that it was fed
+// nor what it was answered, but for the tables that it was shown and what its running message needs.
+ghost use Rattle.std.specs.Prelude.{◌≡◌, ℕ, ◌+◌, ◌*◌, ◌<◌, List, [], ◌∷◌, ◌++◌, length, IfOk, ◌||◌, Some, None, Bool, true, false, IsTrue, ◌↔◌};
+ghost use Rattle.sql_tree.specs.declared.table.Table.{Table as Defined};
+ghost use Rattle.sound_table.specs.Sound.{IsSound};
+ghost use Rattle.history_core.specs.declared.event.Event.{Event};
+ghost use Rattle.block_machine.specs.Calls.{Call as Asked, asks_cells, call_for};
+ghost use Rattle.block_machine.specs.Calls as calls;
+ghost use Rattle.block_machine.specs.Script.{Entry, Said, call as asking, unsent, stop as stopped, has_short};
+ghost use Rattle.block_machine.specs.Messages.{Outside};
+ghost use Rattle.block_machine.specs.Stages.{IsKnownAfter, entry_for, owed_after};
+ghost use Rattle.block_machine.specs.Runners.{Runs, follows, level_of, known_of};
+ghost use Rattle.block_machine.specs.declared.runner.Runner.{Runner as Machine};
+ghost use Rattle.session_core.specs.Wants as wishes;
+ghost use Rattle.session_core.specs.Wants.{IsWant};
+ghost use Rattle.session_core.specs.Told.{opened_in};
+ghost use Rattle.session_core.specs.Stands.{FitsWant, InPhase, IsFit, IsHolding, IsLast, IsStopped, IsUnder, Lacks, Shows, left_at, message_at, message_work, outer, owed_at, reply_of, statement_at, wants, work_at};
+
+use crate::answers::{after_sent, answered, is_want, number_after, owed_holding};
+use crate::messages::{feed_piece, take_message};
+use crate::phase::Phase;
+use crate::prepared::Prepared;
+use crate::stage::{Finish, Stage};
+use crate::turns::{end_at, finish_of, leave, owed_by};
+use crate::want::Want;
+use block_machine::{Answer, Call, End, Runner, Stop};
+use cell_base::{Level, Memory};
+use client_framing::Frames;
+use sql_tree::Table;
+use statement_course::Demand;
+use std::alloc::Global;
+
+/// One session, which was fed some bytes and answered some calls.
+#[derive(Debug, Drop)]
+pub struct Session {
+    alloc: Global,
+    frames: Frames,
+    prepared: Prepared,
+    greeting: Vec<u8>,
+    runner: Runner,
+    stage: Stage,
+    number: Option<u32>,
+    short: bool,
+    ghost phase: { InPhase stage frames.started },
+    ghost under: { IsUnder stage runner },
+}
+
+// The phase in which bytes are wanted.
+fn phase_at(stage: Stage) -> Phase
+    requires { (r : Machine) × (wants stage r ≡ wishes.Bytes) }
+    ensures { stage ≡ Stage.Waiting result }
+{
+    match stage {
+        Stage::Waiting(phase) => phase,
+        _ => unreachable!(),
+    }
+}
+
+// The phase in which a message is wanted.
+fn phase_taking(stage: Stage) -> Phase
+    requires { (r : Machine) × (wants stage r ≡ wishes.Message) }
+    ensures { stage ≡ Stage.Taking result }
+{
+    match stage {
+        Stage::Taking(phase) => phase,
+        _ => unreachable!(),
+    }
+}
+
+// Either of the two, as `||`.
+fn either(a: bool, b: bool) -> bool
+    ensures { result ≡ (a || b) }
+{
+    a || b
+}
+
+// What a session wants while a message runs.
+fn want_of(runner: &Runner) -> Want
+    requires { IsUnder Stage.Running runner.now }
+    ensures want { IsWant result (wants Stage.Running runner.now) }
+    ensures holding { result ≡ Want.Send → IsHolding Stage.Running runner.now }
+    ensures running { result ≡ Want.Cells → Runs runner.now }
+    ensures calm { (result ≡ Want.Cells → ⊥) → statement_at Stage.Running runner.now ≡ 0 }
+    ensures asks { (c : Asked) (outside : Outside) (said : Said) → wants Stage.Running runner.now ≡ wishes.Book c → follows runner.now outside said [] ≡ (said, asking c) }
+{
+    match runner.demand() {
+        block_machine::Want::Define => Want::Define,
+        block_machine::Want::Cells => Want::Cells,
+        block_machine::Want::Book(c) => Want::Book(c),
+        block_machine::Want::Send => Want::Send,
+        block_machine::Want::Nothing => unreachable!(),
+    }
+}
+
+impl Session {
+    ghost use Rattle.session_core.specs.Sessions.{Stands, StandsShort, wanted, work_of};
+
+    /// A session at this level that was fed nothing.
+    pub fn new(alloc: Global, level: Level) -> Result<Session, Memory>
+        ensures empty { IfOk result (λ s. Stands s [] [] [] []) }
+        ensures stage { IfOk result (λ s. s.stage ≡ Stage.Waiting Phase.Startup) }
+        ensures level { IfOk result (λ s. level_of s.runner ≡ level) }
+        ensures known { IfOk result (λ s. known_of s.runner ≡ []) }
+        ensures fit { IfOk result (λ s. IsFit s.runner) }
+    {
+        Ok(Session {
+            alloc,
+            frames: Frames::new(alloc),
+            prepared: Prepared::new(alloc)?,
+            greeting: Vec::new(alloc),
+            runner: Runner::new(alloc, level)?,
+            stage: Stage::Waiting(Phase::Startup),
+            number: None,
+            short: false,
+        })
+    }
+
+    /// What the session wants.
+    pub fn demand(&self) -> Want
+        ensures want { IsWant result (wanted self.now) }
+        ensures holding { result ≡ Want.Send → IsHolding self.now.stage self.now.runner }
+        ensures running { result ≡ Want.Cells → (self.now.stage ≡ Stage.Running) × Runs self.now.runner }
+        ensures calm { (result ≡ Want.Cells → ⊥) → statement_at self.now.stage self.now.runner ≡ 0 }
+        // What was sent and what is wanted is told of all that came in.
+        ensures told { (taken : List ℕ) (entries : List Entry) (asked : List Asked) (sent : List ℕ) → Stands self.now taken entries asked sent → Shows (level_of self.now.runner) (wanted self.now) taken entries asked sent }
+    {
+        match self.stage {
+            Stage::Waiting(_) => Want::Bytes,
+            Stage::Taking(_) => Want::Message,
+            Stage::Opening => Want::Book(Call::Open),
+            Stage::Running => want_of(&self.runner),
+            Stage::Undoing => Want::Book(Call::Rollback),
+            Stage::Telling(_) => Want::Send,
+            Stage::Leaving(_) => Want::Book(Call::Rollback),
+            Stage::Closing(_) => Want::Book(Call::Close),
+            Stage::Parting(_) => Want::Send,
+            Stage::Ended(finish) => Want::Ended(end_at(finish)),
+        }
+    }
+
+    /// Whether a message runs.
+    pub fn is_running(&self) -> bool
+        ensures { IsTrue result ↔ (self.now.stage ≡ Stage.Running) }
+    {
+        matches!(self.stage, Stage::Running)
+    }
+
+    /// The table that is to be defined.
+    pub fn table(&self) -> &Table
+        requires wanted { (table : Defined) × (wanted self.now ≡ wishes.Book (calls.Define table)) }
+        requires fit { IsFit self.now.runner }
+        ensures table { wanted self.now ≡ wishes.Book (calls.Define result.now) }
+        ensures sound { IsSound result.now }
+    {
+        self.runner.table()
+    }
+
+    /// What the running statement demands.
+    pub fn demanded(&self) -> &Demand
+        requires running { self.now.stage ≡ Stage.Running }
+        requires runs { Runs self.now.runner }
+        ensures wanted { wanted self.now ≡ wishes.Book (call_for result.now) }
+        ensures asks { asks_cells result.now ≡ true }
+    {
+        self.runner.demanded()
+    }
+
+    /// The reply that is to be sent.
+    pub fn reply(&self) -> &[u8]
+        requires { IsHolding self.now.stage self.now.runner }
+        ensures { result.now ≡ reply_of self.now.stage self.now.runner self.now.greeting.items }
+    {
+        match self.stage {
+            Stage::Running => self.runner.reply(),
+            Stage::Telling(reply) => self.prepared.bytes(self.greeting.as_slice(), reply),
+            Stage::Parting(fatal) => self.prepared.last_bytes(fatal),
+            _ => unreachable!(),
+        }
+    }
+
+    /// The number of the session that was opened, if one was.
+    pub fn number(&self) -> Option<u32>
+        ensures { (taken : List ℕ) (entries : List Entry) (asked : List Asked) (sent : List ℕ) → Stands self.now taken entries asked sent → result ≡ opened_in entries }
+    {
+        self.number
+    }
+
+    /// Whether memory was wanting.
+    pub fn is_short(&self) -> bool
+        ensures { (taken : List ℕ) (entries : List Entry) (asked : List Asked) (sent : List ℕ) → Stands self.now taken entries asked sent → result ≡ has_short entries }
+    {
+        self.short
+    }
+
+    /// Takes a piece of the stream. A want of memory leads to the end by it.
+    pub fn feed(&mut self, piece: &[u8])
+        requires wanted { wanted self.old ≡ wishes.Bytes }
+        requires fit { IsFit self.old.runner }
+        ensures grown { (taken : List ℕ) (entries : List Entry) (asked : List Asked) (sent : List ℕ) → Stands self.old taken entries asked sent →
+            StandsShort self.new (taken ++ piece.now) entries asked sent }
+        ensures owed { owed_at self.new.stage self.new.runner ≡ owed_at self.old.stage self.old.runner }
+        ensures outer { outer self.new.stage ≡ None }
+        ensures lacks { Lacks self.new.stage [] }
+        ensures runner { self.new.runner ≡ self.old.runner }
+    {
+        let phase = phase_at(self.stage);
+        let step = feed_piece(&mut self.frames, phase, piece);
+        self.short = either(self.short, step.wanting.is_some());
+        self.stage = step.stage;
+    }
+
+    /// Looks at the next message of those that are held.
+    pub fn take(&mut self)
+        requires wanted { wanted self.old ≡ wishes.Message }
+        requires fit { IsFit self.old.runner }
+        ensures grown { (taken : List ℕ) (entries : List Entry) (asked : List Asked) (sent : List ℕ) → Stands self.old taken entries asked sent →
+            StandsShort self.new taken entries asked sent }
+        ensures owed { owed_at self.new.stage self.new.runner ≡ owed_at self.old.stage self.old.runner }
+        ensures outer { outer self.new.stage ≡ None }
+        ensures lacks { Lacks self.new.stage [] }
+        ensures work { work_of self.new < work_of self.old }
+        ensures level { level_of self.new.runner ≡ level_of self.old.runner }
+        ensures known { known_of self.new.runner ≡ known_of self.old.runner }
+        ensures fit { IsFit self.new.runner }
+    {
+        let phase = phase_taking(self.stage);
+        let step = take_message(self.alloc, &mut self.frames, phase, &mut self.runner);
+        self.short = either(self.short, step.wanting.is_some());
+        self.stage = step.stage;
+    }
+
+    /// Takes the answer to the call that is wanted.
+    pub fn answer(&mut self, answer: Answer)
+        requires fits { FitsWant (wanted self.old) answer }
+        requires fit { IsFit self.old.runner }
+        ensures grown { (taken : List ℕ) (entries : List Entry) (asked : List Asked) (sent : List ℕ) (c : Asked) (e : Event) → Stands self.old taken entries asked sent →
+            wanted self.old ≡ wishes.Book c → StandsShort self.new taken (entries ++ entry_for answer e ∷ []) (asked ++ c ∷ []) sent }
+        ensures owed { (c : Asked) → wanted self.old ≡ wishes.Book c → owed_at self.new.stage self.new.runner ≡ owed_after c answer (owed_at self.old.stage self.old.runner) }
+        ensures outer { outer self.new.stage ≡ outer self.old.stage }
+        ensures lacks { (lost : List ℕ) → Lacks self.old.stage lost → Lacks self.new.stage lost }
+        ensures work { work_of self.new < work_of self.old + message_at self.new.stage }
+        ensures message { self.old.stage ≡ Stage.Running → message_work self.new.stage self.new.runner < message_work self.old.stage self.old.runner + statement_at self.new.stage self.new.runner }
+        ensures left { self.old.stage ≡ Stage.Running → Runs self.old.runner → left_at self.new.stage self.new.runner < left_at self.old.stage self.old.runner }
+        ensures level { level_of self.new.runner ≡ level_of self.old.runner }
+        ensures known { IsKnownAfter (known_of self.old.runner) answer (known_of self.new.runner) }
+        ensures fit { IsFit self.new.runner }
+        ensures last { IsLast self.old.stage → IsLast self.new.stage }
+    {
+        let wants = is_want(&answer);
+        let number = number_after(self.number, &answer);
+        let step = answered(
+            self.alloc,
+            self.stage,
+            &mut self.runner,
+            answer,
+            &mut self.greeting,
+        );
+        self.short = either(self.short, either(wants, step.wanting.is_some()));
+        self.number = number;
+        self.stage = step.stage;
+    }
+
+    /// The reply was sent.
+    pub fn sent(&mut self)
+        requires holding { IsHolding self.old.stage self.old.runner }
+        requires fit { IsFit self.old.runner }
+        ensures grown { (taken : List ℕ) (entries : List Entry) (asked : List Asked) (sent : List ℕ) → Stands self.old taken entries asked sent →
+            StandsShort self.new taken entries asked (sent ++ reply_of self.old.stage self.old.runner self.old.greeting.items) }
+        ensures owed { owed_at self.new.stage self.new.runner ≡ owed_at self.old.stage self.old.runner }
+        ensures outer { outer self.new.stage ≡ outer self.old.stage }
+        ensures lacks { Lacks self.new.stage [] }
+        ensures work { work_of self.new < work_of self.old + message_at self.new.stage }
+        ensures message { self.old.stage ≡ Stage.Running → message_work self.new.stage self.new.runner < message_work self.old.stage self.old.runner }
+        ensures level { level_of self.new.runner ≡ level_of self.old.runner }
+        ensures known { known_of self.new.runner ≡ known_of self.old.runner }
+        ensures fit { IsFit self.new.runner }
+        ensures last { IsLast self.old.stage → IsLast self.new.stage }
+    {
+        let step = after_sent(self.stage, &mut self.runner);
+        self.short = either(self.short, step.wanting.is_some());
+        self.stage = step.stage;
+    }
+
+    /// The reply could not be sent whole.
+    pub fn unsent(&mut self)
+        requires { IsHolding self.old.stage self.old.runner }
+        ensures grown { (taken : List ℕ) (entries : List Entry) (asked : List Asked) (sent : List ℕ) → Stands self.old taken entries asked sent →
+            Stands self.new taken (entries ++ unsent (length (sent ++ reply_of self.old.stage self.old.runner self.old.greeting.items)) ∷ []) asked (sent ++ reply_of self.old.stage self.old.runner self.old.greeting.items) }
+        ensures owed { owed_at self.new.stage self.new.runner ≡ owed_at self.old.stage self.old.runner }
+        ensures outer { outer self.new.stage ≡ Some End.WriteFault }
+        ensures lacks { (lost : List ℕ) → Lacks self.new.stage lost }
+        ensures work { work_of self.new < work_of self.old }
+        ensures runner { self.new.runner ≡ self.old.runner }
+        ensures last { IsLast self.new.stage }
+    {
+        let owed = owed_holding(self.stage, &self.runner);
+        self.stage = leave(owed, Finish::WriteFault);
+    }
+
+    /// No more bytes come.
+    pub fn stop(&mut self, cause: Stop)
+        requires { wanted self.old ≡ wishes.Bytes }
+        ensures grown { (taken : List ℕ) (entries : List Entry) (asked : List Asked) (sent : List ℕ) → Stands self.old taken entries asked sent →
+            Stands self.new taken (entries ++ stopped cause ∷ []) asked sent }
+        ensures owed { owed_at self.new.stage self.new.runner ≡ owed_at self.old.stage self.old.runner }
+        ensures outer { IsStopped cause (outer self.new.stage) }
+        ensures lacks { Lacks self.new.stage [] }
+        ensures runner { self.new.runner ≡ self.old.runner }
+        ensures last { IsLast self.new.stage }
+    {
+        let phase = phase_at(self.stage);
+        let finish = finish_of(cause, self.frames.rest() == 0);
+        self.stage = leave(owed_by(phase), finish);
+    }
+}

@@ -1,0 +1,191 @@
+// The stages of a session that need no memory: what it owes, its ends, and what stands behind an answer of its own.
+ghost use Rattle.std.specs.Prelude.{◌≡◌, ◌≢◌, ℕ, ◌<◌, ◌≤◌, List, [], Bool, true, false, None};
+ghost use Rattle.block_machine.specs.Calls.{Call as Asked};
+ghost use Rattle.block_machine.specs.Messages as blocks;
+ghost use Rattle.block_machine.specs.Script.{Said, Entry};
+ghost use Rattle.block_machine.specs.Stages.{owed_after};
+ghost use Rattle.block_machine.specs.Runners.{level_of, known_of};
+ghost use Rattle.block_machine.specs.declared.runner.Runner.{Runner};
+ghost use Rattle.session_core.specs.Replies as replies_spec;
+ghost use Rattle.session_core.specs.Wants as wishes;
+ghost use Rattle.session_core.specs.Talk.{Talk};
+ghost use Rattle.session_core.specs.Told as told_spec;
+ghost use Rattle.session_core.specs.Told.{closed, ending, refuses, stop_end};
+ghost use Rattle.session_core.specs.Stands.{FitsWant, InPhase, IsBusy, IsStopped, IsUnder, Lacks, LacksBy, NoBuilt, end_of, goes_on, on, outer, outer_end, own_want, owed_at, wants, work_at};
+ghost use Rattle.session_core.specs.Steps.{LeadsTo, Advances, IsPlain};
+
+use crate::phase::Phase;
+use crate::stage::{Fatal, Finish, Reply, Stage};
+use block_machine::{Answer, End, Owed, Stop};
+use cell_base::SqlState;
+use history_core::BookFault;
+use pg_framing::TransactionState;
+
+/// A stage, and a want of memory on the way to it, where there was one, by whether it ends the session.
+#[derive(Clone, Copy, Debug, PartialEq, Eq)]
+pub struct Step {
+    pub stage: Stage,
+    pub wanting: Option<bool>,
+}
+
+/// The step to a stage for which memory wasn't wanting.
+pub fn calm(stage: Stage) -> Step
+    ensures { result ≡ record { stage = stage; wanting = None } }
+{
+    Step {
+        stage,
+        wanting: None,
+    }
+}
+
+/// The end that a finish is.
+pub fn end_at(finish: Finish) -> End
+    ensures { result ≡ end_of finish }
+{
+    match finish {
+        Finish::Terminated => End::Terminated,
+        Finish::Closed => End::Closed,
+        Finish::Cut => End::Cut,
+        Finish::Cancelled => End::Cancelled,
+        Finish::ReadFault => End::ReadFault,
+        Finish::WriteFault => End::WriteFault,
+        Finish::Memory => End::Memory,
+        Finish::Fatal(Fatal::Protocol(fault)) => End::Protocol(fault),
+        Finish::Fatal(Fatal::NoUser) => End::Refused(SqlState::S28000),
+        Finish::Fatal(Fatal::OtherVersion) => End::Refused(SqlState::S0A000),
+        Finish::Fatal(Fatal::Full) => End::Refused(SqlState::S54000),
+        Finish::Fatal(Fatal::Spent) => End::Spent,
+    }
+}
+
+/// The stage of an end behind its close.
+pub fn part(finish: Finish) -> Stage
+    ensures leads { LeadsTo result (closed (end_of finish)) }
+    ensures owed { (r : Runner) → owed_at result r ≡ Owed.Nothing }
+    ensures outer { outer result ≡ outer_end (end_of finish) }
+    ensures work { work_at result ≤ 1 }
+    ensures lacks { (lost : List ℕ) → LacksBy (end_of finish) lost → lost ≡ [] → Lacks result lost }
+    ensures phase { (started : Bool) → InPhase result started }
+    ensures under { (r : Runner) → IsUnder result r }
+    ensures constant { NoBuilt result }
+{
+    match finish {
+        Finish::Fatal(fatal) => Stage::Parting(fatal),
+        Finish::Terminated => Stage::Ended(finish),
+        Finish::Closed => Stage::Ended(finish),
+        Finish::Cut => Stage::Ended(finish),
+        Finish::Cancelled => Stage::Ended(finish),
+        Finish::ReadFault => Stage::Ended(finish),
+        Finish::WriteFault => Stage::Ended(finish),
+        Finish::Memory => Stage::Ended(finish),
+    }
+}
+
+/// The stage of an end, given what is owed.
+pub fn leave(owed: Owed, finish: Finish) -> Stage
+    ensures leads { LeadsTo result (ending owed (end_of finish)) }
+    ensures owed { (r : Runner) → owed_at result r ≡ owed }
+    ensures outer { outer result ≡ outer_end (end_of finish) }
+    ensures work { work_at result ≤ 3 }
+    ensures lacks { (lost : List ℕ) → LacksBy (end_of finish) lost → lost ≡ [] → Lacks result lost }
+    ensures phase { (started : Bool) → InPhase result started }
+    ensures under { (r : Runner) → IsUnder result r }
+    ensures constant { NoBuilt result }
+{
+    match owed {
+        Owed::Nothing => part(finish),
+        Owed::Close => Stage::Closing(finish),
+        Owed::Rollback => Stage::Leaving(finish),
+    }
+}
+
+/// The phase behind a reply of the session's own.
+pub fn phase_behind(reply: Reply) -> Phase
+    ensures { result ≡ replies_spec.phase_behind reply }
+{
+    match reply {
+        Reply::NoEncryption => Phase::Startup,
+        Reply::Greeting => Phase::Normal(TransactionState::Idle),
+        Reply::Ready(state) => Phase::Normal(state),
+        Reply::Unsupported(state) => Phase::Discarding(state),
+    }
+}
+
+/// What a session owes in a state of its block between two messages.
+pub fn owed_in(state: TransactionState) -> Owed
+    ensures { result ≡ blocks.owed_between state }
+{
+    match state {
+        TransactionState::Block => Owed::Rollback,
+        TransactionState::Idle | TransactionState::Failed => Owed::Close,
+    }
+}
+
+/// What a session owes between two messages.
+pub fn owed_by(phase: Phase) -> Owed
+    ensures { result ≡ told_spec.owed_by phase }
+{
+    match phase {
+        Phase::Startup => Owed::Nothing,
+        Phase::Normal(state) | Phase::Discarding(state) => owed_in(state),
+    }
+}
+
+/// The finish that a stop comes to, where nothing of a message is held or where something is.
+pub fn finish_of(cause: Stop, nothing: bool) -> Finish
+    ensures nothing { nothing ≡ true → end_of result ≡ stop_end cause 0 }
+    ensures something { (n : ℕ) → nothing ≡ false → n ≢ 0 → end_of result ≡ stop_end cause n }
+    ensures outer { IsStopped cause (outer_end (end_of result)) }
+    ensures lacks { LacksBy (end_of result) [] }
+{
+    match cause {
+        Stop::EndOfInput => { if nothing { Finish::Closed } else { Finish::Cut } }
+        Stop::ReadFault => Finish::ReadFault,
+        Stop::Spent => Finish::Fatal(Fatal::Spent),
+    }
+}
+
+/// The stage of a message of the extended query outside of discarding.
+pub fn refuse(state: TransactionState) -> Stage
+    ensures goes { (r : Runner) (greeting : List ℕ) (talk : Talk) (said : Said) (es : List Entry) →
+        refuses (level_of r) state (known_of r) (on r talk) said es ≡ goes_on result r greeting talk said es }
+    ensures owed { (r : Runner) → owed_at result r ≡ blocks.owed_between state }
+    ensures outer { outer result ≡ None }
+    ensures work { work_at result ≤ 7 }
+    ensures lacks { Lacks result [] }
+    ensures phase { InPhase result true }
+    ensures under { (r : Runner) → IsUnder result r }
+    ensures busy { IsBusy result }
+    ensures constant { NoBuilt result }
+{
+    match state {
+        TransactionState::Idle => Stage::Telling(Reply::Unsupported(TransactionState::Idle)),
+        TransactionState::Block => Stage::Undoing,
+        TransactionState::Failed => Stage::Telling(Reply::Unsupported(TransactionState::Failed)),
+    }
+}
+
+/// The stage behind the answer to a call of the session's own, where no memory is needed for it.
+pub fn advance(stage: Stage, answer: &Answer) -> Stage
+    requires fits { FitsWant (own_want stage) answer.now }
+    requires plain { IsPlain stage answer.now }
+    ensures goes { (r : Runner) (greeting : List ℕ) → Advances stage r answer.now result r None greeting }
+    ensures owed { (c : Asked) (r : Runner) → wants stage r ≡ wishes.Book c → owed_at result r ≡ owed_after c answer.now (owed_at stage r) }
+    ensures outer { outer result ≡ outer stage }
+    ensures lacks { (lost : List ℕ) → Lacks stage lost → Lacks result lost }
+    ensures work { work_at result < work_at stage }
+    ensures phase { (started : Bool) → InPhase stage started → InPhase result started }
+    ensures under { (r : Runner) → IsUnder result r }
+    ensures constant { NoBuilt result }
+{
+    match (stage, answer) {
+        (Stage::Opening, Answer::Refused(BookFault::Full(_))) => Stage::Parting(Fatal::Full),
+        (Stage::Opening, Answer::Refused(BookFault::Memory)) => Stage::Ended(Finish::Memory),
+        (Stage::Undoing, Answer::RolledBack) => {
+            Stage::Telling(Reply::Unsupported(TransactionState::Failed))
+        }
+        (Stage::Leaving(finish), Answer::RolledBack) => Stage::Closing(finish),
+        (Stage::Closing(finish), Answer::Closed) => part(finish),
+        _ => unreachable!(),
+    }
+}
