@@ -10,3 +10,4 @@ pub mod Lawfuls
 pub mod Carrying
 pub mod Playing
 pub mod Serving
+pub mod Wishing
