@@ -161,6 +161,11 @@ touch_later gives p m v cell (answers.Found value) e q w g ((reads, adds), draws
 )
 touch_later gives p m v cell _ e q w g h = absurd h.0
 
+-- a cell may still be read where others have gone on
+pub touch_may : (p m : Past) (cell : Cell) → GoesOn p m → MayAsk (calls.Touch cell) p → MayAsk (calls.Touch cell) m
+touch_may p m cell g may =
+    (subst (λ (s : Seat). IsInTransaction s) (sym g.seat) may.0, omega (arith, may.1, ap length g.tables, length-append p.seen.tables g.more))
+
 -- ---- what may be asked
 
 in_transaction : (seat : Seat) → owed_of seat ≡ owed_kinds.Rollback → IsInTransaction seat

@@ -1,6 +1,6 @@
 -- What a session is told, and which calls it asks of its book, given what its client says and what became of it so far. The statements of
 -- a query have their own page (block_machine).
-use Rattle.std.specs.Prelude.{ℕ, ◌==◌, List, [], ◌∷◌, length, if◌then◌else◌, Option, Some, None}
+use Rattle.std.specs.Prelude.{ℕ, ◌==◌, List, [], ◌∷◌, length, if◌then◌else◌, true, false, Option, Some, None}
 use Rattle.cell_base.specs.declared.level.Level.{Level}
 use Rattle.cell_base.specs.declared.sql_state.SqlState.{SqlState}
 use Rattle.cell_base.specs.declared.sql_state.SqlState.TheVariants as states

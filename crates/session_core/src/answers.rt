@@ -1,5 +1,5 @@
 // What stands behind the answers that a session gets, and behind the replies that it has sent.
-ghost use Rattle.std.specs.Prelude.{◌≡◌, ℕ, ◌<◌, List, [], Bool, true, None, Option};
+ghost use Rattle.std.specs.Prelude.{◌≡◌, ℕ, ◌+◌, ◌<◌, List, [], Bool, true, None, Option};
 ghost use Rattle.block_machine.specs.Calls.{Call as Asked};
 ghost use Rattle.block_machine.specs.Stages.{IsKnownAfter, owed_after, wants_memory};
 ghost use Rattle.block_machine.specs.Runners.{Runs, level_of, known_of};
@@ -39,7 +39,10 @@ fn run_on(runner: &mut Runner) -> Step
 {
     let wanting = runner.sent();
     match runner.left() {
-        Some(state) => calm(Stage::Taking(Phase::Normal(state))),
+        Some(state) => Step {
+            stage: Stage::Taking(Phase::Normal(state)),
+            wanting: passing(wanting),
+        },
         None => Step {
             stage: Stage::Running,
             wanting: passing(wanting),

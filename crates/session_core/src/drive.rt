@@ -123,6 +123,8 @@ fn serve_want<B: Book, L: Link, W: Words>(
     ensures work { result ≡ true → work_of session.new < work_of session.old + message_at session.new.stage }
     ensures message { session.old.stage ≡ stages.Running → message_work session.new.stage session.new.runner < message_work session.old.stage session.old.runner + statement_at session.new.stage session.new.runner }
     ensures rests { result ≡ false → IsResting (wanted session.new) }
+    // Where a message runs something is wanted.
+    ensures runs { session.old.stage ≡ stages.Running → result ≡ true }
     ensures last { IsLast session.old.stage → IsLast session.new.stage }
     ensures stays { B.stays book.old book.new }
 {
