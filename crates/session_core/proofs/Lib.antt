@@ -2,6 +2,9 @@ pub mod Passes
 pub mod Somes
 pub mod Entering
 pub mod Stepping
+pub mod Ends
+pub mod Meeting
+pub mod Behind
 pub mod Grows
 pub mod Flags
 pub mod LastUser

@@ -39,7 +39,10 @@ fn run_on(runner: &mut Runner) -> Step
 {
     let wanting = runner.sent();
     match runner.left() {
-        Some(state) => calm(Stage::Taking(Phase::Normal(state))),
+        Some(state) => Step {
+            stage: Stage::Taking(Phase::Normal(state)),
+            wanting: passing(wanting),
+        },
         None => Step {
             stage: Stage::Running,
             wanting: passing(wanting),
