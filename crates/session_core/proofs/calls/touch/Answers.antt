@@ -1,0 +1,4 @@
+use Rattle.session_core.proofs.calls.touch.Goals as goal
+
+pub returns : goal.returns
+returns g c = ?
