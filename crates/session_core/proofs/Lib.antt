@@ -2,7 +2,6 @@ pub mod Passes
 pub mod Somes
 pub mod Entering
 pub mod Stepping
-pub mod Ends
 pub mod Meeting
 pub mod Behind
 pub mod Grows

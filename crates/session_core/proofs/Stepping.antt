@@ -38,11 +38,11 @@ session-again level phase known (faulty f) said es = unless_short-twice true (en
 session-again level phase known unread said es = unless_short-twice true (ending (owed_by phase) ends.Memory) lost said es
 
 pub Steps-partial : (phase : Phase) (r : Runner) (before after : Held) → after ≡ before → IsPartial before.started before.rest → Steps phase r before (stages.Waiting phase) r None after
-Steps-partial phase r before after is partial = record {
+Steps-partial phase r before after is nothing = record {
   turns = λ talk. talk;
   heard = λ bytes talk fed h. subst (λ (x : Held). IsTalk x.started (x.rest ++ bytes) talk) is h;
   goes = λ greeting talk said es from. refl;
-  waits = λ other e. subst (λ (x : Held). IsPartial x.started x.rest) (sym is) partial;
+  waits = λ other e. subst (λ (x : Held). IsPartial x.started x.rest) (sym is) nothing;
 }
 
 at_one : (stage : Stage) (n : ℕ) (es : List Entry) → IsBusy stage → IsFrom (least stage) n es → IsFrom 1 n es
