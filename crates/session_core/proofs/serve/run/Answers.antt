@@ -1,4 +1,4 @@
-use Rattle.std.proofs.Common.{rules, ◌+◌, ℕ, arith, sym, subst}
+use Rattle.std.proofs.Common.{rules, ◌+◌, ℕ, arith, refl, sym, subst}
 use Rattle.link_traits.specs.Traffic.{Sight, sight_of}
 use Rattle.block_machine.specs.Runners.{level_of}
 use Rattle.session_core.specs.Wants.{IsOver}
