@@ -2,7 +2,7 @@
 use Rattle.std.proofs.Common.{◌≡◌, ◌<◌, ◌≤◌, ◌+◌, ℕ, List, [], ◌∷◌, length, refl, sym, ◌∙◌, ap, subst, arith, Some, length-append, ◌++◌, inl, inr, append_assoc}
 use Rattle.std.proofs.lemmas.List.{append-nil}
 use Rattle.std.proofs.lemmas.List.Elements.{All-nil, All-tail, All-append}
-use Rattle.std.specs.Prelude.{◌≢◌, ◌⊎◌, All, true}
+use Rattle.std.specs.Prelude.{◌≢◌, ◌⊎◌, All, true, false}
 use Rattle.cell_base.specs.declared.cell.Cell.{Cell}
 use Rattle.cell_base.specs.declared.cell.Cell.TheVariants.{Presence, Field}
 use Rattle.cell_base.specs.declared.value.Value.{Value}
@@ -120,8 +120,7 @@ adds_later : (p m q : Past) (e : Event) → GoesOn p m → session_in e ≡ sess
 adds_later p m q e g same h = record {
   level = h.level ∙ g.level;
   others = g.others ++ h.others;
-  seen = h.seen ∙ ap (λ (x : List Event). x ++ (h.others ++ e ∷ [])) g.seen ∙ append_assoc p.seen.events g.others (h.others ++ e ∷ [])
-      ∙ ap (λ (x : List Event). p.seen.events ++ x) (sym (append_assoc g.others h.others (e ∷ [])));
+  seen = h.seen ∙ ap (λ (x : List Event). x ++ h.others ++ e ∷ []) g.seen ∙ ap (λ (x : List Event). x ++ e ∷ []) (append_assoc p.seen.events g.others h.others);
   foreign = All-both (λ (x : Event). session_in x ≢ session_in e) g.others h.others
       (subst (λ (n : ℕ). All (λ (x : Event). session_in x ≢ n) g.others) (sym same) g.foreign) h.foreign;
   more = g.more ++ h.more;
@@ -160,11 +159,6 @@ touch_later gives p m v cell (answers.Found value) e q w g ((reads, adds), draws
   draws_later gives p m v cell (did (answers.Found value) e) w g.seat draws,
 )
 touch_later gives p m v cell _ e q w g h = absurd h.0
-
--- a cell may still be read where others have gone on
-pub touch_may : (p m : Past) (cell : Cell) → GoesOn p m → MayAsk (calls.Touch cell) p → MayAsk (calls.Touch cell) m
-touch_may p m cell g may =
-    (subst (λ (s : Seat). IsInTransaction s) (sym g.seat) may.0, omega (arith, may.1, ap length g.tables, length-append p.seen.tables g.more))
 
 -- ---- what may be asked
 

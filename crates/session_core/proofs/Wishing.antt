@@ -1,9 +1,10 @@
 -- What a session wants says of its stage.
-use Rattle.std.proofs.Common.{◌≡◌, Bool, true, false, ℕ, List, refl, sym, ◌∙◌, ap, subst}
+use Rattle.std.proofs.Common.{◌≡◌, ◌<◌, ◌≤◌, Bool, true, false, ℕ, List, refl, sym, ◌∙◌, ap, subst, arith}
 use Rattle.sql_tree.specs.declared.table.Table.{Table}
 use Rattle.block_machine.specs.Calls as calls
 use Rattle.block_machine.specs.Stages as message_stages
 use Rattle.block_machine.specs.Runners.{wanted, running_of, Runs}
+use Rattle.block_machine.specs.declared.block.Owed.TheVariants as owes
 use Rattle.block_machine.specs.declared.runner.Runner.{Runner}
 use Rattle.block_machine.specs.declared.stage.Stage.{Stage as MessageStage}
 use Rattle.block_machine.specs.declared.stage.Stage.TheVariants as message_stage
@@ -11,7 +12,7 @@ use Rattle.session_core.specs.declared.stage.Stage.{Stage}
 use Rattle.session_core.specs.declared.stage.Stage.TheVariants as stages
 use Rattle.session_core.specs.Wants as wishes
 use Rattle.session_core.specs.Wants.{IsResting, of_message}
-use Rattle.session_core.specs.Stands.{IsLast, IsUnder, message_at, statement_at, wants}
+use Rattle.session_core.specs.Stands.{IsHolding, IsLast, IsUnder, message_at, owed_at, statement_at, wants, work_at}
 use Rattle.session_core.proofs.Serving.{stage_taking}
 
 -- a message that is under way wants something
@@ -67,3 +68,10 @@ running_one _ h = absurd h
 
 pub statement_one : (stage : Stage) (r : Runner) → stage ≡ stages.Running → Runs r → statement_at stage r ≡ 1
 statement_one stage r e h = ap (λ (x : Stage). statement_at x r) e ∙ running_one r.stage h
+
+-- an end by a failed write is nearer than the reply was
+pub holding_more : (stage : Stage) (r : Runner) (n : ℕ) → IsHolding stage r → n ≤ 3 → (owed_at stage r ≡ owes.Nothing → n ≡ 0) → n < work_at stage
+holding_more stages.Running r n h le none = omega (arith, le)
+holding_more (stages.Telling reply) r n h le none = omega (arith, le)
+holding_more (stages.Parting fatal) r n h le none = omega (arith, none refl)
+holding_more _ r n h le none = absurd h

@@ -1,12 +1,13 @@
-use Rattle.std.proofs.Common.{length, ◌++◌, refl, subst}
+use Rattle.std.proofs.Common.{length, ◌++◌, refl, subst, ◌∙◌, arith}
 use Rattle.block_machine.specs.declared.block.Owed.{Owed}
 use Rattle.block_machine.specs.Script.{unsent}
 use Rattle.session_core.specs.Told.{broken}
-use Rattle.session_core.specs.Stands.{reply_of}
+use Rattle.session_core.specs.Stands.{reply_of, work_at}
 use Rattle.session_core.specs.Steps.{LeadsTo}
 use Rattle.session_core.proofs.Somes.{plain_some}
 use Rattle.session_core.proofs.Grows.{StandsFor-unsent}
 use Rattle.session_core.proofs.Flags.{flag-kept, number-stopped}
+use Rattle.session_core.proofs.Wishing.{holding_more}
 use Rattle.session_core.proofs.session.Session.unsent.Goals as goal
 
 pub returns-clause-grown : goal.returns-clause-grown
@@ -19,3 +20,8 @@ returns-clause-grown c =
       short = flag-kept c.args.self.now.short es (unsent (length (sent ++ reply_of c.args.self.now.stage c.args.self.now.runner c.args.self.now.greeting.items))) s.short refl;
       number = number-stopped c.args.self.now.number es (unsent (length (sent ++ reply_of c.args.self.now.stage c.args.self.now.runner c.args.self.now.greeting.items))) refl s.number;
     }
+
+pub returns-clause-work : goal.returns-clause-work
+returns-clause-work c =
+    let less = holding_more c.args.self.now.stage c.args.self.now.runner (work_at c.leave-self.result) c.requires c.leave-self.ensures.work (λ e. c.leave-self.ensures.silent (c.owed_holding-owed.ensures ∙ e) refl) in
+    omega (arith, less)
