@@ -5,6 +5,7 @@ use Rattle.cell_base.specs.declared.level.Level.{Level}
 use Rattle.sql_tree.specs.declared.table.Table.{Table}
 use Rattle.client_framing.specs.declared.front.Front.{Front}
 use Rattle.client_framing.specs.declared.front.FrameFault.{FrameFault}
+use Rattle.client_framing.specs.declared.front.FrameFault.TheVariants as frame_faults
 use Rattle.client_framing.specs.Spelling.{phase_after}
 use Rattle.client_framing.specs.Fronts.{Held, TakesFront, IsPartial, HasFault}
 use Rattle.block_machine.specs.Script.{Entry, Script, Said, short, lost, unless_short}
@@ -121,3 +122,26 @@ Steps-memory phase r before after stage is leads = record {
   goes = λ greeting talk said es from. session-short (level_of r) phase (known_of r) talk said es ∙ leads.1 r greeting talk said es;
   waits = λ other e. absurd (subst IsBusy e (busy-last stage leads.0));
 }
+
+memory_or : (fault : FrameFault) → (fault ≡ frame_faults.Memory) ⊎ (fault ≢ frame_faults.Memory)
+memory_or (frame_faults.BadLength len) = inr (λ e. cc e)
+memory_or frame_faults.BadStartup = inr (λ e. cc e)
+memory_or (frame_faults.TooLong len) = inr (λ e. cc e)
+memory_or (frame_faults.UnknownType kind) = inr (λ e. cc e)
+memory_or frame_faults.NoTerminator = inr (λ e. cc e)
+memory_or frame_faults.Memory = inl refl
+
+-- a fault of the stream, or a want of memory in its reading
+pub Steps-broken : (phase : Phase) (r : Runner) (before after : Held) (fault : FrameFault) (stage : Stage) (w : Option Bool) → (fault ≡ frame_faults.Memory → after ≡ before) →
+    (fault ≢ frame_faults.Memory → (after ≡ record before { fault = Some fault }) × HasFault before.started before.rest fault) →
+    (fault ≡ frame_faults.Memory → (w ≡ Some true) × LeadsTo stage (ending (owed_by phase) ends.Memory)) →
+    (fault ≢ frame_faults.Memory → (w ≡ None) × LeadsTo stage (ending (owed_by phase) (ends.Protocol fault))) → Steps phase r before stage r w after
+Steps-broken phase r before after fault stage w same faulted memory protocol =
+    elim (memory_or fault) [
+      | inl is ↦
+          subst (λ (x : Option Bool). Steps phase r before stage r x after) (sym (memory is).0) (Steps-memory phase r before after stage (same is) (memory is).1)
+      | inr other ↦
+          let (after_is, has) = faulted other in
+          subst (λ (x : Option Bool). Steps phase r before stage r x after) (sym (protocol other).0)
+          (Steps-faulty phase r before after fault stage (ap (λ (x : Held). x.started) after_is) (ap (λ (x : Held). x.rest) after_is) has (protocol other).1)
+    ]
