@@ -1,13 +1,12 @@
 -- What stands behind an answer, and behind a reply that was sent.
-use Rattle.std.proofs.Common.{◌≡◌, Bool, true, false, ℕ, ◌<◌, List, [], ◌∷◌, length, All, refl, sym, ◌∙◌, ap, subst, Option, Some, None}
+use Rattle.std.proofs.Common.{◌≡◌, Bool, true, false, ℕ, List, ◌∷◌, length, refl, sym, ◌∙◌, ap, subst, Option, Some, None}
 use Rattle.std.specs.Vec.Iter.{into_iter_items}
-use Rattle.cell_base.specs.declared.level.Level.{Level}
 use Rattle.history_core.specs.declared.event.Event.{Event}
 use Rattle.pg_framing.specs.declared.replies.TransactionState.{TransactionState}
 use Rattle.pg_framing.specs.declared.replies.TransactionState.TheVariants as block_states
 use Rattle.block_machine.specs.Calls.{Call}
 use Rattle.block_machine.specs.Calls as calls
-use Rattle.block_machine.specs.Script.{Entry, Said, Script, tell, with_call}
+use Rattle.block_machine.specs.Script.{Entry, Said, tell, with_call}
 use Rattle.block_machine.specs.Stages.{IsFrom, entry_for, with_short}
 use Rattle.block_machine.specs.Stages as running
 use Rattle.block_machine.specs.Messages.{Outside}
@@ -22,15 +21,13 @@ use Rattle.block_machine.specs.declared.stage.Stage.TheVariants as inners
 use Rattle.session_core.specs.declared.phase.Phase.TheVariants as phases
 use Rattle.session_core.specs.declared.stage.Finish.TheVariants as finishes
 use Rattle.session_core.specs.declared.stage.Reply.TheVariants as replies
-use Rattle.session_core.specs.declared.stage.Stage.{Stage}
 use Rattle.session_core.specs.declared.stage.Stage.TheVariants as stages
 use Rattle.session_core.specs.Wants as wishes
 use Rattle.session_core.specs.Wants.{of_message}
-use Rattle.session_core.specs.Talk.{Talk}
 use Rattle.session_core.specs.Replies.{startup_reply}
-use Rattle.session_core.specs.Told.{broken, closing, greets, outside_of, session}
-use Rattle.session_core.specs.Stands.{FitsWant, goes_on, least, on, wants}
-use Rattle.session_core.specs.Steps.{Advances, Sends, with_wanting}
+use Rattle.session_core.specs.Told.{broken, closing, outside_of}
+use Rattle.session_core.specs.Stands.{FitsWant, goes_on, on}
+use Rattle.session_core.specs.Steps.{Advances, Sends}
 use Rattle.session_core.proofs.Passes.{unless_short-passes, unless_short-takes}
 use Rattle.session_core.proofs.Meeting.{level_same, with_passing}
 

@@ -1,10 +1,9 @@
 -- What a session's calls leave stands for the lists grown by them.
-use Rattle.std.proofs.Common.{◌≡◌, ◌≢◌, inl, inr, Bool, true, false, ℕ, ◌<◌, List, [], ◌∷◌, ◌++◌, length, refl, sym, ◌∙◌, ap, subst, append_assoc, arith, Option, Some, None, length-append}
+use Rattle.std.proofs.Common.{◌≡◌, ◌≢◌, inl, inr, Bool, true, false, ℕ, ◌<◌, List, [], ◌∷◌, ◌++◌, length, refl, sym, ◌∙◌, ap, subst, append_assoc, arith, Option, None, length-append}
 use Rattle.std.proofs.lemmas.List.{append-nil}
 use Rattle.std.specs.Prelude.{◌==◌}
 use Rattle.cell_base.specs.declared.level.Level.{Level}
 use Rattle.history_core.specs.declared.event.Event.{Event}
-use Rattle.pg_framing.specs.declared.replies.TransactionState.TheVariants as block_states
 use Rattle.sql_tree.specs.declared.statement.Statement.{Statement}
 use Rattle.sql_tree.specs.declared.table.Table.{Table}
 use Rattle.client_framing.specs.declared.front.FrameFault.{FrameFault}
@@ -12,11 +11,11 @@ use Rattle.client_framing.specs.declared.front.FrameFault.TheVariants.{BadLength
 use Rattle.client_framing.specs.Fronts.{Held, HasFault, IsPartial}
 use Rattle.block_machine.specs.Calls.{Call}
 use Rattle.block_machine.specs.Calls as calls
-use Rattle.block_machine.specs.Script.{Entry, short, unsent, stop, Said, Next, Script, more, call, ended, tell}
+use Rattle.block_machine.specs.Script.{Entry, short, unsent, stop, Said, Next, more, call, ended, tell}
 use Rattle.block_machine.specs.Messages.{Outside}
 use Rattle.block_machine.specs.Stages.{IsFrom, entry_for}
 use Rattle.block_machine.specs.Stages as message_stages
-use Rattle.block_machine.specs.Runners.{follows, behind, wanted, held, owes, level_of, known_of, statements_of, Holds}
+use Rattle.block_machine.specs.Runners.{follows, wanted, held, level_of, known_of, statements_of}
 use Rattle.block_machine.specs.declared.call.Answer.{Answer}
 use Rattle.block_machine.specs.declared.call.Answer.TheVariants as answers
 use Rattle.block_machine.specs.declared.end.End.{End}
@@ -36,7 +35,7 @@ use Rattle.session_core.specs.Told.{ending, broken, owed_by, outside_of, stop_en
 use Rattle.session_core.specs.Stands.{on, goes_on, least, StandsFor, IsAwake, IsBusy, Shows, HasReply, wants, reply_of, after_reply, IsHolding, IsLast, owed_at, end_of}
 use Rattle.session_core.specs.Steps.{LeadsTo, Feeds, Sends, Steps, Advances, with_wanting}
 use Rattle.session_core.proofs.Entering.{takes_some}
-use Rattle.session_core.proofs.Passes.{eqb-ne, busy-last, least-busy, unless_unsent-passes, unless_unsent-takes, IsFrom-later, with_wanting-append, IsFrom-with_wanting, IsFrom-read, IsFed-last, IsFed-nothing, IsFed-back}
+use Rattle.session_core.proofs.Passes.{eqb-ne, busy-last, least-busy, unless_unsent-passes, unless_unsent-takes, with_wanting-append, IsFrom-with_wanting, IsFrom-read, IsFed-last, IsFed-nothing, IsFed-back}
 use Rattle.session_core.proofs.Stepping.{session-short}
 
 -- ---- what is shown

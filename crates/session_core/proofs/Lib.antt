@@ -12,4 +12,4 @@ pub mod Lawfuls
 pub mod Carrying
 pub mod Playing
 pub mod Serving
-pub mod Wishing
+pub mod Nearing

@@ -1,10 +1,8 @@
 -- What the messages of a client lead to.
-use Rattle.std.proofs.Common.{◌≡◌, ◌≢◌, Bool, true, false, ℕ, List, [], ◌∷◌, length, All, refl, sym, ◌∙◌, ap, subst, Option, Some, None, inl, inr}
+use Rattle.std.proofs.Common.{◌≡◌, Bool, true, false, ℕ, List, [], length, All, refl, sym, ◌∙◌, ap, subst, Option, Some, None, inl, inr}
 use Rattle.cell_base.specs.declared.level.Level.{Level}
-use Rattle.cell_base.specs.declared.sql_state.SqlState.{SqlState}
 use Rattle.cell_base.specs.declared.sql_state.SqlState.TheVariants as states
 use Rattle.pg_framing.specs.declared.replies.TransactionState.{TransactionState}
-use Rattle.pg_framing.specs.declared.replies.TransactionState.TheVariants as block_states
 use Rattle.sql_tree.specs.declared.table.Table.{Table}
 use Rattle.sound_table.specs.Sound.{IsSound}
 use Rattle.client_framing.specs.declared.front.Front.{Front}
@@ -18,14 +16,12 @@ use Rattle.block_machine.specs.Stages as running
 use Rattle.block_machine.specs.Messages.{Outside, IsMessage, message, owed_between}
 use Rattle.block_machine.specs.Runners.{follows, level_of, known_of, statements_of, owes}
 use Rattle.block_machine.specs.declared.block.Owed.{Owed}
-use Rattle.block_machine.specs.declared.block.Owed.TheVariants as owed_kinds
 use Rattle.block_machine.specs.declared.end.End.TheVariants as ends
 use Rattle.block_machine.specs.declared.message.Message.{Message}
 use Rattle.block_machine.specs.declared.message.Message.TheVariants as messages
 use Rattle.block_machine.specs.declared.runner.Runner.{Runner}
 use Rattle.block_machine.specs.declared.stage.Stage.{Stage as Inner}
 use Rattle.block_machine.specs.declared.stage.Stage.TheVariants as inners
-use Rattle.session_core.specs.declared.phase.Phase.{Phase}
 use Rattle.session_core.specs.declared.phase.Phase.TheVariants as phases
 use Rattle.session_core.specs.declared.stage.Fatal.TheVariants as fatals
 use Rattle.session_core.specs.declared.stage.Finish.TheVariants as finishes
@@ -33,10 +29,10 @@ use Rattle.session_core.specs.declared.stage.Reply.TheVariants as replies
 use Rattle.session_core.specs.declared.stage.Stage.{Stage}
 use Rattle.session_core.specs.declared.stage.Stage.TheVariants as stages
 use Rattle.session_core.specs.Users.{HasUser}
-use Rattle.session_core.specs.Talk.{Ask, Says, Talk, encryption, cancel, start, nameless, version, query, unread_query, terminate, sync, nothing, extended, function}
-use Rattle.session_core.specs.Told.{ending, handled, outside_of, refuses, session, owed_by}
+use Rattle.session_core.specs.Talk.{Talk, encryption, cancel, start, nameless, version, query, unread_query, terminate, sync, nothing, extended, function}
+use Rattle.session_core.specs.Told.{ending, outside_of, refuses, session}
 use Rattle.session_core.specs.Stands.{IsFit, IsUnder, IsBusy, Lacks, NoBuilt, goes_on, on, outer, owed_at}
-use Rattle.session_core.specs.Steps.{Enters, Skips, Meets, Leads, LeadsTo, IsPassing, with_wanting}
+use Rattle.session_core.specs.Steps.{Meets, Leads, LeadsTo, IsPassing, with_wanting}
 use Rattle.session_core.proofs.Passes.{busy-last, unless_short-takes}
 use Rattle.session_core.proofs.Somes.{plain_some}
 
@@ -119,48 +115,48 @@ leads_own owed stage r is under inner lacks constant fit = record {
 -- ---- messages before the startup
 
 pub meets_ssl : (r : Runner) → Meets fronts.Ssl phases.Startup r (stages.Telling replies.NoEncryption) r None
-meets_ssl r = inl (record { asked = encryption; says = tt; busy = tt; passing = tt; goes = λ greeting talk said es from. refl; })
+meets_ssl r = inl (record { asked = encryption; says = tt; busy = tt; passing = tt; goes = λ greeting talk said es from. refl })
 
 pub meets_gss : (r : Runner) → Meets fronts.Gss phases.Startup r (stages.Telling replies.NoEncryption) r None
-meets_gss r = inl (record { asked = encryption; says = tt; busy = tt; passing = tt; goes = λ greeting talk said es from. refl; })
+meets_gss r = inl (record { asked = encryption; says = tt; busy = tt; passing = tt; goes = λ greeting talk said es from. refl })
 
 pub meets_cancel : (pid secret : ℕ) (r : Runner) → Meets (fronts.Cancel pid secret) phases.Startup r (stages.Ended finishes.Cancelled) r None
-meets_cancel pid secret r = inl (record { asked = cancel; says = tt; busy = tt; passing = tt; goes = λ greeting talk said es from. refl; })
+meets_cancel pid secret r = inl (record { asked = cancel; says = tt; busy = tt; passing = tt; goes = λ greeting talk said es from. refl })
 
 pub meets_start : (pairs : List ((List ℕ) × (List ℕ))) (r : Runner) → HasUser pairs → Meets (fronts.Startup pairs) phases.Startup r stages.Opening r None
-meets_start pairs r has = inl (record { asked = start; says = has; busy = tt; passing = tt; goes = λ greeting talk said es from. refl; })
+meets_start pairs r has = inl (record { asked = start; says = has; busy = tt; passing = tt; goes = λ greeting talk said es from. refl })
 
 pub meets_nameless : (pairs : List ((List ℕ) × (List ℕ))) (r : Runner) → (HasUser pairs → ⊥) → Meets (fronts.Startup pairs) phases.Startup r (stages.Parting fatals.NoUser) r None
-meets_nameless pairs r none = inl (record { asked = nameless; says = none; busy = tt; passing = tt; goes = λ greeting talk said es from. refl; })
+meets_nameless pairs r none = inl (record { asked = nameless; says = none; busy = tt; passing = tt; goes = λ greeting talk said es from. refl })
 
 pub meets_version : (code : ℕ) (r : Runner) → Meets (fronts.Version code) phases.Startup r (stages.Parting fatals.OtherVersion) r None
-meets_version code r = inl (record { asked = version; says = tt; busy = tt; passing = tt; goes = λ greeting talk said es from. refl; })
+meets_version code r = inl (record { asked = version; says = tt; busy = tt; passing = tt; goes = λ greeting talk said es from. refl })
 
 -- ---- messages that are served
 
 pub meets_terminate : (state : TransactionState) (stage : Stage) (r : Runner) → LeadsTo stage (ending (owed_between state) ends.Terminated) → Meets fronts.Terminate (phases.Normal state) r stage r None
 meets_terminate state stage r leads =
-    inl (record { asked = terminate; says = tt; busy = busy-last stage leads.0; passing = tt; goes = λ greeting talk said es from. leads.1 r greeting talk said es; })
+    inl (record { asked = terminate; says = tt; busy = busy-last stage leads.0; passing = tt; goes = λ greeting talk said es from. leads.1 r greeting talk said es })
 
 pub meets_sync : (state : TransactionState) (r : Runner) → Meets fronts.Sync (phases.Normal state) r (stages.Telling (replies.Ready state)) r None
-meets_sync state r = inl (record { asked = sync; says = tt; busy = tt; passing = tt; goes = λ greeting talk said es from. refl; })
+meets_sync state r = inl (record { asked = sync; says = tt; busy = tt; passing = tt; goes = λ greeting talk said es from. refl })
 
 pub meets_extended : (step : Extended) (state : TransactionState) (stage : Stage) (r : Runner) → IsBusy stage →
     ((greeting : List ℕ) (talk : Talk) (said : Said) (es : List Entry) → refuses (level_of r) state (known_of r) (on r talk) said es ≡ goes_on stage r greeting talk said es) →
     Meets (fronts.Extended step) (phases.Normal state) r stage r None
-meets_extended step state stage r busy goes = inl (record { asked = extended; says = tt; busy = busy; passing = tt; goes = λ greeting talk said es from. goes greeting talk said es; })
+meets_extended step state stage r busy goes = inl (record { asked = extended; says = tt; busy = busy; passing = tt; goes = λ greeting talk said es from. goes greeting talk said es })
 
 pub meets_flush : (state : TransactionState) (r : Runner) → Meets fronts.Flush (phases.Normal state) r (stages.Taking (phases.Normal state)) r None
-meets_flush state r = inr (record { asked = nothing; says = tt; goes = λ level known rest. refl; }, refl, refl, refl)
+meets_flush state r = inr (record { asked = nothing; says = tt; goes = λ level known rest. refl }, refl, refl, refl)
 
 pub meets_copy : (part : CopyMessage) (state : TransactionState) (r : Runner) → Meets (fronts.Copy part) (phases.Normal state) r (stages.Taking (phases.Normal state)) r None
-meets_copy part state r = inr (record { asked = nothing; says = tt; goes = λ level known rest. refl; }, refl, refl, refl)
+meets_copy part state r = inr (record { asked = nothing; says = tt; goes = λ level known rest. refl }, refl, refl, refl)
 
 pub meets_query : (text : List ℕ) (asked : Message) (state : TransactionState) (old new : Runner) (w : Option Bool) → IsMessage text asked → IsPassing w →
     ((greeting : List ℕ) (talk : Talk) (said : Said) (es : List Entry) → IsFrom 1 (length said.bytes) es →
     message asked state (known_of old) (outside_of (level_of old) (on old talk)) said (with_wanting w said.bytes es) ≡ goes_on stages.Running new greeting talk said es) →
     Meets (fronts.Query text) (phases.Normal state) old stages.Running new w
-meets_query text asked state old new w is passing goes = inl (record { asked = query asked; says = is; busy = tt; passing = passing; goes = goes; })
+meets_query text asked state old new w is passing goes = inl (record { asked = query asked; says = is; busy = tt; passing = passing; goes = goes })
 
 -- memory is wanting for what a query asks
 pub meets_unread : (text : List ℕ) (state : TransactionState) (old new : Runner) →
@@ -181,31 +177,31 @@ pub meets_function : (state : TransactionState) (old new : Runner) →
     ((greeting : List ℕ) (talk : Talk) (said : Said) (es : List Entry) →
     message (messages.Unread states.S0A000) state (known_of old) (outside_of (level_of old) (on old talk)) said es ≡ goes_on stages.Running new greeting talk said es) →
     Meets fronts.Function (phases.Normal state) old stages.Running new None
-meets_function state old new goes = inl (record { asked = function; says = tt; busy = tt; passing = tt; goes = λ greeting talk said es from. goes greeting talk said es; })
+meets_function state old new goes = inl (record { asked = function; says = tt; busy = tt; passing = tt; goes = λ greeting talk said es from. goes greeting talk said es })
 
 -- ---- messages that are discarded
 
 pub drops_terminate : (state : TransactionState) (stage : Stage) (r : Runner) → LeadsTo stage (ending (owed_between state) ends.Terminated) → Meets fronts.Terminate (phases.Discarding state) r stage r None
 drops_terminate state stage r leads =
-    inl (record { asked = terminate; says = tt; busy = busy-last stage leads.0; passing = tt; goes = λ greeting talk said es from. leads.1 r greeting talk said es; })
+    inl (record { asked = terminate; says = tt; busy = busy-last stage leads.0; passing = tt; goes = λ greeting talk said es from. leads.1 r greeting talk said es })
 
 pub drops_sync : (state : TransactionState) (r : Runner) → Meets fronts.Sync (phases.Discarding state) r (stages.Telling (replies.Ready state)) r None
-drops_sync state r = inl (record { asked = sync; says = tt; busy = tt; passing = tt; goes = λ greeting talk said es from. refl; })
+drops_sync state r = inl (record { asked = sync; says = tt; busy = tt; passing = tt; goes = λ greeting talk said es from. refl })
 
 pub drops_query : (text : List ℕ) (state : TransactionState) (r : Runner) → Meets (fronts.Query text) (phases.Discarding state) r (stages.Taking (phases.Discarding state)) r None
-drops_query text state r = inr (record { asked = unread_query; says = tt; goes = λ level known rest. refl; }, refl, refl, refl)
+drops_query text state r = inr (record { asked = unread_query; says = tt; goes = λ level known rest. refl }, refl, refl, refl)
 
 pub drops_flush : (state : TransactionState) (r : Runner) → Meets fronts.Flush (phases.Discarding state) r (stages.Taking (phases.Discarding state)) r None
-drops_flush state r = inr (record { asked = nothing; says = tt; goes = λ level known rest. refl; }, refl, refl, refl)
+drops_flush state r = inr (record { asked = nothing; says = tt; goes = λ level known rest. refl }, refl, refl, refl)
 
 pub drops_extended : (step : Extended) (state : TransactionState) (r : Runner) → Meets (fronts.Extended step) (phases.Discarding state) r (stages.Taking (phases.Discarding state)) r None
-drops_extended step state r = inr (record { asked = extended; says = tt; goes = λ level known rest. refl; }, refl, refl, refl)
+drops_extended step state r = inr (record { asked = extended; says = tt; goes = λ level known rest. refl }, refl, refl, refl)
 
 pub drops_function : (state : TransactionState) (r : Runner) → Meets fronts.Function (phases.Discarding state) r (stages.Taking (phases.Discarding state)) r None
-drops_function state r = inr (record { asked = function; says = tt; goes = λ level known rest. refl; }, refl, refl, refl)
+drops_function state r = inr (record { asked = function; says = tt; goes = λ level known rest. refl }, refl, refl, refl)
 
 pub drops_copy : (part : CopyMessage) (state : TransactionState) (r : Runner) → Meets (fronts.Copy part) (phases.Discarding state) r (stages.Taking (phases.Discarding state)) r None
-drops_copy part state r = inr (record { asked = nothing; says = tt; goes = λ level known rest. refl; }, refl, refl, refl)
+drops_copy part state r = inr (record { asked = nothing; says = tt; goes = λ level known rest. refl }, refl, refl, refl)
 
 -- behind the startup a session has started
 pub after_true : (front : Front) → phase_after true front ≡ true

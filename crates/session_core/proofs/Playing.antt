@@ -1,5 +1,5 @@
 -- The calls of a book, and where they leave its session.
-use Rattle.std.proofs.Common.{◌≡◌, ◌<◌, ◌≤◌, ◌+◌, ℕ, List, [], ◌∷◌, length, refl, sym, ◌∙◌, ap, subst, arith, Some, length-append, ◌++◌, inl, inr, append_assoc}
+use Rattle.std.proofs.Common.{◌≡◌, ◌≤◌, ◌+◌, ℕ, List, [], ◌∷◌, length, refl, sym, ◌∙◌, ap, subst, arith, Some, length-append, ◌++◌, inl, inr, append_assoc}
 use Rattle.std.proofs.lemmas.List.{append-nil}
 use Rattle.std.proofs.lemmas.List.Elements.{All-nil, All-tail, All-append}
 use Rattle.std.specs.Prelude.{◌≢◌, ◌⊎◌, All, true, false}
@@ -17,7 +17,7 @@ use Rattle.history_core.specs.declared.fault.BookFault.TheVariants as faults
 use Rattle.history_core.specs.declared.fault.DefineAnswer.{DefineAnswer}
 use Rattle.history_core.specs.declared.fault.DefineAnswer.TheVariants as defines
 use Rattle.history_core.specs.Chronicle.{IsLegalChronicle}
-use Rattle.history_core.specs.Book.{AnswersTables, AnswersDefine, Past, Seat, away, seated, pending, Adds, GoesOn, IsIdle, IsSeated, IsInTransaction, IsUnwritten, HasWrite, LastWrite, session_of, writes_of}
+use Rattle.history_core.specs.Book.{AnswersTables, AnswersDefine, Past, Seat, away, seated, pending, Adds, GoesOn, IsIdle, IsSeated, IsInTransaction, IsUnwritten, HasWrite, LastWrite, session_of}
 use Rattle.solo_book.proofs.Legality.{tables_few}
 use Rattle.statement_course.specs.Course.{Course, scan, touch, write, done, first_demand}
 use Rattle.statement_course.specs.Laws.{ReadsFirst, table_number}
@@ -29,7 +29,7 @@ use Rattle.block_machine.specs.Calls as calls
 use Rattle.block_machine.specs.Script.{Entry, did, refused}
 use Rattle.block_machine.specs.Stages.{Fits, IsKnownAfter, IsSoundStage, KnowsTables, owed_after}
 use Rattle.block_machine.specs.Stages as message_stages
-use Rattle.block_machine.specs.Runners.{known_of, owes, wanted}
+use Rattle.block_machine.specs.Runners.{known_of, wanted}
 use Rattle.block_machine.specs.declared.block.Block.{Block}
 use Rattle.block_machine.specs.declared.block.Block.TheVariants.{Implicit, Regular, Failed}
 use Rattle.block_machine.specs.declared.block.Owed.TheVariants as owed_kinds
@@ -43,7 +43,7 @@ use Rattle.session_core.specs.declared.stage.Stage.{Stage}
 use Rattle.session_core.specs.declared.stage.Stage.TheVariants as stages
 use Rattle.session_core.specs.Wants.{Want, of_message}
 use Rattle.session_core.specs.Wants as wishes
-use Rattle.session_core.specs.Record.{Draws, Happens, Declines, ReadsBack, ReadsFrom, may_be_refused, limit_for, HasNewName}
+use Rattle.session_core.specs.Record.{Draws, Happens, ReadsBack, ReadsFrom, may_be_refused, limit_for, HasNewName}
 use Rattle.session_core.specs.Plays.{Plays, MayAsk, SeatAfter, owed_of}
 use Rattle.session_core.specs.Stands.{IsFit, owed_at, wants}
 use Rattle.session_core.specs.Serve.{Sits}

@@ -3,7 +3,6 @@ use Rattle.std.proofs.Common.{◌≡◌, ◌↔◌, IfSome, Bool, true, false, �
 use Rattle.std.proofs.lemmas.List.{append-nil}
 use Rattle.std.proofs.lemmas.Grind.{common_steps}
 use Rattle.cell_base.specs.declared.level.Level.{Level}
-use Rattle.sql_tree.specs.declared.table.Table.{Table}
 use Rattle.link_traits.specs.Faults.{Rose}
 use Rattle.link_traits.specs.Traffic.{Traffic, Took, Wrote, Both, Sight}
 use Rattle.history_core.specs.declared.event.Event.{Event}
@@ -32,7 +31,7 @@ use Rattle.session_core.specs.Talk.{Talk, IsTalk, unread}
 use Rattle.session_core.specs.Told.{told, opened_in}
 use Rattle.session_core.specs.Sessions.{Stands, StandsShort}
 use Rattle.session_core.specs.Plays.{Plays, owed_of}
-use Rattle.session_core.specs.Stands.{StandsFor, IsFit, Lacks, LacksBy, owed_at, outer_end, IsStopped, outer, end_of, wants, IsHolding, Shows, IsLast}
+use Rattle.session_core.specs.Stands.{IsFit, Lacks, LacksBy, owed_at, outer_end, IsStopped, outer, end_of, wants, IsHolding, Shows, IsLast}
 use Rattle.session_core.specs.Serve.{Carries, IsAtEnd, Blames, Ran, Serves, Sits, most_read}
 use Rattle.session_core.proofs.Grows.{IsAsked, Shows-stands}
 use Rattle.session_core.proofs.Lawfuls.{Lawful-plays, Lawful-short, Lawful-quiet, own_events}

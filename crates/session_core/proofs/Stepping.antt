@@ -18,8 +18,8 @@ use Rattle.session_core.specs.declared.stage.Stage.{Stage}
 use Rattle.session_core.specs.declared.stage.Stage.TheVariants as stages
 use Rattle.session_core.specs.Talk.{Talk, asks, partial, faulty, unread, IsTalk}
 use Rattle.session_core.specs.Told.{ending, owed_by, handled, session, waiting}
-use Rattle.session_core.specs.Stands.{least, IsBusy, on, goes_on}
-use Rattle.session_core.specs.Steps.{LeadsTo, Enters, Skips, Meets, Steps, with_wanting}
+use Rattle.session_core.specs.Stands.{least, IsBusy, on}
+use Rattle.session_core.specs.Steps.{LeadsTo, Enters, Skips, Meets, Steps}
 use Rattle.session_core.proofs.Passes.{busy-last, least-busy, unless_short-passes, unless_short-over, unless_short-takes, unless_short-twice, IsFed-last}
 
 -- a want of memory where a message or bytes are wanted

@@ -9,7 +9,7 @@ use Rattle.sound_table.specs.Sound.{IsSound}
 use Rattle.client_framing.specs.Fronts.{Held, IsPartial}
 use Rattle.block_machine.specs.Calls.{Call}
 use Rattle.block_machine.specs.Calls as calls
-use Rattle.block_machine.specs.Script.{Entry, unsent, stop, Script, more, call, ended, tell}
+use Rattle.block_machine.specs.Script.{Entry, Script, more, call, ended, tell}
 use Rattle.block_machine.specs.Stages.{IsFrom, Fits}
 use Rattle.block_machine.specs.Runners.{follows, behind, wanted, held, work_of, left_of, running_of, owes, level_of, known_of, Holds, Knows, IsSoundRunner, is_under_way}
 use Rattle.block_machine.specs.declared.block.Owed.{Owed}

@@ -1,5 +1,5 @@
 -- What a step of a session from one stage to the next comes to.
-use Rattle.std.specs.Prelude.{◌≡◌, ℕ, ◌+◌, ◌<◌, ◌⊎◌, List, [], ◌∷◌, ◌++◌, length, Option, Some, None, Bool, true, false}
+use Rattle.std.specs.Prelude.{◌≡◌, ℕ, ◌<◌, ◌⊎◌, List, [], ◌∷◌, ◌++◌, length, Option, Some, None, Bool, true, false}
 use Rattle.cell_base.specs.declared.level.Level.{Level}
 use Rattle.history_core.specs.declared.event.Event.{Event}
 use Rattle.sql_tree.specs.declared.table.Table.{Table}
@@ -8,9 +8,9 @@ use Rattle.client_framing.specs.declared.front.Front.TheVariants.{Ssl, Gss, Canc
 use Rattle.client_framing.specs.Spelling.{HasNoZero}
 use Rattle.client_framing.specs.Fronts.{Held, TakesFront, IsPartial}
 use Rattle.block_machine.specs.Calls.{Call}
-use Rattle.block_machine.specs.Script.{Entry, did, refused, short, unsent, stop, Said, Script, more, call, with_call}
+use Rattle.block_machine.specs.Script.{Entry, did, refused, short, unsent, stop, Said, Script, with_call}
 use Rattle.block_machine.specs.Stages.{IsFrom, entry_for}
-use Rattle.block_machine.specs.Runners.{behind, wanted, held, level_of, known_of}
+use Rattle.block_machine.specs.Runners.{level_of, known_of}
 use Rattle.block_machine.specs.declared.block.Owed.{Owed}
 use Rattle.block_machine.specs.declared.call.Answer.{Answer}
 use Rattle.block_machine.specs.declared.call.Answer.TheVariants as answers
@@ -21,7 +21,7 @@ use Rattle.session_core.specs.declared.stage.Stage.{Stage}
 use Rattle.session_core.specs.declared.stage.Stage.TheVariants as stages
 use Rattle.session_core.specs.Wants as wishes
 use Rattle.session_core.specs.Talk.{Ask, Says, Talk, IsTalk}
-use Rattle.session_core.specs.Told.{owed_by, ending, handled, session, told}
+use Rattle.session_core.specs.Told.{owed_by, ending, handled}
 use Rattle.session_core.specs.Stands.{on, goes_on, wants, owed_at, after_reply, HasReply, IsLast, IsBusy, has_started, IsUnder, IsFit, IsFed, least, outer, Lacks}
 
 -- ---- steps

@@ -1,8 +1,6 @@
-use Rattle.std.proofs.Common.{refl, ap, Err, subst, sym}
-use Rattle.history_core.specs.declared.event.Event.{Event}
+use Rattle.std.proofs.Common.{refl, ap, Err}
 use Rattle.block_machine.specs.Calls.{Call, call_for}
 use Rattle.block_machine.specs.Calls as calls
-use Rattle.session_core.specs.Plays.{Plays}
 use Rattle.session_core.proofs.Playing.{declined}
 use Rattle.session_core.proofs.calls.ask.Goals as goal
 

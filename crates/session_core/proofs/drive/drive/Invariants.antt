@@ -1,9 +1,9 @@
-use Rattle.std.proofs.Common.{ℕ, ◌+◌, ◌≤◌}
+use Rattle.std.proofs.Common.{ℕ}
 use Rattle.cell_base.specs.declared.level.Level.{Level}
 use Rattle.history_core.specs.Book.{Past}
 use Rattle.link_traits.specs.Traffic.{Sight, sight_of}
 use Rattle.session_core.specs.Sessions.{work_of}
-use Rattle.session_core.specs.Stands.{IsLast, message_at, message_work, statement_at, left_at}
+use Rattle.session_core.specs.Stands.{IsLast}
 use Rattle.session_core.specs.Serve.{Ran, Sits}
 use Rattle.session_core.proofs.drive.drive.Given as goal
 

@@ -1,5 +1,5 @@
 -- What is left to show of `break_off`.
-use Rattle.std.proofs.Common.{List, [], ◌≤◌, ap, refl, sym, ◌∙◌, subst}
+use Rattle.std.proofs.Common.{[], ◌≤◌, ap, refl, sym, ◌∙◌, subst}
 use Rattle.block_machine.specs.declared.block.Owed.{Owed}
 use Rattle.block_machine.specs.declared.end.End.TheVariants as ends
 use Rattle.session_core.specs.declared.turns.Step.{Step}
@@ -20,7 +20,7 @@ returns-in_default c = record {
   protocol = λ other. (
     ap (λ (x : Step). x.wanting) c.calm.ensures,
     subst (λ (x : Step). LeadsTo x.stage (ending (owed_by c.args.phase) (ends.Protocol c.args.fault))) (sym c.calm.ensures)
-    (subst (λ (x : Owed). LeadsTo c.leave-in_default.result (ending x (ends.Protocol c.args.fault))) c.owed_by-in_default.ensures c.leave-in_default.ensures.leads),
+        (subst (λ (x : Owed). LeadsTo c.leave-in_default.result (ending x (ends.Protocol c.args.fault))) c.owed_by-in_default.ensures c.leave-in_default.ensures.leads),
   );
   leads = λ r fit.
       subst (λ (x : Step). Leads (owed_by c.args.phase) r x.stage r) (sym c.calm.ensures)

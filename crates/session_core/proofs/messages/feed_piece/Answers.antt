@@ -1,5 +1,5 @@
 -- What is left to show of `feed_piece`.
-use Rattle.std.proofs.Common.{List, [], refl, ◌∙◌}
+use Rattle.std.proofs.Common.{[], refl, ◌∙◌}
 use Rattle.session_core.specs.Told.{owed_by}
 use Rattle.session_core.proofs.Meeting.{leads_own}
 use Rattle.session_core.proofs.messages.feed_piece.Goals as goal

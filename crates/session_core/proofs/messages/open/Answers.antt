@@ -1,7 +1,6 @@
 -- What is left to show of `open`.
-use Rattle.std.proofs.Common.{List, ℕ, Option, None, refl, sym, ◌∙◌, subst}
+use Rattle.std.proofs.Common.{List, ℕ, None, refl, sym, subst}
 use Rattle.client_framing.specs.declared.front.Front.{Front}
-use Rattle.client_framing.specs.declared.front.Front.TheVariants as fronts
 use Rattle.block_machine.specs.declared.block.Owed.TheVariants as owed_kinds
 use Rattle.session_core.specs.declared.phase.Phase.TheVariants as phases
 use Rattle.session_core.specs.declared.stage.Fatal.TheVariants as fatals

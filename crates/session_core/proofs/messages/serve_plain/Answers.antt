@@ -1,5 +1,5 @@
 -- What is left to show of `serve_plain`.
-use Rattle.std.proofs.Common.{List, [], None, refl, sym, ◌∙◌, subst}
+use Rattle.std.proofs.Common.{[], None, refl, sym, ◌∙◌, subst}
 use Rattle.client_framing.specs.declared.front.Front.{Front}
 use Rattle.block_machine.specs.Messages.{owed_between}
 use Rattle.block_machine.specs.declared.block.Owed.{Owed}

@@ -1,4 +1,4 @@
-use Rattle.std.proofs.Common.{Bool, ap, [], ◌∙◌, subst}
+use Rattle.std.proofs.Common.{Bool, ap, [], ◌∙◌}
 use Rattle.std.specs.Prelude.{◌||◌}
 use Rattle.session_core.specs.Steps.{with_wanting}
 use Rattle.session_core.proofs.Passes.{IsShort-with_wanting}

@@ -7,7 +7,7 @@ use Rattle.session_core.specs.Steps.{LeadsTo}
 use Rattle.session_core.proofs.Somes.{plain_some}
 use Rattle.session_core.proofs.Grows.{StandsFor-unsent}
 use Rattle.session_core.proofs.Flags.{flag-kept, number-stopped}
-use Rattle.session_core.proofs.Wishing.{holding_more}
+use Rattle.session_core.proofs.Nearing.{holding_more}
 use Rattle.session_core.proofs.session.Session.unsent.Goals as goal
 
 pub returns-clause-grown : goal.returns-clause-grown
