@@ -198,7 +198,7 @@ fn lengths_held(alloc: Global, group: Group, number: usize, bound: u32) -> Resul
     Ok(bound)
 }
 
-// The refused encryption, of 28 bytes, and the two first sessions of a row, of 141: in pieces of each length up to the whole input.
+// The refused encryption, of 29 bytes, and the two first sessions of a row, of 141: in pieces of each length up to the whole input.
 #[test]
 fn serves_pieces_of_each_length(rt: HostRuntime) -> Result<(), Fail> {
     let alloc = rt.alloc();
