@@ -111,14 +111,14 @@ fn row_at(group: Group, number: usize) -> Option<&'static Row> {
 }
 
 // More sessions than any file has.
-const MANY: usize = 100;
+const MOST: usize = 100;
 
 // How many sessions of the group there are, where they all hold for an input in pieces of this length; else the number of the first that
 // doesn't.
 fn held(alloc: Global, group: Group, piece: u32) -> Result<usize, Fail>
     requires { 0 < piece }
 {
-    for number in 0..MANY {
+    for number in 0..MOST {
         match row_at(group, number) {
             Some(row) => {
                 if !holds(alloc, row, piece)? {
@@ -128,7 +128,7 @@ fn held(alloc: Global, group: Group, piece: u32) -> Result<usize, Fail>
             None => return Ok(number),
         }
     }
-    Ok(MANY)
+    Ok(MOST)
 }
 
 // Whether the group has so many sessions, and they all hold in pieces of several lengths.
