@@ -6,6 +6,8 @@
 #![tactic(auto)]
 
 #[cfg(test)]
+mod block_rows;
+#[cfg(test)]
 mod events;
 #[cfg(test)]
 mod extended_rows;
