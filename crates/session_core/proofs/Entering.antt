@@ -74,8 +74,10 @@ spelled_some false front bytes s =
     omega (arith, ap length s.whole, length-append s.size (s.code ++ s.body), length-append s.code s.body, s.size_is.0, s.code_held)
 spelled_some true front bytes s = omega (arith, ap length s.whole, length-append s.size s.body, s.size_is.0)
 
-pub takes_some : (started : Bool) (bytes : List ℕ) (front : Front) (more : List ℕ) → TakesFront started bytes front more → 5 + length more ≤ length bytes
-takes_some started bytes front more takes = omega (arith, ap length takes.whole, length-append takes.taken more, spelled_some started front takes.taken takes.spelled)
+pub takes_some : (started : Bool) (bytes : List ℕ) (front : Front) (more : List ℕ) → TakesFront started bytes front more →
+    5 + length more ≤ length bytes
+takes_some started bytes front more takes =
+    omega (arith, ap length takes.whole, length-append takes.taken more, spelled_some started front takes.taken takes.spelled)
 
 -- ---- the phase of a stage
 
@@ -84,11 +86,15 @@ agree_same true b h = h
 agree_same false true h = absurd (cc h)
 agree_same false false h = refl
 
-pub started_taking : (stage : Stage) (phase : Phase) (started : Bool) → stage ≡ stages.Taking phase → phase_fits stage started ≡ true → started ≡ has_started phase
-started_taking stage phase started is fits = agree_same (has_started phase) started (subst (λ (x : Stage). phase_fits x started ≡ true) is fits)
+pub started_taking : (stage : Stage) (phase : Phase) (started : Bool) → stage ≡ stages.Taking phase → phase_fits stage started ≡ true →
+    started ≡ has_started phase
+started_taking stage phase started is fits =
+    agree_same (has_started phase) started (subst (λ (x : Stage). phase_fits x started ≡ true) is fits)
 
-pub started_waiting : (stage : Stage) (phase : Phase) (started : Bool) → stage ≡ stages.Waiting phase → phase_fits stage started ≡ true → started ≡ has_started phase
-started_waiting stage phase started is fits = agree_same (has_started phase) started (subst (λ (x : Stage). phase_fits x started ≡ true) is fits)
+pub started_waiting : (stage : Stage) (phase : Phase) (started : Bool) → stage ≡ stages.Waiting phase → phase_fits stage started ≡ true →
+    started ≡ has_started phase
+started_waiting stage phase started is fits =
+    agree_same (has_started phase) started (subst (λ (x : Stage). phase_fits x started ≡ true) is fits)
 
 pub agree_self : (a : Bool) → agree a a ≡ true
 agree_self true = refl
