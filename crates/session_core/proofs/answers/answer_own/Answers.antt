@@ -11,8 +11,10 @@ use Rattle.session_core.proofs.answers.answer_own.Goals as goal
 
 pub returns-in-Opening-Opened-clause-goes : goal.returns-in-Opening-Opened-clause-goes
 returns-in-Opening-Opened-clause-goes c = λ r.
-    subst (λ (x : Stage). Advances x r c.args.answer c.greet.result.stage r c.greet.result.wanting c.greet.new.greeting.items) (sym c.in-Opening-Opened.is-0)
-    (subst (λ (x : Answer). Advances stages.Opening r x c.greet.result.stage r c.greet.result.wanting c.greet.new.greeting.items) (sym c.in-Opening-Opened.is-1)
+    subst (λ (x : Stage). Advances x r c.args.answer c.greet.result.stage r c.greet.result.wanting c.greet.new.greeting.items)
+    (sym c.in-Opening-Opened.is-0)
+    (subst (λ (x : Answer). Advances stages.Opening r x c.greet.result.stage r c.greet.result.wanting c.greet.new.greeting.items)
+    (sym c.in-Opening-Opened.is-1)
     (c.greet.ensures.goes r))
 
 pub returns-in_default-clause-goes : goal.returns-in_default-clause-goes

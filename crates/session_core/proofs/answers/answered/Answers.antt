@@ -7,7 +7,8 @@ use Rattle.session_core.proofs.answers.answered.Goals as goal
 
 pub returns-in-Running-clause-goes : goal.returns-in-Running-clause-goes
 returns-in-Running-clause-goes c =
-    subst (λ (x : Stage). Advances x c.args.runner.now c.args.answer c.answer_message.result.stage c.answer_message.new.runner c.answer_message.result.wanting c.args.greeting.now.items)
+    subst (λ (x : Stage). Advances x c.args.runner.now c.args.answer c.answer_message.result.stage c.answer_message.new.runner
+    c.answer_message.result.wanting c.args.greeting.now.items)
     (sym c.in-Running.is) (c.answer_message.ensures.goes c.args.greeting.now.items)
 
 pub returns-in-Running-clause-some : goal.returns-in-Running-clause-some

@@ -8,5 +8,6 @@ use Rattle.session_core.proofs.messages.call_function.Goals as goal
 
 pub returns-clause-goes : goal.returns-clause-goes
 returns-clause-goes c =
-    subst (λ (x : Step). Meets fronts.Function (phases.Normal c.args.state) c.args.runner.now x.stage c.fail.new.runner x.wanting) (sym c.calm.ensures)
+    subst (λ (x : Step). Meets fronts.Function (phases.Normal c.args.state) c.args.runner.now x.stage c.fail.new.runner x.wanting)
+    (sym c.calm.ensures)
     (meets_function c.args.state c.args.runner.now c.fail.new.runner c.fail.ensures.goes)

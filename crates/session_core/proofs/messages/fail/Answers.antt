@@ -4,4 +4,5 @@ use Rattle.session_core.proofs.messages.fail.Goals as goal
 
 pub returns-clause-goes : goal.returns-clause-goes
 returns-clause-goes c =
-    message_fails (messages.Unread c.args.code) c.args.state c.args.runner.now c.refuse.new.self c.refuse.ensures.level c.refuse.ensures.goes
+    message_fails (messages.Unread c.args.code) c.args.state c.args.runner.now c.refuse.new.self c.refuse.ensures.level
+    c.refuse.ensures.goes

@@ -28,7 +28,8 @@ returns-in-Cancel-clause-goes c = λ r.
 pub returns-then-has_user-clause-goes : goal.returns-then-has_user-clause-goes
 returns-then-has_user-clause-goes c = λ r.
     subst (λ (x : Front). Meets x phases.Startup r stages.Opening r None) (sym c.in-Startup.is)
-    (meets_start c.in-Startup.pairs r (subst (λ (x : List ((List ℕ) × (List ℕ))). HasUser x) c.as_slice.ensures (c.has_user.ensures.0 c.if-has_user.true)))
+    (meets_start c.in-Startup.pairs r (subst (λ (x : List ((List ℕ) × (List ℕ))). HasUser x) c.as_slice.ensures
+    (c.has_user.ensures.0 c.if-has_user.true)))
 
 pub returns-else-has_user-clause-goes : goal.returns-else-has_user-clause-goes
 returns-else-has_user-clause-goes c = λ r.
@@ -42,7 +43,8 @@ returns-else-has_user-clause-leads c = λ r fit. leads_own owed_kinds.Nothing (s
 
 pub returns-in-Version-clause-goes : goal.returns-in-Version-clause-goes
 returns-in-Version-clause-goes c = λ r.
-    subst (λ (x : Front). Meets x phases.Startup r (stages.Parting fatals.OtherVersion) r None) (sym c.in-Version.is) (meets_version c.in-Version.field-0 r)
+    subst (λ (x : Front). Meets x phases.Startup r (stages.Parting fatals.OtherVersion) r None) (sym c.in-Version.is)
+    (meets_version c.in-Version.field-0 r)
 
 pub returns-in-Version-clause-leads : goal.returns-in-Version-clause-leads
 returns-in-Version-clause-leads c = λ r fit. leads_own owed_kinds.Nothing (stages.Parting fatals.OtherVersion) r refl refl refl refl tt fit
