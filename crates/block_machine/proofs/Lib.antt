@@ -7,3 +7,10 @@ mod Alone
 mod Wanting
 mod Advancing
 mod Asking
+mod Sounds
+mod Columns
+mod Carried
+mod Judging
+mod Taking
+mod Pursuing
+mod Zeros

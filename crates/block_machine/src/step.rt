@@ -68,6 +68,7 @@ pub fn or_short(stage: Result<Stage, Memory>, block: Block) -> Step
     ensures work { (n : ℕ) → 3 ≤ n → IfOk stage (λ it. work_at it ≤ n + running_at it) → work_at result.stage ≤ n + running_at result.stage }
     ensures left { (n : ℕ) → IfOk stage (λ it. left_at it ≤ n) → left_at result.stage ≤ n }
     ensures silent { IfOk stage (λ it. IsRunning it → ⊥) → IsRunning result.stage → ⊥ }
+    ensures quiet { IfOk stage IsQuiet → IsQuiet result.stage }
     ensures busy { IfOk stage IsBusy → IsBusy result.stage }
     ensures sound { IfOk stage IsSoundStage → IsSoundStage result.stage }
     ensures knows { (known : List Defined) → IfOk stage (λ it. KnowsTables it known) → KnowsTables result.stage known }
