@@ -7,3 +7,6 @@ mod Alone
 mod Wanting
 mod Advancing
 mod Asking
+mod Arms
+mod Turning
+mod Quiet
