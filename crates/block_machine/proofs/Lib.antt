@@ -14,3 +14,6 @@ mod Judging
 mod Taking
 mod Pursuing
 mod Zeros
+mod Arms
+mod Turning
+mod Quiet

@@ -3,7 +3,9 @@ ghost use Rattle.std.specs.Prelude.{◌≡◌, ℕ, ◌<◌, ◌≤◌, List, []
 ghost use Rattle.sql_tree.specs.declared.table.Table.{Table as Defined};
 ghost use Rattle.block_machine.specs.Calls as calls;
 ghost use Rattle.block_machine.specs.Calls.{Call as Asked, IsWant};
-ghost use Rattle.block_machine.specs.Stages.{Advances, FitsWant, IsPlain, IsQuiet, IsBusy, IsHolding, IsRunning, NoBuilt, wants, owed_at, owed_after, work_at, running_at};
+ghost use Rattle.block_machine.specs.Script.{ask};
+ghost use Rattle.block_machine.specs.Statements.{Around, fails, refused_with};
+ghost use Rattle.block_machine.specs.Stages.{block_of, Advances, FitsWant, IsPlain, IsQuiet, IsBusy, IsHolding, IsRunning, NoBuilt, wants, owed_at, owed_after, work_at, running_at};
 
 use crate::block::{Block, Pending};
 use crate::blocks::started;
@@ -18,7 +20,10 @@ use history_core::DefineAnswer;
 use pg_framing::TransactionState;
 
 // The state of a block behind a statement that failed in it.
-fn failed(pending: Pending) -> TransactionState {
+fn failed(pending: Pending) -> TransactionState
+    ensures { (code : SqlState) (known : List Defined) (around : Around) →
+        fails code (block_of pending) known around ≡ ask calls.Rollback (λ a. refused_with code result known around) }
+{
     match pending {
         Pending::Implicit => TransactionState::Idle,
         Pending::Regular => TransactionState::Failed,
