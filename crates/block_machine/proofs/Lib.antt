@@ -7,6 +7,4 @@ mod Alone
 mod Wanting
 mod Advancing
 mod Asking
-mod Arms
 mod Turning
-mod Quiet

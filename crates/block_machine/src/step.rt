@@ -6,9 +6,8 @@ ghost use Rattle.block_machine.specs.Statements.{Around, owed_in, fails, unless_
 ghost use Rattle.block_machine.specs.Stages.{IsScriptAt, IsScriptOf, LeadsTo, IsQuiet, IsRunning, IsBusy, IsSoundStage, KnowsTables, NoBuilt, HasReply, owed_at, work_at, running_at, left_at};
 
 use crate::block::{Block, Pending};
-use crate::stage::Stage;
+use crate::stage::{ErrorState, Stage};
 use cell_base::{Memory, SqlState};
-use pg_framing::TransactionState;
 
 /// A stage, and whether memory was wanting on the way to it.
 #[derive(Debug, Drop)]
@@ -37,10 +36,10 @@ pub fn fail(code: SqlState, block: Block) -> Stage
     ensures constant { NoBuilt result }
 {
     match block {
-        Block::Implicit(false) => Stage::Failing(code, TransactionState::Idle),
+        Block::Implicit(false) => Stage::Failing(code, ErrorState::Idle),
         Block::Implicit(true) => Stage::Undoing(code, Pending::Implicit),
         Block::Regular => Stage::Undoing(code, Pending::Regular),
-        Block::Failed => Stage::Failing(code, TransactionState::Failed),
+        Block::Failed => Stage::Failing(code, ErrorState::Failed),
     }
 }
 
@@ -68,6 +67,7 @@ pub fn or_short(stage: Result<Stage, Memory>, block: Block) -> Step
     ensures work { (n : ℕ) → 3 ≤ n → IfOk stage (λ it. work_at it ≤ n + running_at it) → work_at result.stage ≤ n + running_at result.stage }
     ensures left { (n : ℕ) → IfOk stage (λ it. left_at it ≤ n) → left_at result.stage ≤ n }
     ensures silent { IfOk stage (λ it. IsRunning it → ⊥) → IsRunning result.stage → ⊥ }
+    ensures quiet { IfOk stage IsQuiet → IsQuiet result.stage }
     ensures busy { IfOk stage IsBusy → IsBusy result.stage }
     ensures sound { IfOk stage IsSoundStage → IsSoundStage result.stage }
     ensures knows { (known : List Defined) → IfOk stage (λ it. KnowsTables it known) → KnowsTables result.stage known }
