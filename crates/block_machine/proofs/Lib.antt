@@ -8,3 +8,10 @@ mod Wanting
 mod Advancing
 mod Asking
 mod Turning
+mod Sounds
+mod Columns
+mod Carried
+mod Judging
+mod Taking
+mod Pursuing
+mod Zeros

@@ -1,7 +1,8 @@
 // What the bytes of a query message ask for.
-ghost use Rattle.std.specs.Prelude.{◌≢◌, ◌<◌, ◌^◌, length, IfOk};
+ghost use Rattle.std.specs.Prelude.{◌≡◌, ◌≢◌, ◌<◌, ◌^◌, length, IfOk};
 ghost use Rattle.std.specs.Str.{IsUtf8};
 ghost use Rattle.sql_grammar.specs.Limited.{HasNoZero};
+ghost use Rattle.sql_statements.specs.Faults.{state_of};
 ghost use Rattle.block_machine.specs.Messages.{IsMessage};
 ghost use Rattle.block_machine.specs.Stages.{IsSoundMessage};
 
@@ -9,6 +10,17 @@ use crate::message::Message;
 use cell_base::{Memory, SqlState, Text, TextFault};
 use sql_statements::{ParseFault, statements};
 use std::alloc::Global;
+
+// What a text with this fault asks for.
+fn unread(fault: &ParseFault) -> Result<Message, Memory>
+    ensures unread { IfOk result (λ message. message ≡ Message.Unread (state_of fault.now)) }
+    ensures other { IfOk result (λ message. fault.now ≢ ParseFault.Memory) }
+{
+    match fault {
+        ParseFault::Memory => Err(Memory),
+        _ => Ok(Message::Unread(fault.state())),
+    }
+}
 
 // What a text asks for.
 fn read_text(alloc: Global, text: &Text) -> Result<Message, Memory>
@@ -19,8 +31,7 @@ fn read_text(alloc: Global, text: &Text) -> Result<Message, Memory>
 {
     match statements(alloc, text) {
         Ok(found) => Ok(Message::Statements(found)),
-        Err(ParseFault::Memory) => Err(Memory),
-        Err(fault) => Ok(Message::Unread(fault.state())),
+        Err(fault) => unread(&fault),
     }
 }
 

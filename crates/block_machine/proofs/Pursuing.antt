@@ -1,0 +1,112 @@
+-- The steps of a statement that runs, with what its calls say.
+use Rattle.std.proofs.Common.{◌≡◌, ℕ, Bool, true, false, List, [], ◌∷◌, ◌++◌, length, refl, sym, ◌∙◌, ap, subst, Result, Ok, Err, IfOk}
+use Rattle.cell_base.specs.declared.memory.Memory.{Memory}
+use Rattle.cell_base.specs.declared.sql_state.SqlState.{SqlState}
+use Rattle.history_core.specs.declared.fault.BookFault.{BookFault}
+use Rattle.sql_tree.specs.declared.statement.Statement.{Statement}
+use Rattle.sql_tree.specs.declared.table.Table.{Table}
+use Rattle.sql_typing.specs.Typed.{typed}
+use Rattle.statement_course.specs.declared.demand.PlanAnswer.{PlanAnswer}
+use Rattle.statement_course.specs.Course.{first_demand, behind, FitsDemand}
+use Rattle.cell_compile.specs.declared.plan.Plan.{Plan}
+use Rattle.cell_compile.specs.Plans.{rest_of}
+use Rattle.block_machine.specs.Calls.{Call, call_for}
+use Rattle.block_machine.specs.Calls as calls
+use Rattle.block_machine.specs.declared.block.Block.{Block}
+use Rattle.block_machine.specs.declared.block.Block.TheVariants.{Implicit}
+use Rattle.block_machine.specs.declared.block.Owed.TheVariants as owes
+use Rattle.block_machine.specs.declared.block.Pending.{Pending}
+use Rattle.block_machine.specs.declared.block.Pending.TheVariants as pending
+use Rattle.block_machine.specs.declared.call.Answer.{Answer}
+use Rattle.block_machine.specs.declared.call.Answer.TheVariants as answers
+use Rattle.block_machine.specs.declared.stage.Run.{Run}
+use Rattle.block_machine.specs.declared.stage.Stage.{Stage}
+use Rattle.block_machine.specs.declared.stage.Stage.TheVariants as stages
+use Rattle.block_machine.specs.declared.step.Step.{Step}
+use Rattle.block_machine.specs.Script.{Script, Said, Entry, with_call}
+use Rattle.block_machine.specs.Statements.{Around, owed_in, refusal_state, fails, unless_short_in, runs, judged}
+use Rattle.block_machine.specs.Messages.{Outside, before}
+use Rattle.block_machine.specs.Stages.{IsScriptAt, IsScriptOf, LeadsTo, Advances, Fits, IsFrom, NoBuilt, HasReply, answer_with, block_of, goes_on}
+use Rattle.block_machine.proofs.Answered.{fits_demand}
+use Rattle.block_machine.proofs.Holding.{holding_some}
+use Rattle.block_machine.proofs.Wanting.{ok_at, leads_calm}
+use Rattle.block_machine.proofs.Advancing.{run_advances, run_refused, begin_advances, look_advances}
+
+-- a pending transaction is rolled back
+pub owed_pending : (p : Pending) → owed_in (block_of p) ≡ owes.Rollback
+owed_pending pending.Implicit = refl
+owed_pending pending.Regular = refl
+
+-- memory wasn't wanting
+pub calm_advances : (earlier : Stage) (known : List Table) (answer : Answer) (step : Step) (next : Stage) (built : List ℕ) (after : List Table) → step ≡ record { stage = next; wanting = false } →
+    Advances earlier known answer next false built after → Advances earlier known answer step.stage step.wanting built after
+calm_advances earlier known answer step next built after is goes =
+    subst (λ (s : Step). Advances earlier known answer s.stage s.wanting built after) (sym is) goes
+
+pub calm_some : (step : Step) (next : Stage) (built : List ℕ) → step ≡ record { stage = next; wanting = false } → NoBuilt next → HasReply step.stage built
+calm_some step next built is constant = subst (λ (s : Step). HasReply s.stage built) (sym is) (holding_some built next constant)
+
+-- ---- the answer to a demand
+
+pub demand_fits : (run : Run) (answer : Answer) (b : PlanAnswer) → answer ≡ answer_with b → Fits (call_for (first_demand (rest_of run.plan))) answer → FitsDemand (rest_of run.plan) b
+demand_fits run answer b is fits =
+    fits_demand (rest_of run.plan) b run.asks (subst (λ (a : Answer). Fits (call_for (first_demand (rest_of run.plan))) a) is fits)
+
+pub pursue_goes : (run : Run) (p : Pending) (answer : Answer) (b : PlanAnswer) (block : Block) (r : Result Stage Memory) (next : Stage) (w : Bool) (built : List ℕ) (known : List Table) →
+    answer ≡ answer_with b → Fits (call_for (first_demand (rest_of run.plan))) answer → block ≡ block_of p →
+    IfOk r (λ stage. IsScriptOf (runs (behind (rest_of run.plan) b) (block_of p)) stage built) →
+    ((script : Around → Script) (bytes : List ℕ) (tables : List Table) → IfOk r (λ it. IsScriptAt script it bytes tables) →
+    LeadsTo (λ around. unless_short_in block tables around (script around)) next w bytes tables) →
+    Advances (stages.Running run p) known answer next w built known
+pursue_goes run p answer b block r next w built known is fits same goes leads =
+    run_advances run p answer b next w built known is (demand_fits run answer b is fits)
+    (subst (λ (x : Block). LeadsTo (λ around. unless_short_in x known around (runs (behind (rest_of run.plan) b) (block_of p) known around)) next w built known) same
+    (leads (runs (behind (rest_of run.plan) b) (block_of p) known) built known (ok_at r (runs (behind (rest_of run.plan) b) (block_of p)) built known goes)))
+
+pub pursue_refused : (run : Run) (p : Pending) (answer : Answer) (why : BookFault) (code : SqlState) (block : Block) (next : Stage) (built : List ℕ) (known : List Table) →
+    answer ≡ answers.Refused why → code ≡ refusal_state why → block ≡ block_of p →
+    ((bytes : List ℕ) → IsScriptOf (fails code block) next bytes) → Advances (stages.Running run p) known answer next false built known
+pursue_refused run p answer why code block next built known is coded same goes =
+    run_refused run p answer why next built known is run.asks
+    (subst (λ (x : SqlState). IsScriptAt (fails x (block_of p) known) next built known) coded
+    (subst (λ (x : Block). IsScriptAt (fails code x known) next built known) same (goes built known)))
+
+-- ---- the begin of its transaction
+
+pub start_goes : (plan : Plan) (answer : Answer) (n : ℕ) (r : Result Stage Memory) (next : Stage) (w : Bool) (built : List ℕ) (known : List Table) → answer ≡ answers.Begun n →
+    IfOk r (λ stage. IsScriptOf (runs (rest_of plan) (Implicit true)) stage built) →
+    ((script : Around → Script) (bytes : List ℕ) (tables : List Table) → IfOk r (λ it. IsScriptAt script it bytes tables) →
+    LeadsTo (λ around. unless_short_in (Implicit true) tables around (script around)) next w bytes tables) →
+    Advances (stages.Beginning plan) known answer next w built known
+start_goes plan answer n r next w built known is goes leads =
+    subst (λ (a : Answer). Advances (stages.Beginning plan) known a next w built known) (sym is)
+    (begin_advances plan n next w built known
+    (leads (runs (rest_of plan) (Implicit true) known) built known (ok_at r (runs (rest_of plan) (Implicit true)) built known goes)))
+
+begin_is : (c : Call) → calls.Book calls.Begin ≡ calls.Book c → calls.Begin ≡ c
+begin_is c h = cc h
+
+pub start_refused : (plan : Plan) (answer : Answer) (why : BookFault) (code : SqlState) (next : Stage) (built : List ℕ) (known : List Table) → answer ≡ answers.Refused why → code ≡ refusal_state why →
+    ((bytes : List ℕ) → IsScriptOf (fails code (Implicit false)) next bytes) → Advances (stages.Beginning plan) known answer next false built known
+start_refused plan answer why code next built known is coded goes =
+    subst (λ (a : Answer). Advances (stages.Beginning plan) known a next false built known) (sym is)
+    (λ c unbuilt more outside said es e wants_c from.
+    ap (λ (x : SqlState). fails x (Implicit false) known (before more outside) (with_call said calls.Begin) es) (sym coded)
+    ∙ goes built known more outside (with_call said calls.Begin) es
+    ∙ ap (λ (x : Call). goes_on next built known more outside (with_call said x) es) (begin_is c wants_c))
+
+-- ---- a look
+
+pub look_judged : (statement : Statement) (block : Block) (known tables after : List Table) (stage : Stage) (built : List ℕ) → after ≡ known ++ tables →
+    IsScriptAt (judged (typed after statement) block after) stage built after → Advances (stages.Looking statement block) known (answers.Looked tables) stage false built after
+look_judged statement block known tables after stage built is goes =
+    look_advances statement block known tables stage false built after
+    (leads_calm (judged (typed (known ++ tables) statement) block (known ++ tables)) stage block known built after
+    (subst (λ (x : List Table). IsScriptAt (judged (typed x statement) block x) stage built after) is goes))
+
+pub look_short : (statement : Statement) (block : Block) (known tables after : List Table) (next : Stage) (w : Bool) (built : List ℕ) → after ≡ known →
+    ((script : Around → Script) (bytes : List ℕ) (shown : List Table) → LeadsTo (λ around. unless_short_in block shown around (script around)) next w bytes shown) →
+    Advances (stages.Looking statement block) known (answers.Looked tables) next w built after
+look_short statement block known tables after next w built is leads =
+    subst (λ (x : List Table). Advances (stages.Looking statement block) known (answers.Looked tables) next w built x) (sym is)
+    (look_advances statement block known tables next w built known (leads (judged (typed (known ++ tables) statement) block (known ++ tables)) built known))

@@ -1,0 +1,33 @@
+use Rattle.std.proofs.Common.{List, length, sym, subst}
+use Rattle.sql_tree.specs.declared.table.Table.{Table}
+use Rattle.statement_course.specs.Course.{Course}
+use Rattle.statement_course.specs.Laws.{ReadsFirst}
+use Rattle.outcome_replies.specs.Replies.{CanBeTold}
+use Rattle.outcome_replies.specs.Ends.{EndsIn}
+use Rattle.outcome_replies.proofs.Told.{outcomes_told}
+use Rattle.course_laws.proofs.ReadsFirst.{reads_first}
+use Rattle.cell_compile.specs.Plans.{rest_of}
+use Rattle.block_machine.specs.Stages.{KnowsTables}
+use Rattle.block_machine.proofs.Carried.{if_ok}
+use Rattle.block_machine.proofs.Holding.{holding_some}
+use Rattle.block_machine.proofs.Tables.{narrow_sound, columns_narrow}
+use Rattle.block_machine.proofs.courses.judge.Goals as goal
+
+pub typed-requires : goal.typed-requires
+typed-requires c = narrow_sound c.args.known.now c.requires.few c.requires.tables
+
+pub planned-requires : goal.planned-requires
+planned-requires c = columns_narrow c.args.known.now c.requires.tables
+
+pub begin_course-requires : goal.begin_course-requires
+begin_course-requires c =
+    subst (λ (x : Course). EndsIn CanBeTold x) (sym c.in_ok-plan-in-Ok.ensures) (outcomes_told c.args.known.now c.args.statement.now c.in-Ok.t c.requires.tables c.requires.plain c.in-Ok.ensures)
+
+pub returns-in_ok-plan-in-Ok-clause-knows : goal.returns-in_ok-plan-in-Ok-clause-knows
+returns-in_ok-plan-in-Ok-clause-knows c =
+    if_ok (λ stage. (known : List Table) → ReadsFirst (length known) (rest_of c.in_ok-plan-in-Ok.plan) → KnowsTables stage known) (λ stage. KnowsTables stage c.args.known.now) c.begin_course.result
+    (λ stage knows. knows c.args.known.now (subst (λ (x : Course). ReadsFirst (length c.args.known.now) x) (sym c.in_ok-plan-in-Ok.ensures) (reads_first c.args.known.now c.in-Ok.t)))
+    c.begin_course.ensures.knows
+
+pub returns-in-Err-State-clause-some : goal.returns-in-Err-State-clause-some
+returns-in-Err-State-clause-some c = holding_some c.args.built.now.items c.fail.result c.fail.ensures.constant
