@@ -26,3 +26,14 @@ quiet_running _ h = refl
 pub running_low : (stage : Stage) → running_at stage ≤ 1
 running_low (stages.Running run p) = omega arith
 running_low _ = omega arith
+
+pub running_silent : (stage : Stage) → (IsRunning stage → ⊥) → running_at stage ≡ 0
+running_silent (stages.Running run p) h = absurd (h tt)
+running_silent _ h = refl
+
+-- the work of a stage that memory may have been wanting for, where none runs
+pub work_still : (n : ℕ) (r : Result Stage Memory) (next : Stage) → 3 ≤ n → IfOk r (λ it. work_at it ≤ n) →
+    ((m : ℕ) → 3 ≤ m → IfOk r (λ it. work_at it ≤ m + running_at it) → work_at next ≤ m + running_at next) → running_at next ≡ 0 → work_at next ≤ n
+work_still n r next enough low work still =
+    let all : work_at next ≤ n + running_at next = work n enough (if_ok (λ it. work_at it ≤ n) (λ it. work_at it ≤ n + running_at it) r (λ it k. omega (arith, k)) low) in
+    omega (arith, all, still)

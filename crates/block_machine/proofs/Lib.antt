@@ -7,6 +7,7 @@ mod Alone
 mod Wanting
 mod Advancing
 mod Asking
+mod Turning
 mod Sounds
 mod Columns
 mod Carried
@@ -14,6 +15,3 @@ mod Judging
 mod Taking
 mod Pursuing
 mod Zeros
-mod Arms
-mod Turning
-mod Quiet

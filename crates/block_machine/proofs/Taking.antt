@@ -1,5 +1,5 @@
 -- The steps of statements as they begin.
-use Rattle.std.proofs.Common.{◌≡◌, ℕ, Bool, true, false, List, [], ◌∷◌, length, refl, sym, ◌∙◌, ap, subst, Result, Ok, Err, IfOk}
+use Rattle.std.proofs.Common.{◌≡◌, ℕ, Bool, true, false, List, [], ◌∷◌, length, refl, sym, ◌∙◌, ap, subst, Option, Some, Result, Ok, Err, IfOk}
 use Rattle.std.specs.Fmt.{decimal}
 use Rattle.cell_base.specs.declared.level.Level.{Level}
 use Rattle.cell_base.specs.declared.memory.Memory.{Memory}
@@ -20,9 +20,10 @@ use Rattle.block_machine.specs.declared.step.Step.{Step}
 use Rattle.block_machine.specs.Script.{Script, Said, Entry, with_call}
 use Rattle.block_machine.specs.Replies.{show_reply}
 use Rattle.block_machine.specs.Settings.{history_name}
-use Rattle.block_machine.specs.Statements.{Around, unless_short_in, succeeds, selects, prepares, looks, shows_at, judged_at_once, performs, told_of}
+use Rattle.block_machine.specs.Statements.{Around, unless_short_in, succeeds, selects, prepares, looks, shows_at, shows_value, judged_at_once, performs, told_of}
 use Rattle.block_machine.specs.Messages.{Outside, before}
 use Rattle.block_machine.specs.Stages.{IsScriptAt, IsScriptOf, LeadsTo, LeadsAt, TurnsTo, Advances, IsFrom, goes_on, with_short}
+use Rattle.block_machine.proofs.Wanting.{ok_at}
 
 -- memory wasn't wanting
 pub leads_still : (level : Level) (script : List Table → Around → Script) (stage : Stage) (built : List ℕ) → IsScriptOf script stage built → LeadsAt level script stage false built
@@ -92,3 +93,13 @@ if_kept P statement block (Err e) h is = is
 pub calm_turns : (level : Level) (script : List Table → Outside → Script) (step : Step) (next : Stage) (built : List ℕ) (more : List Statement) → step ≡ record { stage = next; wanting = false } →
     TurnsTo level script next false built more → TurnsTo level script step.stage step.wanting built more
 calm_turns level script step next built more is goes = subst (λ (s : Step). TurnsTo level script s.stage s.wanting built more) (sym is) goes
+
+-- a setting that is known
+pub leads_value : (name value : List ℕ) (found : Option (List ℕ)) (block : Block) (r : Result Stage Memory) (next : Stage) (w : Bool) (built : List ℕ) → found ≡ Some value →
+    IfOk r (λ stage. IsScriptOf (succeeds (show_reply name value) block) stage built) →
+    ((script : Around → Script) (bytes : List ℕ) (tables : List Table) → IfOk r (λ it. IsScriptAt script it bytes tables) →
+    LeadsTo (λ around. unless_short_in block tables around (script around)) next w bytes tables) →
+    (known : List Table) → LeadsTo (shows_value name found block known) next w built known
+leads_value name value found block r next w built is goes leads known =
+    subst (λ (x : Option (List ℕ)). LeadsTo (shows_value name x block known) next w built known) (sym is)
+    (leads (succeeds (show_reply name value) block known) built known (ok_at r (succeeds (show_reply name value) block) built known goes))

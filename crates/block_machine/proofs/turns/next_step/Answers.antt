@@ -3,8 +3,9 @@ use Rattle.std.specs.Vec.Iter.{into_iter_items}
 use Rattle.sql_tree.specs.declared.table.Table.{Table}
 use Rattle.block_machine.specs.declared.stage.Stage.{Stage}
 use Rattle.block_machine.specs.declared.stage.Stage.TheVariants as stages
-use Rattle.block_machine.specs.Stages.{TurnsTo, after_reply}
-use Rattle.block_machine.proofs.Turning.{turns_calm, turns_refused, turns_ready}
+use Rattle.block_machine.specs.Stages.{TurnsTo, HasReply, after_reply}
+use Rattle.block_machine.proofs.Holding.{holding_some}
+use Rattle.block_machine.proofs.Turning.{stage_calm, turns_calm, turns_refused}
 use Rattle.block_machine.proofs.turns.next_step.Goals as goal
 
 pub returns-in-Telling-clause-goes : goal.returns-in-Telling-clause-goes
@@ -15,5 +16,9 @@ returns-in-Telling-clause-goes c =
 pub returns-in-Failing-clause-goes : goal.returns-in-Failing-clause-goes
 returns-in-Failing-clause-goes c =
     subst (λ (x : Stage). TurnsTo c.args.level (λ known. after_reply x known (into_iter_items c.args.rest.now)) c.calm.result.stage c.calm.result.wanting c.args.built.now.items (into_iter_items c.args.rest.now)) (sym c.in-Failing.is)
-    (turns_calm c.args.level (λ known. after_reply (stages.Failing c.in-Failing.field-0 c.in-Failing.state) known (into_iter_items c.args.rest.now)) c.calm.result (stages.Readying c.in-Failing.state) c.args.built.now.items (into_iter_items c.args.rest.now) c.calm.ensures
-    (turns_refused c.args.level c.in-Failing.field-0 c.in-Failing.state (into_iter_items c.args.rest.now) c.args.built.now.items (into_iter_items c.args.rest.now)))
+    (turns_calm c.args.level (λ known. after_reply (stages.Failing c.in-Failing.field-0 c.in-Failing.state) known (into_iter_items c.args.rest.now)) c.calm.result (stages.Readying c.state_after.result) c.args.built.now.items (into_iter_items c.args.rest.now) c.calm.ensures
+    (turns_refused c.args.level c.in-Failing.field-0 c.in-Failing.state c.state_after.result (into_iter_items c.args.rest.now) c.args.built.now.items (into_iter_items c.args.rest.now) c.state_after.ensures.state))
+
+pub returns-in-Failing-clause-some : goal.returns-in-Failing-clause-some
+returns-in-Failing-clause-some c =
+    stage_calm (λ (x : Stage). HasReply x c.args.built.now.items) c.calm.result (stages.Readying c.state_after.result) c.calm.ensures (holding_some c.args.built.now.items (stages.Readying c.state_after.result) tt)
