@@ -17,8 +17,8 @@ use Rattle.session_core.specs.Plays.{Plays}
 use Rattle.session_core.specs.Steps.{IsShort}
 
 -- one more call, which was answered
-pub Lawful-did : {W : Type 0} (gives : W → ℕ →
-    W → Type 0) (p : Past) (v : W) (cs : List Call) (es : List Entry) (q : Past) (w : W) (c : Call) (a : Answer) (e : Event) (r : Past)
+pub Lawful-did : {W : Type 0} (gives : W → ℕ → W → Type 0) (p : Past) (v : W) (cs : List Call) (es : List Entry) (q : Past) (w : W)
+    (c : Call) (a : Answer) (e : Event) (r : Past)
     (u : W) →
     Lawful gives p v cs es q w → Happens q c a e r → Draws gives q w c (did a e) u →
     Lawful gives p v (cs ++ c ∷ []) (es ++ did a e ∷ []) r u
@@ -45,8 +45,8 @@ Lawful-did gives p v (k ∷ cs) (unsent n ∷ es) q w c a e r u l h d = Lawful-d
 Lawful-did gives p v (k ∷ cs) (stop cause ∷ es) q w c a e r u l h d = Lawful-did gives p v (k ∷ cs) es q w c a e r u l h d
 
 -- one more call, which was refused
-pub Lawful-refused : {W : Type 0} (gives : W → ℕ →
-    W → Type 0) (p : Past) (v : W) (cs : List Call) (es : List Entry) (q : Past) (w : W) (c : Call) (why : BookFault) (r : Past) (u : W) →
+pub Lawful-refused : {W : Type 0} (gives : W → ℕ → W → Type 0) (p : Past) (v : W) (cs : List Call) (es : List Entry) (q : Past) (w : W)
+    (c : Call) (why : BookFault) (r : Past) (u : W) →
     Lawful gives p v cs es q w → Declines q c why r → Draws gives q w c (refused why) u →
     Lawful gives p v (cs ++ c ∷ []) (es ++ refused why ∷ []) r u
 Lawful-refused {W} gives p v [] [] q w c why r u l h d = (
@@ -88,8 +88,8 @@ Lawful-alone gives p v [] q w (unsent n) i l = l
 Lawful-alone gives p v [] q w (stop cause) i l = l
 Lawful-alone gives p v (k ∷ cs) q w x i l = absurd l
 
-pub Lawful-quiet : {W : Type 0} (gives : W → ℕ →
-    W → Type 0) (p : Past) (v : W) (cs : List Call) (es : List Entry) (q : Past) (w : W) (x : Entry) → IsQuiet x →
+pub Lawful-quiet : {W : Type 0} (gives : W → ℕ → W → Type 0) (p : Past) (v : W) (cs : List Call) (es : List Entry) (q : Past) (w : W)
+    (x : Entry) → IsQuiet x →
     Lawful gives p v cs es q w →
     Lawful gives p v cs (es ++ x ∷ []) q w
 Lawful-quiet gives p v cs [] q w x i l = Lawful-alone gives p v cs q w x i l
@@ -105,8 +105,8 @@ Lawful-quiet gives p v (k ∷ cs) (unsent n ∷ es) q w x i l = Lawful-quiet giv
 Lawful-quiet gives p v (k ∷ cs) (stop cause ∷ es) q w x i l = Lawful-quiet gives p v (k ∷ cs) es q w x i l
 
 -- the entries of a call's own want of memory
-pub Lawful-short : {W : Type 0} (gives : W → ℕ →
-    W → Type 0) (p : Past) (v : W) (cs : List Call) (es : List Entry) (q : Past) (w : W) (sent : List ℕ) (added : List Entry) →
+pub Lawful-short : {W : Type 0} (gives : W → ℕ → W → Type 0) (p : Past) (v : W) (cs : List Call) (es : List Entry) (q : Past) (w : W)
+    (sent : List ℕ) (added : List Entry) →
     IsShort sent added →
     Lawful gives p v cs es q w → Lawful gives p v cs (es ++ added) q w
 Lawful-short gives p v cs es q w sent [] i l = subst (λ (x : List Entry). Lawful gives p v cs x q w) (sym (append-nil es)) l
@@ -117,8 +117,8 @@ Lawful-short gives p v cs es q w sent (refused why ∷ xs) i l = absurd i
 Lawful-short gives p v cs es q w sent (unsent n ∷ xs) i l = absurd i
 Lawful-short gives p v cs es q w sent (stop cause ∷ xs) i l = absurd i
 
-pub Lawful-plays : {W : Type 0} (gives : W → ℕ →
-    W → Type 0) (p : Past) (v : W) (cs : List Call) (es : List Entry) (q : Past) (w : W) (c : Call) (a : Answer) (e : Event) (r : Past)
+pub Lawful-plays : {W : Type 0} (gives : W → ℕ → W → Type 0) (p : Past) (v : W) (cs : List Call) (es : List Entry) (q : Past) (w : W)
+    (c : Call) (a : Answer) (e : Event) (r : Past)
     (u : W) →
     Lawful gives p v cs es q w → Plays gives q w c a e r u → Lawful gives p v (cs ++ c ∷ []) (es ++ entry_for a e ∷ []) r u
 Lawful-plays gives p v cs es q w c (answers.Refused why) e r u l h = Lawful-refused gives p v cs es q w c why r u l h.0 h.1

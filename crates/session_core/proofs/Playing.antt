@@ -401,8 +401,8 @@ tables_after gives p v c answers.RolledBack e q w known after h k l is = same_ta
 tables_after gives p v c (answers.Shown n) e q w known after h k l is = same_tables known after (length p.seen.tables)
     (length q.seen.tables) k (Happens-leaves p c (answers.Shown n) e q h.0).tables is
 
-pub sits_after : {W : Type 0} (gives : W → ℕ →
-    W → Type 0) (s next : Session) (p : Past) (v : W) (c : Call) (a : Answer) (e : Event) (q : Past) (w : W) →
+pub sits_after : {W : Type 0} (gives : W → ℕ → W → Type 0) (s next : Session) (p : Past) (v : W) (c : Call) (a : Answer) (e : Event)
+    (q : Past) (w : W) →
     Sits s p → wants s.stage s.runner ≡ wishes.Book c → MayAsk c p → Fits c a → Plays gives p v c a e q w → SeatAfter c a p.seat q.seat →
     owed_at next.stage next.runner ≡ owed_after c a (owed_at s.stage s.runner) → IsKnownAfter (known_of s.runner) a (known_of next.runner) →
     IsFit next.runner → Sits next q

@@ -88,8 +88,8 @@ shows_more s level taken es asked sent served w st =
 -- ---- one step more
 
 -- a call of the book; a want of memory of the session may stand behind it
-pub Ran-answered : {W : Type 0} (gives : W → ℕ →
-    W → Type 0) (level : Level) (p : Past) (v : W) (f : Sight) (s r : Session) (q q' : Past) (w w' : W) (g : Sight) (many : ℕ) (c : Call)
+pub Ran-answered : {W : Type 0} (gives : W → ℕ → W → Type 0) (level : Level) (p : Past) (v : W) (f : Sight) (s r : Session) (q q' : Past)
+    (w w' : W) (g : Sight) (many : ℕ) (c : Call)
     (a : Answer) (e : Event) →
     ((taken : List ℕ) (es : List Entry) (asked : List Call) (sent : List ℕ) → Stands s taken es asked sent →
     StandsShort r taken (es ++ entry_for a e ∷ []) (asked ++ c ∷ []) sent) →
@@ -120,8 +120,8 @@ Ran-answered gives level p v f s r q q' w w' g many c a e grown same outer_is la
     )
 
 -- a message was looked at
-pub Ran-taken : {W : Type 0} (gives : W → ℕ →
-    W → Type 0) (level : Level) (p : Past) (v : W) (f : Sight) (s r : Session) (q : Past) (w : W) (g : Sight) (many : ℕ) →
+pub Ran-taken : {W : Type 0} (gives : W → ℕ → W → Type 0) (level : Level) (p : Past) (v : W) (f : Sight) (s r : Session) (q : Past) (w : W)
+    (g : Sight) (many : ℕ) →
     ((taken : List ℕ) (es : List Entry) (asked : List Call) (sent : List ℕ) → Stands s taken es asked sent →
     StandsShort r taken es asked sent) →
     wants s.stage s.runner ≡ wishes.Message → level_of r.runner ≡ level_of s.runner → outer r.stage ≡ None → Lacks r.stage [] →
@@ -182,8 +182,8 @@ Ran-sent gives level p v f s r q w g h many reply grown holds same outer_is lack
     )
 
 -- a reply was not sent whole
-pub Ran-unsent : {W : Type 0} (gives : W → ℕ →
-    W → Type 0) (level : Level) (p : Past) (v : W) (f : Sight) (s r : Session) (q : Past) (w : W) (g h : Sight) (many : ℕ)
+pub Ran-unsent : {W : Type 0} (gives : W → ℕ → W → Type 0) (level : Level) (p : Past) (v : W) (f : Sight) (s r : Session) (q : Past) (w : W)
+    (g h : Sight) (many : ℕ)
     (reply part lost : List ℕ) →
     ((taken : List ℕ) (es : List Entry) (asked : List Call) (sent : List ℕ) → Stands s taken es asked sent →
     Stands r taken (es ++ unsent (length (sent ++ reply)) ∷ []) asked (sent ++ reply)) →
@@ -234,8 +234,8 @@ Blames-stopped stops.Spent (Some ends.Spent) f g taken i k = k
 Blames-stopped _ _ f g taken i k = absurd i
 
 -- a stop, behind a read that gave nothing
-pub Ran-stopped : {W : Type 0} (gives : W → ℕ →
-    W → Type 0) (level : Level) (p : Past) (v : W) (f : Sight) (s r : Session) (q : Past) (w : W) (g h : Sight) (many : ℕ) (cause : Stop) →
+pub Ran-stopped : {W : Type 0} (gives : W → ℕ → W → Type 0) (level : Level) (p : Past) (v : W) (f : Sight) (s r : Session) (q : Past)
+    (w : W) (g h : Sight) (many : ℕ) (cause : Stop) →
     ((taken : List ℕ) (es : List Entry) (asked : List Call) (sent : List ℕ) → Stands s taken es asked sent →
     Stands r taken (es ++ stop cause ∷ []) asked sent) →
     wants s.stage s.runner ≡ wishes.Bytes → r.runner ≡ s.runner → IsStopped cause (outer r.stage) → Lacks r.stage [] →
@@ -268,8 +268,8 @@ Ran-stopped gives level p v f s r q w g h many cause grown bytes same outer_is l
     )
 
 -- a stop where the link told nothing new: no read, or one that failed
-pub Ran-halted : {W : Type 0} (gives : W → ℕ →
-    W → Type 0) (level : Level) (p : Past) (v : W) (f : Sight) (s r : Session) (q : Past) (w : W) (g h : Sight) (many : ℕ) (cause : Stop) →
+pub Ran-halted : {W : Type 0} (gives : W → ℕ → W → Type 0) (level : Level) (p : Past) (v : W) (f : Sight) (s r : Session) (q : Past) (w : W)
+    (g h : Sight) (many : ℕ) (cause : Stop) →
     ((taken : List ℕ) (es : List Entry) (asked : List Call) (sent : List ℕ) → Stands s taken es asked sent →
     Stands r taken (es ++ stop cause ∷ []) asked sent) →
     wants s.stage s.runner ≡ wishes.Bytes → r.runner ≡ s.runner → IsStopped cause (outer r.stage) → Lacks r.stage [] →
@@ -346,8 +346,8 @@ at_end n (Some a) (Some b) e h k = sym k.left ∙ h.0 e
 
 -- ---- the whole run
 
-pub Serves-ran : {W : Type 0} (gives : W → ℕ →
-    W → Type 0) (level : Level) (p : Past) (v : W) (f : Sight) (s : Session) (number : Option ℕ) (end : End) (wanting : Bool) (q : Past)
+pub Serves-ran : {W : Type 0} (gives : W → ℕ → W → Type 0) (level : Level) (p : Past) (v : W) (f : Sight) (s : Session) (number : Option ℕ)
+    (end : End) (wanting : Bool) (q : Past)
     (w : W)
     (g : Sight) (many : ℕ) →
     many ≤ most_read → wants s.stage s.runner ≡ wishes.Ended end →
