@@ -122,7 +122,8 @@ refuses level state known rest =
 
 abbrev pub serving : Level → Ask → TransactionState → List Table → (Phase → List Table → Script) → Script
 serving level (query asked) state known rest = message asked state known (outside_of level rest)
-serving level unread_query state known rest = unless_short false (message (messages.Unread states.S53200) state known (outside_of level rest)) lost
+serving level unread_query state known rest = unless_short false
+    (message (messages.Unread states.S53200) state known (outside_of level rest)) lost
 serving level terminate state known rest = ending (owed_between state) ends.Terminated
 serving level sync state known rest = readied state known (outside_of level rest)
 serving level nothing state known rest = rest (phases.Normal state) known

@@ -141,7 +141,8 @@ fn answer_message(runner: &mut Runner, answer: Answer) -> Step
     ensures stage { result.stage ≡ Stage.Running }
     ensures owed { (c : Asked) → wants Stage.Running runner.old ≡ wishes.Book c →
         owed_at Stage.Running runner.new ≡ owed_after c answer (owed_at Stage.Running runner.old) }
-    ensures message { message_work Stage.Running runner.new < message_work Stage.Running runner.old + statement_at Stage.Running runner.new }
+    ensures message { message_work Stage.Running runner.new <
+        message_work Stage.Running runner.old + statement_at Stage.Running runner.new }
     ensures left { Runs runner.old → left_at Stage.Running runner.new < left_at Stage.Running runner.old }
     ensures level { level_of runner.new ≡ level_of runner.old }
     ensures known { IsKnownAfter (known_of runner.old) answer (known_of runner.new) }

@@ -10,8 +10,10 @@ use Rattle.session_core.proofs.drive.drive.Given as goal
 abbrev pub invariant-loop-alloc : goal.invariant-loop-alloc
 invariant-loop-alloc g l = record {
   ran : (level : Level) (p : Past) (v : _) (f : Sight) (many : ℕ) →
-      Ran g.W.Words.gives level p v f l.initial.session (g.B.Book.past l.initial.book) l.initial.words (sight_of g.L.Sides.traffic g.L.Sides.read_faults g.L.Sides.write_faults l.initial.link) many →
-      Ran g.W.Words.gives level p v f l.session (g.B.Book.past l.book) l.words (sight_of g.L.Sides.traffic g.L.Sides.read_faults g.L.Sides.write_faults l.link) many;
+      Ran g.W.Words.gives level p v f l.initial.session (g.B.Book.past l.initial.book) l.initial.words
+      (sight_of g.L.Sides.traffic g.L.Sides.read_faults g.L.Sides.write_faults l.initial.link) many →
+      Ran g.W.Words.gives level p v f l.session (g.B.Book.past l.book) l.words
+      (sight_of g.L.Sides.traffic g.L.Sides.read_faults g.L.Sides.write_faults l.link) many;
   sits : Sits l.session (g.B.Book.past l.book);
   last : IsLast l.initial.session.stage → IsLast l.session.stage;
   stays : g.B.Book.stays l.initial.book l.book;

@@ -11,7 +11,8 @@ returns-clause-empty c =
     let runner = c.in_ok-new-2.field-0 in
     record {
       stage =
-          subst (λ (held : Held). StandsFor (stages.Waiting phases.Startup) runner c.new-3.result.items held [] [] [] []) (sym c.new.ensures)
+          subst (λ (held : Held). StandsFor (stages.Waiting phases.Startup) runner c.new-3.result.items held [] [] [] [])
+          (sym c.new.ensures)
           (StandsFor-new runner c.new-3.result.items c.in_ok-new-2.ensures.known);
       short = refl;
       number = refl;
