@@ -16,6 +16,8 @@ mod first_rows;
 #[cfg(test)]
 mod key_rows;
 #[cfg(test)]
+mod links;
+#[cfg(test)]
 mod message_rows;
 #[cfg(test)]
 mod rows;
@@ -23,3 +25,5 @@ mod rows;
 mod tests;
 #[cfg(test)]
 mod text_rows;
+#[cfg(test)]
+mod told;

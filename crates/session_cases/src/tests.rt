@@ -1,52 +1,24 @@
 // Sessions over links in memory, in pieces of several lengths.
-ghost use Rattle.std.specs.Prelude.{◌≡◌, ◌<◌};
+ghost use Rattle.std.specs.Prelude.{◌<◌};
 
 use crate::block_rows::block_row;
 use crate::events::push_event;
 use crate::extended_rows::extended_row;
 use crate::first_rows::first_row;
 use crate::key_rows::key_row;
+use crate::links::{joined, link};
 use crate::message_rows::message_row;
 use crate::rows::Row;
 use crate::text_rows::text_row;
-use cell_base::{Items, Level, Memory};
+use crate::told::{asked, expected, words};
+use cell_base::{Items, Level};
 use choice_stream::ListWords;
 use history_core::Event;
-use link_traits::{MemLink, MemPlan};
+use link_traits::MemLink;
 use session_core::{Served, serve_link};
 use solo_book::SoloBook;
 use std::alloc::{AllocError, Global};
 use std::test::Fail;
-
-fn plan(alloc: Global, piece: u32) -> MemPlan
-    ensures { result.piece ≡ piece }
-{
-    MemPlan {
-        piece,
-        fails: Items::new(alloc),
-        bytes: 10_000,
-        reads: 10_000,
-    }
-}
-
-fn link(alloc: Global, input: &[u8], piece: u32) -> Result<MemLink, Memory>
-    requires { 0 < piece }
-{
-    MemLink::new(
-        alloc,
-        Vec::from_slice(alloc, input)?,
-        plan(alloc, piece),
-        plan(alloc, 64),
-    )
-}
-
-fn joined(alloc: Global, messages: &[&[u8]]) -> Result<Vec<u8>, AllocError> {
-    let mut out = Vec::new(alloc);
-    for message in messages {
-        out.extend_from_slice(message)?;
-    }
-    Ok(out)
-}
 
 fn shown(alloc: Global, event: &Event) -> Result<String, AllocError> {
     let mut out = String::new(alloc);
@@ -205,5 +177,22 @@ fn serves_pieces_of_each_length(rt: HostRuntime) -> Result<(), Fail> {
     assert_eq!(rt; lengths_held(alloc, Group::Messages, 0, 30)?, 30);
     assert_eq!(rt; lengths_held(alloc, Group::First, 0, 143)?, 143);
     assert_eq!(rt; lengths_held(alloc, Group::First, 1, 143)?, 143);
+    Ok(())
+}
+
+// The words of what the client of `told` is told.
+fn told_words(alloc: Global) -> Result<Vec<u8>, Fail> {
+    let input = asked(alloc)?;
+    let mut link = link(alloc, &input, 64)?;
+    let mut book = SoloBook::new(alloc);
+    let mut ones = ListWords::new(Items::from_slice(alloc, &[1; 40])?);
+    serve_link(alloc, Level::Rc, &mut book, &mut link, &mut ones);
+    Ok(words(alloc, link.written())?)
+}
+
+#[test]
+fn tells_messages_one_after_another(rt: HostRuntime) -> Result<(), Fail> {
+    let alloc = rt.alloc();
+    assert_eq!(rt; told_words(alloc)?.as_slice(), expected(alloc)?.as_slice());
     Ok(())
 }
