@@ -1,5 +1,7 @@
 -- The steps of a statement that runs, with what its calls say.
-use Rattle.std.proofs.Common.{◌≡◌, ℕ, Bool, true, false, List, [], ◌∷◌, ◌++◌, length, refl, sym, ◌∙◌, ap, subst, Result, Ok, Err, IfOk}
+use Rattle.std.proofs.Common.{◌≡◌, ℕ, Bool, true, false, List, [], ◌∷◌, ◌++◌, length, take, refl, sym, ◌∙◌, ap, subst, Result, Ok, Err, IfOk}
+use Rattle.std.specs.Prelude.{if◌then◌else◌, not}
+use Rattle.std.proofs.Math.Seq.{take-append_seam}
 use Rattle.cell_base.specs.declared.memory.Memory.{Memory}
 use Rattle.cell_base.specs.declared.sql_state.SqlState.{SqlState}
 use Rattle.history_core.specs.declared.fault.BookFault.{BookFault}
@@ -110,3 +112,17 @@ pub look_short : (statement : Statement) (block : Block) (known tables after : L
 look_short statement block known tables after next w built is leads =
     subst (λ (x : List Table). Advances (stages.Looking statement block) known (answers.Looked tables) next w built x) (sym is)
     (look_advances statement block known tables next w built known (leads (judged (typed (known ++ tables) statement) block (known ++ tables)) built known))
+
+-- the tables known where memory was wanting for more
+pub appended_not : (ok err : Bool) (after both known : List Table) → after ≡ (if ok then both else known) → ok ≡ not err → err ≡ true → after ≡ known
+appended_not ok err after both known is turned fault = is ∙ ap (λ (b : Bool). if b then both else known) (turned ∙ ap not fault)
+
+-- where it wasn't
+pub appended : (ok err : Bool) (after known items tables : List Table) → after ≡ (if ok then known ++ items else known) → ok ≡ not err → err ≡ false → items ≡ tables → after ≡ known ++ tables
+appended ok err after known items tables is turned fine same =
+    is ∙ ap (λ (b : Bool). if b then known ++ items else known) (turned ∙ ap not fine) ∙ ap (λ (xs : List Table). known ++ xs) same
+
+-- and forgotten again
+pub forgotten : (n : ℕ) (cut after known tables : List Table) → cut ≡ take n after → after ≡ known ++ tables → n ≡ length known → cut ≡ known
+forgotten n cut after known tables is joined same =
+    is ∙ ap (λ (xs : List Table). take n xs) joined ∙ ap (λ (m : ℕ). take m (known ++ tables)) same ∙ take-append_seam known tables
