@@ -10,7 +10,6 @@ mod Asking
 mod Sounds
 mod Columns
 mod Carried
-mod Judging
 mod Taking
 mod Pursuing
 mod Zeros

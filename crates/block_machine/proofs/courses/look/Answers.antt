@@ -1,7 +1,6 @@
-use Rattle.std.proofs.Common.{◌≡◌, ◌++◌, ℕ, List, length, All, sym, subst, arith}
+use Rattle.std.proofs.Common.{◌≡◌, ◌++◌, length, All, sym, subst, arith}
 use Rattle.std.specs.Prelude.{is_ok}
 use Rattle.std.proofs.lemmas.List.Elements.{All-append}
-use Rattle.sql_tree.specs.declared.table.Table.{Table}
 use Rattle.sound_table.specs.Sound.{IsSound}
 use Rattle.block_machine.proofs.Holding.{holding_some}
 use Rattle.block_machine.proofs.Pursuing.{appended, appended_not, forgotten, look_short}
