@@ -7,6 +7,7 @@ mod Alone
 mod Wanting
 mod Advancing
 mod Asking
+mod Turning
 mod Sounds
 mod Columns
 mod Carried

@@ -5,6 +5,7 @@ use Rattle.cell_base.specs.declared.sql_state.SqlState.{SqlState}
 use Rattle.history_core.specs.declared.event.Event.{Event}
 use Rattle.history_core.specs.declared.fault.BookFault.TheVariants as faults
 use Rattle.pg_framing.specs.declared.replies.TransactionState.{TransactionState}
+use Rattle.pg_framing.specs.declared.replies.TransactionState.TheVariants as ready
 use Rattle.sql_tree.specs.declared.statement.Statement.{Statement}
 use Rattle.sql_tree.specs.declared.statement.Statement.TheVariants as tree
 use Rattle.sql_tree.specs.declared.table.Table.{Table}
@@ -35,6 +36,8 @@ use Rattle.block_machine.specs.declared.call.Answer.TheVariants as answers
 use Rattle.block_machine.specs.declared.message.Message.{Message}
 use Rattle.block_machine.specs.declared.message.Message.TheVariants as messages
 use Rattle.block_machine.specs.declared.reply.Reply.TheVariants as replies
+use Rattle.block_machine.specs.declared.stage.ErrorState.{ErrorState}
+use Rattle.block_machine.specs.declared.stage.ErrorState.TheVariants as errors
 use Rattle.block_machine.specs.declared.stage.Stage.{Stage}
 use Rattle.block_machine.specs.declared.stage.Stage.TheVariants as stages
 
@@ -42,6 +45,11 @@ use Rattle.block_machine.specs.declared.stage.Stage.TheVariants as stages
 abbrev pub block_of : Pending → Block
 block_of pending.Implicit = Implicit true
 block_of pending.Regular = Regular
+
+-- the state of a session behind a statement that failed
+abbrev pub state_behind : ErrorState → TransactionState
+state_behind errors.Idle = ready.Idle
+state_behind errors.Failed = ready.Failed
 
 -- What a stage goes on with, given the reply that was built, the tables known, and the statements that the message still has.
 abbrev pub goes_on : Stage → List ℕ → List Table → List Statement → Outside → Script
@@ -56,7 +64,7 @@ goes_on (stages.Committing reply) built known more outside = ask calls.Commit (�
 goes_on (stages.RollingBack reply) built known more outside = ask calls.Rollback (λ _. succeeds (fixed_reply reply) (Implicit false) known (before more outside))
 goes_on (stages.Telling reply block) built known more outside = succeeds (bytes_of built reply) block known (before more outside)
 goes_on (stages.Undoing code p) built known more outside = fails code (block_of p) known (before more outside)
-goes_on (stages.Failing code state) built known more outside = refused_with code state known (before more outside)
+goes_on (stages.Failing code state) built known more outside = refused_with code (state_behind state) known (before more outside)
 goes_on stages.Finishing built known more outside = ends (Implicit true) known outside
 goes_on (stages.Readying state) built known more outside = readied state known outside
 
@@ -120,7 +128,7 @@ reply_of built _ = []
 -- what follows a reply that was sent
 abbrev pub after_reply : Stage → List Table → List Statement → Outside → Script
 after_reply (stages.Telling reply block) known more outside = statements more block known outside
-after_reply (stages.Failing code state) known more outside = readied state known outside
+after_reply (stages.Failing code state) known more outside = readied (state_behind state) known outside
 after_reply (stages.Readying state) known more outside = outside.next state known
 after_reply _ known more outside = lost
 
@@ -135,7 +143,8 @@ HasReply stage built = IsHolding stage → 0 < length (reply_of built stage)
 
 -- ---- entries
 
--- Between two messages memory may be wanting at once. Elsewhere a want of memory and a failed write stand where more was told than was sent.
+-- Between two messages memory may be wanting at once. Elsewhere a want of memory stands where more was told than was sent, and a failed
+-- write where no fewer bytes had been told.
 abbrev pub least : Stage → ℕ
 least (stages.Over state) = 0
 least _ = 1
@@ -145,7 +154,7 @@ IsFrom least sent [] = Unit {0}
 IsFrom least sent (did a e ∷ es) = Unit {0}
 IsFrom least sent (refused why ∷ es) = Unit {0}
 IsFrom least sent (short final n ∷ es) = least + sent ≤ n
-IsFrom least sent (unsent n ∷ es) = sent < n
+IsFrom least sent (unsent n ∷ es) = sent ≤ n
 IsFrom least sent (stop cause ∷ es) = Unit {0}
 
 -- the entries with a want of memory of the session before them, where there was one

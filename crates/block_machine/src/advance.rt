@@ -3,14 +3,16 @@ ghost use Rattle.std.specs.Prelude.{◌≡◌, ℕ, ◌<◌, ◌≤◌, List, []
 ghost use Rattle.sql_tree.specs.declared.table.Table.{Table as Defined};
 ghost use Rattle.block_machine.specs.Calls as calls;
 ghost use Rattle.block_machine.specs.Calls.{Call as Asked, IsWant};
-ghost use Rattle.block_machine.specs.Stages.{Advances, FitsWant, IsPlain, IsQuiet, IsBusy, IsHolding, IsRunning, NoBuilt, wants, owed_at, owed_after, work_at, running_at};
+ghost use Rattle.block_machine.specs.Script.{ask};
+ghost use Rattle.block_machine.specs.Statements.{Around, fails, refused_with};
+ghost use Rattle.block_machine.specs.Stages.{block_of, Advances, FitsWant, IsPlain, IsQuiet, IsBusy, IsHolding, IsRunning, NoBuilt, wants, owed_at, owed_after, state_behind, work_at, running_at};
 
 use crate::block::{Block, Pending};
 use crate::blocks::started;
 use crate::call::{Answer, Call};
 use crate::courses::refusal;
 use crate::reply::{Fixed, Reply};
-use crate::stage::Stage;
+use crate::stage::{ErrorState, Stage};
 use crate::step::fail;
 use crate::want::Want;
 use cell_base::SqlState;
@@ -18,10 +20,13 @@ use history_core::DefineAnswer;
 use pg_framing::TransactionState;
 
 // The state of a block behind a statement that failed in it.
-fn failed(pending: Pending) -> TransactionState {
+fn failed(pending: Pending) -> ErrorState
+    ensures { (code : SqlState) (known : List Defined) (around : Around) →
+        fails code (block_of pending) known around ≡ ask calls.Rollback (λ a. refused_with code (state_behind result) known around) }
+{
     match pending {
-        Pending::Implicit => TransactionState::Idle,
-        Pending::Regular => TransactionState::Failed,
+        Pending::Implicit => ErrorState::Idle,
+        Pending::Regular => ErrorState::Failed,
     }
 }
 

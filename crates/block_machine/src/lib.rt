@@ -34,5 +34,5 @@ pub use message::Message;
 pub use reading::read_message;
 pub use reply::{Fixed, Reply};
 pub use runner::Runner;
-pub use stage::{Run, Stage};
+pub use stage::{ErrorState, Run, Stage};
 pub use want::Want;

@@ -83,6 +83,7 @@ impl Runner {
         ensures stage { IfOk result (λ r. r.stage ≡ Stage.Over TransactionState.Idle) }
         ensures known { IfOk result (λ r. r.known.items ≡ []) }
         ensures level { IfOk result (λ r. r.level ≡ level) }
+        ensures rest { IfOk result (λ r. All IsSoundStatement (statements_of r)) }
     {
         Ok(Runner {
             alloc,

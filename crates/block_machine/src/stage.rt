@@ -19,6 +19,13 @@ pub struct Run {
     ghost asks: { asks_cells (first_demand (rest_of plan)) ≡ true },
 }
 
+/// The state in which a statement that failed leaves its session: no block is left open in it.
+#[derive(Clone, Copy, Debug, PartialEq, Eq)]
+pub enum ErrorState {
+    Idle,
+    Failed,
+}
+
 /// What comes next. A block is the one in which the statement stands, or which it leaves.
 #[derive(Debug, Drop)]
 pub enum Stage {
@@ -45,7 +52,7 @@ pub enum Stage {
     /// The rollback of a statement that failed with this code.
     Undoing(SqlState, Pending),
     /// The error of a statement is held; the state that its block is in.
-    Failing(SqlState, TransactionState),
+    Failing(SqlState, ErrorState),
     /// The end of the message commits its own transaction.
     Finishing,
     /// The message's last reply is held: the next one may come.

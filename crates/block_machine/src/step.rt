@@ -6,9 +6,8 @@ ghost use Rattle.block_machine.specs.Statements.{Around, owed_in, fails, unless_
 ghost use Rattle.block_machine.specs.Stages.{IsScriptAt, IsScriptOf, LeadsTo, IsQuiet, IsRunning, IsBusy, IsSoundStage, KnowsTables, NoBuilt, HasReply, owed_at, work_at, running_at, left_at};
 
 use crate::block::{Block, Pending};
-use crate::stage::Stage;
+use crate::stage::{ErrorState, Stage};
 use cell_base::{Memory, SqlState};
-use pg_framing::TransactionState;
 
 /// A stage, and whether memory was wanting on the way to it.
 #[derive(Debug, Drop)]
@@ -37,10 +36,10 @@ pub fn fail(code: SqlState, block: Block) -> Stage
     ensures constant { NoBuilt result }
 {
     match block {
-        Block::Implicit(false) => Stage::Failing(code, TransactionState::Idle),
+        Block::Implicit(false) => Stage::Failing(code, ErrorState::Idle),
         Block::Implicit(true) => Stage::Undoing(code, Pending::Implicit),
         Block::Regular => Stage::Undoing(code, Pending::Regular),
-        Block::Failed => Stage::Failing(code, TransactionState::Failed),
+        Block::Failed => Stage::Failing(code, ErrorState::Failed),
     }
 }
 

@@ -7,18 +7,18 @@ ghost use Rattle.block_machine.specs.Calls as calls;
 ghost use Rattle.block_machine.specs.Calls.{Call as Asked};
 ghost use Rattle.block_machine.specs.Script.{Said, Entry};
 ghost use Rattle.block_machine.specs.Statements.{owed_in};
-ghost use Rattle.block_machine.specs.Messages.{Outside, block_at as block_before, message as told, opens};
-ghost use Rattle.block_machine.specs.Stages.{Advances, FitsWant, IsBusy, IsHolding, IsKnownAfter, IsNoStatement, IsRunning, IsSoundMessage, IsSoundStage, IsSoundStatement, KnowsTables, HasReply, TurnsTo, after_reply, left_at, length_of, owed_after, owed_at, running_at, wants, work_at};
+ghost use Rattle.block_machine.specs.Messages.{Outside, block_at as block_before, message as told, opens, owed_between};
+ghost use Rattle.block_machine.specs.Stages.{Advances, FitsWant, IsBusy, IsHolding, IsKnownAfter, IsNoStatement, IsRunning, IsSoundMessage, IsSoundStage, IsSoundStatement, KnowsTables, HasReply, TurnsTo, after_reply, left_at, length_of, owed_after, owed_at, running_at, state_behind, wants, work_at};
 
 use crate::actions::{next_statement, show_history, take};
 use crate::advance::advance;
-use crate::block::Block;
+use crate::block::{Block, Owed};
 use crate::blocks::block_at;
 use crate::call::Answer;
 use crate::courses::{look, pursue, start_course};
 use crate::message::Message;
 use crate::reply::{Fixed, Reply};
-use crate::stage::Stage;
+use crate::stage::{ErrorState, Stage};
 use crate::step::{Step, calm, fail};
 use cell_base::Level;
 use pg_framing::TransactionState;
@@ -167,6 +167,17 @@ pub fn answered(
     }
 }
 
+// The state of the session behind a statement that failed.
+fn state_after(state: ErrorState) -> TransactionState
+    ensures state { result ≡ state_behind state }
+    ensures owed { owed_between result ≡ Owed.Close }
+{
+    match state {
+        ErrorState::Idle => TransactionState::Idle,
+        ErrorState::Failed => TransactionState::Failed,
+    }
+}
+
 /// The step behind a reply that was sent.
 pub fn next_step(
     alloc: Global,
@@ -188,7 +199,7 @@ pub fn next_step(
 {
     match stage {
         Stage::Telling(_, block) => next_statement(alloc, level, rest, *block, built),
-        Stage::Failing(_, state) => calm(Stage::Readying(*state)),
+        Stage::Failing(_, state) => calm(Stage::Readying(state_after(*state))),
         Stage::Readying(state) => calm(Stage::Over(*state)),
         _ => unreachable!(),
     }

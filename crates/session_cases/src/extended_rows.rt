@@ -1,33 +1,11 @@
 // Sessions whose clients send messages of the extended query, function calls, messages of a copy, and requests before the startup.
-use crate::rows::{GREETING, READY, Row, STARTUP, TERMINATE};
+use crate::rows::{
+    BEGIN, BEGUN, COMMIT, FLUSH, GREETING, IN_BLOCK, IN_FAILED, ONE, READY, ROLLBACK, ROLLED_BACK,
+    Row, STARTUP, SYNC, TERMINATE, UNSUPPORTED, VIOLATION,
+};
 use cell_base::SqlState;
 use client_framing::FrameFault;
 use session_core::End;
-
-// The next query may come, inside a block and inside a failed one.
-const IN_BLOCK: &[u8] = b"Z\0\0\0\x05T";
-
-const IN_FAILED: &[u8] = b"Z\0\0\0\x05E";
-
-const UNSUPPORTED: &[u8] = b"E\0\0\01SERROR\0VERROR\0C0A000\0Mfeature not supported\0\0";
-
-const VIOLATION: &[u8] = b"E\0\0\0.SFATAL\0VFATAL\0C08P01\0Mprotocol violation\0\0";
-
-const BEGIN: &[u8] = b"Q\0\0\0\x0aBEGIN\0";
-
-const COMMIT: &[u8] = b"Q\0\0\0\x0bCOMMIT\0";
-
-const ROLLBACK: &[u8] = b"Q\0\0\0\x0dROLLBACK\0";
-
-const ONE: &[u8] = b"Q\0\0\0\x0dSELECT 1\0";
-
-const SYNC: &[u8] = b"S\0\0\0\x04";
-
-const FLUSH: &[u8] = b"H\0\0\0\x04";
-
-const BEGUN: &[u8] = b"C\0\0\0\x0aBEGIN\0";
-
-const ROLLED_BACK: &[u8] = b"C\0\0\0\x0dROLLBACK\0";
 
 // A Parse fails, and what follows it is discarded up to the Sync.
 const DISCARDS_UP_TO_SYNC: Row = Row {
@@ -273,21 +251,85 @@ const SHOWS_LEVEL: Row = Row {
     session: Some(1),
 };
 
-/// All of them.
-pub const EXTENDED: &[Row] = &[
-    DISCARDS_UP_TO_SYNC,
-    BIND_FAILS_A_BLOCK,
-    ENDS_WHILE_DISCARDING,
-    FUNCTION_FAILS_A_BLOCK,
-    COPY_TELLS_NOTHING,
-    CUT_WHILE_DISCARDING,
-    FAULT_WHILE_DISCARDING,
-    FAULT_INSIDE_A_BLOCK,
-    ENDS_INSIDE_A_BLOCK,
-    CANCELLED,
-    OTHER_VERSION,
-    EMPTY_LAST_USER,
-    NO_BYTES,
-    HALF_A_LENGTH,
-    SHOWS_LEVEL,
-];
+// Each session has a function of its own, so that a proof that runs over several holds none of their bytes.
+fn discards_up_to_sync() -> &'static Row {
+    &DISCARDS_UP_TO_SYNC
+}
+
+fn bind_fails_a_block() -> &'static Row {
+    &BIND_FAILS_A_BLOCK
+}
+
+fn ends_while_discarding() -> &'static Row {
+    &ENDS_WHILE_DISCARDING
+}
+
+fn function_fails_a_block() -> &'static Row {
+    &FUNCTION_FAILS_A_BLOCK
+}
+
+fn copy_tells_nothing() -> &'static Row {
+    &COPY_TELLS_NOTHING
+}
+
+fn cut_while_discarding() -> &'static Row {
+    &CUT_WHILE_DISCARDING
+}
+
+fn fault_while_discarding() -> &'static Row {
+    &FAULT_WHILE_DISCARDING
+}
+
+fn fault_inside_a_block() -> &'static Row {
+    &FAULT_INSIDE_A_BLOCK
+}
+
+fn ends_inside_a_block() -> &'static Row {
+    &ENDS_INSIDE_A_BLOCK
+}
+
+fn cancelled() -> &'static Row {
+    &CANCELLED
+}
+
+fn other_version() -> &'static Row {
+    &OTHER_VERSION
+}
+
+fn empty_last_user() -> &'static Row {
+    &EMPTY_LAST_USER
+}
+
+fn no_bytes() -> &'static Row {
+    &NO_BYTES
+}
+
+fn half_a_length() -> &'static Row {
+    &HALF_A_LENGTH
+}
+
+fn shows_level() -> &'static Row {
+    &SHOWS_LEVEL
+}
+
+/// The session of this number, from 0 on; none behind the last.
+pub fn extended_row(number: usize) -> Option<&'static Row> {
+    match number {
+        0 => Some(discards_up_to_sync()),
+        1 => Some(bind_fails_a_block()),
+        2 => Some(ends_while_discarding()),
+        3 => Some(function_fails_a_block()),
+        4 => Some(copy_tells_nothing()),
+        5 => Some(cut_while_discarding()),
+        6 => Some(fault_while_discarding()),
+        7 => Some(fault_inside_a_block()),
+        8 => Some(ends_inside_a_block()),
+        9 => Some(cancelled()),
+        10 => Some(other_version()),
+        11 => Some(empty_last_user()),
+        12 => Some(no_bytes()),
+        13 => Some(half_a_length()),
+        14 => Some(shows_level()),
+        _ => None,
+    }
+}

@@ -80,5 +80,20 @@ const UNSEEN_DUPLICATE: Row = Row {
     session: Some(1),
 };
 
-/// All of them.
-pub const KEYS: &[Row] = &[SEEN_DUPLICATE, UNSEEN_DUPLICATE];
+// Each session has a function of its own, so that a proof that runs over several holds none of their bytes.
+fn seen_duplicate() -> &'static Row {
+    &SEEN_DUPLICATE
+}
+
+fn unseen_duplicate() -> &'static Row {
+    &UNSEEN_DUPLICATE
+}
+
+/// The session of this number, from 0 on; none behind the last.
+pub fn key_row(number: usize) -> Option<&'static Row> {
+    match number {
+        0 => Some(seen_duplicate()),
+        1 => Some(unseen_duplicate()),
+        _ => None,
+    }
+}

@@ -6,6 +6,8 @@
 #![tactic(auto)]
 
 #[cfg(test)]
+mod block_rows;
+#[cfg(test)]
 mod events;
 #[cfg(test)]
 mod extended_rows;
@@ -14,6 +16,8 @@ mod first_rows;
 #[cfg(test)]
 mod key_rows;
 #[cfg(test)]
+mod links;
+#[cfg(test)]
 mod message_rows;
 #[cfg(test)]
 mod rows;
@@ -21,3 +25,5 @@ mod rows;
 mod tests;
 #[cfg(test)]
 mod text_rows;
+#[cfg(test)]
+mod told;

@@ -5,7 +5,7 @@ use client_framing::FrameFault;
 use session_core::End;
 
 // An SSL request, a startup, Terminate; the same for every piece length.
-pub const ENCRYPTION_REFUSED: Row = Row {
+const ENCRYPTION_REFUSED: Row = Row {
     words: &[0],
     input: &[b"\0\0\0\x08\x04\xd2\x16/", STARTUP, TERMINATE],
     sent: &[b"N", GREETING],
@@ -220,16 +220,60 @@ const DRIVER: Row = Row {
     session: Some(1),
 };
 
-/// All of them.
-pub const MESSAGES: &[Row] = &[
-    ENCRYPTION_REFUSED,
-    NO_USER,
-    SHORT_LENGTH,
-    NO_ZERO_BYTE,
-    CUT_QUERY,
-    FAULT_INSIDE_A_MESSAGE,
-    FAILED_BLOCK,
-    SYNTAX_ERROR_BEHIND_A_STATEMENT,
-    EMPTY_TEXTS_AND_NUMBER,
-    DRIVER,
-];
+// Each session has a function of its own, so that a proof that runs over several holds none of their bytes.
+fn encryption_refused() -> &'static Row {
+    &ENCRYPTION_REFUSED
+}
+
+fn no_user() -> &'static Row {
+    &NO_USER
+}
+
+fn short_length() -> &'static Row {
+    &SHORT_LENGTH
+}
+
+fn no_zero_byte() -> &'static Row {
+    &NO_ZERO_BYTE
+}
+
+fn cut_query() -> &'static Row {
+    &CUT_QUERY
+}
+
+fn fault_inside_a_message() -> &'static Row {
+    &FAULT_INSIDE_A_MESSAGE
+}
+
+fn failed_block() -> &'static Row {
+    &FAILED_BLOCK
+}
+
+fn syntax_error_behind_a_statement() -> &'static Row {
+    &SYNTAX_ERROR_BEHIND_A_STATEMENT
+}
+
+fn empty_texts_and_number() -> &'static Row {
+    &EMPTY_TEXTS_AND_NUMBER
+}
+
+fn driver() -> &'static Row {
+    &DRIVER
+}
+
+/// The session of this number, from 0 on; none behind the last.
+pub fn message_row(number: usize) -> Option<&'static Row> {
+    match number {
+        0 => Some(encryption_refused()),
+        1 => Some(no_user()),
+        2 => Some(short_length()),
+        3 => Some(no_zero_byte()),
+        4 => Some(cut_query()),
+        5 => Some(fault_inside_a_message()),
+        6 => Some(failed_block()),
+        7 => Some(syntax_error_behind_a_statement()),
+        8 => Some(empty_texts_and_number()),
+        9 => Some(driver()),
+        _ => None,
+    }
+}

@@ -1,51 +1,24 @@
 // Sessions over links in memory, in pieces of several lengths.
-ghost use Rattle.std.specs.Prelude.{◌≡◌, ◌<◌};
+ghost use Rattle.std.specs.Prelude.{◌<◌};
 
+use crate::block_rows::block_row;
 use crate::events::push_event;
-use crate::extended_rows::EXTENDED;
-use crate::first_rows::FIRST;
-use crate::key_rows::KEYS;
-use crate::message_rows::{ENCRYPTION_REFUSED, MESSAGES};
+use crate::extended_rows::extended_row;
+use crate::first_rows::first_row;
+use crate::key_rows::key_row;
+use crate::links::{joined, link};
+use crate::message_rows::message_row;
 use crate::rows::Row;
-use crate::text_rows::TEXTS;
-use cell_base::{Items, Level, Memory};
+use crate::text_rows::text_row;
+use crate::told::{asked, expected, words};
+use cell_base::{Items, Level};
 use choice_stream::ListWords;
 use history_core::Event;
-use link_traits::{MemLink, MemPlan};
+use link_traits::MemLink;
 use session_core::{Served, serve_link};
 use solo_book::SoloBook;
 use std::alloc::{AllocError, Global};
 use std::test::Fail;
-
-fn plan(alloc: Global, piece: u32) -> MemPlan
-    ensures { result.piece ≡ piece }
-{
-    MemPlan {
-        piece,
-        fails: Items::new(alloc),
-        bytes: 10_000,
-        reads: 10_000,
-    }
-}
-
-fn link(alloc: Global, input: &[u8], piece: u32) -> Result<MemLink, Memory>
-    requires { 0 < piece }
-{
-    MemLink::new(
-        alloc,
-        Vec::from_slice(alloc, input)?,
-        plan(alloc, piece),
-        plan(alloc, 64),
-    )
-}
-
-fn joined(alloc: Global, messages: &[&[u8]]) -> Result<Vec<u8>, AllocError> {
-    let mut out = Vec::new(alloc);
-    for message in messages {
-        out.extend_from_slice(message)?;
-    }
-    Ok(out)
-}
 
 fn shown(alloc: Global, event: &Event) -> Result<String, AllocError> {
     let mut out = String::new(alloc);
@@ -86,21 +59,54 @@ fn holds(alloc: Global, row: &Row, piece: u32) -> Result<bool, Fail>
     Ok(events && link.written() == sent.as_slice())
 }
 
-fn first_wrong(alloc: Global, rows: &[Row], piece: u32) -> Result<Option<usize>, Fail>
-    requires { 0 < piece }
-{
-    for (place, row) in rows.iter().enumerate() {
-        if !holds(alloc, row, piece)? {
-            return Ok(Some(place));
-        }
-    }
-    Ok(None)
+// The sessions of one file.
+#[derive(Clone, Copy, Debug)]
+enum Group {
+    First,
+    Keys,
+    Messages,
+    Blocks,
+    Texts,
+    Extended,
 }
 
-// Whether these are served so in pieces of several lengths.
-fn all_hold(alloc: Global, rows: &[Row]) -> Result<bool, Fail> {
-    for piece in [1, 7, 29] {
-        if let Some(_) = first_wrong(alloc, rows, piece)? {
+// The session of this number, from 0 on; none behind the last.
+fn row_at(group: Group, number: usize) -> Option<&'static Row> {
+    match group {
+        Group::First => first_row(number),
+        Group::Keys => key_row(number),
+        Group::Messages => message_row(number),
+        Group::Blocks => block_row(number),
+        Group::Texts => text_row(number),
+        Group::Extended => extended_row(number),
+    }
+}
+
+// More sessions than any file has.
+const MOST: usize = 100;
+
+// How many sessions of the group there are, where they all hold for an input in pieces of this length; else the number of the first that
+// doesn't.
+fn held(alloc: Global, group: Group, piece: u32) -> Result<usize, Fail>
+    requires { 0 < piece }
+{
+    for number in 0..MOST {
+        match row_at(group, number) {
+            Some(row) => {
+                if !holds(alloc, row, piece)? {
+                    return Ok(number);
+                }
+            }
+            None => return Ok(number),
+        }
+    }
+    Ok(MOST)
+}
+
+// Whether the group has so many sessions, and they all hold in pieces of several lengths.
+fn all_hold(alloc: Global, group: Group, count: usize) -> Result<bool, Fail> {
+    for piece in [1, 2, 3, 7, 29, 100] {
+        if held(alloc, group, piece)? != count {
             return Ok(false);
         }
     }
@@ -110,42 +116,83 @@ fn all_hold(alloc: Global, rows: &[Row]) -> Result<bool, Fail> {
 #[test]
 fn serves_sessions_of_one_row(rt: HostRuntime) -> Result<(), Fail> {
     let alloc = rt.alloc();
-    assert_eq!(rt; first_wrong(alloc, FIRST, 64)?, None);
-    assert!(rt; all_hold(alloc, FIRST)?);
-    assert_eq!(rt; first_wrong(alloc, KEYS, 64)?, None);
-    assert!(rt; all_hold(alloc, KEYS)?);
+    assert_eq!(rt; held(alloc, Group::First, 64)?, 7);
+    assert!(rt; all_hold(alloc, Group::First, 7)?);
+    assert_eq!(rt; held(alloc, Group::Keys, 64)?, 2);
+    assert!(rt; all_hold(alloc, Group::Keys, 2)?);
     Ok(())
 }
 
 #[test]
-fn serves_messages_and_blocks(rt: HostRuntime) -> Result<(), Fail> {
+fn serves_messages(rt: HostRuntime) -> Result<(), Fail> {
     let alloc = rt.alloc();
-    assert_eq!(rt; first_wrong(alloc, MESSAGES, 64)?, None);
-    assert!(rt; all_hold(alloc, MESSAGES)?);
+    assert_eq!(rt; held(alloc, Group::Messages, 64)?, 10);
+    assert!(rt; all_hold(alloc, Group::Messages, 10)?);
+    Ok(())
+}
+
+#[test]
+fn serves_blocks(rt: HostRuntime) -> Result<(), Fail> {
+    let alloc = rt.alloc();
+    assert_eq!(rt; held(alloc, Group::Blocks, 64)?, 6);
+    assert!(rt; all_hold(alloc, Group::Blocks, 6)?);
     Ok(())
 }
 
 #[test]
 fn serves_texts(rt: HostRuntime) -> Result<(), Fail> {
     let alloc = rt.alloc();
-    assert_eq!(rt; first_wrong(alloc, TEXTS, 64)?, None);
-    assert!(rt; all_hold(alloc, TEXTS)?);
+    assert_eq!(rt; held(alloc, Group::Texts, 64)?, 4);
+    assert!(rt; all_hold(alloc, Group::Texts, 4)?);
     Ok(())
 }
 
 #[test]
 fn refuses_what_is_not_supported(rt: HostRuntime) -> Result<(), Fail> {
     let alloc = rt.alloc();
-    assert_eq!(rt; first_wrong(alloc, EXTENDED, 64)?, None);
-    assert!(rt; all_hold(alloc, EXTENDED)?);
+    assert_eq!(rt; held(alloc, Group::Extended, 64)?, 15);
+    assert!(rt; all_hold(alloc, Group::Extended, 15)?);
     Ok(())
 }
 
-#[test]
-fn refuses_encryption_in_all_pieces(rt: HostRuntime) -> Result<(), Fail> {
-    let alloc = rt.alloc();
-    for piece in 1..30 {
-        assert!(rt; holds(alloc, &ENCRYPTION_REFUSED, piece)?);
+// How many piece lengths, from 1 on and below the bound, the session holds in, up to the first in which it doesn't.
+fn lengths_held(alloc: Global, group: Group, number: usize, bound: u32) -> Result<u32, Fail> {
+    for piece in 1..bound {
+        match row_at(group, number) {
+            Some(row) => {
+                if !holds(alloc, row, piece)? {
+                    return Ok(piece);
+                }
+            }
+            None => return Ok(0),
+        }
     }
+    Ok(bound)
+}
+
+// The refused encryption, of 29 bytes, and the two first sessions of a row, of 141: in pieces of each length up to the whole input.
+#[test]
+fn serves_pieces_of_each_length(rt: HostRuntime) -> Result<(), Fail> {
+    let alloc = rt.alloc();
+    assert_eq!(rt; lengths_held(alloc, Group::Messages, 0, 30)?, 30);
+    assert_eq!(rt; lengths_held(alloc, Group::First, 0, 143)?, 143);
+    assert_eq!(rt; lengths_held(alloc, Group::First, 1, 143)?, 143);
+    Ok(())
+}
+
+// The words of what the client of `told` is told.
+fn told_words(alloc: Global) -> Result<Vec<u8>, Fail> {
+    let input = asked(alloc)?;
+    let mut link = link(alloc, &input, 64)?;
+    let mut book = SoloBook::new(alloc);
+    let mut ones = ListWords::new(Items::from_slice(alloc, &[1; 40])?);
+    serve_link(alloc, Level::Rc, &mut book, &mut link, &mut ones);
+    Ok(words(alloc, link.written())?)
+}
+
+#[test]
+fn tells_messages_one_after_another(rt: HostRuntime) -> Result<(), Fail> {
+    let alloc = rt.alloc();
+    assert_eq!(rt; told_words(alloc)?.as_slice(), expected(alloc)?.as_slice());
     Ok(())
 }

@@ -273,10 +273,30 @@ const TEXTS_OUTSIDE_THE_SUBSET: Row = Row {
     session: Some(1),
 };
 
-/// All of them.
-pub const TEXTS: &[Row] = &[
-    ARITHMETIC,
-    ORDER_AND_AGGREGATES,
-    DEFINITIONS_AND_CONVERSIONS,
-    TEXTS_OUTSIDE_THE_SUBSET,
-];
+// Each session has a function of its own, so that a proof that runs over several holds none of their bytes.
+fn arithmetic() -> &'static Row {
+    &ARITHMETIC
+}
+
+fn order_and_aggregates() -> &'static Row {
+    &ORDER_AND_AGGREGATES
+}
+
+fn definitions_and_conversions() -> &'static Row {
+    &DEFINITIONS_AND_CONVERSIONS
+}
+
+fn texts_outside_the_subset() -> &'static Row {
+    &TEXTS_OUTSIDE_THE_SUBSET
+}
+
+/// The session of this number, from 0 on; none behind the last.
+pub fn text_row(number: usize) -> Option<&'static Row> {
+    match number {
+        0 => Some(arithmetic()),
+        1 => Some(order_and_aggregates()),
+        2 => Some(definitions_and_conversions()),
+        3 => Some(texts_outside_the_subset()),
+        _ => None,
+    }
+}

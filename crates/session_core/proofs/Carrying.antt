@@ -11,7 +11,8 @@ use Rattle.block_machine.specs.Script.{Entry, more}
 use Rattle.session_core.specs.Told.{told}
 use Rattle.session_core.specs.Serve.{IsMark, AreMarks, Carries, IsAtEnd, Blames}
 
-IsMark-more : (level : Level) (t : Traffic) (taken : List ℕ) (es : List Entry) (sent : List ℕ) (m : ℕ × ℕ) (a : List ℕ) (b : List Entry) (c : List ℕ) → IsMark level t taken es sent m → IsMark level t (taken ++ a) (es ++ b) (sent ++ c) m
+IsMark-more : (level : Level) (t : Traffic) (taken : List ℕ) (es : List Entry) (sent : List ℕ) (m : ℕ × ℕ) (a : List ℕ) (b : List Entry)
+    (c : List ℕ) → IsMark level t taken es sent m → IsMark level t (taken ++ a) (es ++ b) (sent ++ c) m
 IsMark-more level t taken es sent m a b c k = record {
   front = k.front;
   rest = k.rest ++ a;
@@ -29,16 +30,20 @@ IsMark-more level t taken es sent m a b c k = record {
   told_is = k.told_is;
 }
 
-pub AreMarks-more : (level : Level) (t : Traffic) (taken : List ℕ) (es : List Entry) (sent : List ℕ) (ms : List (ℕ × ℕ)) (a : List ℕ) (b : List Entry) (c : List ℕ) → AreMarks level t taken es sent ms → AreMarks level t (taken ++ a) (es ++ b) (sent ++ c) ms
+pub AreMarks-more : (level : Level) (t : Traffic) (taken : List ℕ) (es : List Entry) (sent : List ℕ) (ms : List (ℕ × ℕ)) (a : List ℕ)
+    (b : List Entry) (c : List ℕ) → AreMarks level t taken es sent ms → AreMarks level t (taken ++ a) (es ++ b) (sent ++ c) ms
 AreMarks-more level t taken es sent [] a b c k = tt
-AreMarks-more level t taken es sent (m ∷ ms) a b c k = (IsMark-more level t taken es sent m a b c k.0, AreMarks-more level t taken es sent ms a b c k.1)
+AreMarks-more level t taken es sent (m ∷ ms) a b c k =
+    (IsMark-more level t taken es sent m a b c k.0, AreMarks-more level t taken es sent ms a b c k.1)
 
-AreMarks-one : (level : Level) (t : Traffic) (taken : List ℕ) (es : List Entry) (sent : List ℕ) (ms : List (ℕ × ℕ)) (m : ℕ × ℕ) → AreMarks level t taken es sent ms → IsMark level t taken es sent m → AreMarks level t taken es sent (ms ++ m ∷ [])
+AreMarks-one : (level : Level) (t : Traffic) (taken : List ℕ) (es : List Entry) (sent : List ℕ) (ms : List (ℕ × ℕ)) (m : ℕ × ℕ) →
+    AreMarks level t taken es sent ms → IsMark level t taken es sent m → AreMarks level t taken es sent (ms ++ m ∷ [])
 AreMarks-one level t taken es sent [] m k h = (h, tt)
 AreMarks-one level t taken es sent (x ∷ ms) m k h = (k.0, AreMarks-one level t taken es sent ms m k.1 h)
 
 -- a longer record alone
-pub Carries-record : (level : Level) (taken : List ℕ) (es b : List Entry) (sent lost : List ℕ) (t u : Traffic) → Carries level taken es sent lost t u → Carries level taken (es ++ b) sent lost t u
+pub Carries-record : (level : Level) (taken : List ℕ) (es b : List Entry) (sent lost : List ℕ) (t u : Traffic) →
+    Carries level taken es sent lost t u → Carries level taken (es ++ b) sent lost t u
 Carries-record level taken es b sent lost t u k = record {
   left = k.left;
   read_is = k.read_is;
@@ -47,22 +52,30 @@ Carries-record level taken es b sent lost t u k = record {
     k.marks.0,
     k.marks.1,
     subst (λ (x : List ℕ). AreMarks level t x (es ++ b) sent k.marks.0) (append-nil taken)
-        (subst (λ (x : List ℕ). AreMarks level t (taken ++ []) (es ++ b) x k.marks.0) (append-nil sent) (AreMarks-more level t taken es sent k.marks.0 [] b [] k.marks.2)),
+        (subst (λ (x : List ℕ). AreMarks level t (taken ++ []) (es ++ b) x k.marks.0) (append-nil sent)
+        (AreMarks-more level t taken es sent k.marks.0 [] b [] k.marks.2)),
   );
 }
 
 -- a write, whole or in part
-pub Carries-wrote : (level : Level) (taken : List ℕ) (es b : List Entry) (sent reply part lost : List ℕ) (t u r : Traffic) → reply ≡ part ++ lost → Carries level taken es sent [] t u → Wrote part u r → Carries level taken (es ++ b) (sent ++ reply) lost t r
+pub Carries-wrote : (level : Level) (taken : List ℕ) (es b : List Entry) (sent reply part lost : List ℕ) (t u r : Traffic) →
+    reply ≡ part ++ lost → Carries level taken es sent [] t u → Wrote part u r → Carries level taken (es ++ b) (sent ++ reply) lost t r
 Carries-wrote level taken es b sent reply part lost t u r e k w = record {
   left = k.left ∙ ap (λ x. taken ++ x) (sym w.left);
   read_is = w.read ∙ k.read_is;
   written_is = ap (λ x. x ++ lost) w.written ∙ append_assoc u.written part lost ∙ ap (λ x. u.written ++ x) (sym e)
       ∙ ap (λ x. x ++ reply) (sym (append-nil u.written) ∙ k.written_is) ∙ append_assoc t.written sent reply;
-  marks = (k.marks.0, w.marks ∙ k.marks.1, subst (λ (x : List ℕ). AreMarks level t x (es ++ b) (sent ++ reply) k.marks.0) (append-nil taken) (AreMarks-more level t taken es sent k.marks.0 [] b reply k.marks.2));
+  marks = (
+    k.marks.0,
+    w.marks ∙ k.marks.1,
+    subst (λ (x : List ℕ). AreMarks level t x (es ++ b) (sent ++ reply) k.marks.0) (append-nil taken)
+        (AreMarks-more level t taken es sent k.marks.0 [] b reply k.marks.2),
+  );
 }
 
 -- a read, where nothing was held back
-pub Carries-took : (level : Level) (taken piece : List ℕ) (es b : List Entry) (asked : List Call) (sent : List ℕ) (t u r : Traffic) → (talk : Talk) → IsTalk false taken talk → told level talk es ≡ (record { bytes = sent; calls = asked }, more) →
+pub Carries-took : (level : Level) (taken piece : List ℕ) (es b : List Entry) (asked : List Call) (sent : List ℕ) (t u r : Traffic) →
+    (talk : Talk) → IsTalk false taken talk → told level talk es ≡ (record { bytes = sent; calls = asked }, more) →
     Carries level taken es sent [] t u → Took piece u r → Carries level (taken ++ piece) (es ++ b) sent [] t r
 Carries-took level taken piece es b asked sent t u r talk is shows k w = record {
   left = k.left ∙ ap (λ x. taken ++ x) w.left ∙ sym (append_assoc taken piece r.left);
@@ -70,8 +83,10 @@ Carries-took level taken piece es b asked sent t u r talk is shows k w = record 
   written_is = ap (λ x. x ++ []) w.written ∙ k.written_is;
   marks = (
     k.marks.0 ++ (length u.read, length u.written) ∷ [],
-    w.marks ∙ ap (λ x. x ++ (length u.read, length u.written) ∷ []) k.marks.1 ∙ append_assoc t.marks k.marks.0 ((length u.read, length u.written) ∷ []),
-    subst (λ (x : List ℕ). AreMarks level t (taken ++ piece) (es ++ b) x (k.marks.0 ++ (length u.read, length u.written) ∷ [])) (append-nil sent)
+    w.marks ∙ ap (λ x. x ++ (length u.read, length u.written) ∷ []) k.marks.1
+        ∙ append_assoc t.marks k.marks.0 ((length u.read, length u.written) ∷ []),
+    subst (λ (x : List ℕ). AreMarks level t (taken ++ piece) (es ++ b) x (k.marks.0 ++ (length u.read, length u.written) ∷ []))
+        (append-nil sent)
         (AreMarks-more level t taken es sent (k.marks.0 ++ (length u.read, length u.written) ∷ []) piece b []
         (AreMarks-one level t taken es sent k.marks.0 (length u.read, length u.written) k.marks.2 (record {
           front = taken;
@@ -86,7 +101,8 @@ Carries-took level taken piece es b asked sent t u r talk is shows k w = record 
           es_is = sym (append-nil es);
           sent_is = sym (append-nil sent);
           mark_is = ap (λ x. (length x, length u.written)) k.read_is ∙ ap (λ x. (x, length u.written)) (length-append t.read taken)
-              ∙ ap (λ x. (length t.read + length taken, length x)) (sym (append-nil u.written) ∙ k.written_is) ∙ ap (λ x. (length t.read + length taken, x)) (length-append t.written sent);
+              ∙ ap (λ x. (length t.read + length taken, length x)) (sym (append-nil u.written) ∙ k.written_is)
+              ∙ ap (λ x. (length t.read + length taken, x)) (length-append t.written sent);
           talk_is = is;
           told_is = shows;
         }))),
@@ -94,7 +110,8 @@ Carries-took level taken piece es b asked sent t u r talk is shows k w = record 
 }
 
 -- a fact of a link that follows from two
-pub Both-then : {P Q R : Traffic → Traffic → Type 0} (a b c : Option Traffic) → ((t u r : Traffic) → P t u → Q u r → R t r) → Both P a b → Both Q b c → Both R a c
+pub Both-then : {P Q R : Traffic → Traffic → Type 0} (a b c : Option Traffic) → ((t u r : Traffic) → P t u → Q u r → R t r) → Both P a b →
+    Both Q b c → Both R a c
 Both-then None None None f h k = tt
 Both-then None None (Some c) f h k = absurd k
 Both-then None (Some b) c f h k = absurd h
@@ -109,7 +126,8 @@ Both-weaker (Some a) None f h = absurd h
 Both-weaker (Some a) (Some b) f h = f a b h
 
 -- a part of what was to be written, and what it left
-pub Both-part : (bytes : List ℕ) (a b : Option Traffic) → Both (WrotePart bytes) a b → (part : List ℕ) × (lost : List ℕ) × (bytes ≡ part ++ lost) × Both (Wrote part) a b
+pub Both-part : (bytes : List ℕ) (a b : Option Traffic) → Both (WrotePart bytes) a b → (part : List ℕ) × (lost : List ℕ) ×
+    (bytes ≡ part ++ lost) × Both (Wrote part) a b
 Both-part bytes None None h = (bytes, [], sym (append-nil bytes), tt)
 Both-part bytes None (Some b) h = absurd h
 Both-part bytes (Some a) None h = absurd h
@@ -129,7 +147,8 @@ still_at_end part (Some a) None h k = absurd h
 still_at_end part (Some a) (Some b) h k = h.left ∙ k
 
 -- the blame where the writing side alone moved
-pub Blames-wrote : (x : Option End) (f g h : Sight) (taken part : List ℕ) → Both (Wrote part) g.traffic h.traffic → h.read_faults ≡ g.read_faults → g.write_faults ≤ h.write_faults → Blames x f g taken → Blames x f h taken
+pub Blames-wrote : (x : Option End) (f g h : Sight) (taken part : List ℕ) → Both (Wrote part) g.traffic h.traffic →
+    h.read_faults ≡ g.read_faults → g.write_faults ≤ h.write_faults → Blames x f g taken → Blames x f h taken
 Blames-wrote None f g h taken part b e l k = tt
 Blames-wrote (Some ends.Closed) f g h taken part b e l k = still_at_end part g.traffic h.traffic b k
 Blames-wrote (Some ends.Cut) f g h taken part b e l k = still_at_end part g.traffic h.traffic b k

@@ -1,6 +1,5 @@
 -- The sign of a want of memory is that of the record, and so is the number of the session.
 use Rattle.std.proofs.Common.{◌≡◌, Bool, true, false, ℕ, List, [], ◌∷◌, ◌++◌, refl, sym, ◌∙◌, ap, Option, Some, None}
-use Rattle.std.proofs.lemmas.List.{append-nil}
 use Rattle.std.specs.Prelude.{◌||◌, is_some}
 use Rattle.history_core.specs.declared.event.Event.{Event}
 use Rattle.history_core.specs.declared.fault.BookFault.TheVariants as faults
@@ -21,23 +20,29 @@ or_false false = refl
 
 has_short-append : (xs ys : List Entry) → has_short (xs ++ ys) ≡ (has_short xs || has_short ys)
 has_short-append [] ys = refl
-has_short-append (x ∷ xs) ys = ap (λ b. is_short x || b) (has_short-append xs ys) ∙ sym (or_assoc (is_short x) (has_short xs) (has_short ys))
+has_short-append (x ∷ xs) ys =
+    ap (λ b. is_short x || b) (has_short-append xs ys) ∙ sym (or_assoc (is_short x) (has_short xs) (has_short ys))
 
 has_short-with_wanting : (w : Option Bool) (sent : List ℕ) → has_short (with_wanting w sent []) ≡ is_some w
 has_short-with_wanting (Some final) sent = refl
 has_short-with_wanting None sent = refl
 
 -- a want of memory may stand behind
-pub flag-fed : (flag now : Bool) (w : Option Bool) (es : List Entry) (sent : List ℕ) → flag ≡ has_short es → now ≡ (flag || is_some w) → now ≡ has_short (es ++ with_wanting w sent [])
+pub flag-fed : (flag now : Bool) (w : Option Bool) (es : List Entry) (sent : List ℕ) → flag ≡ has_short es → now ≡ (flag || is_some w) →
+    now ≡ has_short (es ++ with_wanting w sent [])
 flag-fed flag now w es sent e f =
-    f ∙ ap (λ b. b || is_some w) e ∙ ap (λ b. has_short es || b) (sym (has_short-with_wanting w sent)) ∙ sym (has_short-append es (with_wanting w sent []))
+    f ∙ ap (λ b. b || is_some w) e ∙ ap (λ b. has_short es || b) (sym (has_short-with_wanting w sent))
+    ∙ sym (has_short-append es (with_wanting w sent []))
 
-pub flag-one : (flag now b : Bool) (es : List Entry) (e : Entry) → flag ≡ has_short es → now ≡ (flag || b) → is_short e ≡ b → now ≡ has_short (es ++ e ∷ [])
+pub flag-one : (flag now b : Bool) (es : List Entry) (e : Entry) → flag ≡ has_short es → now ≡ (flag || b) → is_short e ≡ b →
+    now ≡ has_short (es ++ e ∷ [])
 flag-one flag now b es e f g h =
     g ∙ ap (λ x. x || b) f ∙ ap (λ x. has_short es || x) (sym h ∙ sym (or_false (is_short e))) ∙ sym (has_short-append es (e ∷ []))
 
 pub flag-kept : (flag : Bool) (es : List Entry) (e : Entry) → flag ≡ has_short es → is_short e ≡ false → flag ≡ has_short (es ++ e ∷ [])
-flag-kept flag es e f h = f ∙ sym (or_false (has_short es)) ∙ ap (λ x. has_short es || x) (sym h ∙ sym (or_false (is_short e))) ∙ sym (has_short-append es (e ∷ []))
+flag-kept flag es e f h =
+    f ∙ sym (or_false (has_short es)) ∙ ap (λ x. has_short es || x) (sym h ∙ sym (or_false (is_short e)))
+    ∙ sym (has_short-append es (e ∷ []))
 
 -- the entry of an answer
 pub is_short-entry : (a : Answer) (e : Event) → is_short (entry_for a e) ≡ wants_memory a
@@ -56,10 +61,12 @@ is_short-entry answers.RolledBack e = refl
 is_short-entry (answers.Shown n) e = refl
 
 -- an answer, and a want of memory that may stand behind it
-pub flag-answered : (flag now both a_wants : Bool) (w : Option Bool) (es : List Entry) (a : Answer) (e : Event) (sent : List ℕ) → flag ≡ has_short es → now ≡ (flag || both) → both ≡ (a_wants || is_some w) →
+pub flag-answered : (flag now both a_wants : Bool) (w : Option Bool) (es : List Entry) (a : Answer) (e : Event) (sent : List ℕ) →
+    flag ≡ has_short es → now ≡ (flag || both) → both ≡ (a_wants || is_some w) →
     a_wants ≡ wants_memory a → now ≡ has_short ((es ++ entry_for a e ∷ []) ++ with_wanting w sent [])
 flag-answered flag now both a_wants w es a e sent f g h k =
-    flag-fed (flag || a_wants) now w (es ++ entry_for a e ∷ []) sent (flag-one flag (flag || a_wants) a_wants es (entry_for a e) f refl (is_short-entry a e ∙ sym k))
+    flag-fed (flag || a_wants) now w (es ++ entry_for a e ∷ []) sent
+    (flag-one flag (flag || a_wants) a_wants es (entry_for a e) f refl (is_short-entry a e ∙ sym k))
     (g ∙ ap (λ b. flag || b) h ∙ sym (or_assoc flag a_wants (is_some w)))
 
 -- ---- the number of the session
@@ -90,14 +97,17 @@ opened-entry n answers.Committed e = refl
 opened-entry n answers.RolledBack e = refl
 opened-entry n (answers.Shown k) e = refl
 
-pub number-fed : (number : Option ℕ) (w : Option Bool) (es : List Entry) (sent : List ℕ) → number ≡ opened_in es → number ≡ opened_in (es ++ with_wanting w sent [])
+pub number-fed : (number : Option ℕ) (w : Option Bool) (es : List Entry) (sent : List ℕ) → number ≡ opened_in es →
+    number ≡ opened_in (es ++ with_wanting w sent [])
 number-fed number w es sent e = e ∙ sym (opened-append None es (with_wanting w sent []) ∙ opened-wanting (opened_in es) w sent)
 
-pub number-answered : (number now : Option ℕ) (w : Option Bool) (es : List Entry) (a : Answer) (e : Event) (sent : List ℕ) → number ≡ opened_in es → now ≡ opened_after number a →
+pub number-answered : (number now : Option ℕ) (w : Option Bool) (es : List Entry) (a : Answer) (e : Event) (sent : List ℕ) →
+    number ≡ opened_in es → now ≡ opened_after number a →
     now ≡ opened_in ((es ++ entry_for a e ∷ []) ++ with_wanting w sent [])
 number-answered number now w es a e sent h k =
     number-fed now w (es ++ entry_for a e ∷ []) sent
     (k ∙ ap (λ (n : Option ℕ). opened_after n a) h ∙ sym (opened-append None es (entry_for a e ∷ []) ∙ opened-entry (opened_in es) a e))
 
-pub number-stopped : (number : Option ℕ) (es : List Entry) (x : Entry) → opened_from number (x ∷ []) ≡ number → number ≡ opened_in es → number ≡ opened_in (es ++ x ∷ [])
+pub number-stopped : (number : Option ℕ) (es : List Entry) (x : Entry) → opened_from number (x ∷ []) ≡ number → number ≡ opened_in es →
+    number ≡ opened_in (es ++ x ∷ [])
 number-stopped number es x same h = sym same ∙ ap (λ (n : Option ℕ). opened_from n (x ∷ [])) h ∙ sym (opened-append None es (x ∷ []))

@@ -1,10 +1,9 @@
 -- What a session's calls leave stands for the lists grown by them.
-use Rattle.std.proofs.Common.{◌≡◌, ◌≢◌, inl, inr, Bool, true, false, ℕ, ◌<◌, List, [], ◌∷◌, ◌++◌, length, refl, sym, ◌∙◌, ap, subst, append_assoc, arith, Option, Some, None, length-append}
+use Rattle.std.proofs.Common.{◌≡◌, ◌≢◌, inl, inr, Bool, true, false, ℕ, ◌<◌, List, [], ◌∷◌, ◌++◌, length, refl, sym, ◌∙◌, ap, subst, append_assoc, arith, Option, None, length-append}
 use Rattle.std.proofs.lemmas.List.{append-nil}
 use Rattle.std.specs.Prelude.{◌==◌}
 use Rattle.cell_base.specs.declared.level.Level.{Level}
 use Rattle.history_core.specs.declared.event.Event.{Event}
-use Rattle.pg_framing.specs.declared.replies.TransactionState.TheVariants as block_states
 use Rattle.sql_tree.specs.declared.statement.Statement.{Statement}
 use Rattle.sql_tree.specs.declared.table.Table.{Table}
 use Rattle.client_framing.specs.declared.front.FrameFault.{FrameFault}
@@ -12,11 +11,11 @@ use Rattle.client_framing.specs.declared.front.FrameFault.TheVariants.{BadLength
 use Rattle.client_framing.specs.Fronts.{Held, HasFault, IsPartial}
 use Rattle.block_machine.specs.Calls.{Call}
 use Rattle.block_machine.specs.Calls as calls
-use Rattle.block_machine.specs.Script.{Entry, short, unsent, stop, Said, Next, Script, more, call, ended, tell}
+use Rattle.block_machine.specs.Script.{Entry, short, unsent, stop, Said, Next, more, call, ended, tell}
 use Rattle.block_machine.specs.Messages.{Outside}
 use Rattle.block_machine.specs.Stages.{IsFrom, entry_for}
 use Rattle.block_machine.specs.Stages as message_stages
-use Rattle.block_machine.specs.Runners.{follows, behind, wanted, held, owes, level_of, known_of, statements_of, Holds}
+use Rattle.block_machine.specs.Runners.{follows, wanted, held, level_of, known_of, statements_of}
 use Rattle.block_machine.specs.declared.call.Answer.{Answer}
 use Rattle.block_machine.specs.declared.call.Answer.TheVariants as answers
 use Rattle.block_machine.specs.declared.end.End.{End}
@@ -36,22 +35,25 @@ use Rattle.session_core.specs.Told.{ending, broken, owed_by, outside_of, stop_en
 use Rattle.session_core.specs.Stands.{on, goes_on, least, StandsFor, IsAwake, IsBusy, Shows, HasReply, wants, reply_of, after_reply, IsHolding, IsLast, owed_at, end_of}
 use Rattle.session_core.specs.Steps.{LeadsTo, Feeds, Sends, Steps, Advances, with_wanting}
 use Rattle.session_core.proofs.Entering.{takes_some}
-use Rattle.session_core.proofs.Passes.{eqb-ne, busy-last, least-busy, unless_unsent-passes, unless_unsent-takes, IsFrom-later, with_wanting-append, IsFrom-with_wanting, IsFrom-read, IsFed-last, IsFed-nothing, IsFed-back}
+use Rattle.session_core.proofs.Passes.{eqb-ne, busy-last, least-busy, unless_unsent-passes, unless_unsent-takes, with_wanting-append, IsFrom-with_wanting, IsFrom-read, IsFed-last, IsFed-nothing, IsFed-back}
 use Rattle.session_core.proofs.Stepping.{session-short}
 
 -- ---- what is shown
 
 -- with nothing more to come
-at_end : (stage : Stage) (r : Runner) (greeting : List ℕ) (held : Held) (taken : List ℕ) (es : List Entry) (asked : List Call) (sent : List ℕ) (talk : Talk) →
+at_end : (stage : Stage) (r : Runner) (greeting : List ℕ) (held : Held) (taken : List ℕ) (es : List Entry) (asked : List Call)
+    (sent : List ℕ) (talk : Talk) →
     (s : StandsFor stage r greeting held taken es asked sent) → IsTalk held.started held.rest talk →
-    IsTalk false taken (s.whole talk) × (told (level_of r) (s.whole talk) es ≡ goes_on stage r greeting talk (record { bytes = sent; calls = asked }) [])
+    IsTalk false taken (s.whole talk) × (told (level_of r) (s.whole talk) es ≡
+    goes_on stage r greeting talk (record { bytes = sent; calls = asked }) [])
 at_end stage r greeting held taken es asked sent talk s h = (
   subst (λ (x : List ℕ). IsTalk false x (s.whole talk)) (append-nil taken)
       (s.heard [] talk (IsFed-nothing stage) (subst (λ (x : List ℕ). IsTalk held.started x talk) (sym (append-nil held.rest)) h)),
   ap (told (level_of r) (s.whole talk)) (sym (append-nil es)) ∙ s.goes talk [] tt,
 )
 
-shown : (stage : Stage) (r : Runner) (greeting : List ℕ) (held : Held) (taken : List ℕ) (es : List Entry) (asked : List Call) (sent : List ℕ) (talk : Talk) (next : Next) →
+shown : (stage : Stage) (r : Runner) (greeting : List ℕ) (held : Held) (taken : List ℕ) (es : List Entry) (asked : List Call)
+    (sent : List ℕ) (talk : Talk) (next : Next) →
     StandsFor stage r greeting held taken es asked sent → IsTalk held.started held.rest talk →
     goes_on stage r greeting talk (record { bytes = sent; calls = asked }) [] ≡ (record { bytes = sent; calls = asked }, next) →
     (t : Talk) × IsTalk false taken t × (told (level_of r) t es ≡ (record { bytes = sent; calls = asked }, next))
@@ -60,66 +62,84 @@ shown stage r greeting held taken es asked sent talk next s h e =
 
 -- what a message that runs wants is asked by its script
 abbrev pub IsAsked : Runner → Type 0
-IsAsked r = (c : Call) (outside : Outside) (said : Said) → wants stages.Running r ≡ wishes.Book c → follows r outside said [] ≡ (said, call c)
+IsAsked r = (c : Call) (outside : Outside) (said : Said) → wants stages.Running r ≡ wishes.Book c →
+    follows r outside said [] ≡ (said, call c)
 
-Shows-message : (r : Runner) (w : calls.Want) (greeting : List ℕ) (held : Held) (taken : List ℕ) (es : List Entry) (asked : List Call) (sent : List ℕ) →
+Shows-message : (r : Runner) (w : calls.Want) (greeting : List ℕ) (held : Held) (taken : List ℕ) (es : List Entry) (asked : List Call)
+    (sent : List ℕ) →
     ((c : Call) (outside : Outside) (said : Said) → of_message w ≡ wishes.Book c → follows r outside said [] ≡ (said, call c)) →
     StandsFor stages.Running r greeting held taken es asked sent → Shows (level_of r) (of_message w) taken es asked sent
 Shows-message r (calls.Book c) greeting held taken es asked sent asks s =
-    shown stages.Running r greeting held taken es asked sent unread (call c) s tt (asks c (outside_of (level_of r) (on r unread)) (record { bytes = sent; calls = asked }) refl)
+    shown stages.Running r greeting held taken es asked sent unread (call c) s tt
+    (asks c (outside_of (level_of r) (on r unread)) (record { bytes = sent; calls = asked }) refl)
 Shows-message r calls.Send greeting held taken es asked sent asks s = tt
 Shows-message r calls.Nothing greeting held taken es asked sent asks s = tt
 
-pub Shows-stands : (stage : Stage) (r : Runner) (greeting : List ℕ) (held : Held) (taken : List ℕ) (es : List Entry) (asked : List Call) (sent : List ℕ) → (stage ≡ stages.Running → IsAsked r) →
+pub Shows-stands : (stage : Stage) (r : Runner) (greeting : List ℕ) (held : Held) (taken : List ℕ) (es : List Entry) (asked : List Call)
+    (sent : List ℕ) → (stage ≡ stages.Running → IsAsked r) →
     StandsFor stage r greeting held taken es asked sent → Shows (level_of r) (wants stage r) taken es asked sent
 Shows-stands (stages.Waiting phase) r greeting held taken es asked sent asks s =
     shown (stages.Waiting phase) r greeting held taken es asked sent (partial held.rest) more s (refl, s.waits phase refl) refl
 Shows-stands (stages.Taking phase) r greeting held taken es asked sent asks s = tt
-Shows-stands stages.Opening r greeting held taken es asked sent asks s = shown stages.Opening r greeting held taken es asked sent unread (call calls.Open) s tt refl
-Shows-stands stages.Running r greeting held taken es asked sent asks s = Shows-message r (wanted r) greeting held taken es asked sent (asks refl) s
-Shows-stands stages.Undoing r greeting held taken es asked sent asks s = shown stages.Undoing r greeting held taken es asked sent unread (call calls.Rollback) s tt refl
+Shows-stands stages.Opening r greeting held taken es asked sent asks s = shown stages.Opening r greeting held taken es asked sent unread
+    (call calls.Open) s tt refl
+Shows-stands stages.Running r greeting held taken es asked sent asks s = Shows-message r (wanted r) greeting held taken es asked sent
+    (asks refl) s
+Shows-stands stages.Undoing r greeting held taken es asked sent asks s = shown stages.Undoing r greeting held taken es asked sent unread
+    (call calls.Rollback) s tt refl
 Shows-stands (stages.Telling reply) r greeting held taken es asked sent asks s = tt
-Shows-stands (stages.Leaving f) r greeting held taken es asked sent asks s = shown (stages.Leaving f) r greeting held taken es asked sent unread (call calls.Rollback) s tt refl
-Shows-stands (stages.Closing f) r greeting held taken es asked sent asks s = shown (stages.Closing f) r greeting held taken es asked sent unread (call calls.Close) s tt refl
+Shows-stands (stages.Leaving f) r greeting held taken es asked sent asks s = shown (stages.Leaving f) r greeting held taken es asked sent
+    unread (call calls.Rollback) s tt refl
+Shows-stands (stages.Closing f) r greeting held taken es asked sent asks s = shown (stages.Closing f) r greeting held taken es asked sent
+    unread (call calls.Close) s tt refl
 Shows-stands (stages.Parting f) r greeting held taken es asked sent asks s = tt
-Shows-stands (stages.Ended f) r greeting held taken es asked sent asks s = shown (stages.Ended f) r greeting held taken es asked sent unread (ended (end_of f)) s tt refl
+Shows-stands (stages.Ended f) r greeting held taken es asked sent asks s = shown (stages.Ended f) r greeting held taken es asked sent unread
+    (ended (end_of f)) s tt refl
 
 -- ---- a message is taken, a piece comes in
 
-pub StandsFor-taken : (phase : Phase) (r next : Runner) (greeting : List ℕ) (before after : Held) (taken : List ℕ) (es : List Entry) (asked : List Call) (sent : List ℕ) (stage : Stage) (w : Option Bool) →
-    StandsFor (stages.Taking phase) r greeting before taken es asked sent → Steps phase r before stage next w after → level_of next ≡ level_of r → HasReply stage next greeting →
+pub StandsFor-taken : (phase : Phase) (r next : Runner) (greeting : List ℕ) (before after : Held) (taken : List ℕ) (es : List Entry)
+    (asked : List Call) (sent : List ℕ) (stage : Stage) (w : Option Bool) →
+    StandsFor (stages.Taking phase) r greeting before taken es asked sent → Steps phase r before stage next w after →
+    level_of next ≡ level_of r → HasReply stage next greeting →
     StandsFor stage next greeting after taken (es ++ with_wanting w sent []) asked sent
 StandsFor-taken phase r next greeting before after taken es asked sent stage w s steps same some = record {
   whole = λ talk. s.whole (steps.turns talk);
   heard = λ bytes talk fed h. s.heard bytes (steps.turns talk) tt (steps.heard bytes talk fed h);
   goes = λ talk more_es from.
       ap (λ (l : Level). told l (s.whole (steps.turns talk)) ((es ++ with_wanting w sent []) ++ more_es)) same
-      ∙ ap (told (level_of r) (s.whole (steps.turns talk))) (append_assoc es (with_wanting w sent []) more_es ∙ ap (λ x. es ++ x) (with_wanting-append w sent more_es))
+      ∙ ap (told (level_of r) (s.whole (steps.turns talk))) (append_assoc es (with_wanting w sent []) more_es
+      ∙ ap (λ x. es ++ x) (with_wanting-append w sent more_es))
       ∙ s.goes (steps.turns talk) (with_wanting w sent more_es) (IsFrom-with_wanting w sent (least stage) more_es from)
       ∙ steps.goes greeting talk (record { bytes = sent; calls = asked }) more_es from;
   waits = steps.waits;
   some = some;
 }
 
-StandsFor-fed : (phase : Phase) (r : Runner) (greeting : List ℕ) (held : Held) (piece taken : List ℕ) (es : List Entry) (asked : List Call) (sent : List ℕ) →
+StandsFor-fed : (phase : Phase) (r : Runner) (greeting : List ℕ) (held : Held) (piece taken : List ℕ) (es : List Entry) (asked : List Call)
+    (sent : List ℕ) →
     StandsFor (stages.Waiting phase) r greeting held taken es asked sent →
     StandsFor (stages.Taking phase) r greeting (record held { rest = held.rest ++ piece }) (taken ++ piece) (es ++ []) asked sent
 StandsFor-fed phase r greeting held piece taken es asked sent s = record {
   whole = s.whole;
   heard = λ bytes talk fed h. subst (λ (x : List ℕ). IsTalk false x (s.whole talk)) (sym (append_assoc taken piece bytes))
       (s.heard (piece ++ bytes) talk tt (subst (λ (x : List ℕ). IsTalk held.started x talk) (append_assoc held.rest piece bytes) h));
-  goes = λ talk more_es from. ap (λ (x : List Entry). told (level_of r) (s.whole talk) (x ++ more_es)) (append-nil es) ∙ s.goes talk more_es from;
+  goes = λ talk more_es from. ap (λ (x : List Entry). told (level_of r) (s.whole talk) (x ++ more_es)) (append-nil es)
+      ∙ s.goes talk more_es from;
   waits = λ other is. absurd (cc is);
   some = λ h. absurd h;
 }
 
 -- the feeding itself met want of memory
-StandsFor-no_memory : (phase : Phase) (r : Runner) (greeting : List ℕ) (held : Held) (piece taken : List ℕ) (es : List Entry) (asked : List Call) (sent : List ℕ) (stage : Stage) →
-    StandsFor (stages.Waiting phase) r greeting held taken es asked sent → HasReply stage r greeting → LeadsTo stage (ending (owed_by phase) ends.Memory) →
+StandsFor-no_memory : (phase : Phase) (r : Runner) (greeting : List ℕ) (held : Held) (piece taken : List ℕ) (es : List Entry)
+    (asked : List Call) (sent : List ℕ) (stage : Stage) →
+    StandsFor (stages.Waiting phase) r greeting held taken es asked sent → HasReply stage r greeting →
+    LeadsTo stage (ending (owed_by phase) ends.Memory) →
     StandsFor stage r greeting held (taken ++ piece) (es ++ short true (length sent) ∷ []) asked sent
 StandsFor-no_memory phase r greeting held piece taken es asked sent stage s some leads = record {
   whole = λ talk. s.whole unread;
-  heard = λ bytes talk fed h. subst (λ (x : List ℕ). IsTalk false x (s.whole unread)) (sym (append_assoc taken piece bytes)) (s.heard (piece ++ bytes) unread tt tt);
+  heard = λ bytes talk fed h. subst (λ (x : List ℕ). IsTalk false x (s.whole unread)) (sym (append_assoc taken piece bytes))
+      (s.heard (piece ++ bytes) unread tt tt);
   goes = λ talk more_es from.
       ap (told (level_of r) (s.whole unread)) (append_assoc es (short true (length sent) ∷ []) more_es)
       ∙ s.goes unread (short true (length sent) ∷ more_es) (omega arith)
@@ -130,13 +150,17 @@ StandsFor-no_memory phase r greeting held piece taken es asked sent stage s some
 }
 
 -- a piece that came in
-pub StandsFor-piece : (phase : Phase) (r : Runner) (greeting : List ℕ) (held after : Held) (piece taken : List ℕ) (es : List Entry) (asked : List Call) (sent : List ℕ) (stage : Stage) (w : Option Bool) →
-    Feeds phase piece held stage w after → StandsFor (stages.Waiting phase) r greeting held taken es asked sent → HasReply stage r greeting →
+pub StandsFor-piece : (phase : Phase) (r : Runner) (greeting : List ℕ) (held after : Held) (piece taken : List ℕ) (es : List Entry)
+    (asked : List Call) (sent : List ℕ) (stage : Stage) (w : Option Bool) →
+    Feeds phase piece held stage w after → StandsFor (stages.Waiting phase) r greeting held taken es asked sent →
+    HasReply stage r greeting →
     StandsFor stage r greeting after (taken ++ piece) (es ++ with_wanting w sent []) asked sent
 StandsFor-piece phase r greeting held after piece taken es asked sent stage w (inl (same, none, taking)) s some =
     subst (λ (x : Held). StandsFor stage r greeting x (taken ++ piece) (es ++ with_wanting w sent []) asked sent) (sym same)
-    (subst (λ (v : Option Bool). StandsFor stage r greeting (record held { rest = held.rest ++ piece }) (taken ++ piece) (es ++ with_wanting v sent []) asked sent) (sym none)
-    (subst (λ (x : Stage). StandsFor x r greeting (record held { rest = held.rest ++ piece }) (taken ++ piece) (es ++ []) asked sent) (sym taking)
+    (subst (λ (v : Option Bool). StandsFor stage r greeting (record held { rest = held.rest ++ piece }) (taken ++ piece)
+    (es ++ with_wanting v sent []) asked sent) (sym none)
+    (subst (λ (x : Stage). StandsFor x r greeting (record held { rest = held.rest ++ piece }) (taken ++ piece) (es ++ []) asked sent)
+    (sym taking)
     (StandsFor-fed phase r greeting held piece taken es asked sent s)))
 StandsFor-piece phase r greeting held after piece taken es asked sent stage w (inr (same, is, leads)) s some =
     subst (λ (x : Held). StandsFor stage r greeting x (taken ++ piece) (es ++ with_wanting w sent []) asked sent) (sym same)
@@ -149,18 +173,23 @@ pub IsFrom-entry : (l n : ℕ) (a : Answer) (e : Event) (es : List Entry) → Is
 IsFrom-entry l n (answers.Refused why) e es = tt
 IsFrom-entry l n _ e es = tt
 
-pub StandsFor-answered : (stage next : Stage) (r after : Runner) (greeting now_greeting : List ℕ) (held : Held) (taken : List ℕ) (es : List Entry) (asked : List Call) (sent : List ℕ) (c : Call) (a : Answer) (e : Event) (w : Option Bool) →
-    StandsFor stage r greeting held taken es asked sent → Advances stage r a next after w now_greeting → wants stage r ≡ wishes.Book c → level_of after ≡ level_of r → HasReply next after now_greeting →
+pub StandsFor-answered : (stage next : Stage) (r after : Runner) (greeting now_greeting : List ℕ) (held : Held) (taken : List ℕ)
+    (es : List Entry) (asked : List Call) (sent : List ℕ) (c : Call) (a : Answer) (e : Event) (w : Option Bool) →
+    StandsFor stage r greeting held taken es asked sent → Advances stage r a next after w now_greeting → wants stage r ≡ wishes.Book c →
+    level_of after ≡ level_of r → HasReply next after now_greeting →
     StandsFor next after now_greeting held taken ((es ++ entry_for a e ∷ []) ++ with_wanting w sent []) (asked ++ c ∷ []) sent
 StandsFor-answered stage next r after greeting now_greeting held taken es asked sent c a e w s adv wants_c same some = record {
   whole = s.whole;
   heard = λ bytes talk fed h. s.heard bytes talk (IsFed-back stage next bytes adv.last fed) h;
   goes = λ talk more_es from.
       ap (λ (l : Level). told l (s.whole talk) (((es ++ entry_for a e ∷ []) ++ with_wanting w sent []) ++ more_es)) same
-      ∙ ap (told (level_of r) (s.whole talk)) (append_assoc (es ++ entry_for a e ∷ []) (with_wanting w sent []) more_es ∙ append_assoc es (entry_for a e ∷ []) (with_wanting w sent [] ++ more_es)
+      ∙ ap (told (level_of r) (s.whole talk)) (append_assoc (es ++ entry_for a e ∷ []) (with_wanting w sent []) more_es
+      ∙ append_assoc es (entry_for a e ∷ []) (with_wanting w sent [] ++ more_es)
       ∙ ap (λ x. es ++ entry_for a e ∷ x) (with_wanting-append w sent more_es))
-      ∙ s.goes talk (entry_for a e ∷ with_wanting w sent more_es) (IsFrom-entry (least stage) (length sent) a e (with_wanting w sent more_es))
-      ∙ adv.goes c greeting talk (record { bytes = sent; calls = asked }) more_es e wants_c (subst (λ (n : ℕ). IsFrom n (length sent) more_es) (least-busy next adv.busy) from);
+      ∙ s.goes talk (entry_for a e ∷ with_wanting w sent more_es)
+      (IsFrom-entry (least stage) (length sent) a e (with_wanting w sent more_es))
+      ∙ adv.goes c greeting talk (record { bytes = sent; calls = asked }) more_es e wants_c
+      (subst (λ (n : ℕ). IsFrom n (length sent) more_es) (least-busy next adv.busy) from);
   waits = λ other is. absurd (subst IsBusy is adv.busy);
   some = some;
 }
@@ -168,9 +197,11 @@ StandsFor-answered stage next r after greeting now_greeting held taken es asked 
 -- ---- replies
 
 -- a reply that a message holds is what its script tells next
-message_tells : (stage : MessageStage) (built : List ℕ) (known : List Table) (rest : List Statement) (outside : Outside) (said : Said) (es : List Entry) → message_stages.IsHolding stage →
+message_tells : (stage : MessageStage) (built : List ℕ) (known : List Table) (rest : List Statement) (outside : Outside) (said : Said)
+    (es : List Entry) → message_stages.IsHolding stage →
     message_stages.goes_on stage built known rest outside said es
-    ≡ tell (message_stages.reply_of built stage) (outside.broken (message_stages.owed_at stage)) (message_stages.after_reply stage known rest outside) said es
+    ≡ tell (message_stages.reply_of built stage) (outside.broken (message_stages.owed_at stage))
+    (message_stages.after_reply stage known rest outside) said es
 message_tells (message_stage.Telling reply block) built known rest outside said es h = refl
 message_tells (message_stage.Failing code state) built known rest outside said es h = refl
 message_tells (message_stage.Readying state) built known rest outside said es h = refl
@@ -179,7 +210,8 @@ message_tells _ built known rest outside said es h = absurd h
 -- a reply that is held is what the script tells next
 holding_tells : (stage : Stage) (r : Runner) (greeting : List ℕ) (talk : Talk) (said : Said) (es : List Entry) → IsHolding stage r →
     goes_on stage r greeting talk said es ≡ tell (reply_of stage r greeting) (broken (owed_at stage r)) (after_reply stage r talk) said es
-holding_tells stages.Running r greeting talk said es h = message_tells r.stage r.built.items r.known.items (statements_of r) (outside_of (level_of r) (on r talk)) said es h
+holding_tells stages.Running r greeting talk said es h = message_tells r.stage r.built.items r.known.items (statements_of r)
+    (outside_of (level_of r) (on r talk)) said es h
 holding_tells (stages.Telling reply) r greeting talk said es h = refl
 holding_tells (stages.Parting fatal) r greeting talk said es h = refl
 holding_tells _ r greeting talk said es h = absurd h
@@ -190,14 +222,18 @@ least_holding (stages.Telling reply) r h = refl
 least_holding (stages.Parting fatal) r h = refl
 least_holding _ r h = absurd h
 
-from_holding : (stage : Stage) (r : Runner) (sent : List ℕ) (es : List Entry) → IsHolding stage r → IsFrom 1 (length sent) es → IsFrom (least stage) (length sent) es
+from_holding : (stage : Stage) (r : Runner) (sent : List ℕ) (es : List Entry) → IsHolding stage r → IsFrom 1 (length sent) es →
+    IsFrom (least stage) (length sent) es
 from_holding stage r sent es h from = subst (λ (n : ℕ). IsFrom n (length sent) es) (sym (least_holding stage r h)) from
 
 -- a reply that was sent
-pub StandsFor-sent : (stage next : Stage) (r after : Runner) (greeting : List ℕ) (held : Held) (taken : List ℕ) (es : List Entry) (asked : List Call) (sent : List ℕ) (w : Option Bool) →
-    Sends stage r next after w → IsHolding stage r → (IsLast stage → IsLast next) → IsAwake next → level_of after ≡ level_of r → HasReply next after greeting →
+pub StandsFor-sent : (stage next : Stage) (r after : Runner) (greeting : List ℕ) (held : Held) (taken : List ℕ) (es : List Entry)
+    (asked : List Call) (sent : List ℕ) (w : Option Bool) →
+    Sends stage r next after w → IsHolding stage r → (IsLast stage → IsLast next) → IsAwake next → level_of after ≡ level_of r →
+    HasReply next after greeting →
     StandsFor stage r greeting held taken es asked sent →
-    StandsFor next after greeting held taken (es ++ with_wanting w (sent ++ reply_of stage r greeting) []) asked (sent ++ reply_of stage r greeting)
+    StandsFor next after greeting held taken (es ++ with_wanting w (sent ++ reply_of stage r greeting) []) asked
+    (sent ++ reply_of stage r greeting)
 StandsFor-sent stage next r after greeting held taken es asked sent w sends holds last awake same some s =
     let reply : List ℕ = reply_of stage r greeting in
     let now : List ℕ = sent ++ reply in
@@ -206,19 +242,25 @@ StandsFor-sent stage next r after greeting held taken es asked sent w sends hold
       heard = λ bytes talk fed h. s.heard bytes talk (IsFed-back stage next bytes last fed) h;
       goes = λ talk more_es from.
           ap (λ (l : Level). told l (s.whole talk) ((es ++ with_wanting w now []) ++ more_es)) same
-          ∙ ap (told (level_of r) (s.whole talk)) (append_assoc es (with_wanting w now []) more_es ∙ ap (λ x. es ++ x) (with_wanting-append w now more_es))
-          ∙ s.goes talk (with_wanting w now more_es) (from_holding stage r sent (with_wanting w now more_es) holds (IsFrom-read w sent reply (least next) more_es (s.some holds) from))
+          ∙ ap (told (level_of r) (s.whole talk)) (append_assoc es (with_wanting w now []) more_es
+          ∙ ap (λ x. es ++ x) (with_wanting-append w now more_es))
+          ∙ s.goes talk (with_wanting w now more_es)
+          (from_holding stage r sent (with_wanting w now more_es) holds (IsFrom-read w sent reply (least next) more_es (s.some holds) from))
           ∙ holding_tells stage r greeting talk (record { bytes = sent; calls = asked }) (with_wanting w now more_es) holds
-          ∙ unless_unsent-passes (broken (owed_at stage r)) (after_reply stage r talk) said 0 (with_wanting w now more_es) (IsFrom-with_wanting w now (least next) more_es from)
+          ∙ unless_unsent-passes (broken (owed_at stage r)) (after_reply stage r talk) said 0 (with_wanting w now more_es)
+          (IsFrom-with_wanting w now (least next) more_es from)
           ∙ sends greeting talk said more_es from;
       waits = λ other is. absurd (subst IsAwake is awake);
       some = some;
     }
 
 -- a reply that was not sent whole
-pub StandsFor-unsent : (stage next : Stage) (r : Runner) (greeting : List ℕ) (held : Held) (taken : List ℕ) (es : List Entry) (asked : List Call) (sent : List ℕ) →
-    StandsFor stage r greeting held taken es asked sent → IsHolding stage r → LeadsTo next (broken (owed_at stage r)) → HasReply next r greeting →
-    StandsFor next r greeting held taken (es ++ unsent (length (sent ++ reply_of stage r greeting)) ∷ []) asked (sent ++ reply_of stage r greeting)
+pub StandsFor-unsent : (stage next : Stage) (r : Runner) (greeting : List ℕ) (held : Held) (taken : List ℕ) (es : List Entry)
+    (asked : List Call) (sent : List ℕ) →
+    StandsFor stage r greeting held taken es asked sent → IsHolding stage r → LeadsTo next (broken (owed_at stage r)) →
+    HasReply next r greeting →
+    StandsFor next r greeting held taken (es ++ unsent (length (sent ++ reply_of stage r greeting)) ∷ []) asked
+    (sent ++ reply_of stage r greeting)
 StandsFor-unsent stage next r greeting held taken es asked sent s holds leads some =
     let reply : List ℕ = reply_of stage r greeting in
     let now : List ℕ = sent ++ reply in
@@ -238,15 +280,18 @@ StandsFor-unsent stage next r greeting held taken es asked sent s holds leads so
 
 -- ---- the end of the input
 
-pub StandsFor-stopped : (phase : Phase) (r : Runner) (greeting : List ℕ) (held : Held) (taken : List ℕ) (es : List Entry) (asked : List Call) (sent : List ℕ) (stage : Stage) (cause : Stop) (end : End) →
-    StandsFor (stages.Waiting phase) r greeting held taken es asked sent → LeadsTo stage (ending (owed_by phase) end) → HasReply stage r greeting →
+pub StandsFor-stopped : (phase : Phase) (r : Runner) (greeting : List ℕ) (held : Held) (taken : List ℕ) (es : List Entry)
+    (asked : List Call) (sent : List ℕ) (stage : Stage) (cause : Stop) (end : End) →
+    StandsFor (stages.Waiting phase) r greeting held taken es asked sent → LeadsTo stage (ending (owed_by phase) end) →
+    HasReply stage r greeting →
     stop_end cause (length held.rest) ≡ end → StandsFor stage r greeting held taken (es ++ stop cause ∷ []) asked sent
 StandsFor-stopped phase r greeting held taken es asked sent stage cause end s leads some right = record {
   whole = λ talk. s.whole (partial held.rest);
   heard = λ bytes talk fed h.
       let nothing : bytes ≡ [] = IsFed-last stage bytes leads.0 fed in
       subst (λ (x : List ℕ). IsTalk false (taken ++ x) (s.whole (partial held.rest))) (sym nothing)
-      (s.heard [] (partial held.rest) tt (subst (λ (x : List ℕ). IsTalk held.started x (partial held.rest)) (sym (append-nil held.rest)) (refl, s.waits phase refl)));
+      (s.heard [] (partial held.rest) tt (subst (λ (x : List ℕ). IsTalk held.started x (partial held.rest)) (sym (append-nil held.rest))
+      (refl, s.waits phase refl)));
   goes = λ talk more_es from.
       ap (told (level_of r) (s.whole (partial held.rest))) (append_assoc es (stop cause ∷ []) more_es)
       ∙ s.goes (partial held.rest) (stop cause ∷ more_es) tt
@@ -258,7 +303,8 @@ StandsFor-stopped phase r greeting held taken es asked sent stage cause end s le
 
 -- the end by a stop is told of what is held
 pub stopped_right : (held : List ℕ) (cause : Stop) (end : End) (nothing : Bool) → nothing ≡ (length held == 0) →
-    (nothing ≡ true → end ≡ stop_end cause 0) → ((n : ℕ) → nothing ≡ false → n ≢ 0 → end ≡ stop_end cause n) → stop_end cause (length held) ≡ end
+    (nothing ≡ true → end ≡ stop_end cause 0) → ((n : ℕ) → nothing ≡ false → n ≢ 0 → end ≡ stop_end cause n) →
+    stop_end cause (length held) ≡ end
 stopped_right [] cause end nothing e a b = sym (a e)
 stopped_right (x ∷ held) cause end nothing e a b =
     sym (b (length (x ∷ held)) (e ∙ eqb-ne (length (x ∷ held)) 0 (λ z. omega (arith, z))) (λ z. omega (arith, z)))

@@ -40,7 +40,8 @@ other_more xs name value other (v, full, names) = (
   record {
     before = names.before;
     after = names.after ++ (name, value) ∷ [];
-    whole = ap (λ (l : List Pair). l ++ (name, value) ∷ []) names.whole ∙ append_assoc names.before ((user, v) ∷ names.after) ((name, value) ∷ []);
+    whole = ap (λ (l : List Pair). l ++ (name, value) ∷ []) names.whole
+        ∙ append_assoc names.before ((user, v) ∷ names.after) ((name, value) ∷ []);
     last = λ w h. elim (Contains-push_cases names.after (name, value) (user, w) h) [
       | inl k ↦ names.last w k
       | inr k ↦ other (ap (λ (p : Pair). p.0) k)
@@ -89,17 +90,20 @@ user_less xs value (v, full, names) empty =
     ]
 
 -- the next pair is read, and has another name
-pub past_other : (xs : List Pair) (i : ℕ) (p : Pair) (has : Bool) → i < length xs → p ≡ get_or xs i p → p.0 ≢ user → IsTrue has ↔ HasUser (take i xs) → IsTrue has ↔ HasUser (take (i + 1) xs)
+pub past_other : (xs : List Pair) (i : ℕ) (p : Pair) (has : Bool) → i < length xs → p ≡ get_or xs i p → p.0 ≢ user →
+    IsTrue has ↔ HasUser (take i xs) → IsTrue has ↔ HasUser (take (i + 1) xs)
 past_other xs i p has lt is other h =
     rw (take_more xs i p lt, ← is) (λ t. other_more (take i xs) p.0 p.1 other (h.0 t), λ t. h.1 (other_less (take i xs) p.0 p.1 other t))
 
 -- the next pair is read, and names a user
-pub past_user : (xs : List Pair) (i : ℕ) (p : Pair) (has : Bool) → i < length xs → p ≡ get_or xs i p → p.0 ≡ user → IsTrue has ↔ (p.1 ≢ []) → IsTrue has ↔ HasUser (take (i + 1) xs)
+pub past_user : (xs : List Pair) (i : ℕ) (p : Pair) (has : Bool) → i < length xs → p ≡ get_or xs i p → p.0 ≡ user →
+    IsTrue has ↔ (p.1 ≢ []) → IsTrue has ↔ HasUser (take (i + 1) xs)
 past_user xs i p has lt is e h =
     let f : take (i + 1) xs ≡ take i xs ++ (user, p.1) ∷ [] =
     take_more xs i p lt ∙ (ap (λ (q : Pair). take i xs ++ q ∷ []) (sym is) ∙ ap (λ (n : List ℕ). take i xs ++ (n, p.1) ∷ []) e) in
     rw f (λ t. user_more (take i xs) p.1 (h.0 t), λ t. h.1 (user_less (take i xs) p.1 t))
 
 -- the answer to whether the value is empty
-pub full_same : (has full : Bool) (value bytes : List ℕ) → has ≡ full → bytes ≡ value → IsTrue full ↔ (bytes ≢ []) → IsTrue has ↔ (value ≢ [])
+pub full_same : (has full : Bool) (value bytes : List ℕ) → has ≡ full → bytes ≡ value → IsTrue full ↔ (bytes ≢ []) →
+    IsTrue has ↔ (value ≢ [])
 full_same has full value bytes e f h = rw (e, ← f) h

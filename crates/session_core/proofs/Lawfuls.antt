@@ -17,35 +17,56 @@ use Rattle.session_core.specs.Plays.{Plays}
 use Rattle.session_core.specs.Steps.{IsShort}
 
 -- one more call, which was answered
-pub Lawful-did : {W : Type 0} (gives : W → ℕ → W → Type 0) (p : Past) (v : W) (cs : List Call) (es : List Entry) (q : Past) (w : W) (c : Call) (a : Answer) (e : Event) (r : Past) (u : W) →
-    Lawful gives p v cs es q w → Happens q c a e r → Draws gives q w c (did a e) u → Lawful gives p v (cs ++ c ∷ []) (es ++ did a e ∷ []) r u
-Lawful-did {W} gives p v [] [] q w c a e r u l h d =
-    (r, u, subst (λ (x : Past). Happens x c a e r) l.0 h, subst (λ (x : W). Draws gives p x c (did a e) u) l.1 (subst (λ (x : Past). Draws gives x w c (did a e) u) l.0 d), (refl, refl))
+pub Lawful-did : {W : Type 0} (gives : W → ℕ → W → Type 0) (p : Past) (v : W) (cs : List Call) (es : List Entry) (q : Past) (w : W)
+    (c : Call) (a : Answer) (e : Event) (r : Past)
+    (u : W) →
+    Lawful gives p v cs es q w → Happens q c a e r → Draws gives q w c (did a e) u →
+    Lawful gives p v (cs ++ c ∷ []) (es ++ did a e ∷ []) r u
+Lawful-did {W} gives p v [] [] q w c a e r u l h d = (
+  r,
+  u,
+  subst (λ (x : Past). Happens x c a e r) l.0 h,
+  subst (λ (x : W). Draws gives p x c (did a e) u) l.1
+      (subst (λ (x : Past). Draws gives x w c (did a e) u) l.0 d),
+  (refl, refl),
+)
 Lawful-did gives p v [] (did b x ∷ es) q w c a e r u l h d = absurd l
 Lawful-did gives p v [] (refused why ∷ es) q w c a e r u l h d = absurd l
 Lawful-did gives p v [] (short final n ∷ es) q w c a e r u l h d = Lawful-did gives p v [] es q w c a e r u l h d
 Lawful-did gives p v [] (unsent n ∷ es) q w c a e r u l h d = Lawful-did gives p v [] es q w c a e r u l h d
 Lawful-did gives p v [] (stop cause ∷ es) q w c a e r u l h d = Lawful-did gives p v [] es q w c a e r u l h d
 Lawful-did gives p v (k ∷ cs) [] q w c a e r u l h d = absurd l
-Lawful-did gives p v (k ∷ cs) (did b x ∷ es) q w c a e r u l h d = (l.0, l.1, l.2, l.3, Lawful-did gives l.0 l.1 cs es q w c a e r u l.4 h d)
-Lawful-did gives p v (k ∷ cs) (refused why ∷ es) q w c a e r u l h d = (l.0, l.1, l.2, l.3, Lawful-did gives l.0 l.1 cs es q w c a e r u l.4 h d)
+Lawful-did gives p v (k ∷ cs) (did b x ∷ es) q w c a e r u l h d =
+    (l.0, l.1, l.2, l.3, Lawful-did gives l.0 l.1 cs es q w c a e r u l.4 h d)
+Lawful-did gives p v (k ∷ cs) (refused why ∷ es) q w c a e r u l h d =
+    (l.0, l.1, l.2, l.3, Lawful-did gives l.0 l.1 cs es q w c a e r u l.4 h d)
 Lawful-did gives p v (k ∷ cs) (short final n ∷ es) q w c a e r u l h d = Lawful-did gives p v (k ∷ cs) es q w c a e r u l h d
 Lawful-did gives p v (k ∷ cs) (unsent n ∷ es) q w c a e r u l h d = Lawful-did gives p v (k ∷ cs) es q w c a e r u l h d
 Lawful-did gives p v (k ∷ cs) (stop cause ∷ es) q w c a e r u l h d = Lawful-did gives p v (k ∷ cs) es q w c a e r u l h d
 
 -- one more call, which was refused
-pub Lawful-refused : {W : Type 0} (gives : W → ℕ → W → Type 0) (p : Past) (v : W) (cs : List Call) (es : List Entry) (q : Past) (w : W) (c : Call) (why : BookFault) (r : Past) (u : W) →
-    Lawful gives p v cs es q w → Declines q c why r → Draws gives q w c (refused why) u → Lawful gives p v (cs ++ c ∷ []) (es ++ refused why ∷ []) r u
-Lawful-refused {W} gives p v [] [] q w c why r u l h d =
-    (r, u, subst (λ (x : Past). Declines x c why r) l.0 h, subst (λ (x : W). Draws gives p x c (refused why) u) l.1 (subst (λ (x : Past). Draws gives x w c (refused why) u) l.0 d), (refl, refl))
+pub Lawful-refused : {W : Type 0} (gives : W → ℕ → W → Type 0) (p : Past) (v : W) (cs : List Call) (es : List Entry) (q : Past) (w : W)
+    (c : Call) (why : BookFault) (r : Past) (u : W) →
+    Lawful gives p v cs es q w → Declines q c why r → Draws gives q w c (refused why) u →
+    Lawful gives p v (cs ++ c ∷ []) (es ++ refused why ∷ []) r u
+Lawful-refused {W} gives p v [] [] q w c why r u l h d = (
+  r,
+  u,
+  subst (λ (x : Past). Declines x c why r) l.0 h,
+  subst (λ (x : W). Draws gives p x c (refused why) u) l.1
+      (subst (λ (x : Past). Draws gives x w c (refused why) u) l.0 d),
+  (refl, refl),
+)
 Lawful-refused gives p v [] (did b x ∷ es) q w c why r u l h d = absurd l
 Lawful-refused gives p v [] (refused y ∷ es) q w c why r u l h d = absurd l
 Lawful-refused gives p v [] (short final n ∷ es) q w c why r u l h d = Lawful-refused gives p v [] es q w c why r u l h d
 Lawful-refused gives p v [] (unsent n ∷ es) q w c why r u l h d = Lawful-refused gives p v [] es q w c why r u l h d
 Lawful-refused gives p v [] (stop cause ∷ es) q w c why r u l h d = Lawful-refused gives p v [] es q w c why r u l h d
 Lawful-refused gives p v (k ∷ cs) [] q w c why r u l h d = absurd l
-Lawful-refused gives p v (k ∷ cs) (did b x ∷ es) q w c why r u l h d = (l.0, l.1, l.2, l.3, Lawful-refused gives l.0 l.1 cs es q w c why r u l.4 h d)
-Lawful-refused gives p v (k ∷ cs) (refused y ∷ es) q w c why r u l h d = (l.0, l.1, l.2, l.3, Lawful-refused gives l.0 l.1 cs es q w c why r u l.4 h d)
+Lawful-refused gives p v (k ∷ cs) (did b x ∷ es) q w c why r u l h d =
+    (l.0, l.1, l.2, l.3, Lawful-refused gives l.0 l.1 cs es q w c why r u l.4 h d)
+Lawful-refused gives p v (k ∷ cs) (refused y ∷ es) q w c why r u l h d =
+    (l.0, l.1, l.2, l.3, Lawful-refused gives l.0 l.1 cs es q w c why r u l.4 h d)
 Lawful-refused gives p v (k ∷ cs) (short final n ∷ es) q w c why r u l h d = Lawful-refused gives p v (k ∷ cs) es q w c why r u l h d
 Lawful-refused gives p v (k ∷ cs) (unsent n ∷ es) q w c why r u l h d = Lawful-refused gives p v (k ∷ cs) es q w c why r u l h d
 Lawful-refused gives p v (k ∷ cs) (stop cause ∷ es) q w c why r u l h d = Lawful-refused gives p v (k ∷ cs) es q w c why r u l h d
@@ -58,7 +79,8 @@ IsQuiet (short final n) = Unit {0}
 IsQuiet (unsent n) = Unit {0}
 IsQuiet (stop cause) = Unit {0}
 
-Lawful-alone : {W : Type 0} (gives : W → ℕ → W → Type 0) (p : Past) (v : W) (cs : List Call) (q : Past) (w : W) (x : Entry) → IsQuiet x → Lawful gives p v cs [] q w → Lawful gives p v cs (x ∷ []) q w
+Lawful-alone : {W : Type 0} (gives : W → ℕ → W → Type 0) (p : Past) (v : W) (cs : List Call) (q : Past) (w : W) (x : Entry) → IsQuiet x →
+    Lawful gives p v cs [] q w → Lawful gives p v cs (x ∷ []) q w
 Lawful-alone gives p v [] q w (did a e) i l = absurd i
 Lawful-alone gives p v [] q w (refused why) i l = absurd i
 Lawful-alone gives p v [] q w (short final n) i l = l
@@ -66,7 +88,10 @@ Lawful-alone gives p v [] q w (unsent n) i l = l
 Lawful-alone gives p v [] q w (stop cause) i l = l
 Lawful-alone gives p v (k ∷ cs) q w x i l = absurd l
 
-pub Lawful-quiet : {W : Type 0} (gives : W → ℕ → W → Type 0) (p : Past) (v : W) (cs : List Call) (es : List Entry) (q : Past) (w : W) (x : Entry) → IsQuiet x → Lawful gives p v cs es q w → Lawful gives p v cs (es ++ x ∷ []) q w
+pub Lawful-quiet : {W : Type 0} (gives : W → ℕ → W → Type 0) (p : Past) (v : W) (cs : List Call) (es : List Entry) (q : Past) (w : W)
+    (x : Entry) → IsQuiet x →
+    Lawful gives p v cs es q w →
+    Lawful gives p v cs (es ++ x ∷ []) q w
 Lawful-quiet gives p v cs [] q w x i l = Lawful-alone gives p v cs q w x i l
 Lawful-quiet gives p v [] (did b y ∷ es) q w x i l = absurd l
 Lawful-quiet gives p v [] (refused why ∷ es) q w x i l = absurd l
@@ -80,7 +105,9 @@ Lawful-quiet gives p v (k ∷ cs) (unsent n ∷ es) q w x i l = Lawful-quiet giv
 Lawful-quiet gives p v (k ∷ cs) (stop cause ∷ es) q w x i l = Lawful-quiet gives p v (k ∷ cs) es q w x i l
 
 -- the entries of a call's own want of memory
-pub Lawful-short : {W : Type 0} (gives : W → ℕ → W → Type 0) (p : Past) (v : W) (cs : List Call) (es : List Entry) (q : Past) (w : W) (sent : List ℕ) (added : List Entry) → IsShort sent added →
+pub Lawful-short : {W : Type 0} (gives : W → ℕ → W → Type 0) (p : Past) (v : W) (cs : List Call) (es : List Entry) (q : Past) (w : W)
+    (sent : List ℕ) (added : List Entry) →
+    IsShort sent added →
     Lawful gives p v cs es q w → Lawful gives p v cs (es ++ added) q w
 Lawful-short gives p v cs es q w sent [] i l = subst (λ (x : List Entry). Lawful gives p v cs x q w) (sym (append-nil es)) l
 Lawful-short gives p v cs es q w sent (short final n ∷ []) i l = Lawful-quiet gives p v cs es q w (short final n) tt l
@@ -90,7 +117,9 @@ Lawful-short gives p v cs es q w sent (refused why ∷ xs) i l = absurd i
 Lawful-short gives p v cs es q w sent (unsent n ∷ xs) i l = absurd i
 Lawful-short gives p v cs es q w sent (stop cause ∷ xs) i l = absurd i
 
-pub Lawful-plays : {W : Type 0} (gives : W → ℕ → W → Type 0) (p : Past) (v : W) (cs : List Call) (es : List Entry) (q : Past) (w : W) (c : Call) (a : Answer) (e : Event) (r : Past) (u : W) →
+pub Lawful-plays : {W : Type 0} (gives : W → ℕ → W → Type 0) (p : Past) (v : W) (cs : List Call) (es : List Entry) (q : Past) (w : W)
+    (c : Call) (a : Answer) (e : Event) (r : Past)
+    (u : W) →
     Lawful gives p v cs es q w → Plays gives q w c a e r u → Lawful gives p v (cs ++ c ∷ []) (es ++ entry_for a e ∷ []) r u
 Lawful-plays gives p v cs es q w c (answers.Refused why) e r u l h = Lawful-refused gives p v cs es q w c why r u l h.0 h.1
 Lawful-plays gives p v cs es q w c (answers.Opened n) e r u l h = Lawful-did gives p v cs es q w c (answers.Opened n) e r u l h.0 h.1
@@ -135,7 +164,8 @@ pub Declines-goes : (p : Past) (c : Call) (why : BookFault) (q : Past) → Decli
 Declines-goes p c (faults.Full limit) q h = h.1
 Declines-goes p c faults.Memory q h = h.1
 
-pub own_events : {W : Type 0} (gives : W → ℕ → W → Type 0) (p : Past) (v : W) (cs : List Call) (es : List Entry) (q : Past) (w : W) → Lawful gives p v cs es q w → q.own ≡ p.own ++ events_of es
+pub own_events : {W : Type 0} (gives : W → ℕ → W → Type 0) (p : Past) (v : W) (cs : List Call) (es : List Entry) (q : Past) (w : W) →
+    Lawful gives p v cs es q w → q.own ≡ p.own ++ events_of es
 own_events gives p v [] [] q w l = ap (λ (x : Past). x.own) l.0 ∙ sym (append-nil p.own)
 own_events gives p v (c ∷ cs) [] q w l = absurd l
 own_events gives p v [] (did a e ∷ es) q w l = absurd l
@@ -144,7 +174,8 @@ own_events gives p v [] (short final n ∷ es) q w l = own_events gives p v [] e
 own_events gives p v [] (unsent n ∷ es) q w l = own_events gives p v [] es q w l
 own_events gives p v [] (stop cause ∷ es) q w l = own_events gives p v [] es q w l
 own_events gives p v (c ∷ cs) (did a e ∷ es) q w l =
-    own_events gives l.0 l.1 cs es q w l.4 ∙ ap (λ x. x ++ events_of es) (Happens-leaves p c a e l.0 l.2).own ∙ append_assoc p.own (e ∷ []) (events_of es)
+    own_events gives l.0 l.1 cs es q w l.4 ∙ ap (λ x. x ++ events_of es) (Happens-leaves p c a e l.0 l.2).own
+    ∙ append_assoc p.own (e ∷ []) (events_of es)
 own_events gives p v (c ∷ cs) (refused why ∷ es) q w l =
     own_events gives l.0 l.1 cs es q w l.4 ∙ ap (λ x. x ++ events_of es) (Declines-goes p c why l.0 l.2).own
 own_events gives p v (c ∷ cs) (short final n ∷ es) q w l = own_events gives p v (c ∷ cs) es q w l

@@ -2,6 +2,8 @@ pub mod Passes
 pub mod Somes
 pub mod Entering
 pub mod Stepping
+pub mod Meeting
+pub mod Behind
 pub mod Grows
 pub mod Flags
 pub mod LastUser
@@ -10,3 +12,4 @@ pub mod Lawfuls
 pub mod Carrying
 pub mod Playing
 pub mod Serving
+pub mod Nearing

@@ -26,7 +26,8 @@ busy-last (stages.Taking phase) h = h
 busy-last _ h = tt
 
 -- no want of memory stands here any more
-pub unless_short-passes : (final : Bool) (k rest : Script) (said : Said) (es : List Entry) → IsFrom 1 (length said.bytes) es → unless_short final k rest said es ≡ rest said es
+pub unless_short-passes : (final : Bool) (k rest : Script) (said : Said) (es : List Entry) → IsFrom 1 (length said.bytes) es →
+    unless_short final k rest said es ≡ rest said es
 unless_short-passes final k rest said [] h = refl
 unless_short-passes final k rest said (did a e ∷ es) h = refl
 unless_short-passes final k rest said (refused why ∷ es) h = refl
@@ -38,14 +39,16 @@ unless_short-passes final k rest said (unsent n ∷ es) h = refl
 unless_short-passes final k rest said (stop cause ∷ es) h = refl
 
 -- nor where one stands that doesn't end the session
-pub unless_short-over : (w : Option Bool) (k rest : Script) (said : Said) (es : List Entry) → IsPassing w → IsFrom 1 (length said.bytes) es →
+pub unless_short-over : (w : Option Bool) (k rest : Script) (said : Said) (es : List Entry) → IsPassing w →
+    IsFrom 1 (length said.bytes) es →
     unless_short true k rest said (with_wanting w said.bytes es) ≡ rest said (with_wanting w said.bytes es)
 unless_short-over None k rest said es p h = unless_short-passes true k rest said es h
 unless_short-over (Some false) k rest said es p h = refl
 unless_short-over (Some true) k rest said es p h = absurd p
 
 -- a want of memory stands here
-pub unless_short-takes : (final : Bool) (k rest : Script) (said : Said) (es : List Entry) → unless_short final k rest said (short final (length said.bytes) ∷ es) ≡ k said es
+pub unless_short-takes : (final : Bool) (k rest : Script) (said : Said) (es : List Entry) →
+    unless_short final k rest said (short final (length said.bytes) ∷ es) ≡ k said es
 unless_short-takes true k rest said es = rw (eqb-eq (length said.bytes) (length said.bytes) refl) refl
 unless_short-takes false k rest said es = rw (eqb-eq (length said.bytes) (length said.bytes) refl) refl
 
@@ -54,19 +57,22 @@ chosen_twice true p q = refl
 chosen_twice false p q = refl
 
 -- a want of memory that is looked for twice
-pub unless_short-twice : (final : Bool) (k rest : Script) (said : Said) (es : List Entry) → unless_short final k (unless_short final k rest) said es ≡ unless_short final k rest said es
+pub unless_short-twice : (final : Bool) (k rest : Script) (said : Said) (es : List Entry) →
+    unless_short final k (unless_short final k rest) said es ≡ unless_short final k rest said es
 unless_short-twice final k rest said [] = refl
 unless_short-twice final k rest said (did a e ∷ es) = refl
 unless_short-twice final k rest said (refused why ∷ es) = refl
 unless_short-twice true k rest said (short true n ∷ es) = chosen_twice (n == length said.bytes) (k said es) (rest said (short true n ∷ es))
 unless_short-twice true k rest said (short false n ∷ es) = refl
 unless_short-twice false k rest said (short true n ∷ es) = refl
-unless_short-twice false k rest said (short false n ∷ es) = chosen_twice (n == length said.bytes) (k said es) (rest said (short false n ∷ es))
+unless_short-twice false k rest said (short false n ∷ es) =
+    chosen_twice (n == length said.bytes) (k said es) (rest said (short false n ∷ es))
 unless_short-twice final k rest said (unsent n ∷ es) = refl
 unless_short-twice final k rest said (stop cause ∷ es) = refl
 
 -- no failed write stands here any more
-pub unless_unsent-passes : (k rest : Script) (said : Said) (l : ℕ) (es : List Entry) → IsFrom l (length said.bytes) es → unless_unsent k rest said es ≡ rest said es
+pub unless_unsent-passes : (k rest : Script) (said : Said) (l : ℕ) (es : List Entry) → IsFrom l (length said.bytes) es →
+    unless_unsent k rest said es ≡ rest said es
 unless_unsent-passes k rest said l [] h = refl
 unless_unsent-passes k rest said l (did a e ∷ es) h = refl
 unless_unsent-passes k rest said l (refused why ∷ es) h = refl
@@ -74,7 +80,8 @@ unless_unsent-passes k rest said l (short final n ∷ es) h = refl
 unless_unsent-passes k rest said l (unsent n ∷ es) h = rw (eqb-ne n (length said.bytes) (λ e. omega (arith, e, h))) refl
 unless_unsent-passes k rest said l (stop cause ∷ es) h = refl
 
-pub unless_unsent-takes : (k rest : Script) (said : Said) (es : List Entry) → unless_unsent k rest said (unsent (length said.bytes) ∷ es) ≡ k said es
+pub unless_unsent-takes : (k rest : Script) (said : Said) (es : List Entry) →
+    unless_unsent k rest said (unsent (length said.bytes) ∷ es) ≡ k said es
 unless_unsent-takes k rest said es = rw (eqb-eq (length said.bytes) (length said.bytes) refl) refl
 
 pub IsFrom-weaker : (l m sent : ℕ) (es : List Entry) → m ≤ l → IsFrom l sent es → IsFrom m sent es
@@ -86,7 +93,8 @@ IsFrom-weaker l m sent (unsent n ∷ es) h f = f
 IsFrom-weaker l m sent (stop cause ∷ es) h f = f
 
 -- what stands behind more bytes stands behind fewer
-pub IsFrom-later : (l : ℕ) (sent reply : List ℕ) (es : List Entry) → 0 < length reply → IsFrom l (length (sent ++ reply)) es → IsFrom 1 (length sent) es
+pub IsFrom-later : (l : ℕ) (sent reply : List ℕ) (es : List Entry) → 0 < length reply → IsFrom l (length (sent ++ reply)) es →
+    IsFrom 1 (length sent) es
 IsFrom-later l sent reply [] some f = f
 IsFrom-later l sent reply (did a e ∷ es) some f = f
 IsFrom-later l sent reply (refused why ∷ es) some f = f
@@ -98,11 +106,13 @@ pub with_wanting-append : (w : Option Bool) (sent : List ℕ) (es : List Entry) 
 with_wanting-append None sent es = refl
 with_wanting-append (Some final) sent es = refl
 
-pub IsFrom-with_wanting : (w : Option Bool) (sent : List ℕ) (l : ℕ) (es : List Entry) → IsFrom l (length sent) es → IsFrom 0 (length sent) (with_wanting w sent es)
+pub IsFrom-with_wanting : (w : Option Bool) (sent : List ℕ) (l : ℕ) (es : List Entry) → IsFrom l (length sent) es →
+    IsFrom 0 (length sent) (with_wanting w sent es)
 IsFrom-with_wanting (Some final) sent l es f = omega arith
 IsFrom-with_wanting None sent l es f = IsFrom-weaker l 0 (length sent) es (omega arith) f
 
-pub IsFrom-read : (w : Option Bool) (sent reply : List ℕ) (l : ℕ) (es : List Entry) → 0 < length reply → IsFrom l (length (sent ++ reply)) es →
+pub IsFrom-read : (w : Option Bool) (sent reply : List ℕ) (l : ℕ) (es : List Entry) → 0 < length reply →
+    IsFrom l (length (sent ++ reply)) es →
     IsFrom 1 (length sent) (with_wanting w (sent ++ reply) es)
 IsFrom-read (Some final) sent reply l es some f = omega (arith, some, length-append sent reply)
 IsFrom-read None sent reply l es some f = IsFrom-later l sent reply es some f

@@ -1,8 +1,8 @@
 -- The calls of a book, and where they leave its session.
-use Rattle.std.proofs.Common.{◌≡◌, ◌<◌, ◌≤◌, ◌+◌, ℕ, List, [], ◌∷◌, length, refl, sym, ◌∙◌, ap, subst, arith, Some, length-append, ◌++◌, inl, inr, append_assoc}
+use Rattle.std.proofs.Common.{◌≡◌, ◌≤◌, ◌+◌, ℕ, List, [], ◌∷◌, length, refl, sym, ◌∙◌, ap, subst, arith, Some, length-append, ◌++◌, inl, inr, append_assoc}
 use Rattle.std.proofs.lemmas.List.{append-nil}
 use Rattle.std.proofs.lemmas.List.Elements.{All-nil, All-tail, All-append}
-use Rattle.std.specs.Prelude.{◌≢◌, ◌⊎◌, All, true}
+use Rattle.std.specs.Prelude.{◌≢◌, ◌⊎◌, All, true, false}
 use Rattle.cell_base.specs.declared.cell.Cell.{Cell}
 use Rattle.cell_base.specs.declared.cell.Cell.TheVariants.{Presence, Field}
 use Rattle.cell_base.specs.declared.value.Value.{Value}
@@ -17,7 +17,7 @@ use Rattle.history_core.specs.declared.fault.BookFault.TheVariants as faults
 use Rattle.history_core.specs.declared.fault.DefineAnswer.{DefineAnswer}
 use Rattle.history_core.specs.declared.fault.DefineAnswer.TheVariants as defines
 use Rattle.history_core.specs.Chronicle.{IsLegalChronicle}
-use Rattle.history_core.specs.Book.{AnswersTables, AnswersDefine, Past, Seat, away, seated, pending, Adds, GoesOn, IsIdle, IsSeated, IsInTransaction, IsUnwritten, HasWrite, LastWrite, session_of, writes_of}
+use Rattle.history_core.specs.Book.{AnswersTables, AnswersDefine, Past, Seat, away, seated, pending, Adds, GoesOn, IsIdle, IsSeated, IsInTransaction, IsUnwritten, HasWrite, LastWrite, session_of}
 use Rattle.solo_book.proofs.Legality.{tables_few}
 use Rattle.statement_course.specs.Course.{Course, scan, touch, write, done, first_demand}
 use Rattle.statement_course.specs.Laws.{ReadsFirst, table_number}
@@ -29,7 +29,7 @@ use Rattle.block_machine.specs.Calls as calls
 use Rattle.block_machine.specs.Script.{Entry, did, refused}
 use Rattle.block_machine.specs.Stages.{Fits, IsKnownAfter, IsSoundStage, KnowsTables, owed_after}
 use Rattle.block_machine.specs.Stages as message_stages
-use Rattle.block_machine.specs.Runners.{known_of, owes, wanted}
+use Rattle.block_machine.specs.Runners.{known_of, wanted}
 use Rattle.block_machine.specs.declared.block.Block.{Block}
 use Rattle.block_machine.specs.declared.block.Block.TheVariants.{Implicit, Regular, Failed}
 use Rattle.block_machine.specs.declared.block.Owed.TheVariants as owed_kinds
@@ -43,7 +43,7 @@ use Rattle.session_core.specs.declared.stage.Stage.{Stage}
 use Rattle.session_core.specs.declared.stage.Stage.TheVariants as stages
 use Rattle.session_core.specs.Wants.{Want, of_message}
 use Rattle.session_core.specs.Wants as wishes
-use Rattle.session_core.specs.Record.{Draws, Happens, Declines, ReadsBack, ReadsFrom, may_be_refused, limit_for, HasNewName}
+use Rattle.session_core.specs.Record.{Draws, Happens, ReadsBack, ReadsFrom, may_be_refused, limit_for, HasNewName}
 use Rattle.session_core.specs.Plays.{Plays, MayAsk, SeatAfter, owed_of}
 use Rattle.session_core.specs.Stands.{IsFit, owed_at, wants}
 use Rattle.session_core.specs.Serve.{Sits}
@@ -52,14 +52,23 @@ use Rattle.session_core.proofs.Lawfuls.{Happens-leaves, Declines-goes}
 -- ---- one call
 
 -- a call that was answered
-pub played : {W : Type 0} (gives : W → ℕ → W → Type 0) (p : Past) (v : W) (c d : Call) (a : Answer) (e : Event) (q : Past) (w : W) → c ≡ d → Plays gives p v d a e q w → (x : Event) × Plays gives p v c a x q w
+pub played : {W : Type 0} (gives : W → ℕ → W → Type 0) (p : Past) (v : W) (c d : Call) (a : Answer) (e : Event) (q : Past) (w : W) → c ≡ d →
+    Plays gives p v d a e q w → (x : Event) × Plays gives p v c a x q w
 played gives p v c d a e q w is h = (e, subst (λ (x : Call). Plays gives p v x a e q w) (sym is) h)
 
 -- a call that was refused
-pub declined : {W : Type 0} (gives : W → ℕ → W → Type 0) (p : Past) (v : W) (c d : Call) (why : BookFault) (q : Past) (w : W) → c ≡ d → may_be_refused d → GoesOn p q →
-    ((limit : Limit) → why ≡ faults.Full limit → limit_for q d ≡ Some limit) → ((limit : Limit) → why ≡ faults.Full limit → HasNewName q d limit) → Draws gives p v d (refused why) w → (x : Event) × Plays gives p v c (answers.Refused why) x q w
-declined gives p v c d (faults.Full limit) q w is may goes full fresh draws = (Open 0, subst (λ (x : Call). Plays gives p v x (answers.Refused (faults.Full limit)) (Open 0) q w) (sym is) ((may, goes, full limit refl, fresh limit refl), draws))
-declined gives p v c d faults.Memory q w is may goes full fresh draws = (Open 0, subst (λ (x : Call). Plays gives p v x (answers.Refused faults.Memory) (Open 0) q w) (sym is) ((may, goes), draws))
+pub declined : {W : Type 0} (gives : W → ℕ → W → Type 0) (p : Past) (v : W) (c d : Call) (why : BookFault) (q : Past) (w : W) → c ≡ d →
+    may_be_refused d → GoesOn p q →
+    ((limit : Limit) → why ≡ faults.Full limit → limit_for q d ≡ Some limit) →
+    ((limit : Limit) → why ≡ faults.Full limit → HasNewName q d limit) → Draws gives p v d (refused why) w → (x : Event) ×
+    Plays gives p v c (answers.Refused why) x q w
+declined gives p v c d (faults.Full limit) q w is may goes full fresh draws = (
+  Open 0,
+  subst (λ (x : Call). Plays gives p v x (answers.Refused (faults.Full limit)) (Open 0) q w) (sym is)
+      ((may, goes, full limit refl, fresh limit refl), draws),
+)
+declined gives p v c d faults.Memory q w is may goes full fresh draws =
+    (Open 0, subst (λ (x : Call). Plays gives p v x (answers.Refused faults.Memory) (Open 0) q w) (sym is) ((may, goes), draws))
 
 -- nothing has gone on
 goes_same : (p : Past) → GoesOn p p
@@ -75,10 +84,13 @@ goes_same p = record {
 }
 
 -- a call that the session itself had no memory for
-pub wanting : {W : Type 0} (gives : W → ℕ → W → Type 0) (p : Past) (v : W) (c : Call) → may_be_refused c → Draws gives p v c (refused faults.Memory) v → (x : Event) × Plays gives p v c (answers.Refused faults.Memory) x p v
-wanting gives p v c may draws = declined gives p v c c faults.Memory p v refl may (goes_same p) (λ limit is. absurd (cc is)) (λ limit is. absurd (cc is)) draws
+pub wanting : {W : Type 0} (gives : W → ℕ → W → Type 0) (p : Past) (v : W) (c : Call) → may_be_refused c →
+    Draws gives p v c (refused faults.Memory) v → (x : Event) × Plays gives p v c (answers.Refused faults.Memory) x p v
+wanting gives p v c may draws = declined gives p v c c faults.Memory p v refl may (goes_same p) (λ limit is. absurd (cc is))
+    (λ limit is. absurd (cc is)) draws
 
-pub defined_plays : {W : Type 0} (gives : W → ℕ → W → Type 0) (p : Past) (v : W) (table : Table) (answer : DefineAnswer) (q : Past) → AnswersDefine p table answer q →
+pub defined_plays : {W : Type 0} (gives : W → ℕ → W → Type 0) (p : Past) (v : W) (table : Table) (answer : DefineAnswer) (q : Past) →
+    AnswersDefine p table answer q →
     (x : Event) × Plays gives p v (calls.Define table) (answers.Defined answer) x q v
 defined_plays gives p v table (defines.Defined n) q h = (Define (session_of p.seat) table.name, ((refl, h), refl))
 defined_plays gives p v table (defines.Taken n) q h = (Look (session_of p.seat) n, ((refl, h), refl))
@@ -91,7 +103,8 @@ sound_behind : (before tables : List Table) → All IsSound (before ++ tables) �
 sound_behind [] tables h = h
 sound_behind (b ∷ bs) tables h = sound_behind bs tables (All-tail IsSound b (bs ++ tables) h)
 
-pub look_fits : (c : Call) (p q : Past) (known : ℕ) (tables : List Table) → c ≡ calls.Look known → AnswersTables p known tables q → IsLegalChronicle q.seen → Fits c (answers.Looked tables)
+pub look_fits : (c : Call) (p q : Past) (known : ℕ) (tables : List Table) → c ≡ calls.Look known → AnswersTables p known tables q →
+    IsLegalChronicle q.seen → Fits c (answers.Looked tables)
 look_fits c p q known tables is a legal =
     subst (λ (x : Call). Fits x (answers.Looked tables)) (sym is) (
       omega (arith, known_all p q known tables a, tables_few q.seen legal),
@@ -120,8 +133,8 @@ adds_later : (p m q : Past) (e : Event) → GoesOn p m → session_in e ≡ sess
 adds_later p m q e g same h = record {
   level = h.level ∙ g.level;
   others = g.others ++ h.others;
-  seen = h.seen ∙ ap (λ (x : List Event). x ++ (h.others ++ e ∷ [])) g.seen ∙ append_assoc p.seen.events g.others (h.others ++ e ∷ [])
-      ∙ ap (λ (x : List Event). p.seen.events ++ x) (sym (append_assoc g.others h.others (e ∷ [])));
+  seen = h.seen ∙ ap (λ (x : List Event). x ++ h.others ++ e ∷ []) g.seen
+      ∙ ap (λ (x : List Event). x ++ e ∷ []) (append_assoc p.seen.events g.others h.others);
   foreign = All-both (λ (x : Event). session_in x ≢ session_in e) g.others h.others
       (subst (λ (n : ℕ). All (λ (x : Event). session_in x ≢ n) g.others) (sym same) g.foreign) h.foreign;
   more = g.more ++ h.more;
@@ -129,7 +142,8 @@ adds_later p m q e g same h = record {
   own = h.own ∙ ap (λ (x : List Event). x ++ e ∷ []) g.own;
 }
 
-reads_later : (p m : Past) (cell : Cell) (value : Value) (e : Event) → m.seat ≡ p.seat → ReadsBack m cell value e ⊎ ReadsFrom m cell value e → ReadsBack p cell value e ⊎ ReadsFrom p cell value e
+reads_later : (p m : Past) (cell : Cell) (value : Value) (e : Event) → m.seat ≡ p.seat → ReadsBack m cell value e
+    ⊎ ReadsFrom m cell value e → ReadsBack p cell value e ⊎ ReadsFrom p cell value e
 reads_later p m cell value e same (inl h) = inl (record {
   written = subst (λ (s : Seat). HasWrite cell s) same h.written;
   last = subst (λ (s : Seat). LastWrite cell value s) same h.last;
@@ -143,20 +157,29 @@ reads_later p m cell value e same (inr h) = inr (record {
   event_is = h.event_is ∙ ap (λ (s : Seat). Read (session_of s) cell h.source h.count h.word value) same;
 })
 
-reads_session : (p : Past) (cell : Cell) (value : Value) (e : Event) → ReadsBack p cell value e ⊎ ReadsFrom p cell value e → session_in e ≡ session_of p.seat
+reads_session : (p : Past) (cell : Cell) (value : Value) (e : Event) → ReadsBack p cell value e ⊎ ReadsFrom p cell value e →
+    session_in e ≡ session_of p.seat
 reads_session p cell value e (inl h) = ap session_in h.event_is
 reads_session p cell value e (inr h) = ap session_in h.event_is
 
-draws_later : {W : Type 0} (gives : W → ℕ → W → Type 0) (p m : Past) (v : W) (cell : Cell) (x : Entry) (w : W) → m.seat ≡ p.seat → Draws gives m v (calls.Touch cell) x w → Draws gives p v (calls.Touch cell) x w
+draws_later : {W : Type 0} (gives : W → ℕ → W → Type 0) (p m : Past) (v : W) (cell : Cell) (x : Entry) (w : W) → m.seat ≡ p.seat →
+    Draws gives m v (calls.Touch cell) x w → Draws gives p v (calls.Touch cell) x w
 draws_later gives p m v cell x w same (inl (h, k)) = inl (subst (λ (s : Seat). HasWrite cell s) same h, k)
 draws_later gives p m v cell x w same (inr (h, k)) = inr (subst (λ (s : Seat). IsUnwritten cell s) same h, k)
 
 -- a read of a cell, where others may have gone on before it
-pub touch_later : {W : Type 0} (gives : W → ℕ → W → Type 0) (p m : Past) (v : W) (cell : Cell) (a : Answer) (e : Event) (q : Past) (w : W) → GoesOn p m → Plays gives m v (calls.Touch cell) a e q w → Plays gives p v (calls.Touch cell) a e q w
-touch_later gives p m v cell (answers.Refused (faults.Full limit)) e q w g ((may, goes, full, fresh), draws) = ((may, goes_on_later p m q g goes, full, fresh), draws_later gives p m v cell (refused (faults.Full limit)) w g.seat draws)
-touch_later gives p m v cell (answers.Refused faults.Memory) e q w g ((may, goes), draws) = ((may, goes_on_later p m q g goes), draws_later gives p m v cell (refused faults.Memory) w g.seat draws)
+pub touch_later : {W : Type 0} (gives : W → ℕ → W → Type 0) (p m : Past) (v : W) (cell : Cell) (a : Answer) (e : Event) (q : Past) (w : W) →
+    GoesOn p m → Plays gives m v (calls.Touch cell) a e q w → Plays gives p v (calls.Touch cell) a e q w
+touch_later gives p m v cell (answers.Refused (faults.Full limit)) e q w g ((may, goes, full, fresh), draws) =
+    ((may, goes_on_later p m q g goes, full, fresh), draws_later gives p m v cell (refused (faults.Full limit)) w g.seat draws)
+touch_later gives p m v cell (answers.Refused faults.Memory) e q w g ((may, goes), draws) =
+    ((may, goes_on_later p m q g goes), draws_later gives p m v cell (refused faults.Memory) w g.seat draws)
 touch_later gives p m v cell (answers.Found value) e q w g ((reads, adds), draws) = (
-  (reads_later p m cell value e g.seat reads, adds_later p m q e g (reads_session p cell value e (reads_later p m cell value e g.seat reads)) adds),
+  (
+    reads_later p m cell value e g.seat reads,
+    adds_later p m q e g
+        (reads_session p cell value e (reads_later p m cell value e g.seat reads)) adds,
+  ),
   draws_later gives p m v cell (did (answers.Found value) e) w g.seat draws,
 )
 touch_later gives p m v cell _ e q w g h = absurd h.0
@@ -189,7 +212,8 @@ rollback_of (seated s) h = absurd h
 rollback_of (pending s ws) h = refl
 
 -- the cells of a running statement may be asked for
-may_ask_cells : (c : Course) (n : ℕ) (past : Past) → IsInTransaction past.seat → ReadsFirst n c → n ≤ length past.seen.tables → asks_cells (first_demand c) ≡ true → MayAsk (call_for (first_demand c)) past
+may_ask_cells : (c : Course) (n : ℕ) (past : Past) → IsInTransaction past.seat → ReadsFirst n c → n ≤ length past.seen.tables →
+    asks_cells (first_demand c) ≡ true → MayAsk (call_for (first_demand c)) past
 may_ask_cells (scan table next) n past t r le a = (t, omega (arith, r.0, le))
 may_ask_cells (touch cell next) n past t r le a = (t, omega (arith, same_table cell, r.0, le))
 may_ask_cells (write cell value next) n past t r le a = (t, r.1, omega (arith, same_table cell, r.0, le))
@@ -208,23 +232,33 @@ seated_in block (seated s) h = tt
 seated_in block (pending s ws) h = tt
 
 -- what a message asks may be asked where the book sits
-may_ask_message : (stage : MessageStage) (known : List Table) (past : Past) (c : Call) → owed_of past.seat ≡ message_stages.owed_at stage → length known ≤ length past.seen.tables → KnowsTables stage known → IsSoundStage stage →
+may_ask_message : (stage : MessageStage) (known : List Table) (past : Past) (c : Call) → owed_of past.seat ≡ message_stages.owed_at stage →
+    length known ≤ length past.seen.tables → KnowsTables stage known → IsSoundStage stage →
     message_stages.wants stage known ≡ calls.Book c → MayAsk c past
 may_ask_message (message_stage.Over state) known past c o k t s w = absurd (cc w)
-may_ask_message (message_stage.Defining table block) known past c o k t s w = subst (λ (x : Call). MayAsk x past) (book_of (calls.Define table) c w) (seated_in block past.seat o, s)
-may_ask_message (message_stage.Looking statement block) known past c o k t s w = subst (λ (x : Call). MayAsk x past) (book_of (calls.Look (length known)) c w) (seated_in block past.seat o, k)
-may_ask_message (message_stage.Beginning plan) known past c o k t s w = subst (λ (x : Call). MayAsk x past) (book_of calls.Begin c w) (idle past.seat o)
+may_ask_message (message_stage.Defining table block) known past c o k t s w = subst (λ (x : Call). MayAsk x past)
+    (book_of (calls.Define table) c w) (seated_in block past.seat o, s)
+may_ask_message (message_stage.Looking statement block) known past c o k t s w = subst (λ (x : Call). MayAsk x past)
+    (book_of (calls.Look (length known)) c w) (seated_in block past.seat o, k)
+may_ask_message (message_stage.Beginning plan) known past c o k t s w = subst (λ (x : Call). MayAsk x past) (book_of calls.Begin c w)
+    (idle past.seat o)
 may_ask_message (message_stage.Running run p) known past c o k t s w =
     subst (λ (x : Call). MayAsk x past) (book_of (call_for (first_demand (rest_of run.plan))) c w)
     (may_ask_cells (rest_of run.plan) (length known) past (in_transaction past.seat o) t k run.asks)
-may_ask_message (message_stage.Starting start) known past c o k t s w = subst (λ (x : Call). MayAsk x past) (book_of calls.Begin c w) (idle past.seat o)
-may_ask_message (message_stage.Showing block) known past c o k t s w = subst (λ (x : Call). MayAsk x past) (book_of calls.Show c w) (seated_in block past.seat o)
-may_ask_message (message_stage.Committing reply) known past c o k t s w = subst (λ (x : Call). MayAsk x past) (book_of calls.Commit c w) (in_transaction past.seat o)
-may_ask_message (message_stage.RollingBack reply) known past c o k t s w = subst (λ (x : Call). MayAsk x past) (book_of calls.Rollback c w) (in_transaction past.seat o)
+may_ask_message (message_stage.Starting start) known past c o k t s w = subst (λ (x : Call). MayAsk x past) (book_of calls.Begin c w)
+    (idle past.seat o)
+may_ask_message (message_stage.Showing block) known past c o k t s w = subst (λ (x : Call). MayAsk x past) (book_of calls.Show c w)
+    (seated_in block past.seat o)
+may_ask_message (message_stage.Committing reply) known past c o k t s w = subst (λ (x : Call). MayAsk x past) (book_of calls.Commit c w)
+    (in_transaction past.seat o)
+may_ask_message (message_stage.RollingBack reply) known past c o k t s w = subst (λ (x : Call). MayAsk x past) (book_of calls.Rollback c w)
+    (in_transaction past.seat o)
 may_ask_message (message_stage.Telling reply block) known past c o k t s w = absurd (cc w)
-may_ask_message (message_stage.Undoing code p) known past c o k t s w = subst (λ (x : Call). MayAsk x past) (book_of calls.Rollback c w) (in_transaction past.seat o)
+may_ask_message (message_stage.Undoing code p) known past c o k t s w = subst (λ (x : Call). MayAsk x past) (book_of calls.Rollback c w)
+    (in_transaction past.seat o)
 may_ask_message (message_stage.Failing code state) known past c o k t s w = absurd (cc w)
-may_ask_message message_stage.Finishing known past c o k t s w = subst (λ (x : Call). MayAsk x past) (book_of calls.Commit c w) (in_transaction past.seat o)
+may_ask_message message_stage.Finishing known past c o k t s w = subst (λ (x : Call). MayAsk x past) (book_of calls.Commit c w)
+    (in_transaction past.seat o)
 may_ask_message (message_stage.Readying state) known past c o k t s w = absurd (cc w)
 
 wish_of : (d c : Call) → wishes.Book d ≡ wishes.Book c → d ≡ c
@@ -235,14 +269,18 @@ message_wish (calls.Book d) c h = ap calls.Book (wish_of d c h)
 message_wish calls.Send c h = absurd (cc h)
 message_wish calls.Nothing c h = absurd (cc h)
 
-may_ask_stage : (stage : Stage) (r : Runner) (past : Past) (c : Call) → owed_of past.seat ≡ owed_at stage r → length (known_of r) ≤ length past.seen.tables → IsFit r → wants stage r ≡ wishes.Book c → MayAsk c past
+may_ask_stage : (stage : Stage) (r : Runner) (past : Past) (c : Call) → owed_of past.seat ≡ owed_at stage r →
+    length (known_of r) ≤ length past.seen.tables → IsFit r → wants stage r ≡ wishes.Book c → MayAsk c past
 may_ask_stage (stages.Waiting phase) r past c o k f w = absurd (cc w)
 may_ask_stage (stages.Taking phase) r past c o k f w = absurd (cc w)
 may_ask_stage stages.Opening r past c o k f w = subst (λ (x : Call). MayAsk x past) (wish_of calls.Open c w) (none_away past.seat o)
-may_ask_stage stages.Running r past c o k f w = may_ask_message r.stage r.known.items past c o k f.knows f.sound.stage (message_wish (wanted r) c w)
-may_ask_stage stages.Undoing r past c o k f w = subst (λ (x : Call). MayAsk x past) (wish_of calls.Rollback c w) (in_transaction past.seat o)
+may_ask_stage stages.Running r past c o k f w = may_ask_message r.stage r.known.items past c o k f.knows f.sound.stage
+    (message_wish (wanted r) c w)
+may_ask_stage stages.Undoing r past c o k f w = subst (λ (x : Call). MayAsk x past) (wish_of calls.Rollback c w)
+    (in_transaction past.seat o)
 may_ask_stage (stages.Telling reply) r past c o k f w = absurd (cc w)
-may_ask_stage (stages.Leaving finish) r past c o k f w = subst (λ (x : Call). MayAsk x past) (wish_of calls.Rollback c w) (in_transaction past.seat o)
+may_ask_stage (stages.Leaving finish) r past c o k f w = subst (λ (x : Call). MayAsk x past) (wish_of calls.Rollback c w)
+    (in_transaction past.seat o)
 may_ask_stage (stages.Closing finish) r past c o k f w = subst (λ (x : Call). MayAsk x past) (wish_of calls.Close c w) (idle past.seat o)
 may_ask_stage (stages.Parting fatal) r past c o k f w = absurd (cc w)
 may_ask_stage (stages.Ended finish) r past c o k f w = absurd (cc w)
@@ -253,7 +291,8 @@ may_ask s past c sits w = may_ask_stage s.stage s.runner past c sits.owed sits.k
 
 -- ---- where an answer leaves the book
 
-seat_owed : (p : Past) (c : Call) (a : Answer) (t : Seat) → MayAsk c p → Fits c a → SeatAfter c a p.seat t → owed_of t ≡ owed_after c a (owed_of p.seat)
+seat_owed : (p : Past) (c : Call) (a : Answer) (t : Seat) → MayAsk c p → Fits c a → SeatAfter c a p.seat t →
+    owed_of t ≡ owed_after c a (owed_of p.seat)
 seat_owed p calls.Open (answers.Opened s) t m f h = ap owed_of h
 seat_owed p calls.Open (answers.Refused why) t m f h = ap owed_of h
 seat_owed p calls.Close answers.Closed t m f h = ap owed_of h
@@ -286,13 +325,17 @@ cells_look (demands.Touch cell) known = tt
 cells_look (demands.Write cell value) known = tt
 cells_look (demands.Reply outcome) known = tt
 
-message_look : (stage : MessageStage) (known : List Table) (c : Call) → message_stages.wants stage known ≡ calls.Book c → LooksFrom c (length known)
+message_look : (stage : MessageStage) (known : List Table) (c : Call) → message_stages.wants stage known ≡ calls.Book c →
+    LooksFrom c (length known)
 message_look (message_stage.Over state) known c w = absurd (cc w)
-message_look (message_stage.Defining table block) known c w = subst (λ (x : Call). LooksFrom x (length known)) (book_of (calls.Define table) c w) tt
-message_look (message_stage.Looking statement block) known c w = subst (λ (x : Call). LooksFrom x (length known)) (book_of (calls.Look (length known)) c w) refl
+message_look (message_stage.Defining table block) known c w = subst (λ (x : Call). LooksFrom x (length known))
+    (book_of (calls.Define table) c w) tt
+message_look (message_stage.Looking statement block) known c w = subst (λ (x : Call). LooksFrom x (length known))
+    (book_of (calls.Look (length known)) c w) refl
 message_look (message_stage.Beginning plan) known c w = subst (λ (x : Call). LooksFrom x (length known)) (book_of calls.Begin c w) tt
 message_look (message_stage.Running run p) known c w =
-    subst (λ (x : Call). LooksFrom x (length known)) (book_of (call_for (first_demand (rest_of run.plan))) c w) (cells_look (first_demand (rest_of run.plan)) (length known))
+    subst (λ (x : Call). LooksFrom x (length known)) (book_of (call_for (first_demand (rest_of run.plan))) c w)
+    (cells_look (first_demand (rest_of run.plan)) (length known))
 message_look (message_stage.Starting start) known c w = subst (λ (x : Call). LooksFrom x (length known)) (book_of calls.Begin c w) tt
 message_look (message_stage.Showing block) known c w = subst (λ (x : Call). LooksFrom x (length known)) (book_of calls.Show c w) tt
 message_look (message_stage.Committing reply) known c w = subst (λ (x : Call). LooksFrom x (length known)) (book_of calls.Commit c w) tt
@@ -315,38 +358,57 @@ stage_look (stages.Closing finish) r c w = subst (λ (x : Call). LooksFrom x (le
 stage_look (stages.Parting fatal) r c w = absurd (cc w)
 stage_look (stages.Ended finish) r c w = absurd (cc w)
 
-looked_tables : (p : Past) (c : Call) (tables : List Table) (e : Event) (q : Past) (known : ℕ) → Happens p c (answers.Looked tables) e q → LooksFrom c known → known + length tables ≤ length q.seen.tables
+looked_tables : (p : Past) (c : Call) (tables : List Table) (e : Event) (q : Past) (known : ℕ) → Happens p c (answers.Looked tables) e q →
+    LooksFrom c known → known + length tables ≤ length q.seen.tables
 looked_tables p (calls.Look n) tables e q known h l = omega (arith, known_all p q n tables h.1, l)
 looked_tables p _ tables e q known h l = absurd h
 
-grown_tables : (known tables after : List Table) (m : ℕ) → length known + length tables ≤ m → (after ≡ known) ⊎ (after ≡ known ++ tables) → length after ≤ m
+grown_tables : (known tables after : List Table) (m : ℕ) → length known + length tables ≤ m → (after ≡ known) ⊎ (after ≡ known ++ tables) →
+    length after ≤ m
 grown_tables known tables after m le (inl e) = omega (arith, le, ap length e)
 grown_tables known tables after m le (inr e) = omega (arith, le, ap length e, length-append known tables)
 
 same_tables : (known after : List Table) (m n : ℕ) → length known ≤ m → m ≤ n → after ≡ known → length after ≤ n
 same_tables known after m n le more e = omega (arith, le, more, ap length e)
 
-tables_after : {W : Type 0} (gives : W → ℕ → W → Type 0) (p : Past) (v : W) (c : Call) (a : Answer) (e : Event) (q : Past) (w : W) (known after : List Table) → Plays gives p v c a e q w →
+tables_after : {W : Type 0} (gives : W → ℕ → W → Type 0) (p : Past) (v : W) (c : Call) (a : Answer) (e : Event) (q : Past) (w : W)
+    (known after : List Table) →
+    Plays gives p v c a e q w →
     length known ≤ length p.seen.tables → LooksFrom c (length known) → IsKnownAfter known a after → length after ≤ length q.seen.tables
-tables_after gives p v c (answers.Looked tables) e q w known after h k l is = grown_tables known tables after (length q.seen.tables) (looked_tables p c tables e q (length known) h.0 l) is
+tables_after gives p v c (answers.Looked tables) e q w known after h k l is = grown_tables known tables after (length q.seen.tables)
+    (looked_tables p c tables e q (length known) h.0 l) is
 tables_after gives p v c (answers.Refused why) e q w known after h k l is =
-    let goes : GoesOn p q = Declines-goes p c why q h.0 in omega (arith, k, ap length is, ap length goes.tables, length-append p.seen.tables goes.more)
-tables_after gives p v c (answers.Opened n) e q w known after h k l is = same_tables known after (length p.seen.tables) (length q.seen.tables) k (Happens-leaves p c (answers.Opened n) e q h.0).tables is
-tables_after gives p v c answers.Closed e q w known after h k l is = same_tables known after (length p.seen.tables) (length q.seen.tables) k (Happens-leaves p c answers.Closed e q h.0).tables is
-tables_after gives p v c (answers.Defined d) e q w known after h k l is = same_tables known after (length p.seen.tables) (length q.seen.tables) k (Happens-leaves p c (answers.Defined d) e q h.0).tables is
-tables_after gives p v c (answers.Begun n) e q w known after h k l is = same_tables known after (length p.seen.tables) (length q.seen.tables) k (Happens-leaves p c (answers.Begun n) e q h.0).tables is
-tables_after gives p v c (answers.Listed ks) e q w known after h k l is = same_tables known after (length p.seen.tables) (length q.seen.tables) k (Happens-leaves p c (answers.Listed ks) e q h.0).tables is
-tables_after gives p v c (answers.Found x) e q w known after h k l is = same_tables known after (length p.seen.tables) (length q.seen.tables) k (Happens-leaves p c (answers.Found x) e q h.0).tables is
-tables_after gives p v c answers.Written e q w known after h k l is = same_tables known after (length p.seen.tables) (length q.seen.tables) k (Happens-leaves p c answers.Written e q h.0).tables is
-tables_after gives p v c answers.Committed e q w known after h k l is = same_tables known after (length p.seen.tables) (length q.seen.tables) k (Happens-leaves p c answers.Committed e q h.0).tables is
-tables_after gives p v c answers.RolledBack e q w known after h k l is = same_tables known after (length p.seen.tables) (length q.seen.tables) k (Happens-leaves p c answers.RolledBack e q h.0).tables is
-tables_after gives p v c (answers.Shown n) e q w known after h k l is = same_tables known after (length p.seen.tables) (length q.seen.tables) k (Happens-leaves p c (answers.Shown n) e q h.0).tables is
+    let goes : GoesOn p q = Declines-goes p c why q h.0 in omega
+    (arith, k, ap length is, ap length goes.tables, length-append p.seen.tables goes.more)
+tables_after gives p v c (answers.Opened n) e q w known after h k l is = same_tables known after (length p.seen.tables)
+    (length q.seen.tables) k (Happens-leaves p c (answers.Opened n) e q h.0).tables is
+tables_after gives p v c answers.Closed e q w known after h k l is = same_tables known after (length p.seen.tables) (length q.seen.tables) k
+    (Happens-leaves p c answers.Closed e q h.0).tables is
+tables_after gives p v c (answers.Defined d) e q w known after h k l is = same_tables known after (length p.seen.tables)
+    (length q.seen.tables) k (Happens-leaves p c (answers.Defined d) e q h.0).tables is
+tables_after gives p v c (answers.Begun n) e q w known after h k l is = same_tables known after (length p.seen.tables)
+    (length q.seen.tables) k (Happens-leaves p c (answers.Begun n) e q h.0).tables is
+tables_after gives p v c (answers.Listed ks) e q w known after h k l is = same_tables known after (length p.seen.tables)
+    (length q.seen.tables) k (Happens-leaves p c (answers.Listed ks) e q h.0).tables is
+tables_after gives p v c (answers.Found x) e q w known after h k l is = same_tables known after (length p.seen.tables)
+    (length q.seen.tables) k (Happens-leaves p c (answers.Found x) e q h.0).tables is
+tables_after gives p v c answers.Written e q w known after h k l is = same_tables known after (length p.seen.tables) (length q.seen.tables)
+    k (Happens-leaves p c answers.Written e q h.0).tables is
+tables_after gives p v c answers.Committed e q w known after h k l is = same_tables known after (length p.seen.tables)
+    (length q.seen.tables) k (Happens-leaves p c answers.Committed e q h.0).tables is
+tables_after gives p v c answers.RolledBack e q w known after h k l is = same_tables known after (length p.seen.tables)
+    (length q.seen.tables) k (Happens-leaves p c answers.RolledBack e q h.0).tables is
+tables_after gives p v c (answers.Shown n) e q w known after h k l is = same_tables known after (length p.seen.tables)
+    (length q.seen.tables) k (Happens-leaves p c (answers.Shown n) e q h.0).tables is
 
-pub sits_after : {W : Type 0} (gives : W → ℕ → W → Type 0) (s next : Session) (p : Past) (v : W) (c : Call) (a : Answer) (e : Event) (q : Past) (w : W) →
+pub sits_after : {W : Type 0} (gives : W → ℕ → W → Type 0) (s next : Session) (p : Past) (v : W) (c : Call) (a : Answer) (e : Event)
+    (q : Past) (w : W) →
     Sits s p → wants s.stage s.runner ≡ wishes.Book c → MayAsk c p → Fits c a → Plays gives p v c a e q w → SeatAfter c a p.seat q.seat →
-    owed_at next.stage next.runner ≡ owed_after c a (owed_at s.stage s.runner) → IsKnownAfter (known_of s.runner) a (known_of next.runner) → IsFit next.runner → Sits next q
+    owed_at next.stage next.runner ≡ owed_after c a (owed_at s.stage s.runner) → IsKnownAfter (known_of s.runner) a (known_of next.runner) →
+    IsFit next.runner → Sits next q
 sits_after gives s next p v c a e q w sits wants_c may fits plays seat owed after_is fit = record {
   owed = seat_owed p c a q.seat may fits seat ∙ ap (owed_after c a) sits.owed ∙ sym owed;
-  known_tables = tables_after gives p v c a e q w (known_of s.runner) (known_of next.runner) plays sits.known_tables (stage_look s.stage s.runner c wants_c) after_is;
+  known_tables = tables_after gives p v c a e q w (known_of s.runner) (known_of next.runner) plays sits.known_tables
+      (stage_look s.stage s.runner c wants_c) after_is;
   fit = fit;
 }

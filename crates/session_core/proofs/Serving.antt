@@ -3,7 +3,6 @@ use Rattle.std.proofs.Common.{◌≡◌, ◌↔◌, IfSome, Bool, true, false, �
 use Rattle.std.proofs.lemmas.List.{append-nil}
 use Rattle.std.proofs.lemmas.Grind.{common_steps}
 use Rattle.cell_base.specs.declared.level.Level.{Level}
-use Rattle.sql_tree.specs.declared.table.Table.{Table}
 use Rattle.link_traits.specs.Faults.{Rose}
 use Rattle.link_traits.specs.Traffic.{Traffic, Took, Wrote, Both, Sight}
 use Rattle.history_core.specs.declared.event.Event.{Event}
@@ -32,7 +31,7 @@ use Rattle.session_core.specs.Talk.{Talk, IsTalk, unread}
 use Rattle.session_core.specs.Told.{told, opened_in}
 use Rattle.session_core.specs.Sessions.{Stands, StandsShort}
 use Rattle.session_core.specs.Plays.{Plays, owed_of}
-use Rattle.session_core.specs.Stands.{StandsFor, IsFit, Lacks, LacksBy, owed_at, outer_end, IsStopped, outer, end_of, wants, IsHolding, Shows, IsLast}
+use Rattle.session_core.specs.Stands.{IsFit, Lacks, LacksBy, owed_at, outer_end, IsStopped, outer, end_of, wants, IsHolding, Shows, IsLast}
 use Rattle.session_core.specs.Serve.{Carries, IsAtEnd, Blames, Ran, Serves, Sits, most_read}
 use Rattle.session_core.proofs.Grows.{IsAsked, Shows-stands}
 use Rattle.session_core.proofs.Lawfuls.{Lawful-plays, Lawful-short, Lawful-quiet, own_events}
@@ -40,7 +39,8 @@ use Rattle.session_core.proofs.Carrying.{Carries-record, Carries-wrote, Carries-
 
 -- ---- what a want says of the stage
 
-message_rests : (w : calls.Want) → (of_message w ≡ wishes.Bytes → ⊥) × ((end : End) → of_message w ≡ wishes.Ended end → ⊥) × (of_message w ≡ wishes.Message → ⊥)
+message_rests : (w : calls.Want) → (of_message w ≡ wishes.Bytes → ⊥) × ((end : End) → of_message w ≡ wishes.Ended end → ⊥) ×
+    (of_message w ≡ wishes.Message → ⊥)
 message_rests (calls.Book c) = ((λ e. cc e), (λ end e. cc e), (λ e. cc e))
 message_rests calls.Send = ((λ e. cc e), (λ end e. cc e), (λ e. cc e))
 message_rests calls.Nothing = ((λ e. cc e), (λ end e. cc e), (λ e. cc e))
@@ -55,7 +55,8 @@ stage_taking (stages.Taking phase) r w = (phase, refl)
 stage_taking stages.Running r w = absurd ((message_rests (wanted r)).2 w)
 stage_taking _ r w = absurd (cc w)
 
-stage_over : (stage : Stage) (r : Runner) (end : End) → wants stage r ≡ wishes.Ended end → (finish : Finish) × (stage ≡ stages.Ended finish) × (end_of finish ≡ end)
+stage_over : (stage : Stage) (r : Runner) (end : End) → wants stage r ≡ wishes.Ended end → (finish : Finish) ×
+    (stage ≡ stages.Ended finish) × (end_of finish ≡ end)
 stage_over (stages.Ended finish) r end w = (finish, refl, cc w)
 stage_over stages.Running r end w = absurd ((message_rests (wanted r)).1 end w)
 stage_over _ r end w = absurd (cc w)
@@ -73,19 +74,25 @@ Lacks-bytes stage r lost w l = let (phase, is) = stage_waiting stage r w in subs
 Lacks-taking : (stage : Stage) (r : Runner) (lost : List ℕ) → wants stage r ≡ wishes.Message → Lacks stage lost → lost ≡ []
 Lacks-taking stage r lost w l = let (phase, is) = stage_taking stage r w in subst (λ (x : Stage). Lacks x lost) is l
 
-shows_more : (s : Session) (level : Level) (taken : List ℕ) (es : List Entry) (asked : List Call) (sent : List ℕ) → level_of s.runner ≡ level → wants s.stage s.runner ≡ wishes.Bytes → Stands s taken es asked sent →
+shows_more : (s : Session) (level : Level) (taken : List ℕ) (es : List Entry) (asked : List Call) (sent : List ℕ) →
+    level_of s.runner ≡ level → wants s.stage s.runner ≡ wishes.Bytes → Stands s taken es asked sent →
     (talk : Talk) × IsTalk false taken talk × (told level talk es ≡ (record { bytes = sent; calls = asked }, more))
 shows_more s level taken es asked sent served w st =
     let (phase, is) = stage_waiting s.stage s.runner w in
-    let not_running : s.stage ≡ stages.Running → IsAsked s.runner = λ e. absurd (let clash : stages.Waiting phase ≡ stages.Running = sym is ∙ e in cc clash) in
+    let not_running : s.stage ≡ stages.Running →
+    IsAsked s.runner = λ e. absurd (let clash : stages.Waiting phase ≡ stages.Running = sym is ∙ e in cc clash) in
     subst (λ (l : Level). Shows l wishes.Bytes taken es asked sent) served
-    (subst (λ (x : Want). Shows (level_of s.runner) x taken es asked sent) w (Shows-stands s.stage s.runner s.greeting.items s.frames taken es asked sent not_running st.stage))
+    (subst (λ (x : Want). Shows (level_of s.runner) x taken es asked sent) w
+    (Shows-stands s.stage s.runner s.greeting.items s.frames taken es asked sent not_running st.stage))
 
 -- ---- one step more
 
 -- a call of the book; a want of memory of the session may stand behind it
-pub Ran-answered : {W : Type 0} (gives : W → ℕ → W → Type 0) (level : Level) (p : Past) (v : W) (f : Sight) (s r : Session) (q q' : Past) (w w' : W) (g : Sight) (many : ℕ) (c : Call) (a : Answer) (e : Event) →
-    ((taken : List ℕ) (es : List Entry) (asked : List Call) (sent : List ℕ) → Stands s taken es asked sent → StandsShort r taken (es ++ entry_for a e ∷ []) (asked ++ c ∷ []) sent) →
+pub Ran-answered : {W : Type 0} (gives : W → ℕ → W → Type 0) (level : Level) (p : Past) (v : W) (f : Sight) (s r : Session) (q q' : Past)
+    (w w' : W) (g : Sight) (many : ℕ) (c : Call)
+    (a : Answer) (e : Event) →
+    ((taken : List ℕ) (es : List Entry) (asked : List Call) (sent : List ℕ) → Stands s taken es asked sent →
+    StandsShort r taken (es ++ entry_for a e ∷ []) (asked ++ c ∷ []) sent) →
     level_of r.runner ≡ level_of s.runner → outer r.stage ≡ outer s.stage → ((lost : List ℕ) → Lacks s.stage lost → Lacks r.stage lost) →
     Plays gives q w c a e q' w' → Ran gives level p v f s q w g many → Ran gives level p v f r q' w' g many
 Ran-answered gives level p v f s r q q' w w' g many c a e grown same outer_is lacks plays ran =
@@ -100,8 +107,11 @@ Ran-answered gives level p v f s r q q' w w' g many c a e grown same outer_is la
       record {
         stands = stands;
         served_level = same ∙ run.served_level;
-        lawful = Lawful-short gives p v (asked ++ c ∷ []) (es ++ entry_for a e ∷ []) q' w' sent added is_short (Lawful-plays gives p v asked es q w c a e q' w' run.lawful plays);
-        carries = Both-weaker f.traffic g.traffic (λ x y k. Carries-record level taken (es ++ entry_for a e ∷ []) added sent lost x y (Carries-record level taken es (entry_for a e ∷ []) sent lost x y k)) run.carries;
+        lawful = Lawful-short gives p v (asked ++ c ∷ []) (es ++ entry_for a e ∷ []) q' w' sent added is_short
+            (Lawful-plays gives p v asked es q w c a e q' w' run.lawful plays);
+        carries = Both-weaker f.traffic g.traffic
+            (λ x y k. Carries-record level taken (es ++ entry_for a e ∷ []) added sent lost x y
+            (Carries-record level taken es (entry_for a e ∷ []) sent lost x y k)) run.carries;
         lacks = lacks lost run.lacks;
         blames = Blames-same (outer s.stage) (outer r.stage) f g taken outer_is run.blames;
         reads = run.reads;
@@ -110,8 +120,10 @@ Ran-answered gives level p v f s r q q' w w' g many c a e grown same outer_is la
     )
 
 -- a message was looked at
-pub Ran-taken : {W : Type 0} (gives : W → ℕ → W → Type 0) (level : Level) (p : Past) (v : W) (f : Sight) (s r : Session) (q : Past) (w : W) (g : Sight) (many : ℕ) →
-    ((taken : List ℕ) (es : List Entry) (asked : List Call) (sent : List ℕ) → Stands s taken es asked sent → StandsShort r taken es asked sent) →
+pub Ran-taken : {W : Type 0} (gives : W → ℕ → W → Type 0) (level : Level) (p : Past) (v : W) (f : Sight) (s r : Session) (q : Past) (w : W)
+    (g : Sight) (many : ℕ) →
+    ((taken : List ℕ) (es : List Entry) (asked : List Call) (sent : List ℕ) → Stands s taken es asked sent →
+    StandsShort r taken es asked sent) →
     wants s.stage s.runner ≡ wishes.Message → level_of r.runner ≡ level_of s.runner → outer r.stage ≡ None → Lacks r.stage [] →
     Ran gives level p v f s q w g many → Ran gives level p v f r q w g many
 Ran-taken gives level p v f s r q w g many grown taking same outer_is lacks ran =
@@ -137,8 +149,10 @@ Ran-taken gives level p v f s r q w g many grown taking same outer_is lacks ran 
     )
 
 -- a reply was sent
-pub Ran-sent : {W : Type 0} (gives : W → ℕ → W → Type 0) (level : Level) (p : Past) (v : W) (f : Sight) (s r : Session) (q : Past) (w : W) (g h : Sight) (many : ℕ) (reply : List ℕ) →
-    ((taken : List ℕ) (es : List Entry) (asked : List Call) (sent : List ℕ) → Stands s taken es asked sent → StandsShort r taken es asked (sent ++ reply)) →
+pub Ran-sent : {W : Type 0} (gives : W → ℕ → W → Type 0) (level : Level) (p : Past) (v : W) (f : Sight) (s r : Session) (q : Past) (w : W)
+    (g h : Sight) (many : ℕ) (reply : List ℕ) →
+    ((taken : List ℕ) (es : List Entry) (asked : List Call) (sent : List ℕ) → Stands s taken es asked sent →
+    StandsShort r taken es asked (sent ++ reply)) →
     IsHolding s.stage s.runner → level_of r.runner ≡ level_of s.runner → outer r.stage ≡ outer s.stage → Lacks r.stage [] →
     Both (Wrote reply) g.traffic h.traffic → h.read_faults ≡ g.read_faults → g.write_faults ≤ h.write_faults →
     Ran gives level p v f s q w g many → Ran gives level p v f r q w h many
@@ -156,21 +170,30 @@ Ran-sent gives level p v f s r q w g h many reply grown holds same outer_is lack
         stands = stands;
         served_level = same ∙ run.served_level;
         lawful = Lawful-short gives p v asked es q w (sent ++ reply) added is_short run.lawful;
-        carries = Both-then f.traffic g.traffic h.traffic (λ x y z k l. Carries-wrote level taken es added sent reply reply [] x y z (sym (append-nil reply)) (subst (λ (o : List ℕ). Carries level taken es sent o x y) none_lost k) l) run.carries wrote;
+        carries = Both-then f.traffic g.traffic h.traffic
+            (λ x y z k l. Carries-wrote level taken es added sent reply reply [] x y z (sym (append-nil reply))
+            (subst (λ (o : List ℕ). Carries level taken es sent o x y) none_lost k) l) run.carries wrote;
         lacks = lacks;
-        blames = Blames-wrote (outer r.stage) f g h taken reply wrote same_reads more_writes (Blames-same (outer s.stage) (outer r.stage) f g taken outer_is run.blames);
+        blames = Blames-wrote (outer r.stage) f g h taken reply wrote same_reads more_writes
+            (Blames-same (outer s.stage) (outer r.stage) f g taken outer_is run.blames);
         reads = omega (arith, run.reads, same_reads);
         writes = omega (arith, run.writes, more_writes);
       },
     )
 
 -- a reply was not sent whole
-pub Ran-unsent : {W : Type 0} (gives : W → ℕ → W → Type 0) (level : Level) (p : Past) (v : W) (f : Sight) (s r : Session) (q : Past) (w : W) (g h : Sight) (many : ℕ) (reply part lost : List ℕ) →
-    ((taken : List ℕ) (es : List Entry) (asked : List Call) (sent : List ℕ) → Stands s taken es asked sent → Stands r taken (es ++ unsent (length (sent ++ reply)) ∷ []) asked (sent ++ reply)) →
-    IsHolding s.stage s.runner → level_of r.runner ≡ level_of s.runner → outer r.stage ≡ Some ends.WriteFault → ((l : List ℕ) → Lacks r.stage l) →
-    reply ≡ part ++ lost → Both (Wrote part) g.traffic h.traffic → h.read_faults ≡ g.read_faults → Rose g.write_faults h.write_faults → g.write_faults ≤ h.write_faults →
+pub Ran-unsent : {W : Type 0} (gives : W → ℕ → W → Type 0) (level : Level) (p : Past) (v : W) (f : Sight) (s r : Session) (q : Past) (w : W)
+    (g h : Sight) (many : ℕ)
+    (reply part lost : List ℕ) →
+    ((taken : List ℕ) (es : List Entry) (asked : List Call) (sent : List ℕ) → Stands s taken es asked sent →
+    Stands r taken (es ++ unsent (length (sent ++ reply)) ∷ []) asked (sent ++ reply)) →
+    IsHolding s.stage s.runner → level_of r.runner ≡ level_of s.runner → outer r.stage ≡ Some ends.WriteFault →
+    ((l : List ℕ) → Lacks r.stage l) →
+    reply ≡ part ++ lost → Both (Wrote part) g.traffic h.traffic → h.read_faults ≡ g.read_faults → Rose g.write_faults h.write_faults →
+    g.write_faults ≤ h.write_faults →
     Ran gives level p v f s q w g many → Ran gives level p v f r q w h many
-Ran-unsent gives level p v f s r q w g h many reply part lost grown holds same outer_is lacks reply_is wrote same_reads rose more_writes ran =
+Ran-unsent gives level p v f s r q w g h many reply part lost grown holds same outer_is lacks reply_is wrote same_reads rose more_writes
+    ran =
     let (taken, es, asked, sent, before, many_is, run) = ran in
     let none_lost : before ≡ [] = Lacks-holding s.stage s.runner before holds run.lacks in
     let now : List ℕ = sent ++ reply in (
@@ -184,7 +207,9 @@ Ran-unsent gives level p v f s r q w g h many reply part lost grown holds same o
         stands = grown taken es asked sent run.stands;
         served_level = same ∙ run.served_level;
         lawful = Lawful-quiet gives p v asked es q w (unsent (length now)) tt run.lawful;
-        carries = Both-then f.traffic g.traffic h.traffic (λ x y z k l. Carries-wrote level taken es (unsent (length now) ∷ []) sent reply part lost x y z reply_is (subst (λ (o : List ℕ). Carries level taken es sent o x y) none_lost k) l) run.carries wrote;
+        carries = Both-then f.traffic g.traffic h.traffic
+            (λ x y z k l. Carries-wrote level taken es (unsent (length now) ∷ []) sent reply part lost x y z reply_is
+            (subst (λ (o : List ℕ). Carries level taken es sent o x y) none_lost k) l) run.carries wrote;
         lacks = lacks lost;
         blames = subst (λ (z : Option End). Blames z f h taken) (sym outer_is) (omega (arith, run.writes, rose));
         reads = omega (arith, run.reads, same_reads);
@@ -200,7 +225,8 @@ IsCause stops.EndOfInput f g taken = IsAtEnd g.traffic
 IsCause stops.ReadFault f g taken = Rose f.read_faults g.read_faults
 IsCause stops.Spent f g taken = length taken ≡ most_read
 
-Blames-stopped : (cause : Stop) (x : Option End) (f g : Sight) (taken : List ℕ) → IsStopped cause x → IsCause cause f g taken → Blames x f g taken
+Blames-stopped : (cause : Stop) (x : Option End) (f g : Sight) (taken : List ℕ) → IsStopped cause x → IsCause cause f g taken →
+    Blames x f g taken
 Blames-stopped stops.EndOfInput (Some ends.Closed) f g taken i k = k
 Blames-stopped stops.EndOfInput (Some ends.Cut) f g taken i k = k
 Blames-stopped stops.ReadFault (Some ends.ReadFault) f g taken i k = k
@@ -208,10 +234,13 @@ Blames-stopped stops.Spent (Some ends.Spent) f g taken i k = k
 Blames-stopped _ _ f g taken i k = absurd i
 
 -- a stop, behind a read that gave nothing
-pub Ran-stopped : {W : Type 0} (gives : W → ℕ → W → Type 0) (level : Level) (p : Past) (v : W) (f : Sight) (s r : Session) (q : Past) (w : W) (g h : Sight) (many : ℕ) (cause : Stop) →
-    ((taken : List ℕ) (es : List Entry) (asked : List Call) (sent : List ℕ) → Stands s taken es asked sent → Stands r taken (es ++ stop cause ∷ []) asked sent) →
+pub Ran-stopped : {W : Type 0} (gives : W → ℕ → W → Type 0) (level : Level) (p : Past) (v : W) (f : Sight) (s r : Session) (q : Past)
+    (w : W) (g h : Sight) (many : ℕ) (cause : Stop) →
+    ((taken : List ℕ) (es : List Entry) (asked : List Call) (sent : List ℕ) → Stands s taken es asked sent →
+    Stands r taken (es ++ stop cause ∷ []) asked sent) →
     wants s.stage s.runner ≡ wishes.Bytes → r.runner ≡ s.runner → IsStopped cause (outer r.stage) → Lacks r.stage [] →
-    Both (Took []) g.traffic h.traffic → g.read_faults ≤ h.read_faults → h.write_faults ≡ g.write_faults → ((taken : List ℕ) → length taken ≡ many → f.read_faults ≤ g.read_faults → IsCause cause f h taken) →
+    Both (Took []) g.traffic h.traffic → g.read_faults ≤ h.read_faults → h.write_faults ≡ g.write_faults →
+    ((taken : List ℕ) → length taken ≡ many → f.read_faults ≤ g.read_faults → IsCause cause f h taken) →
     Ran gives level p v f s q w g many → Ran gives level p v f r q w h (many + 0)
 Ran-stopped gives level p v f s r q w g h many cause grown bytes same outer_is lacks took more_reads same_writes why ran =
     let (taken, es, asked, sent, lost, many_is, run) = ran in
@@ -227,8 +256,10 @@ Ran-stopped gives level p v f s r q w g h many cause grown bytes same outer_is l
         stands = grown taken es asked sent run.stands;
         served_level = ap level_of same ∙ run.served_level;
         lawful = Lawful-quiet gives p v asked es q w (stop cause) tt run.lawful;
-        carries = Both-then f.traffic g.traffic h.traffic (λ x y z k l. subst (λ (o : List ℕ). Carries level o (es ++ stop cause ∷ []) sent [] x z) (append-nil taken)
-            (Carries-took level taken [] es (stop cause ∷ []) asked sent x y z talk is shows (subst (λ (o : List ℕ). Carries level taken es sent o x y) none_lost k) l)) run.carries took;
+        carries = Both-then f.traffic g.traffic h.traffic
+            (λ x y z k l. subst (λ (o : List ℕ). Carries level o (es ++ stop cause ∷ []) sent [] x z) (append-nil taken)
+            (Carries-took level taken [] es (stop cause ∷ []) asked sent x y z talk is shows
+            (subst (λ (o : List ℕ). Carries level taken es sent o x y) none_lost k) l)) run.carries took;
         lacks = lacks;
         blames = Blames-stopped cause (outer r.stage) f h taken outer_is (why taken many_is run.reads);
         reads = omega (arith, run.reads, more_reads);
@@ -237,10 +268,13 @@ Ran-stopped gives level p v f s r q w g h many cause grown bytes same outer_is l
     )
 
 -- a stop where the link told nothing new: no read, or one that failed
-pub Ran-halted : {W : Type 0} (gives : W → ℕ → W → Type 0) (level : Level) (p : Past) (v : W) (f : Sight) (s r : Session) (q : Past) (w : W) (g h : Sight) (many : ℕ) (cause : Stop) →
-    ((taken : List ℕ) (es : List Entry) (asked : List Call) (sent : List ℕ) → Stands s taken es asked sent → Stands r taken (es ++ stop cause ∷ []) asked sent) →
+pub Ran-halted : {W : Type 0} (gives : W → ℕ → W → Type 0) (level : Level) (p : Past) (v : W) (f : Sight) (s r : Session) (q : Past) (w : W)
+    (g h : Sight) (many : ℕ) (cause : Stop) →
+    ((taken : List ℕ) (es : List Entry) (asked : List Call) (sent : List ℕ) → Stands s taken es asked sent →
+    Stands r taken (es ++ stop cause ∷ []) asked sent) →
     wants s.stage s.runner ≡ wishes.Bytes → r.runner ≡ s.runner → IsStopped cause (outer r.stage) → Lacks r.stage [] →
-    h.traffic ≡ g.traffic → g.read_faults ≤ h.read_faults → h.write_faults ≡ g.write_faults → ((taken : List ℕ) → length taken ≡ many → f.read_faults ≤ g.read_faults → IsCause cause f h taken) →
+    h.traffic ≡ g.traffic → g.read_faults ≤ h.read_faults → h.write_faults ≡ g.write_faults →
+    ((taken : List ℕ) → length taken ≡ many → f.read_faults ≤ g.read_faults → IsCause cause f h taken) →
     Ran gives level p v f s q w g many → Ran gives level p v f r q w h (many + 0)
 Ran-halted gives level p v f s r q w g h many cause grown bytes same outer_is lacks told_same more_reads same_writes why ran =
     let (taken, es, asked, sent, lost, many_is, run) = ran in
@@ -256,7 +290,9 @@ Ran-halted gives level p v f s r q w g h many cause grown bytes same outer_is la
         served_level = ap level_of same ∙ run.served_level;
         lawful = Lawful-quiet gives p v asked es q w (stop cause) tt run.lawful;
         carries = subst (λ (o : Option Traffic). Both (Carries level taken (es ++ stop cause ∷ []) sent []) f.traffic o) (sym told_same)
-            (Both-weaker f.traffic g.traffic (λ x y k. subst (λ (o : List ℕ). Carries level taken (es ++ stop cause ∷ []) sent o x y) none_lost (Carries-record level taken es (stop cause ∷ []) sent lost x y k)) run.carries);
+            (Both-weaker f.traffic g.traffic (λ x y k.
+            subst (λ (o : List ℕ). Carries level taken (es ++ stop cause ∷ []) sent o x y) none_lost
+            (Carries-record level taken es (stop cause ∷ []) sent lost x y k)) run.carries);
         lacks = lacks;
         blames = Blames-stopped cause (outer r.stage) f h taken outer_is (why taken many_is run.reads);
         reads = omega (arith, run.reads, more_reads);
@@ -265,8 +301,11 @@ Ran-halted gives level p v f s r q w g h many cause grown bytes same outer_is la
     )
 
 -- a piece
-pub Ran-fed : {W : Type 0} (gives : W → ℕ → W → Type 0) (level : Level) (p : Past) (v : W) (f : Sight) (s r : Session) (q : Past) (w : W) (g h : Sight) (many : ℕ) (piece : List ℕ) (n : ℕ) →
-    ((taken : List ℕ) (es : List Entry) (asked : List Call) (sent : List ℕ) → Stands s taken es asked sent → StandsShort r (taken ++ piece) es asked sent) →
+pub Ran-fed : {W : Type 0} (gives : W → ℕ → W → Type 0) (level : Level) (p : Past) (v : W) (f : Sight) (s r : Session) (q : Past) (w : W)
+    (g h : Sight) (many : ℕ) (piece : List ℕ)
+    (n : ℕ) →
+    ((taken : List ℕ) (es : List Entry) (asked : List Call) (sent : List ℕ) → Stands s taken es asked sent →
+    StandsShort r (taken ++ piece) es asked sent) →
     wants s.stage s.runner ≡ wishes.Bytes → r.runner ≡ s.runner → outer r.stage ≡ None → Lacks r.stage [] →
     Both (Took piece) g.traffic h.traffic → g.read_faults ≤ h.read_faults → h.write_faults ≡ g.write_faults → length piece ≡ n →
     Ran gives level p v f s q w g many → Ran gives level p v f r q w h (many + n)
@@ -285,7 +324,9 @@ Ran-fed gives level p v f s r q w g h many piece n grown bytes same outer_is lac
         stands = stands;
         served_level = ap level_of same ∙ run.served_level;
         lawful = Lawful-short gives p v asked es q w sent added is_short run.lawful;
-        carries = Both-then f.traffic g.traffic h.traffic (λ x y z k l. Carries-took level taken piece es added asked sent x y z talk is shows (subst (λ (o : List ℕ). Carries level taken es sent o x y) none_lost k) l) run.carries took;
+        carries = Both-then f.traffic g.traffic h.traffic
+            (λ x y z k l. Carries-took level taken piece es added asked sent x y z talk is shows
+            (subst (λ (o : List ℕ). Carries level taken es sent o x y) none_lost k) l) run.carries took;
         lacks = lacks;
         blames = Blames-none (outer r.stage) f h (taken ++ piece) outer_is;
         reads = omega (arith, run.reads, more_reads);
@@ -305,17 +346,25 @@ at_end n (Some a) (Some b) e h k = sym k.left ∙ h.0 e
 
 -- ---- the whole run
 
-pub Serves-ran : {W : Type 0} (gives : W → ℕ → W → Type 0) (level : Level) (p : Past) (v : W) (f : Sight) (s : Session) (number : Option ℕ) (end : End) (wanting : Bool) (q : Past) (w : W) (g : Sight) (many : ℕ) →
-    many ≤ most_read → wants s.stage s.runner ≡ wishes.Ended end → ((taken : List ℕ) (es : List Entry) (asked : List Call) (sent : List ℕ) → Stands s taken es asked sent → number ≡ opened_in es) →
-    ((taken : List ℕ) (es : List Entry) (asked : List Call) (sent : List ℕ) → Stands s taken es asked sent → wanting ≡ has_short es) → Ran gives level p v f s q w g many →
-    (talk : Talk) × (taken : List ℕ) × (es : List Entry) × (asked : List Call) × (sent : List ℕ) × (lost : List ℕ) × Serves gives level p v f number end wanting q w g talk taken es asked sent lost
+pub Serves-ran : {W : Type 0} (gives : W → ℕ → W → Type 0) (level : Level) (p : Past) (v : W) (f : Sight) (s : Session) (number : Option ℕ)
+    (end : End) (wanting : Bool) (q : Past)
+    (w : W)
+    (g : Sight) (many : ℕ) →
+    many ≤ most_read → wants s.stage s.runner ≡ wishes.Ended end →
+    ((taken : List ℕ) (es : List Entry) (asked : List Call) (sent : List ℕ) → Stands s taken es asked sent → number ≡ opened_in es) →
+    ((taken : List ℕ) (es : List Entry) (asked : List Call) (sent : List ℕ) → Stands s taken es asked sent → wanting ≡ has_short es) →
+    Ran gives level p v f s q w g many →
+    (talk : Talk) × (taken : List ℕ) × (es : List Entry) × (asked : List Call) × (sent : List ℕ) × (lost : List ℕ) ×
+    Serves gives level p v f number end wanting q w g talk taken es asked sent lost
 Serves-ran gives level p v f s number end wanting q w g many within over opened flag ran =
     let (taken, es, asked, sent, lost, many_is, run) = ran in
     let (finish, is, end_is) = stage_over s.stage s.runner end over in
-    let not_running : s.stage ≡ stages.Running → IsAsked s.runner = λ e. absurd (let clash : stages.Ended finish ≡ stages.Running = sym is ∙ e in cc clash) in
+    let not_running : s.stage ≡ stages.Running →
+    IsAsked s.runner = λ e. absurd (let clash : stages.Ended finish ≡ stages.Running = sym is ∙ e in cc clash) in
     let shows : Shows level (wishes.Ended end) taken es asked sent =
     subst (λ (l : Level). Shows l (wishes.Ended end) taken es asked sent) run.served_level
-    (subst (λ (x : Want). Shows (level_of s.runner) x taken es asked sent) over (Shows-stands s.stage s.runner s.greeting.items s.frames taken es asked sent not_running run.stands.stage)) in (
+    (subst (λ (x : Want). Shows (level_of s.runner) x taken es asked sent) over
+    (Shows-stands s.stage s.runner s.greeting.items s.frames taken es asked sent not_running run.stands.stage)) in (
       shows.0,
       taken,
       es,
@@ -330,7 +379,8 @@ Serves-ran gives level p v f s number end wanting q w g many within over opened 
         own = own_events gives p v asked es q w run.lawful;
         carries = run.carries;
         lacks = subst (λ (x : End). LacksBy x lost) end_is (subst (λ (x : Stage). Lacks x lost) is run.lacks);
-        blames = subst (λ (x : End). Blames (outer_end x) f g taken) end_is (subst (λ (x : Stage). Blames (outer x) f g taken) is run.blames);
+        blames = subst (λ (x : End). Blames (outer_end x) f g taken) end_is
+            (subst (λ (x : Stage). Blames (outer x) f g taken) is run.blames);
         opened = opened taken es asked sent run.stands;
         short = flag taken es asked sent run.stands;
       },
@@ -338,10 +388,17 @@ Serves-ran gives level p v f s number end wanting q w g many within over opened 
 
 carries_nothing : (level : Level) (es : List Entry) (t : Option Traffic) → Both (Carries level [] es [] []) t t
 carries_nothing level es None = tt
-carries_nothing level es (Some t) = record { left = refl; read_is = sym (append-nil t.read); written_is = refl; marks = ([], sym (append-nil t.marks), tt) }
+carries_nothing level es (Some t) = record {
+  left = refl;
+  read_is = sym (append-nil t.read);
+  written_is = refl;
+  marks =
+      ([], sym (append-nil t.marks), tt);
+}
 
 -- at the start
-pub Ran-new : {W : Type 0} (gives : W → ℕ → W → Type 0) (level : Level) (p : Past) (v : W) (f : Sight) (s : Session) → Stands s [] [] [] [] → level_of s.runner ≡ level → s.stage ≡ stages.Waiting phases.Startup → Ran gives level p v f s p v f 0
+pub Ran-new : {W : Type 0} (gives : W → ℕ → W → Type 0) (level : Level) (p : Past) (v : W) (f : Sight) (s : Session) →
+    Stands s [] [] [] [] → level_of s.runner ≡ level → s.stage ≡ stages.Waiting phases.Startup → Ran gives level p v f s p v f 0
 Ran-new gives level p v f s st served is = (
   [],
   [],
@@ -366,7 +423,8 @@ message_resting (calls.Book c) h = h
 message_resting calls.Send h = h
 message_resting calls.Nothing h = h
 
-pub wants_bytes : (stage : Stage) (r : Runner) → IsResting (wants stage r) → ((end : End) → wants stage r ≡ wishes.Ended end → ⊥) → wants stage r ≡ wishes.Bytes
+pub wants_bytes : (stage : Stage) (r : Runner) → IsResting (wants stage r) → ((end : End) → wants stage r ≡ wishes.Ended end → ⊥) →
+    wants stage r ≡ wishes.Bytes
 wants_bytes (stages.Waiting phase) r h n = refl
 wants_bytes (stages.Ended e) r h n = absurd (n (end_of e) refl)
 wants_bytes stages.Running r h n = absurd (message_resting (wanted r) h)
@@ -379,7 +437,8 @@ is_over stages.Running r h l = absurd l
 is_over _ r h l = absurd h
 
 -- a session at its beginning sits by a book that has none
-pub sits_new : (s : Session) (p : Past) → s.stage ≡ stages.Waiting phases.Startup → known_of s.runner ≡ [] → IsFit s.runner → p.seat ≡ away → Sits s p
+pub sits_new : (s : Session) (p : Past) → s.stage ≡ stages.Waiting phases.Startup → known_of s.runner ≡ [] → IsFit s.runner →
+    p.seat ≡ away → Sits s p
 sits_new s p is none fit seat = record {
   owed = ap owed_of seat ∙ sym (ap (λ (x : Stage). owed_at x s.runner) is);
   known_tables = omega (arith, ap length none);
@@ -387,7 +446,8 @@ sits_new s p is none fit seat = record {
 }
 
 -- where no call was made the book sits as before
-pub sits_same : (s next : Session) (p : Past) → Sits s p → owed_at next.stage next.runner ≡ owed_at s.stage s.runner → known_of next.runner ≡ known_of s.runner → IsFit next.runner → Sits next p
+pub sits_same : (s next : Session) (p : Past) → Sits s p → owed_at next.stage next.runner ≡ owed_at s.stage s.runner →
+    known_of next.runner ≡ known_of s.runner → IsFit next.runner → Sits next p
 sits_same s next p sits owed same fit = record {
   owed = sits.owed ∙ sym owed;
   known_tables = omega (arith, sits.known_tables, ap length same);
@@ -395,7 +455,8 @@ sits_same s next p sits owed same fit = record {
 }
 
 -- the same, where the runner was left alone
-pub sits_kept : (s next : Session) (p : Past) → Sits s p → owed_at next.stage next.runner ≡ owed_at s.stage s.runner → next.runner ≡ s.runner → Sits next p
+pub sits_kept : (s next : Session) (p : Past) → Sits s p → owed_at next.stage next.runner ≡ owed_at s.stage s.runner →
+    next.runner ≡ s.runner → Sits next p
 sits_kept s next p sits owed same = sits_same s next p sits owed (ap known_of same) (subst IsFit (sym same) sits.fit)
 
 is_away : (seat : Seat) → owed_of seat ≡ owes.Nothing → seat ≡ away
@@ -423,7 +484,8 @@ told_short level = refl
 
 -- no memory to begin with
 pub Serves-none : {W : Type 0} (gives : W → ℕ → W → Type 0) (level : Level) (p : Past) (v : W) (f : Sight) →
-    (talk : Talk) × (taken : List ℕ) × (es : List Entry) × (asked : List Call) × (sent : List ℕ) × (lost : List ℕ) × Serves gives level p v f None ends.Memory true p v f talk taken es asked sent lost
+    (talk : Talk) × (taken : List ℕ) × (es : List Entry) × (asked : List Call) × (sent : List ℕ) × (lost : List ℕ) ×
+    Serves gives level p v f None ends.Memory true p v f talk taken es asked sent lost
 Serves-none gives level p v f = (
   unread,
   [],

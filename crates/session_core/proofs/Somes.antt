@@ -1,5 +1,5 @@
 -- Each reply of the session's own has bytes.
-use Rattle.std.proofs.Common.{◌≡◌, ℕ, ◌<◌, Bool, List, ◌++◌, length, refl, arith, length-append}
+use Rattle.std.proofs.Common.{ℕ, ◌<◌, Bool, List, ◌++◌, length, arith, length-append}
 use Rattle.cell_base.specs.declared.sql_state.SqlState.{SqlState}
 use Rattle.pg_framing.specs.declared.replies.TransactionState.{TransactionState}
 use Rattle.pg_framing.specs.Replies.{framed, auth_ok, ready, error_response}

@@ -5,6 +5,7 @@ use Rattle.cell_base.specs.declared.level.Level.{Level}
 use Rattle.sql_tree.specs.declared.table.Table.{Table}
 use Rattle.client_framing.specs.declared.front.Front.{Front}
 use Rattle.client_framing.specs.declared.front.FrameFault.{FrameFault}
+use Rattle.client_framing.specs.declared.front.FrameFault.TheVariants as frame_faults
 use Rattle.client_framing.specs.Spelling.{phase_after}
 use Rattle.client_framing.specs.Fronts.{Held, TakesFront, IsPartial, HasFault}
 use Rattle.block_machine.specs.Script.{Entry, Script, Said, short, lost, unless_short}
@@ -17,47 +18,57 @@ use Rattle.session_core.specs.declared.stage.Stage.{Stage}
 use Rattle.session_core.specs.declared.stage.Stage.TheVariants as stages
 use Rattle.session_core.specs.Talk.{Talk, asks, partial, faulty, unread, IsTalk}
 use Rattle.session_core.specs.Told.{ending, owed_by, handled, session, waiting}
-use Rattle.session_core.specs.Stands.{least, IsBusy, on, goes_on}
-use Rattle.session_core.specs.Steps.{LeadsTo, Enters, Skips, Meets, Steps, with_wanting}
+use Rattle.session_core.specs.Stands.{least, IsBusy, on}
+use Rattle.session_core.specs.Steps.{LeadsTo, Enters, Skips, Meets, Steps}
 use Rattle.session_core.proofs.Passes.{busy-last, least-busy, unless_short-passes, unless_short-over, unless_short-takes, unless_short-twice, IsFed-last}
 
 -- a want of memory where a message or bytes are wanted
 pub session-short : (level : Level) (phase : Phase) (known : List Table) (talk : Talk) (said : Said) (es : List Entry) →
     session level phase known talk said (short true (length said.bytes) ∷ es) ≡ ending (owed_by phase) ends.Memory said es
-session-short level phase known (asks a talk) said es = unless_short-takes true (ending (owed_by phase) ends.Memory) (handled level a phase known (λ p k. session level p k talk)) said es
-session-short level phase known (partial r) said es = unless_short-takes true (ending (owed_by phase) ends.Memory) (waiting phase (length r)) said es
-session-short level phase known (faulty f) said es = unless_short-takes true (ending (owed_by phase) ends.Memory) (ending (owed_by phase) (ends.Protocol f)) said es
+session-short level phase known (asks a talk) said es =
+    unless_short-takes true (ending (owed_by phase) ends.Memory) (handled level a phase known (λ p k. session level p k talk)) said es
+session-short level phase known (partial r) said es =
+    unless_short-takes true (ending (owed_by phase) ends.Memory) (waiting phase (length r)) said es
+session-short level phase known (faulty f) said es =
+    unless_short-takes true (ending (owed_by phase) ends.Memory) (ending (owed_by phase) (ends.Protocol f)) said es
 session-short level phase known unread said es = unless_short-takes true (ending (owed_by phase) ends.Memory) lost said es
 
 -- what stands before a message that is passed over may stand behind it
 session-again : (level : Level) (phase : Phase) (known : List Table) (talk : Talk) (said : Said) (es : List Entry) →
     unless_short true (ending (owed_by phase) ends.Memory) (session level phase known talk) said es ≡ session level phase known talk said es
-session-again level phase known (asks a talk) said es = unless_short-twice true (ending (owed_by phase) ends.Memory) (handled level a phase known (λ p k. session level p k talk)) said es
-session-again level phase known (partial r) said es = unless_short-twice true (ending (owed_by phase) ends.Memory) (waiting phase (length r)) said es
-session-again level phase known (faulty f) said es = unless_short-twice true (ending (owed_by phase) ends.Memory) (ending (owed_by phase) (ends.Protocol f)) said es
+session-again level phase known (asks a talk) said es =
+    unless_short-twice true (ending (owed_by phase) ends.Memory) (handled level a phase known (λ p k. session level p k talk)) said es
+session-again level phase known (partial r) said es =
+    unless_short-twice true (ending (owed_by phase) ends.Memory) (waiting phase (length r)) said es
+session-again level phase known (faulty f) said es =
+    unless_short-twice true (ending (owed_by phase) ends.Memory) (ending (owed_by phase) (ends.Protocol f)) said es
 session-again level phase known unread said es = unless_short-twice true (ending (owed_by phase) ends.Memory) lost said es
 
-pub Steps-partial : (phase : Phase) (r : Runner) (before after : Held) → after ≡ before → IsPartial before.started before.rest → Steps phase r before (stages.Waiting phase) r None after
-Steps-partial phase r before after is partial = record {
+pub Steps-partial : (phase : Phase) (r : Runner) (before after : Held) → after ≡ before → IsPartial before.started before.rest →
+    Steps phase r before (stages.Waiting phase) r None after
+Steps-partial phase r before after is nothing = record {
   turns = λ talk. talk;
   heard = λ bytes talk fed h. subst (λ (x : Held). IsTalk x.started (x.rest ++ bytes) talk) is h;
   goes = λ greeting talk said es from. refl;
-  waits = λ other e. subst (λ (x : Held). IsPartial x.started x.rest) (sym is) partial;
+  waits = λ other e. subst (λ (x : Held). IsPartial x.started x.rest) (sym is) nothing;
 }
 
 at_one : (stage : Stage) (n : ℕ) (es : List Entry) → IsBusy stage → IsFrom (least stage) n es → IsFrom 1 n es
 at_one stage n es busy from = subst (λ (k : ℕ). IsFrom k n es) (least-busy stage busy) from
 
 -- a message that comes off the front of what is held
-taken_off : (before after : Held) (front : Front) (bytes : List ℕ) → TakesFront before.started before.rest front after.rest → TakesFront before.started (before.rest ++ bytes) front (after.rest ++ bytes)
+taken_off : (before after : Held) (front : Front) (bytes : List ℕ) → TakesFront before.started before.rest front after.rest →
+    TakesFront before.started (before.rest ++ bytes) front (after.rest ++ bytes)
 taken_off before after front bytes takes = record {
   taken = takes.taken;
   spelled = takes.spelled;
   whole = ap (λ x. x ++ bytes) takes.whole ∙ append_assoc takes.taken after.rest bytes;
 }
 
-Steps-entered : (phase : Phase) (r : Runner) (before after : Held) (front : Front) (stage : Stage) (next : Runner) (wanting : Option Bool) → TakesFront before.started before.rest front after.rest →
-    after.started ≡ phase_after before.started front → Enters front phase r stage next wanting → Steps phase r before stage next wanting after
+Steps-entered : (phase : Phase) (r : Runner) (before after : Held) (front : Front) (stage : Stage) (next : Runner) (wanting : Option Bool) →
+    TakesFront before.started before.rest front after.rest →
+    after.started ≡ phase_after before.started front → Enters front phase r stage next wanting →
+    Steps phase r before stage next wanting after
 Steps-entered phase r before after front stage next wanting takes started enters = record {
   turns = asks enters.asked;
   heard = λ bytes talk fed h. (
@@ -68,12 +79,15 @@ Steps-entered phase r before after front stage next wanting takes started enters
     subst (λ (b : Bool). IsTalk b (after.rest ++ bytes) talk) started h,
   );
   goes = λ greeting talk said es from.
-      unless_short-over wanting (ending (owed_by phase) ends.Memory) (handled (level_of r) enters.asked phase (known_of r) (on r talk)) said es enters.passing (at_one stage (length said.bytes) es enters.busy from)
+      unless_short-over wanting (ending (owed_by phase) ends.Memory)
+      (handled (level_of r) enters.asked phase (known_of r) (on r talk)) said es enters.passing
+      (at_one stage (length said.bytes) es enters.busy from)
       ∙ enters.goes greeting talk said es (at_one stage (length said.bytes) es enters.busy from);
   waits = λ other is. absurd (subst IsBusy is enters.busy);
 }
 
-Steps-skipped : (phase : Phase) (r : Runner) (before after : Held) (front : Front) → TakesFront before.started before.rest front after.rest →
+Steps-skipped : (phase : Phase) (r : Runner) (before after : Held) (front : Front) →
+    TakesFront before.started before.rest front after.rest →
     after.started ≡ phase_after before.started front → Skips front phase → Steps phase r before (stages.Taking phase) r None after
 Steps-skipped phase r before after front takes started skips = record {
   turns = asks skips.asked;
@@ -85,22 +99,28 @@ Steps-skipped phase r before after front takes started skips = record {
     subst (λ (b : Bool). IsTalk b (after.rest ++ bytes) talk) started h,
   );
   goes = λ greeting talk said es from.
-      ap (λ (x : Script). unless_short true (ending (owed_by phase) ends.Memory) x said es) (skips.goes (level_of r) (known_of r) (on r talk))
+      ap (λ (x : Script). unless_short true (ending (owed_by phase) ends.Memory) x said es)
+      (skips.goes (level_of r) (known_of r) (on r talk))
       ∙ session-again (level_of r) phase (known_of r) talk said es;
   waits = λ other is. absurd (cc is);
 }
 
-pub Steps-front : (phase : Phase) (r : Runner) (before after : Held) (front : Front) (stage : Stage) (next : Runner) (wanting : Option Bool) → TakesFront before.started before.rest front after.rest →
-    after.started ≡ phase_after before.started front → Meets front phase r stage next wanting → Steps phase r before stage next wanting after
-Steps-front phase r before after front stage next wanting takes started (inl enters) = Steps-entered phase r before after front stage next wanting takes started enters
+pub Steps-front : (phase : Phase) (r : Runner) (before after : Held) (front : Front) (stage : Stage) (next : Runner)
+    (wanting : Option Bool) → TakesFront before.started before.rest front after.rest →
+    after.started ≡ phase_after before.started front → Meets front phase r stage next wanting →
+    Steps phase r before stage next wanting after
+Steps-front phase r before after front stage next wanting takes started (inl enters) =
+    Steps-entered phase r before after front stage next wanting takes started enters
 Steps-front phase r before after front stage next wanting takes started (inr (skips, stage_is, next_is, wanting_is)) =
     subst (λ (x : Stage). Steps phase r before x next wanting after) (sym stage_is)
     (subst (λ (x : Runner). Steps phase r before (stages.Taking phase) x wanting after) (sym next_is)
     (subst (λ (x : Option Bool). Steps phase r before (stages.Taking phase) r x after) (sym wanting_is)
     (Steps-skipped phase r before after front takes started skips)))
 
-pub Steps-faulty : (phase : Phase) (r : Runner) (before after : Held) (fault : FrameFault) (stage : Stage) → after.started ≡ before.started → after.rest ≡ before.rest →
-    HasFault before.started before.rest fault → LeadsTo stage (ending (owed_by phase) (ends.Protocol fault)) → Steps phase r before stage r None after
+pub Steps-faulty : (phase : Phase) (r : Runner) (before after : Held) (fault : FrameFault) (stage : Stage) →
+    after.started ≡ before.started → after.rest ≡ before.rest →
+    HasFault before.started before.rest fault → LeadsTo stage (ending (owed_by phase) (ends.Protocol fault)) →
+    Steps phase r before stage r None after
 Steps-faulty phase r before after fault stage same_phase same_rest has leads = record {
   turns = λ talk. faulty fault;
   heard = λ bytes talk fed h.
@@ -108,7 +128,8 @@ Steps-faulty phase r before after fault stage same_phase same_rest has leads = r
       subst (λ (x : List ℕ). HasFault before.started (before.rest ++ x) fault) (sym nothing)
       (subst (λ (x : List ℕ). HasFault before.started x fault) (sym (append-nil before.rest)) has);
   goes = λ greeting talk said es from.
-      unless_short-passes true (ending (owed_by phase) ends.Memory) (ending (owed_by phase) (ends.Protocol fault)) said es (at_one stage (length said.bytes) es (busy-last stage leads.0) from)
+      unless_short-passes true (ending (owed_by phase) ends.Memory) (ending (owed_by phase) (ends.Protocol fault)) said es
+      (at_one stage (length said.bytes) es (busy-last stage leads.0) from)
       ∙ leads.1 r greeting talk said es;
   waits = λ other is. absurd (subst IsBusy is (busy-last stage leads.0));
 }
@@ -121,3 +142,30 @@ Steps-memory phase r before after stage is leads = record {
   goes = λ greeting talk said es from. session-short (level_of r) phase (known_of r) talk said es ∙ leads.1 r greeting talk said es;
   waits = λ other e. absurd (subst IsBusy e (busy-last stage leads.0));
 }
+
+memory_or : (fault : FrameFault) → (fault ≡ frame_faults.Memory) ⊎ (fault ≢ frame_faults.Memory)
+memory_or (frame_faults.BadLength len) = inr (λ e. cc e)
+memory_or frame_faults.BadStartup = inr (λ e. cc e)
+memory_or (frame_faults.TooLong len) = inr (λ e. cc e)
+memory_or (frame_faults.UnknownType kind) = inr (λ e. cc e)
+memory_or frame_faults.NoTerminator = inr (λ e. cc e)
+memory_or frame_faults.Memory = inl refl
+
+-- a fault of the stream, or a want of memory in its reading
+pub Steps-broken : (phase : Phase) (r : Runner) (before after : Held) (fault : FrameFault) (stage : Stage) (w : Option Bool) →
+    (fault ≡ frame_faults.Memory → after ≡ before) →
+    (fault ≢ frame_faults.Memory → (after ≡ record before { fault = Some fault }) × HasFault before.started before.rest fault) →
+    (fault ≡ frame_faults.Memory → (w ≡ Some true) × LeadsTo stage (ending (owed_by phase) ends.Memory)) →
+    (fault ≢ frame_faults.Memory → (w ≡ None) × LeadsTo stage (ending (owed_by phase) (ends.Protocol fault))) →
+    Steps phase r before stage r w after
+Steps-broken phase r before after fault stage w same faulted memory protocol =
+    elim (memory_or fault) [
+      | inl is ↦
+          subst (λ (x : Option Bool). Steps phase r before stage r x after) (sym (memory is).0)
+          (Steps-memory phase r before after stage (same is) (memory is).1)
+      | inr other ↦
+          let (after_is, has) = faulted other in
+          subst (λ (x : Option Bool). Steps phase r before stage r x after) (sym (protocol other).0)
+          (Steps-faulty phase r before after fault stage (ap (λ (x : Held). x.started) after_is) (ap (λ (x : Held). x.rest) after_is) has
+          (protocol other).1)
+    ]

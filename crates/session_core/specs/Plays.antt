@@ -1,5 +1,5 @@
 -- The calls of a book: when one may be asked, what it comes to, and where it leaves the book's session.
-use Rattle.std.specs.Prelude.{◌≡◌, ℕ, ◌≤◌, List, [], ◌∷◌, ◌++◌, length}
+use Rattle.std.specs.Prelude.{◌≡◌, ℕ, ◌≤◌, [], ◌∷◌, ◌++◌, length}
 use Rattle.sound_table.specs.Sound.{IsSound}
 use Rattle.history_core.specs.declared.event.Event.{Event}
 use Rattle.history_core.specs.Events.{table_of}

@@ -59,9 +59,12 @@ pub record ReadsFrom (old : Past) (cell : Cell) (value : Value) (e : Event) : Ty
 abbrev pub Happens : Past → Call → Answer → Event → Past → Type 0
 Happens old calls.Open (answers.Opened session) e new = (e ≡ Open session) × Adds old e new
 Happens old calls.Close answers.Closed e new = (e ≡ Close (session_of old.seat)) × Adds old e new
-Happens old (calls.Look known) (answers.Looked tables) e new = (e ≡ Look (session_of old.seat) (length new.seen.tables)) × AnswersTables old known tables new
-Happens old (calls.Define table) (answers.Defined (defines.Defined n)) e new = (e ≡ Define (session_of old.seat) table.name) × AnswersDefine old table (defines.Defined n) new
-Happens old (calls.Define table) (answers.Defined (defines.Taken n)) e new = (e ≡ Look (session_of old.seat) n) × AnswersDefine old table (defines.Taken n) new
+Happens old (calls.Look known) (answers.Looked tables) e new = (e ≡ Look (session_of old.seat) (length new.seen.tables)) ×
+    AnswersTables old known tables new
+Happens old (calls.Define table) (answers.Defined (defines.Defined n)) e new = (e ≡ Define (session_of old.seat) table.name) ×
+    AnswersDefine old table (defines.Defined n) new
+Happens old (calls.Define table) (answers.Defined (defines.Taken n)) e new = (e ≡ Look (session_of old.seat) n) ×
+    AnswersDefine old table (defines.Taken n) new
 Happens old calls.Begin (answers.Begun n) e new = (e ≡ Begin (session_of old.seat)) × Adds old e new × (n ≡ begun new.seen.events)
 Happens old (calls.Scan table) (answers.Listed keys) e new = (e ≡ Scan (session_of old.seat) table keys) × Adds old e new
 Happens old (calls.Touch cell) (answers.Found value) e new = (ReadsBack old cell value e ⊎ ReadsFrom old cell value e) × Adds old e new
@@ -80,7 +83,8 @@ HoldsWord _ word = ⊥
 -- One word is drawn for each read of the history, refused or not, and the event holds it. None is drawn where a cell is read back.
 abbrev pub Draws : {W : Type 0} → (W → ℕ → W → Type 0) → Past → W → Call → Entry → W → Type 0
 Draws gives old before (calls.Touch cell) entry after =
-    (HasWrite cell old.seat × (after ≡ before)) ⊎ (IsUnwritten cell old.seat × ((word : ℕ) × gives before word after × HoldsWord entry word))
+    (HasWrite cell old.seat × (after ≡ before))
+    ⊎ (IsUnwritten cell old.seat × ((word : ℕ) × gives before word after × HoldsWord entry word))
 Draws gives old before _ entry after = after ≡ before
 
 -- The calls were answered by the entries in order, from one past and one value of the words on to others.
@@ -88,9 +92,11 @@ abbrev pub Lawful : {W : Type 0} → (W → ℕ → W → Type 0) → Past → W
 Lawful gives p v [] [] q w = (q ≡ p) × (w ≡ v)
 Lawful gives p v (c ∷ cs) [] q w = ⊥
 Lawful gives p v [] (did a e ∷ es) q w = ⊥
-Lawful {W} gives p v (c ∷ cs) (did a e ∷ es) q w = (m : Past) × (u : W) × Happens p c a e m × Draws gives p v c (did a e) u × Lawful gives m u cs es q w
+Lawful {W} gives p v (c ∷ cs) (did a e ∷ es) q w = (m : Past) × (u : W) × Happens p c a e m × Draws gives p v c (did a e) u ×
+    Lawful gives m u cs es q w
 Lawful gives p v [] (refused why ∷ es) q w = ⊥
-Lawful {W} gives p v (c ∷ cs) (refused why ∷ es) q w = (m : Past) × (u : W) × Declines p c why m × Draws gives p v c (refused why) u × Lawful gives m u cs es q w
+Lawful {W} gives p v (c ∷ cs) (refused why ∷ es) q w = (m : Past) × (u : W) × Declines p c why m × Draws gives p v c (refused why) u ×
+    Lawful gives m u cs es q w
 Lawful gives p v cs (short final n ∷ es) q w = Lawful gives p v cs es q w
 Lawful gives p v cs (unsent n ∷ es) q w = Lawful gives p v cs es q w
 Lawful gives p v cs (stop cause ∷ es) q w = Lawful gives p v cs es q w

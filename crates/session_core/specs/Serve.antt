@@ -3,7 +3,6 @@ use Rattle.std.specs.Prelude.{◌≡◌, ℕ, ◌+◌, ◌≤◌, List, [], ◌�
 use Rattle.cell_base.specs.declared.level.Level.{Level}
 use Rattle.link_traits.specs.Faults.{Rose}
 use Rattle.link_traits.specs.Traffic.{Traffic, Both, Sight}
-use Rattle.history_core.specs.declared.event.Event.{Event}
 use Rattle.history_core.specs.Book.{Past}
 use Rattle.block_machine.specs.Calls.{Call}
 use Rattle.block_machine.specs.Script.{Entry, more, ended, has_short}
@@ -71,7 +70,8 @@ Blames (Some ends.Spent) f g taken = length taken ≡ most_read
 Blames _ f g taken = Unit {0}
 
 -- A session came from its beginning, over these objects as they were, to this state, over these objects as they are.
-pub record Runs {W : Type 0} (gives : W → ℕ → W → Type 0) (level : Level) (p : Past) (v : W) (f : Sight) (s : Session) (q : Past) (w : W) (g : Sight)
+pub record Runs {W : Type 0} (gives : W → ℕ → W → Type 0) (level : Level) (p : Past) (v : W) (f : Sight)
+    (s : Session) (q : Past) (w : W) (g : Sight)
     (taken : List ℕ) (es : List Entry) (asked : List Call) (sent lost : List ℕ) : Type 0 where
   pub stands : Stands s taken es asked sent
   pub served_level : runners.level_of s.runner ≡ level
@@ -85,13 +85,15 @@ pub record Runs {W : Type 0} (gives : W → ℕ → W → Type 0) (level : Level
 -- the same, with so many bytes taken
 abbrev pub Ran : {W : Type 0} → (W → ℕ → W → Type 0) → Level → Past → W → Sight → Session → Past → W → Sight → ℕ → Type 0
 Ran gives level p v f s q w g many =
-    (taken : List ℕ) × (es : List Entry) × (asked : List Call) × (sent : List ℕ) × (lost : List ℕ) × (length taken ≡ many) × Runs gives level p v f s q w g taken es asked sent lost
+    (taken : List ℕ) × (es : List Entry) × (asked : List Call) × (sent : List ℕ) × (lost : List ℕ) × (length taken ≡ many) ×
+    Runs gives level p v f s q w g taken es asked sent lost
 
 -- A link was served at a level. No more was taken than the most that is read. What was sent and the end are told of what was taken and of a
 -- record, whose calls were made of the book in order and whose events are those that the book made; its reads drew the words; and no reply
 -- was held back over a read. Where a write failed, what is lost of what was told stands at its end. The session is the one that the record
 -- opened.
-pub record Serves {W : Type 0} (gives : W → ℕ → W → Type 0) (level : Level) (p : Past) (v : W) (f : Sight) (number : Option ℕ) (end : End) (wanting : Bool) (q : Past) (w : W) (g : Sight)
+pub record Serves {W : Type 0} (gives : W → ℕ → W → Type 0) (level : Level) (p : Past) (v : W) (f : Sight)
+    (number : Option ℕ) (end : End) (wanting : Bool) (q : Past) (w : W) (g : Sight)
     (talk : Talk) (taken : List ℕ) (es : List Entry) (asked : List Call) (sent lost : List ℕ) : Type 0 where
   pub within : length taken ≤ most_read
   pub talk_is : IsTalk false taken talk

@@ -9,7 +9,7 @@ use Rattle.sound_table.specs.Sound.{IsSound}
 use Rattle.client_framing.specs.Fronts.{Held, IsPartial}
 use Rattle.block_machine.specs.Calls.{Call}
 use Rattle.block_machine.specs.Calls as calls
-use Rattle.block_machine.specs.Script.{Entry, unsent, stop, Script, more, call, ended, tell}
+use Rattle.block_machine.specs.Script.{Entry, Script, more, call, ended, tell}
 use Rattle.block_machine.specs.Stages.{IsFrom, Fits}
 use Rattle.block_machine.specs.Runners.{follows, behind, wanted, held, work_of, left_of, running_of, owes, level_of, known_of, Holds, Knows, IsSoundRunner, is_under_way}
 use Rattle.block_machine.specs.declared.block.Owed.{Owed}
@@ -65,7 +65,8 @@ goes_on (stages.Taking phase) r greeting talk = on r talk phase (known_of r)
 goes_on stages.Opening r greeting talk = opens (on r talk (phases.Normal block_states.Idle) (known_of r))
 goes_on stages.Running r greeting talk = follows r (outside_of (level_of r) (on r talk))
 goes_on stages.Undoing r greeting talk = refuses (level_of r) block_states.Block (known_of r) (on r talk)
-goes_on (stages.Telling reply) r greeting talk = tell (bytes_of greeting reply) (broken (owed_by (phase_behind reply))) (on r talk (phase_behind reply) (known_of r))
+goes_on (stages.Telling reply) r greeting talk = tell (bytes_of greeting reply) (broken (owed_by (phase_behind reply)))
+    (on r talk (phase_behind reply) (known_of r))
 goes_on (stages.Leaving finish) r greeting talk = ending owed_kinds.Rollback (end_of finish)
 goes_on (stages.Closing finish) r greeting talk = closing (end_of finish)
 goes_on (stages.Parting fatal) r greeting talk = tell (fatal_reply (fatal_state fatal)) (broken owed_kinds.Nothing) (done (fatal_end fatal))
@@ -209,7 +210,8 @@ IsFed (stages.Parting fatal) bytes = bytes ≡ []
 IsFed (stages.Ended finish) bytes = bytes ≡ []
 IsFed _ bytes = Unit {0}
 
--- Where bytes or a message are wanted, memory may be wanting at once. Elsewhere a want of memory and a failed write stand where more was told than was sent.
+-- Where bytes or a message are wanted, memory may be wanting at once. Elsewhere a want of memory and a failed write stand where more was
+-- told than was sent.
 abbrev pub least : Stage → ℕ
 least (stages.Waiting phase) = 0
 least (stages.Taking phase) = 0
@@ -254,9 +256,11 @@ IsStopped _ _ = ⊥
 
 -- Whatever comes, told of the lists grown by it is what the state goes on with. `whole` puts what the client says from here on behind what
 -- it said before.
-pub record StandsFor (stage : Stage) (r : Runner) (greeting : List ℕ) (held : Held) (taken : List ℕ) (entries : List Entry) (asked : List Call) (sent : List ℕ) : Type 0 where
+pub record StandsFor (stage : Stage) (r : Runner) (greeting : List ℕ) (held : Held) (taken : List ℕ) (entries : List Entry)
+    (asked : List Call) (sent : List ℕ) : Type 0 where
   pub whole : Talk → Talk
-  pub heard : (bytes : List ℕ) (talk : Talk) → IsFed stage bytes → IsTalk held.started (held.rest ++ bytes) talk → IsTalk false (taken ++ bytes) (whole talk)
+  pub heard : (bytes : List ℕ) (talk : Talk) → IsFed stage bytes → IsTalk held.started (held.rest ++ bytes) talk →
+      IsTalk false (taken ++ bytes) (whole talk)
   pub goes : (talk : Talk) (es : List Entry) → IsFrom (least stage) (length sent) es →
       told (level_of r) (whole talk) (entries ++ es) ≡ goes_on stage r greeting talk (record { bytes = sent; calls = asked }) es
   pub waits : (phase : Phase) → stage ≡ stages.Waiting phase → IsPartial held.started held.rest
@@ -264,11 +268,14 @@ pub record StandsFor (stage : Stage) (r : Runner) (greeting : List ℕ) (held : 
 
 -- What a want says of all that came in and went out, given that the session wants it.
 abbrev pub Shows : Level → Want → List ℕ → List Entry → List Call → List ℕ → Type 0
-Shows level wishes.Bytes taken es asked sent = (talk : Talk) × IsTalk false taken talk × (told level talk es ≡ (record { bytes = sent; calls = asked }, more))
-Shows level (wishes.Book c) taken es asked sent = (talk : Talk) × IsTalk false taken talk × (told level talk es ≡ (record { bytes = sent; calls = asked }, call c))
+Shows level wishes.Bytes taken es asked sent = (talk : Talk) × IsTalk false taken talk ×
+    (told level talk es ≡ (record { bytes = sent; calls = asked }, more))
+Shows level (wishes.Book c) taken es asked sent = (talk : Talk) × IsTalk false taken talk ×
+    (told level talk es ≡ (record { bytes = sent; calls = asked }, call c))
 Shows level wishes.Message taken es asked sent = Unit {0}
 Shows level wishes.Send taken es asked sent = Unit {0}
-Shows level (wishes.Ended end) taken es asked sent = (talk : Talk) × IsTalk false taken talk × (told level talk es ≡ (record { bytes = sent; calls = asked }, ended end))
+Shows level (wishes.Ended end) taken es asked sent = (talk : Talk) × IsTalk false taken talk ×
+    (told level talk es ≡ (record { bytes = sent; calls = asked }, ended end))
 
 -- the answer fits what is wanted
 abbrev pub FitsWant : Want → Answer → Type 0

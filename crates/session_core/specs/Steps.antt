@@ -1,5 +1,5 @@
 -- What a step of a session from one stage to the next comes to.
-use Rattle.std.specs.Prelude.{◌≡◌, ℕ, ◌+◌, ◌<◌, ◌⊎◌, List, [], ◌∷◌, ◌++◌, length, Option, Some, None, Bool, true, false}
+use Rattle.std.specs.Prelude.{◌≡◌, ℕ, ◌<◌, ◌⊎◌, List, [], ◌∷◌, ◌++◌, length, Option, Some, None, Bool, true, false}
 use Rattle.cell_base.specs.declared.level.Level.{Level}
 use Rattle.history_core.specs.declared.event.Event.{Event}
 use Rattle.sql_tree.specs.declared.table.Table.{Table}
@@ -8,9 +8,9 @@ use Rattle.client_framing.specs.declared.front.Front.TheVariants.{Ssl, Gss, Canc
 use Rattle.client_framing.specs.Spelling.{HasNoZero}
 use Rattle.client_framing.specs.Fronts.{Held, TakesFront, IsPartial}
 use Rattle.block_machine.specs.Calls.{Call}
-use Rattle.block_machine.specs.Script.{Entry, did, refused, short, unsent, stop, Said, Script, more, call, with_call}
+use Rattle.block_machine.specs.Script.{Entry, did, refused, short, unsent, stop, Said, Script, with_call}
 use Rattle.block_machine.specs.Stages.{IsFrom, entry_for}
-use Rattle.block_machine.specs.Runners.{behind, wanted, held, level_of, known_of}
+use Rattle.block_machine.specs.Runners.{level_of, known_of}
 use Rattle.block_machine.specs.declared.block.Owed.{Owed}
 use Rattle.block_machine.specs.declared.call.Answer.{Answer}
 use Rattle.block_machine.specs.declared.call.Answer.TheVariants as answers
@@ -21,7 +21,7 @@ use Rattle.session_core.specs.declared.stage.Stage.{Stage}
 use Rattle.session_core.specs.declared.stage.Stage.TheVariants as stages
 use Rattle.session_core.specs.Wants as wishes
 use Rattle.session_core.specs.Talk.{Ask, Says, Talk, IsTalk}
-use Rattle.session_core.specs.Told.{owed_by, ending, handled, session, told}
+use Rattle.session_core.specs.Told.{owed_by, ending, handled}
 use Rattle.session_core.specs.Stands.{on, goes_on, wants, owed_at, after_reply, HasReply, IsLast, IsBusy, has_started, IsUnder, IsFit, IsFed, least, outer, Lacks}
 
 -- ---- steps
@@ -49,7 +49,8 @@ IsShort sent (stop cause ∷ es) = ⊥
 
 -- an end leads to a stage
 abbrev pub LeadsTo : Stage → Script → Type 0
-LeadsTo stage script = IsLast stage × ((r : Runner) (greeting : List ℕ) (talk : Talk) (said : Said) (es : List Entry) → script said es ≡ goes_on stage r greeting talk said es)
+LeadsTo stage script = IsLast stage × ((r : Runner) (greeting : List ℕ) (talk : Talk) (said : Said) (es : List Entry) →
+    script said es ≡ goes_on stage r greeting talk said es)
 
 -- the message stands behind the startup
 abbrev pub is_main : Front → Bool
@@ -82,13 +83,15 @@ pub record Enters (front : Front) (phase : Phase) (r : Runner) (stage : Stage) (
   pub busy : IsBusy stage
   pub passing : IsPassing wanting
   pub goes : (greeting : List ℕ) (talk : Talk) (said : Said) (es : List Entry) → IsFrom 1 (length said.bytes) es →
-      handled (level_of r) asked phase (known_of r) (on r talk) said (with_wanting wanting said.bytes es) ≡ goes_on stage next greeting talk said es
+      handled (level_of r) asked phase (known_of r) (on r talk) said (with_wanting wanting said.bytes es) ≡
+      goes_on stage next greeting talk said es
 
 -- A message of a client tells nothing and changes nothing.
 pub record Skips (front : Front) (phase : Phase) : Type 0 where
   pub asked : Ask
   pub says : Says front asked
-  pub goes : (level : Level) (known : List Table) (rest : Phase → List Table → Script) → handled level asked phase known rest ≡ rest phase known
+  pub goes : (level : Level) (known : List Table) (rest : Phase → List Table → Script) →
+      handled level asked phase known rest ≡ rest phase known
 
 -- What a message leads to, given what was owed: the end isn't there yet, and the tables are as they were.
 pub record Leads (owed : Owed) (r : Runner) (stage : Stage) (next : Runner) : Type 0 where
@@ -108,9 +111,11 @@ Meets front phase r stage next wanting =
     ⊎ (Skips front phase × (stage ≡ stages.Taking phase) × (next ≡ r) × (wanting ≡ None))
 
 -- Where a message is wanted, the next one, a fault or a want of memory is looked at, or bytes are wanted.
-pub record Steps (phase : Phase) (r : Runner) (before : Held) (stage : Stage) (next : Runner) (wanting : Option Bool) (after : Held) : Type 0 where
+pub record Steps (phase : Phase) (r : Runner) (before : Held) (stage : Stage) (next : Runner) (wanting : Option Bool)
+    (after : Held) : Type 0 where
   pub turns : Talk → Talk
-  pub heard : (bytes : List ℕ) (talk : Talk) → IsFed stage bytes → IsTalk after.started (after.rest ++ bytes) talk → IsTalk before.started (before.rest ++ bytes) (turns talk)
+  pub heard : (bytes : List ℕ) (talk : Talk) → IsFed stage bytes → IsTalk after.started (after.rest ++ bytes) talk →
+      IsTalk before.started (before.rest ++ bytes) (turns talk)
   pub goes : (greeting : List ℕ) (talk : Talk) (said : Said) (es : List Entry) → IsFrom (least stage) (length said.bytes) es →
       on r (turns talk) phase (known_of r) said (with_wanting wanting said.bytes es) ≡ goes_on stage next greeting talk said es
   pub waits : (other : Phase) → stage ≡ stages.Waiting other → IsPartial after.started after.rest
@@ -128,9 +133,12 @@ Sends stage r next after wanting =
     after_reply stage r talk said (with_wanting wanting said.bytes es) ≡ goes_on next after greeting talk said es
 
 -- An answer to a stage's call leads on, with a want of memory behind it where there was one.
-pub record Advances (stage : Stage) (r : Runner) (answer : Answer) (next : Stage) (after : Runner) (wanting : Option Bool) (greeting : List ℕ) : Type 0 where
-  pub goes : (c : Call) (before : List ℕ) (talk : Talk) (said : Said) (es : List Entry) (e : Event) → wants stage r ≡ wishes.Book c → IsFrom 1 (length said.bytes) es →
-      goes_on stage r before talk said (entry_for answer e ∷ with_wanting wanting said.bytes es) ≡ goes_on next after greeting talk (with_call said c) es
+pub record Advances (stage : Stage) (r : Runner) (answer : Answer) (next : Stage) (after : Runner) (wanting : Option Bool)
+    (greeting : List ℕ) : Type 0 where
+  pub goes : (c : Call) (before : List ℕ) (talk : Talk) (said : Said) (es : List Entry) (e : Event) → wants stage r ≡ wishes.Book c →
+      IsFrom 1 (length said.bytes) es →
+      goes_on stage r before talk said (entry_for answer e ∷ with_wanting wanting said.bytes es) ≡
+      goes_on next after greeting talk (with_call said c) es
   pub busy : IsBusy next
   pub last : IsLast stage → IsLast next
 

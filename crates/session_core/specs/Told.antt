@@ -1,10 +1,9 @@
 -- What a session is told, and which calls it asks of its book, given what its client says and what became of it so far. The statements of
 -- a query have their own page (block_machine).
-use Rattle.std.specs.Prelude.{ℕ, ◌==◌, List, [], ◌∷◌, length, if◌then◌else◌, Option, Some, None}
+use Rattle.std.specs.Prelude.{ℕ, ◌==◌, List, [], ◌∷◌, length, if◌then◌else◌, true, false, Option, Some, None}
 use Rattle.cell_base.specs.declared.level.Level.{Level}
 use Rattle.cell_base.specs.declared.sql_state.SqlState.{SqlState}
 use Rattle.cell_base.specs.declared.sql_state.SqlState.TheVariants as states
-use Rattle.history_core.specs.declared.event.Event.{Event}
 use Rattle.history_core.specs.declared.fault.BookFault.{BookFault}
 use Rattle.history_core.specs.declared.fault.BookFault.TheVariants as faults
 use Rattle.pg_framing.specs.declared.replies.TransactionState.{TransactionState}
@@ -123,7 +122,8 @@ refuses level state known rest =
 
 abbrev pub serving : Level → Ask → TransactionState → List Table → (Phase → List Table → Script) → Script
 serving level (query asked) state known rest = message asked state known (outside_of level rest)
-serving level unread_query state known rest = unless_short false (message (messages.Unread states.S53200) state known (outside_of level rest)) lost
+serving level unread_query state known rest = unless_short false
+    (message (messages.Unread states.S53200) state known (outside_of level rest)) lost
 serving level terminate state known rest = ending (owed_between state) ends.Terminated
 serving level sync state known rest = readied state known (outside_of level rest)
 serving level nothing state known rest = rest (phases.Normal state) known

@@ -1,5 +1,5 @@
 // What stands behind the answers that a session gets, and behind the replies that it has sent.
-ghost use Rattle.std.specs.Prelude.{◌≡◌, ℕ, ◌<◌, List, [], Bool, true, None, Option};
+ghost use Rattle.std.specs.Prelude.{◌≡◌, ℕ, ◌+◌, ◌<◌, List, [], Bool, true, None, Option};
 ghost use Rattle.block_machine.specs.Calls.{Call as Asked};
 ghost use Rattle.block_machine.specs.Stages.{IsKnownAfter, owed_after, wants_memory};
 ghost use Rattle.block_machine.specs.Runners.{Runs, level_of, known_of};
@@ -39,7 +39,10 @@ fn run_on(runner: &mut Runner) -> Step
 {
     let wanting = runner.sent();
     match runner.left() {
-        Some(state) => calm(Stage::Taking(Phase::Normal(state))),
+        Some(state) => Step {
+            stage: Stage::Taking(Phase::Normal(state)),
+            wanting: passing(wanting),
+        },
         None => Step {
             stage: Stage::Running,
             wanting: passing(wanting),
@@ -114,7 +117,8 @@ fn greet(alloc: Global, session: u32, greeting: &mut Vec<u8>) -> Step
 fn answer_own(alloc: Global, stage: Stage, answer: Answer, greeting: &mut Vec<u8>) -> Step
     requires fits { FitsWant (own_want stage) answer }
     ensures goes { (r : Machine) → Advances stage r answer result.stage r result.wanting greeting.new.items }
-    ensures owed { (c : Asked) (r : Machine) → wants stage r ≡ wishes.Book c → owed_at result.stage r ≡ owed_after c answer (owed_at stage r) }
+    ensures owed { (c : Asked) (r : Machine) → wants stage r ≡ wishes.Book c →
+        owed_at result.stage r ≡ owed_after c answer (owed_at stage r) }
     ensures outer { outer result.stage ≡ outer stage }
     ensures lacks { (lost : List ℕ) → Lacks stage lost → Lacks result.stage lost }
     ensures work { work_at result.stage < work_at stage }
@@ -135,8 +139,10 @@ fn answer_message(runner: &mut Runner, answer: Answer) -> Step
     requires fit { IsFit runner.old }
     ensures goes { (greeting : List ℕ) → Advances Stage.Running runner.old answer result.stage runner.new result.wanting greeting }
     ensures stage { result.stage ≡ Stage.Running }
-    ensures owed { (c : Asked) → wants Stage.Running runner.old ≡ wishes.Book c → owed_at Stage.Running runner.new ≡ owed_after c answer (owed_at Stage.Running runner.old) }
-    ensures message { message_work Stage.Running runner.new < message_work Stage.Running runner.old + statement_at Stage.Running runner.new }
+    ensures owed { (c : Asked) → wants Stage.Running runner.old ≡ wishes.Book c →
+        owed_at Stage.Running runner.new ≡ owed_after c answer (owed_at Stage.Running runner.old) }
+    ensures message { message_work Stage.Running runner.new <
+        message_work Stage.Running runner.old + statement_at Stage.Running runner.new }
     ensures left { Runs runner.old → left_at Stage.Running runner.new < left_at Stage.Running runner.old }
     ensures level { level_of runner.new ≡ level_of runner.old }
     ensures known { IsKnownAfter (known_of runner.old) answer (known_of runner.new) }
@@ -162,11 +168,13 @@ pub fn answered(
     requires fits { FitsWant (wants stage runner.old) answer }
     requires fit { IsFit runner.old }
     ensures goes { Advances stage runner.old answer result.stage runner.new result.wanting greeting.new.items }
-    ensures owed { (c : Asked) → wants stage runner.old ≡ wishes.Book c → owed_at result.stage runner.new ≡ owed_after c answer (owed_at stage runner.old) }
+    ensures owed { (c : Asked) → wants stage runner.old ≡ wishes.Book c →
+        owed_at result.stage runner.new ≡ owed_after c answer (owed_at stage runner.old) }
     ensures outer { outer result.stage ≡ outer stage }
     ensures lacks { (lost : List ℕ) → Lacks stage lost → Lacks result.stage lost }
     ensures work { work_at result.stage < work_at stage + message_at result.stage }
-    ensures message { stage ≡ Stage.Running → message_work result.stage runner.new < message_work stage runner.old + statement_at result.stage runner.new }
+    ensures message { stage ≡ Stage.Running →
+        message_work result.stage runner.new < message_work stage runner.old + statement_at result.stage runner.new }
     ensures left { stage ≡ Stage.Running → Runs runner.old → left_at result.stage runner.new < left_at stage runner.old }
     ensures level { level_of runner.new ≡ level_of runner.old }
     ensures known { IsKnownAfter (known_of runner.old) answer (known_of runner.new) }

@@ -148,7 +148,8 @@ fn write_copy<B: Book, W: Words>(
 ) -> Answer
     requires may { MayAsk (calls.Write cell.now value.now) (B.past book.old) }
     ensures fits { Fits (calls.Write cell.now value.now) result }
-    ensures plays { (e : Event) × Plays W.gives (B.past book.old) words.now (calls.Write cell.now value.now) result e (B.past book.new) words.now }
+    ensures plays { (e : Event) × Plays W.gives (B.past book.old) words.now (calls.Write cell.now value.now) result e (B.past book.new)
+        words.now }
     ensures seat { SeatAfter (calls.Write cell.now value.now) result (B.past book.old).seat (B.past book.new).seat }
     ensures stays { B.stays book.old book.new }
 {

@@ -27,10 +27,13 @@ fn answer_define<B: Book, W: Words>(session: &mut Session, book: &mut B, words: 
     requires wanted { (table : Defined) × (wanted session.old ≡ wishes.Book (calls.Define table)) }
     requires sits { Sits session.old (B.past book.old) }
     ensures ran { (level : Level) (p : Past) (v : W) (f g : Sight) (many : ℕ) →
-        Ran W.gives level p v f session.old (B.past book.old) words.now g many → Ran W.gives level p v f session.new (B.past book.new) words.now g many }
+        Ran W.gives level p v f session.old (B.past book.old) words.now g many →
+        Ran W.gives level p v f session.new (B.past book.new) words.now g many }
     ensures sits { Sits session.new (B.past book.new) }
     ensures work { work_of session.new < work_of session.old + message_at session.new.stage }
-    ensures message { session.old.stage ≡ stages.Running → message_work session.new.stage session.new.runner < message_work session.old.stage session.old.runner + statement_at session.new.stage session.new.runner }
+    ensures message { session.old.stage ≡ stages.Running →
+        message_work session.new.stage session.new.runner <
+        message_work session.old.stage session.old.runner + statement_at session.new.stage session.new.runner }
     ensures last { IsLast session.old.stage → IsLast session.new.stage }
     ensures stays { B.stays book.old book.new }
 {
@@ -43,10 +46,13 @@ fn answer_call<B: Book, W: Words>(session: &mut Session, book: &mut B, words: &W
     requires wanted { wanted session.old ≡ wishes.Book (call_of c) }
     requires sits { Sits session.old (B.past book.old) }
     ensures ran { (level : Level) (p : Past) (v : W) (f g : Sight) (many : ℕ) →
-        Ran W.gives level p v f session.old (B.past book.old) words.now g many → Ran W.gives level p v f session.new (B.past book.new) words.now g many }
+        Ran W.gives level p v f session.old (B.past book.old) words.now g many →
+        Ran W.gives level p v f session.new (B.past book.new) words.now g many }
     ensures sits { Sits session.new (B.past book.new) }
     ensures work { work_of session.new < work_of session.old + message_at session.new.stage }
-    ensures message { session.old.stage ≡ stages.Running → message_work session.new.stage session.new.runner < message_work session.old.stage session.old.runner + statement_at session.new.stage session.new.runner }
+    ensures message { session.old.stage ≡ stages.Running →
+        message_work session.new.stage session.new.runner <
+        message_work session.old.stage session.old.runner + statement_at session.new.stage session.new.runner }
     ensures last { IsLast session.old.stage → IsLast session.new.stage }
     ensures stays { B.stays book.old book.new }
 {
@@ -65,10 +71,13 @@ fn answer_cells<B: Book, W: Words>(
     requires runs { Runs session.old.runner }
     requires sits { Sits session.old (B.past book.old) }
     ensures ran { (level : Level) (p : Past) (v : W) (f g : Sight) (many : ℕ) →
-        Ran W.gives level p v f session.old (B.past book.old) words.old g many → Ran W.gives level p v f session.new (B.past book.new) words.new g many }
+        Ran W.gives level p v f session.old (B.past book.old) words.old g many →
+        Ran W.gives level p v f session.new (B.past book.new) words.new g many }
     ensures sits { Sits session.new (B.past book.new) }
     ensures work { work_of session.new < work_of session.old + message_at session.new.stage }
-    ensures message { session.old.stage ≡ stages.Running → message_work session.new.stage session.new.runner < message_work session.old.stage session.old.runner + statement_at session.new.stage session.new.runner }
+    ensures message { session.old.stage ≡ stages.Running →
+        message_work session.new.stage session.new.runner <
+        message_work session.old.stage session.old.runner + statement_at session.new.stage session.new.runner }
     ensures left { left_at session.new.stage session.new.runner < left_at session.old.stage session.old.runner }
     ensures last { IsLast session.old.stage → IsLast session.new.stage }
     ensures stays { B.stays book.old book.new }
@@ -86,7 +95,8 @@ fn send<B: Book, L: Link, W: Words>(session: &mut Session, book: &B, link: &mut 
         Ran W.gives level p v f session.new (B.past book.now) words.now (sight_of L.traffic L.read_faults L.write_faults link.new) many }
     ensures sits { Sits session.new (B.past book.now) }
     ensures work { work_of session.new < work_of session.old + message_at session.new.stage }
-    ensures message { session.old.stage ≡ stages.Running → message_work session.new.stage session.new.runner < message_work session.old.stage session.old.runner }
+    ensures message { session.old.stage ≡ stages.Running →
+        message_work session.new.stage session.new.runner < message_work session.old.stage session.old.runner }
     ensures last { IsLast session.old.stage → IsLast session.new.stage }
 {
     match send_all(link, session.reply()) {
@@ -100,7 +110,8 @@ fn take<B: Book, W: Words>(session: &mut Session, book: &B, words: &W)
     requires wanted { wanted session.old ≡ wishes.Message }
     requires sits { Sits session.old (B.past book.now) }
     ensures ran { (level : Level) (p : Past) (v : W) (f g : Sight) (many : ℕ) →
-        Ran W.gives level p v f session.old (B.past book.now) words.now g many → Ran W.gives level p v f session.new (B.past book.now) words.now g many }
+        Ran W.gives level p v f session.old (B.past book.now) words.now g many →
+        Ran W.gives level p v f session.new (B.past book.now) words.now g many }
     ensures sits { Sits session.new (B.past book.now) }
     ensures work { work_of session.new < work_of session.old }
 {
@@ -121,8 +132,12 @@ fn serve_want<B: Book, L: Link, W: Words>(
         Ran W.gives level p v f session.new (B.past book.new) words.new (sight_of L.traffic L.read_faults L.write_faults link.new) many }
     ensures sits { Sits session.new (B.past book.new) }
     ensures work { result ≡ true → work_of session.new < work_of session.old + message_at session.new.stage }
-    ensures message { session.old.stage ≡ stages.Running → message_work session.new.stage session.new.runner < message_work session.old.stage session.old.runner + statement_at session.new.stage session.new.runner }
+    ensures message { session.old.stage ≡ stages.Running →
+        message_work session.new.stage session.new.runner <
+        message_work session.old.stage session.old.runner + statement_at session.new.stage session.new.runner }
     ensures rests { result ≡ false → IsResting (wanted session.new) }
+    // Where a message runs something is wanted.
+    ensures runs { session.old.stage ≡ stages.Running → result ≡ true }
     ensures last { IsLast session.old.stage → IsLast session.new.stage }
     ensures stays { B.stays book.old book.new }
 {
@@ -160,10 +175,12 @@ fn step_on<B: Book, W: Words>(
 ) -> bool
     requires sits { Sits session.old (B.past book.old) }
     ensures ran { (level : Level) (p : Past) (v : W) (f g : Sight) (many : ℕ) →
-        Ran W.gives level p v f session.old (B.past book.old) words.old g many → Ran W.gives level p v f session.new (B.past book.new) words.new g many }
+        Ran W.gives level p v f session.old (B.past book.old) words.old g many →
+        Ran W.gives level p v f session.new (B.past book.new) words.new g many }
     ensures sits { Sits session.new (B.past book.new) }
     ensures work { work_of session.new + message_at session.old.stage ≤ work_of session.old + message_at session.new.stage }
-    ensures message { message_work session.new.stage session.new.runner + statement_at session.old.stage session.old.runner ≤ message_work session.old.stage session.old.runner + statement_at session.new.stage session.new.runner }
+    ensures message { message_work session.new.stage session.new.runner + statement_at session.old.stage session.old.runner ≤
+        message_work session.old.stage session.old.runner + statement_at session.new.stage session.new.runner }
     ensures left { result ≡ true → left_at session.new.stage session.new.runner < left_at session.old.stage session.old.runner }
     ensures calm { result ≡ false → statement_at session.new.stage session.new.runner ≡ 0 }
     ensures last { IsLast session.old.stage → IsLast session.new.stage }
@@ -182,10 +199,12 @@ fn step_on<B: Book, W: Words>(
 fn run_on<B: Book, W: Words>(alloc: Global, session: &mut Session, book: &mut B, words: &mut W)
     requires sits { Sits session.old (B.past book.old) }
     ensures ran { (level : Level) (p : Past) (v : W) (f g : Sight) (many : ℕ) →
-        Ran W.gives level p v f session.old (B.past book.old) words.old g many → Ran W.gives level p v f session.new (B.past book.new) words.new g many }
+        Ran W.gives level p v f session.old (B.past book.old) words.old g many →
+        Ran W.gives level p v f session.new (B.past book.new) words.new g many }
     ensures sits { Sits session.new (B.past book.new) }
     ensures work { work_of session.new + message_at session.old.stage ≤ work_of session.old + message_at session.new.stage }
-    ensures message { message_work session.new.stage session.new.runner + statement_at session.old.stage session.old.runner ≤ message_work session.old.stage session.old.runner }
+    ensures message { message_work session.new.stage session.new.runner + statement_at session.old.stage session.old.runner ≤
+        message_work session.old.stage session.old.runner }
     ensures last { IsLast session.old.stage → IsLast session.new.stage }
     ensures stays { B.stays book.old book.new }
 {
@@ -206,7 +225,8 @@ fn step_message<B: Book, L: Link, W: Words>(
         Ran W.gives level p v f session.new (B.past book.new) words.new (sight_of L.traffic L.read_faults L.write_faults link.new) many }
     ensures sits { Sits session.new (B.past book.new) }
     ensures work { work_of session.new + message_at session.old.stage ≤ work_of session.old + message_at session.new.stage }
-    ensures message { result ≡ true → message_work session.new.stage session.new.runner < message_work session.old.stage session.old.runner }
+    ensures message { result ≡ true → message_work session.new.stage session.new.runner <
+        message_work session.old.stage session.old.runner }
     ensures calm { result ≡ false → message_at session.new.stage ≡ 0 }
     ensures last { IsLast session.old.stage → IsLast session.new.stage }
     ensures stays { B.stays book.old book.new }

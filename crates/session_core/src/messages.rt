@@ -37,7 +37,8 @@ fn run(message: Message, state: TransactionState, runner: &mut Runner) -> Step
     requires sound { IsSoundMessage message }
     requires fit { IsFit runner.old }
     ensures goes { (greeting : List ℕ) (talk : Talk) (said : Said) (es : List Entry) → IsFrom 1 (length said.bytes) es →
-        blocks.message message state (known_of runner.old) (outside_of (level_of runner.old) (on runner.old talk)) said (with_wanting result.wanting said.bytes es) ≡ goes_on Stage.Running runner.new greeting talk said es }
+        blocks.message message state (known_of runner.old) (outside_of (level_of runner.old) (on runner.old talk)) said
+        (with_wanting result.wanting said.bytes es) ≡ goes_on Stage.Running runner.new greeting talk said es }
     ensures stage { result.stage ≡ Stage.Running }
     ensures passing { IsPassing result.wanting }
     ensures leads { Leads (blocks.owed_between state) runner.old Stage.Running runner.new }
@@ -54,7 +55,8 @@ fn run(message: Message, state: TransactionState, runner: &mut Runner) -> Step
 fn fail(code: SqlState, state: TransactionState, runner: &mut Runner)
     requires fit { IsFit runner.old }
     ensures goes { (greeting : List ℕ) (talk : Talk) (said : Said) (es : List Entry) →
-        blocks.message (Message.Unread code) state (known_of runner.old) (outside_of (level_of runner.old) (on runner.old talk)) said es ≡ goes_on Stage.Running runner.new greeting talk said es }
+        blocks.message (Message.Unread code) state (known_of runner.old) (outside_of (level_of runner.old) (on runner.old talk)) said es ≡
+        goes_on Stage.Running runner.new greeting talk said es }
     ensures leads { Leads (blocks.owed_between state) runner.old Stage.Running runner.new }
 {
     runner.refuse(code, state);
@@ -190,8 +192,10 @@ fn enter(alloc: Global, front: &Front, phase: Phase, runner: &mut Runner) -> Ste
 
 // The step that a fault of the stream leads to.
 fn break_off(fault: FrameFault, phase: Phase) -> Step
-    ensures memory { fault ≡ FrameFault.Memory → (result.wanting ≡ Some true) × LeadsTo result.stage (ending (told_spec.owed_by phase) End.Memory) }
-    ensures protocol { fault ≢ FrameFault.Memory → (result.wanting ≡ None) × LeadsTo result.stage (ending (told_spec.owed_by phase) (End.Protocol fault)) }
+    ensures memory { fault ≡ FrameFault.Memory →
+        (result.wanting ≡ Some true) × LeadsTo result.stage (ending (told_spec.owed_by phase) End.Memory) }
+    ensures protocol { fault ≢ FrameFault.Memory →
+        (result.wanting ≡ None) × LeadsTo result.stage (ending (told_spec.owed_by phase) (End.Protocol fault)) }
     ensures leads { (r : Machine) → IsFit r → Leads (told_spec.owed_by phase) r result.stage r }
     ensures work { work_at result.stage ≤ 3 }
     ensures phase { (started : Bool) → InPhase result.stage started }

@@ -3,7 +3,7 @@
 ghost use Rattle.std.specs.Prelude.{◌≡◌};
 ghost use Rattle.block_machine.specs.Replies.{ready_reply, error_reply};
 ghost use Rattle.session_core.specs.Replies.{bytes_of, fatal_reply, fatal_state};
-ghost use Rattle.cell_base.specs.declared.sql_state.SqlState.TheVariants as states;
+ghost use Rattle.cell_base.specs.declared.sql_state.SqlState.TheVariants as sql_states;
 ghost use Rattle.pg_framing.specs.declared.replies.TransactionState.TheVariants as block_states;
 
 use crate::replies::{error, fatal, ready};
@@ -18,7 +18,7 @@ pub struct Prepared {
     states: States,
     unsupported: Vec<u8>,
     fatals: Fatals,
-    ghost unsupported_is: { unsupported.items ≡ error_reply states.S0A000 },
+    ghost unsupported_is: { unsupported.items ≡ error_reply sql_states.S0A000 },
 }
 
 // That the next message may come, by the state of the session.
@@ -39,10 +39,10 @@ struct Fatals {
     no_user: Vec<u8>,
     version: Vec<u8>,
     full: Vec<u8>,
-    ghost protocol_is: { protocol.items ≡ fatal_reply states.S08P01 },
-    ghost no_user_is: { no_user.items ≡ fatal_reply states.S28000 },
-    ghost version_is: { version.items ≡ fatal_reply states.S0A000 },
-    ghost full_is: { full.items ≡ fatal_reply states.S54000 },
+    ghost protocol_is: { protocol.items ≡ fatal_reply sql_states.S08P01 },
+    ghost no_user_is: { no_user.items ≡ fatal_reply sql_states.S28000 },
+    ghost version_is: { version.items ≡ fatal_reply sql_states.S0A000 },
+    ghost full_is: { full.items ≡ fatal_reply sql_states.S54000 },
 }
 
 impl States {

@@ -54,7 +54,8 @@ fn take_in<B: Book, L: Link, W: Words>(
     requires sits { Sits session.old (B.past book.now) }
     ensures ran { (level : Level) (p : Past) (v : W) (f : Sight) (many : ℕ) → many + most ≡ 1073741824 →
         Ran W.gives level p v f session.old (B.past book.now) words.now (sight_of L.traffic L.read_faults L.write_faults link.old) many →
-        Ran W.gives level p v f session.new (B.past book.now) words.now (sight_of L.traffic L.read_faults L.write_faults link.new) (many + result) }
+        Ran W.gives level p v f session.new (B.past book.now) words.now (sight_of L.traffic L.read_faults L.write_faults link.new)
+        (many + result) }
     ensures sits { Sits session.new (B.past book.now) }
     ensures within { result ≤ most }
     ensures stopped { result ≡ 0 → IsLast session.new.stage }
@@ -85,8 +86,10 @@ fn take_in<B: Book, L: Link, W: Words>(
 fn finish(session: &Session) -> Served
     requires { IsOver (wanted session.now) }
     ensures end { wanted session.now ≡ wishes.Ended result.end }
-    ensures opened { (taken : List ℕ) (entries : List Entry) (asked : List Asked) (sent : List ℕ) → Stands session.now taken entries asked sent → result.session ≡ opened_in entries }
-    ensures short { (taken : List ℕ) (entries : List Entry) (asked : List Asked) (sent : List ℕ) → Stands session.now taken entries asked sent → result.short ≡ has_short entries }
+    ensures opened { (taken : List ℕ) (entries : List Entry) (asked : List Asked) (sent : List ℕ) →
+        Stands session.now taken entries asked sent → result.session ≡ opened_in entries }
+    ensures short { (taken : List ℕ) (entries : List Entry) (asked : List Asked) (sent : List ℕ) →
+        Stands session.now taken entries asked sent → result.short ≡ has_short entries }
 {
     let number = session.number();
     let short = session.is_short();
@@ -137,7 +140,8 @@ fn run<B: Book, L: Link, W: Words>(
     requires room { 0 < length room.old }
     requires away { (B.past book.old).seat ≡ away }
     ensures served { (talk : Talk) × (taken : List ℕ) × (es : List Entry) × (asked : List Asked) × (sent : List ℕ) × (lost : List ℕ) ×
-        Serves W.gives (level_of session.old.runner) (B.past book.old) words.old (sight_of L.traffic L.read_faults L.write_faults link.old) result.session result.end result.short
+        Serves W.gives (level_of session.old.runner) (B.past book.old) words.old (sight_of L.traffic L.read_faults L.write_faults link.old)
+        result.session result.end result.short
         (B.past book.new) words.new (sight_of L.traffic L.read_faults L.write_faults link.new) talk taken es asked sent lost }
     ensures away { (B.past book.new).seat ≡ away }
     ensures stays { B.stays book.old book.new }
@@ -170,7 +174,8 @@ pub fn serve_link<B: Book, L: Link, W: Words>(
 ) -> Served
     requires { (B.past book.old).seat ≡ away }
     ensures served { (talk : Talk) × (taken : List ℕ) × (es : List Entry) × (asked : List Asked) × (sent : List ℕ) × (lost : List ℕ) ×
-        Serves W.gives level (B.past book.old) words.old (sight_of L.traffic L.read_faults L.write_faults link.old) result.session result.end result.short
+        Serves W.gives level (B.past book.old) words.old (sight_of L.traffic L.read_faults L.write_faults link.old) result.session
+        result.end result.short
         (B.past book.new) words.new (sight_of L.traffic L.read_faults L.write_faults link.new) talk taken es asked sent lost }
     ensures away { (B.past book.new).seat ≡ away }
     ensures stays { B.stays book.old book.new }

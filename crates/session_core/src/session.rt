@@ -81,7 +81,8 @@ fn want_of(runner: &Runner) -> Want
     ensures holding { result ≡ Want.Send → IsHolding Stage.Running runner.now }
     ensures running { result ≡ Want.Cells → Runs runner.now }
     ensures calm { (result ≡ Want.Cells → ⊥) → statement_at Stage.Running runner.now ≡ 0 }
-    ensures asks { (c : Asked) (outside : Outside) (said : Said) → wants Stage.Running runner.now ≡ wishes.Book c → follows runner.now outside said [] ≡ (said, asking c) }
+    ensures asks { (c : Asked) (outside : Outside) (said : Said) → wants Stage.Running runner.now ≡ wishes.Book c →
+        follows runner.now outside said [] ≡ (said, asking c) }
 {
     match runner.demand() {
         block_machine::Want::Define => Want::Define,
@@ -122,7 +123,8 @@ impl Session {
         ensures running { result ≡ Want.Cells → (self.now.stage ≡ Stage.Running) × Runs self.now.runner }
         ensures calm { (result ≡ Want.Cells → ⊥) → statement_at self.now.stage self.now.runner ≡ 0 }
         // What was sent and what is wanted is told of all that came in.
-        ensures told { (taken : List ℕ) (entries : List Entry) (asked : List Asked) (sent : List ℕ) → Stands self.now taken entries asked sent → Shows (level_of self.now.runner) (wanted self.now) taken entries asked sent }
+        ensures told { (taken : List ℕ) (entries : List Entry) (asked : List Asked) (sent : List ℕ) →
+            Stands self.now taken entries asked sent → Shows (level_of self.now.runner) (wanted self.now) taken entries asked sent }
     {
         match self.stage {
             Stage::Waiting(_) => Want::Bytes,
@@ -180,14 +182,16 @@ impl Session {
 
     /// The number of the session that was opened, if one was.
     pub fn number(&self) -> Option<u32>
-        ensures { (taken : List ℕ) (entries : List Entry) (asked : List Asked) (sent : List ℕ) → Stands self.now taken entries asked sent → result ≡ opened_in entries }
+        ensures { (taken : List ℕ) (entries : List Entry) (asked : List Asked) (sent : List ℕ) → Stands self.now taken entries asked sent →
+            result ≡ opened_in entries }
     {
         self.number
     }
 
     /// Whether memory was wanting.
     pub fn is_short(&self) -> bool
-        ensures { (taken : List ℕ) (entries : List Entry) (asked : List Asked) (sent : List ℕ) → Stands self.now taken entries asked sent → result ≡ has_short entries }
+        ensures { (taken : List ℕ) (entries : List Entry) (asked : List Asked) (sent : List ℕ) → Stands self.now taken entries asked sent →
+            result ≡ has_short entries }
     {
         self.short
     }
@@ -196,7 +200,8 @@ impl Session {
     pub fn feed(&mut self, piece: &[u8])
         requires wanted { wanted self.old ≡ wishes.Bytes }
         requires fit { IsFit self.old.runner }
-        ensures grown { (taken : List ℕ) (entries : List Entry) (asked : List Asked) (sent : List ℕ) → Stands self.old taken entries asked sent →
+        ensures grown { (taken : List ℕ) (entries : List Entry) (asked : List Asked) (sent : List ℕ) →
+            Stands self.old taken entries asked sent →
             StandsShort self.new (taken ++ piece.now) entries asked sent }
         ensures owed { owed_at self.new.stage self.new.runner ≡ owed_at self.old.stage self.old.runner }
         ensures outer { outer self.new.stage ≡ None }
@@ -213,7 +218,8 @@ impl Session {
     pub fn take(&mut self)
         requires wanted { wanted self.old ≡ wishes.Message }
         requires fit { IsFit self.old.runner }
-        ensures grown { (taken : List ℕ) (entries : List Entry) (asked : List Asked) (sent : List ℕ) → Stands self.old taken entries asked sent →
+        ensures grown { (taken : List ℕ) (entries : List Entry) (asked : List Asked) (sent : List ℕ) →
+            Stands self.old taken entries asked sent →
             StandsShort self.new taken entries asked sent }
         ensures owed { owed_at self.new.stage self.new.runner ≡ owed_at self.old.stage self.old.runner }
         ensures outer { outer self.new.stage ≡ None }
@@ -233,14 +239,19 @@ impl Session {
     pub fn answer(&mut self, answer: Answer)
         requires fits { FitsWant (wanted self.old) answer }
         requires fit { IsFit self.old.runner }
-        ensures grown { (taken : List ℕ) (entries : List Entry) (asked : List Asked) (sent : List ℕ) (c : Asked) (e : Event) → Stands self.old taken entries asked sent →
+        ensures grown { (taken : List ℕ) (entries : List Entry) (asked : List Asked) (sent : List ℕ) (c : Asked) (e : Event) →
+            Stands self.old taken entries asked sent →
             wanted self.old ≡ wishes.Book c → StandsShort self.new taken (entries ++ entry_for answer e ∷ []) (asked ++ c ∷ []) sent }
-        ensures owed { (c : Asked) → wanted self.old ≡ wishes.Book c → owed_at self.new.stage self.new.runner ≡ owed_after c answer (owed_at self.old.stage self.old.runner) }
+        ensures owed { (c : Asked) → wanted self.old ≡ wishes.Book c →
+            owed_at self.new.stage self.new.runner ≡ owed_after c answer (owed_at self.old.stage self.old.runner) }
         ensures outer { outer self.new.stage ≡ outer self.old.stage }
         ensures lacks { (lost : List ℕ) → Lacks self.old.stage lost → Lacks self.new.stage lost }
         ensures work { work_of self.new < work_of self.old + message_at self.new.stage }
-        ensures message { self.old.stage ≡ Stage.Running → message_work self.new.stage self.new.runner < message_work self.old.stage self.old.runner + statement_at self.new.stage self.new.runner }
-        ensures left { self.old.stage ≡ Stage.Running → Runs self.old.runner → left_at self.new.stage self.new.runner < left_at self.old.stage self.old.runner }
+        ensures message { self.old.stage ≡ Stage.Running →
+            message_work self.new.stage self.new.runner <
+            message_work self.old.stage self.old.runner + statement_at self.new.stage self.new.runner }
+        ensures left { self.old.stage ≡ Stage.Running → Runs self.old.runner →
+            left_at self.new.stage self.new.runner < left_at self.old.stage self.old.runner }
         ensures level { level_of self.new.runner ≡ level_of self.old.runner }
         ensures known { IsKnownAfter (known_of self.old.runner) answer (known_of self.new.runner) }
         ensures fit { IsFit self.new.runner }
@@ -264,13 +275,15 @@ impl Session {
     pub fn sent(&mut self)
         requires holding { IsHolding self.old.stage self.old.runner }
         requires fit { IsFit self.old.runner }
-        ensures grown { (taken : List ℕ) (entries : List Entry) (asked : List Asked) (sent : List ℕ) → Stands self.old taken entries asked sent →
+        ensures grown { (taken : List ℕ) (entries : List Entry) (asked : List Asked) (sent : List ℕ) →
+            Stands self.old taken entries asked sent →
             StandsShort self.new taken entries asked (sent ++ reply_of self.old.stage self.old.runner self.old.greeting.items) }
         ensures owed { owed_at self.new.stage self.new.runner ≡ owed_at self.old.stage self.old.runner }
         ensures outer { outer self.new.stage ≡ outer self.old.stage }
         ensures lacks { Lacks self.new.stage [] }
         ensures work { work_of self.new < work_of self.old + message_at self.new.stage }
-        ensures message { self.old.stage ≡ Stage.Running → message_work self.new.stage self.new.runner < message_work self.old.stage self.old.runner }
+        ensures message { self.old.stage ≡ Stage.Running →
+            message_work self.new.stage self.new.runner < message_work self.old.stage self.old.runner }
         ensures level { level_of self.new.runner ≡ level_of self.old.runner }
         ensures known { known_of self.new.runner ≡ known_of self.old.runner }
         ensures fit { IsFit self.new.runner }
@@ -284,8 +297,11 @@ impl Session {
     /// The reply could not be sent whole.
     pub fn unsent(&mut self)
         requires { IsHolding self.old.stage self.old.runner }
-        ensures grown { (taken : List ℕ) (entries : List Entry) (asked : List Asked) (sent : List ℕ) → Stands self.old taken entries asked sent →
-            Stands self.new taken (entries ++ unsent (length (sent ++ reply_of self.old.stage self.old.runner self.old.greeting.items)) ∷ []) asked (sent ++ reply_of self.old.stage self.old.runner self.old.greeting.items) }
+        ensures grown { (taken : List ℕ) (entries : List Entry) (asked : List Asked) (sent : List ℕ) →
+            Stands self.old taken entries asked sent →
+            Stands self.new taken (entries ++ unsent
+            (length (sent ++ reply_of self.old.stage self.old.runner self.old.greeting.items)) ∷ []) asked
+            (sent ++ reply_of self.old.stage self.old.runner self.old.greeting.items) }
         ensures owed { owed_at self.new.stage self.new.runner ≡ owed_at self.old.stage self.old.runner }
         ensures outer { outer self.new.stage ≡ Some End.WriteFault }
         ensures lacks { (lost : List ℕ) → Lacks self.new.stage lost }
@@ -300,7 +316,8 @@ impl Session {
     /// No more bytes come.
     pub fn stop(&mut self, cause: Stop)
         requires { wanted self.old ≡ wishes.Bytes }
-        ensures grown { (taken : List ℕ) (entries : List Entry) (asked : List Asked) (sent : List ℕ) → Stands self.old taken entries asked sent →
+        ensures grown { (taken : List ℕ) (entries : List Entry) (asked : List Asked) (sent : List ℕ) →
+            Stands self.old taken entries asked sent →
             Stands self.new taken (entries ++ stopped cause ∷ []) asked sent }
         ensures owed { owed_at self.new.stage self.new.runner ≡ owed_at self.old.stage self.old.runner }
         ensures outer { IsStopped cause (outer self.new.stage) }

@@ -65,6 +65,7 @@ pub fn part(finish: Finish) -> Stage
     ensures outer { outer result ≡ outer_end (end_of finish) }
     ensures work { work_at result ≤ 1 }
     ensures lacks { (lost : List ℕ) → LacksBy (end_of finish) lost → lost ≡ [] → Lacks result lost }
+    ensures silent { finish ≡ Finish.WriteFault → work_at result ≡ 0 }
     ensures phase { (started : Bool) → InPhase result started }
     ensures under { (r : Runner) → IsUnder result r }
     ensures constant { NoBuilt result }
@@ -87,6 +88,7 @@ pub fn leave(owed: Owed, finish: Finish) -> Stage
     ensures owed { (r : Runner) → owed_at result r ≡ owed }
     ensures outer { outer result ≡ outer_end (end_of finish) }
     ensures work { work_at result ≤ 3 }
+    ensures silent { owed ≡ Owed.Nothing → finish ≡ Finish.WriteFault → work_at result ≡ 0 }
     ensures lacks { (lost : List ℕ) → LacksBy (end_of finish) lost → lost ≡ [] → Lacks result lost }
     ensures phase { (started : Bool) → InPhase result started }
     ensures under { (r : Runner) → IsUnder result r }

@@ -16,5 +16,7 @@ returns-in-Ok-clause-plays g c = (
 
 pub returns-in-Err-clause-plays : goal.returns-in-Err-clause-plays
 returns-in-Err-clause-plays g c =
-    declined g.W.Words.gives (g.B.Book.past c.args.book.now) c.args.words.now (calls.Touch c.args.cell.now) (calls.Touch c.args.cell.now) c.in-Err.why (g.B.Book.past c.own.new.self) c.args.words.now refl tt c.in-Err.ensures.err (λ limit is. c.in-Err.ensures.full limit (ap Err is)) (λ limit is. tt)
+    declined g.W.Words.gives (g.B.Book.past c.args.book.now) c.args.words.now (calls.Touch c.args.cell.now) (calls.Touch c.args.cell.now)
+    c.in-Err.why (g.B.Book.past c.own.new.self) c.args.words.now refl tt c.in-Err.ensures.err
+    (λ limit is. c.in-Err.ensures.full limit (ap Err is)) (λ limit is. tt)
     (inl (c.requires.written, refl))

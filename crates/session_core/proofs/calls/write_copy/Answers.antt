@@ -4,4 +4,5 @@ use Rattle.session_core.proofs.Playing.{wanting}
 use Rattle.session_core.proofs.calls.write_copy.Goals as goal
 
 pub returns-in-Err-clause-plays : goal.returns-in-Err-clause-plays
-returns-in-Err-clause-plays g c = wanting g.W.Words.gives (g.B.Book.past c.args.book.now) c.args.words.now (calls.Write c.args.cell.now c.args.value.now) tt refl
+returns-in-Err-clause-plays g c = wanting g.W.Words.gives (g.B.Book.past c.args.book.now) c.args.words.now
+    (calls.Write c.args.cell.now c.args.value.now) tt refl

@@ -7,4 +7,5 @@ returns-clause-ran g c = λ level p v f seen many ran.
     c.take.ensures.grown c.requires.wanted c.take.ensures.level c.take.ensures.outer c.take.ensures.lacks ran
 
 pub returns-clause-sits : goal.returns-clause-sits
-returns-clause-sits g c = sits_same c.args.session.now c.take.new.self (g.B.Book.past c.args.book.now) c.requires.sits c.take.ensures.owed c.take.ensures.known c.take.ensures.fit
+returns-clause-sits g c = sits_same c.args.session.now c.take.new.self (g.B.Book.past c.args.book.now) c.requires.sits c.take.ensures.owed
+    c.take.ensures.known c.take.ensures.fit

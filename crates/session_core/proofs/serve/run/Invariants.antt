@@ -7,7 +7,8 @@ use Rattle.session_core.proofs.serve.run.Given as goal
 abbrev pub invariant-loop-session : goal.invariant-loop-session
 invariant-loop-session g l = record {
   ran : (many : ℕ) × (many + l.left ≡ 1073741824) ×
-      Ran g.W.Words.gives (level_of l.initial.session.runner) (g.B.Book.past l.initial.book) l.initial.words (sight_of g.L.Sides.traffic g.L.Sides.read_faults g.L.Sides.write_faults l.initial.link)
+      Ran g.W.Words.gives (level_of l.initial.session.runner) (g.B.Book.past l.initial.book) l.initial.words
+      (sight_of g.L.Sides.traffic g.L.Sides.read_faults g.L.Sides.write_faults l.initial.link)
       l.session (g.B.Book.past l.book) l.words (sight_of g.L.Sides.traffic g.L.Sides.read_faults g.L.Sides.write_faults l.link) many;
   sits : Sits l.session (g.B.Book.past l.book);
   stays : g.B.Book.stays l.initial.book l.book;

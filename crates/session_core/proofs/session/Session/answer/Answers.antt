@@ -1,4 +1,4 @@
-use Rattle.std.proofs.Common.{Bool, ap, [], ◌∙◌, subst}
+use Rattle.std.proofs.Common.{Bool, ap, [], ◌∙◌}
 use Rattle.std.specs.Prelude.{◌||◌}
 use Rattle.session_core.specs.Steps.{with_wanting}
 use Rattle.session_core.proofs.Passes.{IsShort-with_wanting}
@@ -13,11 +13,15 @@ returns-clause-grown c =
       IsShort-with_wanting c.answered-step.result.wanting sent,
       record {
         stage =
-            StandsFor-answered c.args.self.now.stage c.answered-step.result.stage c.args.self.now.runner c.answered-step.new.runner c.args.self.now.greeting.items c.answered-step.new.greeting.items c.args.self.now.frames taken es asked sent k
-            c.args.answer e c.answered-step.result.wanting s.stage c.answered-step.ensures.goes w c.answered-step.ensures.level c.answered-step.ensures.some;
-        short = flag-answered c.args.self.now.short c.either-self.result c.either.result c.is_want-wants.result c.answered-step.result.wanting es c.args.answer e sent s.short c.either-self.ensures
+            StandsFor-answered c.args.self.now.stage c.answered-step.result.stage c.args.self.now.runner c.answered-step.new.runner
+            c.args.self.now.greeting.items c.answered-step.new.greeting.items c.args.self.now.frames taken es asked sent k
+            c.args.answer e c.answered-step.result.wanting s.stage c.answered-step.ensures.goes w c.answered-step.ensures.level
+            c.answered-step.ensures.some;
+        short = flag-answered c.args.self.now.short c.either-self.result c.either.result c.is_want-wants.result
+            c.answered-step.result.wanting es c.args.answer e sent s.short c.either-self.ensures
             (c.either.ensures ∙ ap (λ (b : Bool). c.is_want-wants.result || b) c.is_some.ensures) c.is_want-wants.ensures;
-        number = number-answered c.args.self.now.number c.number_after-number.result c.answered-step.result.wanting es c.args.answer e sent s.number c.number_after-number.ensures;
+        number = number-answered c.args.self.now.number c.number_after-number.result c.answered-step.result.wanting es c.args.answer e sent
+            s.number c.number_after-number.ensures;
       },
     )
 

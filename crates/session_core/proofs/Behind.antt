@@ -1,0 +1,82 @@
+-- What stands behind an answer, and behind a reply that was sent.
+use Rattle.std.proofs.Common.{◌≡◌, Bool, true, false, ℕ, List, ◌∷◌, length, refl, sym, ◌∙◌, ap, subst, Option, Some, None}
+use Rattle.std.specs.Vec.Iter.{into_iter_items}
+use Rattle.history_core.specs.declared.event.Event.{Event}
+use Rattle.pg_framing.specs.declared.replies.TransactionState.{TransactionState}
+use Rattle.block_machine.specs.Calls.{Call}
+use Rattle.block_machine.specs.Calls as calls
+use Rattle.block_machine.specs.Script.{Entry, Said, with_call}
+use Rattle.block_machine.specs.Stages.{IsFrom, entry_for, with_short}
+use Rattle.block_machine.specs.Stages as running
+use Rattle.block_machine.specs.Messages.{Outside}
+use Rattle.block_machine.specs.Runners.{behind, follows, level_of, known_of, wanted}
+use Rattle.block_machine.specs.declared.call.Answer.{Answer}
+use Rattle.block_machine.specs.declared.runner.Runner.{Runner}
+use Rattle.block_machine.specs.declared.stage.Stage.{Stage as Inner}
+use Rattle.block_machine.specs.declared.stage.Stage.TheVariants as inners
+use Rattle.session_core.specs.declared.phase.Phase.TheVariants as phases
+use Rattle.session_core.specs.declared.stage.Stage.TheVariants as stages
+use Rattle.session_core.specs.Wants as wishes
+use Rattle.session_core.specs.Wants.{of_message}
+use Rattle.session_core.specs.Told.{outside_of}
+use Rattle.session_core.specs.Stands.{on}
+use Rattle.session_core.specs.Steps.{Advances, Sends}
+use Rattle.session_core.proofs.Meeting.{level_same, with_passing}
+
+-- ---- a message that runs
+
+least_busy : (stage : Inner) → running.IsBusy stage → running.least stage ≡ 1
+least_busy (inners.Over state) h = absurd h
+least_busy _ h = refl
+
+pub book_message : (w : calls.Want) (c : Call) → of_message w ≡ wishes.Book c → w ≡ calls.Book c
+book_message (calls.Book d) c is = let same : d ≡ c = cc in ap (λ (x : Call). calls.Book x) same
+book_message calls.Send c is = cc
+book_message calls.Nothing c is = cc
+
+-- the message goes on behind its reply
+pub sends_on : (old new : Runner) (short : Bool) (w : Option Bool) → level_of new ≡ level_of old → running.IsBusy new.stage →
+    (short ≡ false → w ≡ None) → (short ≡ true → w ≡ Some false) →
+    ((outside : Outside) (said : Said) (es : List Entry) → outside.level ≡ level_of old →
+    IsFrom (running.least new.stage) (length said.bytes) es →
+    behind old outside said (with_short short said.bytes es) ≡ follows new outside said es) → Sends stages.Running old stages.Running new w
+sends_on old new short w level busy calm shorts goes greeting talk said es from =
+    ap (λ (x : List Entry). behind old (outside_of (level_of old) (on old talk)) said x)
+    (sym (with_passing short w said.bytes es calm shorts))
+    ∙ goes (outside_of (level_of old) (on old talk)) said es refl
+    (subst (λ (n : ℕ). IsFrom n (length said.bytes) es) (sym (least_busy new.stage busy)) from)
+    ∙ level_same old new talk said es level
+
+-- the message is done
+pub sends_done : (old new : Runner) (state : TransactionState) (short : Bool) (w : Option Bool) → level_of new ≡ level_of old →
+    new.stage ≡ inners.Over state →
+    (short ≡ false → w ≡ None) → (short ≡ true → w ≡ Some false) →
+    ((outside : Outside) (said : Said) (es : List Entry) → outside.level ≡ level_of old →
+    IsFrom (running.least new.stage) (length said.bytes) es →
+    behind old outside said (with_short short said.bytes es) ≡ follows new outside said es) →
+    Sends stages.Running old (stages.Taking (phases.Normal state)) new w
+sends_done old new state short w level over calm shorts goes greeting talk said es from =
+    ap (λ (x : List Entry). behind old (outside_of (level_of old) (on old talk)) said x)
+    (sym (with_passing short w said.bytes es calm shorts))
+    ∙ goes (outside_of (level_of old) (on old talk)) said es refl
+    (subst (λ (s : Inner). IsFrom (running.least s) (length said.bytes) es) (sym over) from)
+    ∙ level_same old new talk said es level
+    ∙ ap (λ (s : Inner). running.goes_on s new.built.items (known_of new) (into_iter_items new.rest)
+    (outside_of (level_of new) (on new talk)) said es) over
+
+-- an answer to the call of a message
+pub advances_running : (old new : Runner) (answer : Answer) (short : Bool) (w : Option Bool) (greeting : List ℕ) →
+    level_of new ≡ level_of old → (short ≡ false → w ≡ None) → (short ≡ true → w ≡ Some false) →
+    ((c : Call) (outside : Outside) (said : Said) (es : List Entry) (e : Event) → wanted old ≡ calls.Book c →
+    IsFrom 1 (length said.bytes) es →
+    follows old outside said (entry_for answer e ∷ with_short short said.bytes es) ≡ follows new outside (with_call said c) es) →
+    Advances stages.Running old answer stages.Running new w greeting
+advances_running old new answer short w greeting level calm shorts goes = record {
+  goes = λ c before talk said es e is from.
+      ap (λ (x : List Entry). follows old (outside_of (level_of old) (on old talk)) said (entry_for answer e ∷ x))
+      (sym (with_passing short w said.bytes es calm shorts))
+      ∙ goes c (outside_of (level_of old) (on old talk)) said es e (book_message (wanted old) c is) from
+      ∙ level_same old new talk (with_call said c) es level;
+  busy = tt;
+  last = λ h. absurd h;
+}

@@ -1,0 +1,217 @@
+-- What the messages of a client lead to.
+use Rattle.std.proofs.Common.{◌≡◌, Bool, true, false, ℕ, List, [], length, refl, sym, ◌∙◌, ap, Option, Some, None, inl, inr}
+use Rattle.cell_base.specs.declared.level.Level.{Level}
+use Rattle.cell_base.specs.declared.sql_state.SqlState.TheVariants as states
+use Rattle.pg_framing.specs.declared.replies.TransactionState.{TransactionState}
+use Rattle.sql_tree.specs.declared.table.Table.{Table}
+use Rattle.client_framing.specs.declared.front.Front.TheVariants as fronts
+use Rattle.client_framing.specs.declared.front.Extended.{Extended}
+use Rattle.client_framing.specs.declared.front.CopyMessage.{CopyMessage}
+use Rattle.block_machine.specs.Script.{Entry, Said, lost}
+use Rattle.block_machine.specs.Stages.{IsFrom, with_short}
+use Rattle.block_machine.specs.Messages.{Outside, IsMessage, message, owed_between}
+use Rattle.block_machine.specs.Runners.{follows, level_of, known_of}
+use Rattle.block_machine.specs.declared.block.Owed.{Owed}
+use Rattle.block_machine.specs.declared.end.End.TheVariants as ends
+use Rattle.block_machine.specs.declared.message.Message.{Message}
+use Rattle.block_machine.specs.declared.message.Message.TheVariants as messages
+use Rattle.block_machine.specs.declared.runner.Runner.{Runner}
+use Rattle.session_core.specs.declared.phase.Phase.TheVariants as phases
+use Rattle.session_core.specs.declared.stage.Fatal.TheVariants as fatals
+use Rattle.session_core.specs.declared.stage.Finish.TheVariants as finishes
+use Rattle.session_core.specs.declared.stage.Reply.TheVariants as replies
+use Rattle.session_core.specs.declared.stage.Stage.{Stage}
+use Rattle.session_core.specs.declared.stage.Stage.TheVariants as stages
+use Rattle.session_core.specs.Users.{HasUser}
+use Rattle.session_core.specs.Talk.{Talk, encryption, cancel, start, nameless, version, query, unread_query, terminate, sync, nothing, extended, function}
+use Rattle.session_core.specs.Told.{ending, outside_of, refuses, session}
+use Rattle.session_core.specs.Stands.{IsFit, IsUnder, IsBusy, Lacks, NoBuilt, goes_on, on, outer, owed_at}
+use Rattle.session_core.specs.Steps.{Meets, Leads, LeadsTo, IsPassing, with_wanting}
+use Rattle.session_core.proofs.Passes.{busy-last, unless_short-takes}
+use Rattle.session_core.proofs.Somes.{plain_some}
+
+-- ---- a message that runs
+
+-- what a runner goes on with at a level that is the same
+pub level_same : (old new : Runner) (talk : Talk) (said : Said) (es : List Entry) → level_of new ≡ level_of old →
+    follows new (outside_of (level_of old) (on old talk)) said es ≡ follows new (outside_of (level_of new) (on new talk)) said es
+level_same old new talk said es same =
+    ap (λ (l : Level). follows new (outside_of l (λ phase known. session l phase known talk)) said es) (sym same)
+
+-- a want of memory that doesn't end the session
+pub with_passing : (short : Bool) (w : Option Bool) (sent : List ℕ) (es : List Entry) → (short ≡ false → w ≡ None) →
+    (short ≡ true → w ≡ Some false) →
+    with_short short sent es ≡ with_wanting w sent es
+with_passing false w sent es calm short = ap (λ (x : Option Bool). with_wanting x sent es) (sym (calm refl))
+with_passing true w sent es calm short = ap (λ (x : Option Bool). with_wanting x sent es) (sym (short refl))
+
+-- a message begins
+pub message_begins : (asked : Message) (state : TransactionState) (old middle new : Runner) (short : Bool) (w : Option Bool) →
+    level_of middle ≡ level_of old → known_of middle ≡ known_of old → level_of new ≡ level_of middle → (short ≡ false → w ≡ None) →
+    (short ≡ true → w ≡ Some false) →
+    ((outside : Outside) (said : Said) (es : List Entry) → outside.level ≡ level_of middle → IsFrom 1 (length said.bytes) es →
+    message asked state (known_of middle) outside said (with_short short said.bytes es) ≡ follows new outside said es) →
+    (greeting : List ℕ) (talk : Talk) (said : Said) (es : List Entry) → IsFrom 1 (length said.bytes) es →
+    message asked state (known_of old) (outside_of (level_of old) (on old talk)) said
+    (with_wanting w said.bytes es) ≡ goes_on stages.Running new greeting talk said es
+message_begins asked state old middle new short w middle_level middle_known level calm shorts goes greeting talk said es from =
+    ap (λ (x : List Entry). message asked state (known_of old) (outside_of (level_of old) (on old talk)) said x)
+    (sym (with_passing short w said.bytes es calm shorts))
+    ∙ ap (λ (k : List Table). message asked state k (outside_of (level_of old) (on old talk)) said (with_short short said.bytes es))
+    (sym middle_known)
+    ∙ goes (outside_of (level_of old) (on old talk)) said es (sym middle_level) from
+    ∙ level_same old new talk said es (level ∙ middle_level)
+
+-- a message fails before its first statement
+pub message_fails : (asked : Message) (state : TransactionState) (old new : Runner) → level_of new ≡ level_of old →
+    ((outside : Outside) (said : Said) (es : List Entry) → message asked state
+    (known_of old) outside said es ≡ follows new outside said es) →
+    (greeting : List ℕ) (talk : Talk) (said : Said) (es : List Entry) →
+    message asked state (known_of old) (outside_of (level_of old) (on old talk)) said es ≡ goes_on stages.Running new greeting talk said es
+message_fails asked state old new level goes greeting talk said es =
+    goes (outside_of (level_of old) (on old talk)) said es ∙ level_same old new talk said es level
+
+-- ---- what a message leads to
+
+-- to a stage of the session's own
+pub leads_own : (owed : Owed) (stage : Stage) (r : Runner) → owed_at stage r ≡ owed → IsUnder stage r → outer stage ≡ None →
+    Lacks stage [] → NoBuilt stage → IsFit r → Leads owed r stage r
+leads_own owed stage r is under inner lacks constant fit = record {
+  owed_is = is;
+  level_is = refl;
+  known_is = refl;
+  fit = fit;
+  under = under;
+  inner = inner;
+  lacks = lacks;
+  some = λ greeting. plain_some stage r greeting constant;
+}
+
+-- ---- messages before the startup
+
+pub meets_ssl : (r : Runner) → Meets fronts.Ssl phases.Startup r (stages.Telling replies.NoEncryption) r None
+meets_ssl r = inl (record { asked = encryption; says = tt; busy = tt; passing = tt; goes = λ greeting talk said es from. refl })
+
+pub meets_gss : (r : Runner) → Meets fronts.Gss phases.Startup r (stages.Telling replies.NoEncryption) r None
+meets_gss r = inl (record { asked = encryption; says = tt; busy = tt; passing = tt; goes = λ greeting talk said es from. refl })
+
+pub meets_cancel : (pid secret : ℕ) (r : Runner) → Meets (fronts.Cancel pid secret) phases.Startup r
+    (stages.Ended finishes.Cancelled) r None
+meets_cancel pid secret r = inl (record { asked = cancel; says = tt; busy = tt; passing = tt; goes = λ greeting talk said es from. refl })
+
+pub meets_start : (pairs : List ((List ℕ) × (List ℕ))) (r : Runner) → HasUser pairs →
+    Meets (fronts.Startup pairs) phases.Startup r stages.Opening r None
+meets_start pairs r has = inl (record { asked = start; says = has; busy = tt; passing = tt; goes = λ greeting talk said es from. refl })
+
+pub meets_nameless : (pairs : List ((List ℕ) × (List ℕ))) (r : Runner) → (HasUser pairs → ⊥) →
+    Meets (fronts.Startup pairs) phases.Startup r (stages.Parting fatals.NoUser) r None
+meets_nameless pairs r none =
+    inl (record { asked = nameless; says = none; busy = tt; passing = tt; goes = λ greeting talk said es from. refl })
+
+pub meets_version : (code : ℕ) (r : Runner) → Meets (fronts.Version code) phases.Startup r (stages.Parting fatals.OtherVersion) r None
+meets_version code r = inl (record { asked = version; says = tt; busy = tt; passing = tt; goes = λ greeting talk said es from. refl })
+
+-- ---- messages that are served
+
+pub meets_terminate : (state : TransactionState) (stage : Stage) (r : Runner) →
+    LeadsTo stage (ending (owed_between state) ends.Terminated) → Meets fronts.Terminate (phases.Normal state) r stage r None
+meets_terminate state stage r leads =
+    inl (record {
+      asked = terminate;
+      says = tt;
+      busy = busy-last stage leads.0;
+      passing = tt;
+      goes =
+          λ greeting talk said es from. leads.1 r greeting talk said es;
+    })
+
+pub meets_sync : (state : TransactionState) (r : Runner) → Meets fronts.Sync (phases.Normal state) r (stages.Telling
+    (replies.Ready state)) r None
+meets_sync state r = inl (record { asked = sync; says = tt; busy = tt; passing = tt; goes = λ greeting talk said es from. refl })
+
+pub meets_extended : (step : Extended) (state : TransactionState) (stage : Stage) (r : Runner) → IsBusy stage →
+    ((greeting : List ℕ) (talk : Talk) (said : Said) (es : List Entry) →
+    refuses (level_of r) state (known_of r) (on r talk) said es ≡ goes_on stage r greeting talk said es) →
+    Meets (fronts.Extended step) (phases.Normal state) r stage r None
+meets_extended step state stage r busy goes =
+    inl (record { asked = extended; says = tt; busy = busy; passing = tt; goes = λ greeting talk said es from. goes greeting talk said es })
+
+pub meets_flush : (state : TransactionState) (r : Runner) → Meets fronts.Flush (phases.Normal state) r (stages.Taking
+    (phases.Normal state)) r None
+meets_flush state r = inr (record { asked = nothing; says = tt; goes = λ level known rest. refl }, refl, refl, refl)
+
+pub meets_copy : (part : CopyMessage) (state : TransactionState) (r : Runner) →
+    Meets (fronts.Copy part) (phases.Normal state) r (stages.Taking (phases.Normal state)) r None
+meets_copy part state r = inr (record { asked = nothing; says = tt; goes = λ level known rest. refl }, refl, refl, refl)
+
+pub meets_query : (text : List ℕ) (asked : Message) (state : TransactionState) (old new : Runner) (w : Option Bool) → IsMessage text asked →
+    IsPassing w →
+    ((greeting : List ℕ) (talk : Talk) (said : Said) (es : List Entry) → IsFrom 1 (length said.bytes) es →
+    message asked state (known_of old) (outside_of (level_of old) (on old talk)) said
+    (with_wanting w said.bytes es) ≡ goes_on stages.Running new greeting talk said es) →
+    Meets (fronts.Query text) (phases.Normal state) old stages.Running new w
+meets_query text asked state old new w is passing goes =
+    inl (record { asked = query asked; says = is; busy = tt; passing = passing; goes = goes })
+
+-- memory is wanting for what a query asks
+pub meets_unread : (text : List ℕ) (state : TransactionState) (old new : Runner) →
+    ((greeting : List ℕ) (talk : Talk) (said : Said) (es : List Entry) →
+    message (messages.Unread states.S53200) state (known_of old)
+    (outside_of (level_of old) (on old talk)) said es ≡ goes_on stages.Running new greeting talk said es) →
+    Meets (fronts.Query text) (phases.Normal state) old stages.Running new (Some false)
+meets_unread text state old new goes =
+    inl (record {
+      asked = unread_query;
+      says = tt;
+      busy = tt;
+      passing = tt;
+      goes = λ greeting talk said es from.
+          unless_short-takes false (message (messages.Unread states.S53200) state (known_of old)
+          (outside_of (level_of old) (on old talk))) lost said es ∙ goes greeting talk said es;
+    })
+
+pub meets_function : (state : TransactionState) (old new : Runner) →
+    ((greeting : List ℕ) (talk : Talk) (said : Said) (es : List Entry) →
+    message (messages.Unread states.S0A000) state (known_of old)
+    (outside_of (level_of old) (on old talk)) said es ≡ goes_on stages.Running new greeting talk said es) →
+    Meets fronts.Function (phases.Normal state) old stages.Running new None
+meets_function state old new goes =
+    inl (record { asked = function; says = tt; busy = tt; passing = tt; goes = λ greeting talk said es from. goes greeting talk said es })
+
+-- ---- messages that are discarded
+
+pub drops_terminate : (state : TransactionState) (stage : Stage) (r : Runner) →
+    LeadsTo stage (ending (owed_between state) ends.Terminated) → Meets fronts.Terminate (phases.Discarding state) r stage r None
+drops_terminate state stage r leads =
+    inl (record {
+      asked = terminate;
+      says = tt;
+      busy = busy-last stage leads.0;
+      passing = tt;
+      goes =
+          λ greeting talk said es from. leads.1 r greeting talk said es;
+    })
+
+pub drops_sync : (state : TransactionState) (r : Runner) → Meets fronts.Sync (phases.Discarding state) r (stages.Telling
+    (replies.Ready state)) r None
+drops_sync state r = inl (record { asked = sync; says = tt; busy = tt; passing = tt; goes = λ greeting talk said es from. refl })
+
+pub drops_query : (text : List ℕ) (state : TransactionState) (r : Runner) →
+    Meets (fronts.Query text) (phases.Discarding state) r (stages.Taking (phases.Discarding state)) r None
+drops_query text state r = inr (record { asked = unread_query; says = tt; goes = λ level known rest. refl }, refl, refl, refl)
+
+pub drops_flush : (state : TransactionState) (r : Runner) → Meets fronts.Flush (phases.Discarding state) r (stages.Taking
+    (phases.Discarding state)) r None
+drops_flush state r = inr (record { asked = nothing; says = tt; goes = λ level known rest. refl }, refl, refl, refl)
+
+pub drops_extended : (step : Extended) (state : TransactionState) (r : Runner) →
+    Meets (fronts.Extended step) (phases.Discarding state) r (stages.Taking (phases.Discarding state)) r None
+drops_extended step state r = inr (record { asked = extended; says = tt; goes = λ level known rest. refl }, refl, refl, refl)
+
+pub drops_function : (state : TransactionState) (r : Runner) →
+    Meets fronts.Function (phases.Discarding state) r (stages.Taking (phases.Discarding state)) r None
+drops_function state r = inr (record { asked = function; says = tt; goes = λ level known rest. refl }, refl, refl, refl)
+
+pub drops_copy : (part : CopyMessage) (state : TransactionState) (r : Runner) →
+    Meets (fronts.Copy part) (phases.Discarding state) r (stages.Taking (phases.Discarding state)) r None
+drops_copy part state r = inr (record { asked = nothing; says = tt; goes = λ level known rest. refl }, refl, refl, refl)

@@ -1,0 +1,13 @@
+-- What is left to show of `answer_message`.
+use Rattle.block_machine.specs.Runners.{wanted}
+use Rattle.session_core.proofs.Behind.{advances_running, book_message}
+use Rattle.session_core.proofs.answers.answer_message.Goals as goal
+
+pub returns-clause-goes : goal.returns-clause-goes
+returns-clause-goes c = λ greeting.
+    advances_running c.args.runner.now c.answer-wanting.new.self c.args.answer c.answer-wanting.result c.passing.result greeting
+    c.answer-wanting.ensures.level
+    c.passing.ensures.calm c.passing.ensures.short c.answer-wanting.ensures.goes
+
+pub returns-clause-owed : goal.returns-clause-owed
+returns-clause-owed c = λ asked is. c.answer-wanting.ensures.owed asked (book_message (wanted c.args.runner.now) asked is)

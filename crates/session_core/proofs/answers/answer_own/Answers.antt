@@ -1,0 +1,28 @@
+-- What is left to show of `answer_own`.
+use Rattle.std.proofs.Common.{sym, subst}
+use Rattle.block_machine.specs.declared.call.Answer.{Answer}
+use Rattle.session_core.specs.declared.stage.Stage.{Stage}
+use Rattle.session_core.specs.declared.stage.Stage.TheVariants as stages
+use Rattle.session_core.specs.declared.turns.Step.{Step}
+use Rattle.session_core.specs.Stands.{HasReply}
+use Rattle.session_core.specs.Steps.{Advances}
+use Rattle.session_core.proofs.Somes.{plain_some}
+use Rattle.session_core.proofs.answers.answer_own.Goals as goal
+
+pub returns-in-Opening-Opened-clause-goes : goal.returns-in-Opening-Opened-clause-goes
+returns-in-Opening-Opened-clause-goes c = λ r.
+    subst (λ (x : Stage). Advances x r c.args.answer c.greet.result.stage r c.greet.result.wanting c.greet.new.greeting.items)
+    (sym c.in-Opening-Opened.is-0)
+    (subst (λ (x : Answer). Advances stages.Opening r x c.greet.result.stage r c.greet.result.wanting c.greet.new.greeting.items)
+    (sym c.in-Opening-Opened.is-1)
+    (c.greet.ensures.goes r))
+
+pub returns-in_default-clause-goes : goal.returns-in_default-clause-goes
+returns-in_default-clause-goes c = λ r.
+    subst (λ (x : Step). Advances c.args.stage r c.args.answer x.stage r x.wanting c.args.greeting.now.items) (sym c.calm.ensures)
+    (c.advance.ensures.goes r c.args.greeting.now.items)
+
+pub returns-in_default-clause-some : goal.returns-in_default-clause-some
+returns-in_default-clause-some c = λ r.
+    subst (λ (x : Step). HasReply x.stage r c.args.greeting.now.items) (sym c.calm.ensures)
+    (plain_some c.advance.result r c.args.greeting.now.items c.advance.ensures.constant)
