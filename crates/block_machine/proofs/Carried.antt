@@ -1,31 +1,17 @@
 -- What holds of the stage that a call made.
-use Rattle.std.proofs.Common.{◌≡◌, ◌≤◌, ◌+◌, ℕ, List, refl, arith, Result, Ok, Err, IfOk}
+use Rattle.std.proofs.Common.{◌≡◌, ◌≤◌, ◌+◌, ℕ, refl, arith, Result, Ok, Err, IfOk}
 use Rattle.cell_base.specs.declared.memory.Memory.{Memory}
-use Rattle.sql_tree.specs.declared.table.Table.{Table}
 use Rattle.block_machine.specs.declared.stage.Stage.{Stage}
 use Rattle.block_machine.specs.declared.stage.Stage.TheVariants as stages
-use Rattle.block_machine.specs.Stages.{IsQuiet, IsRunning, IsSoundStage, KnowsTables, NoBuilt, HasReply, left_at, running_at, work_at}
-use Rattle.block_machine.proofs.Holding.{holding_some, quiet_knows, quiet_sound, quiet_silent}
+use Rattle.block_machine.specs.Stages.{IsQuiet, IsRunning, running_at, work_at}
 
 pub if_ok : (P Q : Stage → Type 0) (r : Result Stage Memory) → ((stage : Stage) → P stage → Q stage) → IfOk r P → IfOk r Q
 if_ok P Q (Ok stage) f h = f stage h
 if_ok P Q (Err e) f h = h
 
-pub if_both : (P O Q : Stage → Type 0) (r : Result Stage Memory) → ((stage : Stage) → P stage → O stage → Q stage) → IfOk r P → IfOk r O → IfOk r Q
-if_both P O Q (Ok stage) f h k = f stage h k
-if_both P O Q (Err e) f h k = h
-
-pub quiet_left : (stage : Stage) → IsQuiet stage → left_at stage ≡ 0
-quiet_left (stages.Running run p) h = absurd h
-quiet_left _ h = refl
-
 pub quiet_running : (stage : Stage) → IsQuiet stage → running_at stage ≡ 0
 quiet_running (stages.Running run p) h = absurd h
 quiet_running _ h = refl
-
-pub running_low : (stage : Stage) → running_at stage ≤ 1
-running_low (stages.Running run p) = omega arith
-running_low _ = omega arith
 
 pub running_silent : (stage : Stage) → (IsRunning stage → ⊥) → running_at stage ≡ 0
 running_silent (stages.Running run p) h = absurd (h tt)

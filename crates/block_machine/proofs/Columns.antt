@@ -1,14 +1,11 @@
 -- The row of a SHOW fits its messages.
 use Rattle.std.proofs.Common.{◌≡◌, ◌≤◌, ◌+◌, ℕ, List, [], ◌∷◌, ◌++◌, length, refl, arith, length-append}
 use Rattle.std.specs.Prelude.{flat_map}
-use Rattle.cell_base.specs.declared.sql_type.SqlType.TheVariants as types
-use Rattle.cell_base.specs.declared.value.Value.{Value}
 use Rattle.cell_base.specs.declared.value.Value.TheVariants as values
 use Rattle.sql_tree.specs.declared.table.OutField.{OutField}
-use Rattle.pg_framing.specs.Spelling.{four_bytes}
 use Rattle.pg_framing.specs.Replies.{two_bytes, field_bytes, value_bytes, IsShortBody}
 use Rattle.pg_framing.proofs.Numbers.{length-four_bytes}
-use Rattle.pg_framing.proofs.Lengths.{length-two_bytes, length-field_bytes, length-one}
+use Rattle.pg_framing.proofs.Lengths.{length-field_bytes, length-one}
 
 pub field_short : (field : OutField) → length field.name ≤ 64 → IsShortBody (two_bytes (length (field ∷ [])) ++ flat_map field_bytes (field ∷ []))
 field_short field short = omega (arith, length-one (length (field ∷ [])) (field_bytes field), length-field_bytes field)

@@ -11,7 +11,6 @@ mod Turning
 mod Sounds
 mod Columns
 mod Carried
-mod Judging
 mod Taking
 mod Pursuing
 mod Zeros

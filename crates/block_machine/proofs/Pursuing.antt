@@ -1,5 +1,7 @@
 -- The steps of a statement that runs, with what its calls say.
-use Rattle.std.proofs.Common.{◌≡◌, ℕ, Bool, true, false, List, [], ◌∷◌, ◌++◌, length, refl, sym, ◌∙◌, ap, subst, Result, Ok, Err, IfOk}
+use Rattle.std.proofs.Common.{◌≡◌, ℕ, Bool, true, false, List, ◌++◌, length, take, refl, sym, ◌∙◌, ap, subst, Result, IfOk}
+use Rattle.std.specs.Prelude.{if◌then◌else◌, not}
+use Rattle.std.proofs.Math.Seq.{take-append_seam}
 use Rattle.cell_base.specs.declared.memory.Memory.{Memory}
 use Rattle.cell_base.specs.declared.sql_state.SqlState.{SqlState}
 use Rattle.history_core.specs.declared.fault.BookFault.{BookFault}
@@ -10,8 +12,7 @@ use Rattle.statement_course.specs.declared.demand.PlanAnswer.{PlanAnswer}
 use Rattle.statement_course.specs.Course.{first_demand, behind, FitsDemand}
 use Rattle.cell_compile.specs.declared.plan.Plan.{Plan}
 use Rattle.cell_compile.specs.Plans.{rest_of}
-use Rattle.block_machine.specs.Calls.{Call, call_for}
-use Rattle.block_machine.specs.Calls as calls
+use Rattle.block_machine.specs.Calls.{call_for}
 use Rattle.block_machine.specs.declared.block.Block.{Block}
 use Rattle.block_machine.specs.declared.block.Block.TheVariants.{Implicit}
 use Rattle.block_machine.specs.declared.block.Owed.TheVariants as owes
@@ -23,13 +24,12 @@ use Rattle.block_machine.specs.declared.stage.Run.{Run}
 use Rattle.block_machine.specs.declared.stage.Stage.{Stage}
 use Rattle.block_machine.specs.declared.stage.Stage.TheVariants as stages
 use Rattle.block_machine.specs.declared.step.Step.{Step}
-use Rattle.block_machine.specs.Script.{Script, Said, Entry, with_call}
+use Rattle.block_machine.specs.Script.{Script}
 use Rattle.block_machine.specs.Statements.{Around, owed_in, refusal_state, fails, unless_short_in, runs, judged}
-use Rattle.block_machine.specs.Messages.{Outside, before}
-use Rattle.block_machine.specs.Stages.{IsScriptAt, IsScriptOf, LeadsTo, Advances, Fits, IsFrom, NoBuilt, HasReply, answer_with, block_of, goes_on}
+use Rattle.block_machine.specs.Stages.{IsScriptAt, IsScriptOf, LeadsTo, Advances, Fits, NoBuilt, HasReply, answer_with, block_of}
 use Rattle.block_machine.proofs.Answered.{fits_demand}
 use Rattle.block_machine.proofs.Holding.{holding_some}
-use Rattle.block_machine.proofs.Wanting.{ok_at, leads_calm}
+use Rattle.block_machine.proofs.Wanting.{ok_at}
 use Rattle.block_machine.proofs.Advancing.{run_advances, run_refused, begin_advances, look_advances}
 
 -- a pending transaction is rolled back
@@ -83,26 +83,7 @@ start_goes plan answer n r next w built known is goes leads =
     (begin_advances plan n next w built known
     (leads (runs (rest_of plan) (Implicit true) known) built known (ok_at r (runs (rest_of plan) (Implicit true)) built known goes)))
 
-begin_is : (c : Call) → calls.Book calls.Begin ≡ calls.Book c → calls.Begin ≡ c
-begin_is c h = cc h
-
-pub start_refused : (plan : Plan) (answer : Answer) (why : BookFault) (code : SqlState) (next : Stage) (built : List ℕ) (known : List Table) → answer ≡ answers.Refused why → code ≡ refusal_state why →
-    ((bytes : List ℕ) → IsScriptOf (fails code (Implicit false)) next bytes) → Advances (stages.Beginning plan) known answer next false built known
-start_refused plan answer why code next built known is coded goes =
-    subst (λ (a : Answer). Advances (stages.Beginning plan) known a next false built known) (sym is)
-    (λ c unbuilt more outside said es e wants_c from.
-    ap (λ (x : SqlState). fails x (Implicit false) known (before more outside) (with_call said calls.Begin) es) (sym coded)
-    ∙ goes built known more outside (with_call said calls.Begin) es
-    ∙ ap (λ (x : Call). goes_on next built known more outside (with_call said x) es) (begin_is c wants_c))
-
 -- ---- a look
-
-pub look_judged : (statement : Statement) (block : Block) (known tables after : List Table) (stage : Stage) (built : List ℕ) → after ≡ known ++ tables →
-    IsScriptAt (judged (typed after statement) block after) stage built after → Advances (stages.Looking statement block) known (answers.Looked tables) stage false built after
-look_judged statement block known tables after stage built is goes =
-    look_advances statement block known tables stage false built after
-    (leads_calm (judged (typed (known ++ tables) statement) block (known ++ tables)) stage block known built after
-    (subst (λ (x : List Table). IsScriptAt (judged (typed x statement) block x) stage built after) is goes))
 
 pub look_short : (statement : Statement) (block : Block) (known tables after : List Table) (next : Stage) (w : Bool) (built : List ℕ) → after ≡ known →
     ((script : Around → Script) (bytes : List ℕ) (shown : List Table) → LeadsTo (λ around. unless_short_in block shown around (script around)) next w bytes shown) →
@@ -110,3 +91,17 @@ pub look_short : (statement : Statement) (block : Block) (known tables after : L
 look_short statement block known tables after next w built is leads =
     subst (λ (x : List Table). Advances (stages.Looking statement block) known (answers.Looked tables) next w built x) (sym is)
     (look_advances statement block known tables next w built known (leads (judged (typed (known ++ tables) statement) block (known ++ tables)) built known))
+
+-- the tables known where memory was wanting for more
+pub appended_not : (ok err : Bool) (after both known : List Table) → after ≡ (if ok then both else known) → ok ≡ not err → err ≡ true → after ≡ known
+appended_not ok err after both known is turned fault = is ∙ ap (λ (b : Bool). if b then both else known) (turned ∙ ap not fault)
+
+-- where it wasn't
+pub appended : (ok err : Bool) (after known items tables : List Table) → after ≡ (if ok then known ++ items else known) → ok ≡ not err → err ≡ false → items ≡ tables → after ≡ known ++ tables
+appended ok err after known items tables is turned fine same =
+    is ∙ ap (λ (b : Bool). if b then known ++ items else known) (turned ∙ ap not fine) ∙ ap (λ (xs : List Table). known ++ xs) same
+
+-- and forgotten again
+pub forgotten : (n : ℕ) (cut after known tables : List Table) → cut ≡ take n after → after ≡ known ++ tables → n ≡ length known → cut ≡ known
+forgotten n cut after known tables is joined same =
+    is ∙ ap (λ (xs : List Table). take n xs) joined ∙ ap (λ (m : ℕ). take m (known ++ tables)) same ∙ take-append_seam known tables

@@ -1,5 +1,5 @@
 -- A text that is known has no zero byte.
-use Rattle.std.proofs.Common.{◌≡◌, ℕ, zero, suc, ◌≤◌, ◌<◌, Bool, true, false, cond, eqb, eq-eqb, List, [], ◌∷◌, length, get_or, refl, arith}
+use Rattle.std.proofs.Common.{◌≡◌, ℕ, zero, suc, ◌≤◌, Bool, true, false, cond, eqb, eq-eqb, List, [], ◌∷◌, length, get_or, refl, arith}
 use Rattle.pg_framing.specs.Spelling.{HasNoZero}
 
 abbrev pub zero_free : List ℕ → Bool

@@ -1,4 +1,4 @@
-use Rattle.std.proofs.Common.{◌≡◌, [], List, sym, ◌∙◌, ap, subst, IfOk}
+use Rattle.std.proofs.Common.{[], sym, ◌∙◌, ap, subst, IfOk}
 use Rattle.std.proofs.lemmas.List.Elements.{All-nil}
 use Rattle.sound_table.specs.Sound.{IsSound}
 use Rattle.statement_course.specs.Course.{Course, first_demand}

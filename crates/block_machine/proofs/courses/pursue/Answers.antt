@@ -1,13 +1,12 @@
-use Rattle.std.proofs.Common.{◌≡◌, ◌≤◌, ◌+◌, ℕ, List, length, sym, subst, refl, ◌∙◌, ap, arith}
+use Rattle.std.proofs.Common.{◌≡◌, ◌≤◌, List, length, sym, ◌∙◌, ap, arith}
 use Rattle.sql_tree.specs.declared.table.Table.{Table}
 use Rattle.statement_course.specs.Course.{behind}
 use Rattle.statement_course.specs.Laws.{ReadsFirst}
 use Rattle.cell_compile.specs.Plans.{rest_of, left_of}
-use Rattle.block_machine.specs.declared.block.Block.{Block}
 use Rattle.block_machine.specs.declared.block.Owed.TheVariants as owes
 use Rattle.block_machine.specs.declared.stage.Stage.TheVariants as stages
 use Rattle.block_machine.specs.Statements.{owed_in}
-use Rattle.block_machine.specs.Stages.{KnowsTables, left_at, owed_at, running_at, work_at}
+use Rattle.block_machine.specs.Stages.{KnowsTables, left_at, owed_at}
 use Rattle.block_machine.proofs.Answered.{behind_first}
 use Rattle.block_machine.proofs.Carried.{if_ok}
 use Rattle.block_machine.proofs.Pursuing.{owed_pending, demand_fits, pursue_goes, pursue_refused, calm_advances, calm_some}

@@ -1,4 +1,4 @@
-use Rattle.std.proofs.Common.{◌≡◌, ◌∙◌, List, ℕ, refl, sym, subst, lit≤}
+use Rattle.std.proofs.Common.{◌≡◌, ◌∙◌, refl, sym, subst, lit≤}
 use Rattle.std.specs.Prelude.{codes}
 use Rattle.std.specs.Cmp.Lexicographic.{bytes_decides}
 use Rattle.block_machine.specs.Settings.{IsShown}
