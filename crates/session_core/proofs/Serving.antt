@@ -30,6 +30,7 @@ use Rattle.session_core.specs.Wants as wishes
 use Rattle.session_core.specs.Talk.{Talk, IsTalk, unread}
 use Rattle.session_core.specs.Told.{told, opened_in}
 use Rattle.session_core.specs.Sessions.{Stands, StandsShort}
+use Rattle.session_core.specs.Record.{SeatAfter}
 use Rattle.session_core.specs.Plays.{Plays, owed_of}
 use Rattle.session_core.specs.Stands.{IsFit, Lacks, LacksBy, owed_at, outer_end, IsStopped, outer, end_of, wants, IsHolding, Shows, IsLast}
 use Rattle.session_core.specs.Serve.{Carries, IsAtEnd, Blames, Ran, Serves, Sits, most_read}
@@ -94,8 +95,8 @@ pub Ran-answered : {W : Type 0} (gives : W → ℕ → W → Type 0) (level : Le
     ((taken : List ℕ) (es : List Entry) (asked : List Call) (sent : List ℕ) → Stands s taken es asked sent →
     StandsShort r taken (es ++ entry_for a e ∷ []) (asked ++ c ∷ []) sent) →
     level_of r.runner ≡ level_of s.runner → outer r.stage ≡ outer s.stage → ((lost : List ℕ) → Lacks s.stage lost → Lacks r.stage lost) →
-    Plays gives q w c a e q' w' → Ran gives level p v f s q w g many → Ran gives level p v f r q' w' g many
-Ran-answered gives level p v f s r q q' w w' g many c a e grown same outer_is lacks plays ran =
+    Plays gives q w c a e q' w' → SeatAfter c a q.seat q'.seat → Ran gives level p v f s q w g many → Ran gives level p v f r q' w' g many
+Ran-answered gives level p v f s r q q' w w' g many c a e grown same outer_is lacks plays seat ran =
     let (taken, es, asked, sent, lost, many_is, run) = ran in
     let (added, is_short, stands) = grown taken es asked sent run.stands in (
       taken,
@@ -108,7 +109,7 @@ Ran-answered gives level p v f s r q q' w w' g many c a e grown same outer_is la
         stands = stands;
         served_level = same ∙ run.served_level;
         lawful = Lawful-short gives p v (asked ++ c ∷ []) (es ++ entry_for a e ∷ []) q' w' sent added is_short
-            (Lawful-plays gives p v asked es q w c a e q' w' run.lawful plays);
+            (Lawful-plays gives p v asked es q w c a e q' w' run.lawful plays seat);
         carries = Both-weaker f.traffic g.traffic
             (λ x y k. Carries-record level taken (es ++ entry_for a e ∷ []) added sent lost x y
             (Carries-record level taken es (entry_for a e ∷ []) sent lost x y k)) run.carries;
