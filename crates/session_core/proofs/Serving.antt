@@ -1,5 +1,5 @@
 -- A run over a link goes on.
-use Rattle.std.proofs.Common.{◌≡◌, ◌↔◌, IfSome, Bool, true, false, ℕ, ◌+◌, ◌≤◌, List, [], ◌∷◌, ◌++◌, length, take, refl, sym, ◌∙◌, ap, subst, arith, Option, Some, None, length-append}
+use Rattle.std.proofs.Common.{◌≡◌, ◌↔◌, IfSome, Bool, true, false, ℕ, ◌+◌, ◌<◌, ◌≤◌, List, [], ◌∷◌, ◌++◌, length, take, refl, sym, ◌∙◌, ap, subst, arith, Option, Some, None, length-append}
 use Rattle.std.proofs.lemmas.List.{append-nil}
 use Rattle.std.proofs.lemmas.Grind.{common_steps}
 use Rattle.cell_base.specs.declared.level.Level.{Level}
@@ -222,8 +222,8 @@ Ran-unsent gives level p v f s r q w g h many reply part lost grown holds same o
 
 -- why a stop came
 abbrev pub IsCause : Stop → Sight → Sight → List ℕ → Type 0
-IsCause stops.EndOfInput f g taken = IsAtEnd g.traffic
-IsCause stops.ReadFault f g taken = Rose f.read_faults g.read_faults
+IsCause stops.EndOfInput f g taken = (length taken < most_read) × IsAtEnd g.traffic
+IsCause stops.ReadFault f g taken = (length taken < most_read) × Rose f.read_faults g.read_faults
 IsCause stops.Spent f g taken = length taken ≡ most_read
 
 Blames-stopped : (cause : Stop) (x : Option End) (f g : Sight) (taken : List ℕ) → IsStopped cause x → IsCause cause f g taken →
