@@ -150,9 +150,9 @@ still_at_end part (Some a) (Some b) h k = h.left ∙ k
 pub Blames-wrote : (x : Option End) (f g h : Sight) (taken part : List ℕ) → Both (Wrote part) g.traffic h.traffic →
     h.read_faults ≡ g.read_faults → g.write_faults ≤ h.write_faults → Blames x f g taken → Blames x f h taken
 Blames-wrote None f g h taken part b e l k = tt
-Blames-wrote (Some ends.Closed) f g h taken part b e l k = still_at_end part g.traffic h.traffic b k
-Blames-wrote (Some ends.Cut) f g h taken part b e l k = still_at_end part g.traffic h.traffic b k
-Blames-wrote (Some ends.ReadFault) f g h taken part b e l k = omega (arith, e, k)
+Blames-wrote (Some ends.Closed) f g h taken part b e l k = (k.0, still_at_end part g.traffic h.traffic b k.1)
+Blames-wrote (Some ends.Cut) f g h taken part b e l k = (k.0, still_at_end part g.traffic h.traffic b k.1)
+Blames-wrote (Some ends.ReadFault) f g h taken part b e l k = (k.0, omega (arith, e, k.1))
 Blames-wrote (Some ends.WriteFault) f g h taken part b e l k = omega (arith, l, k)
 Blames-wrote (Some ends.Spent) f g h taken part b e l k = k
 Blames-wrote (Some ends.Terminated) f g h taken part b e l k = tt

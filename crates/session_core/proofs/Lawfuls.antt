@@ -12,7 +12,7 @@ use Rattle.block_machine.specs.declared.call.Answer.{Answer}
 use Rattle.block_machine.specs.declared.call.Answer.TheVariants as answers
 use Rattle.block_machine.specs.Script.{Entry, did, refused, short, unsent, stop}
 use Rattle.block_machine.specs.Stages.{entry_for}
-use Rattle.session_core.specs.Record.{Happens, Declines, Draws, Lawful, events_of}
+use Rattle.session_core.specs.Record.{Happens, Declines, Draws, SeatAfter, Lawful, events_of}
 use Rattle.session_core.specs.Plays.{Plays}
 use Rattle.session_core.specs.Steps.{IsShort}
 
@@ -20,29 +20,30 @@ use Rattle.session_core.specs.Steps.{IsShort}
 pub Lawful-did : {W : Type 0} (gives : W → ℕ → W → Type 0) (p : Past) (v : W) (cs : List Call) (es : List Entry) (q : Past) (w : W)
     (c : Call) (a : Answer) (e : Event) (r : Past)
     (u : W) →
-    Lawful gives p v cs es q w → Happens q c a e r → Draws gives q w c (did a e) u →
+    Lawful gives p v cs es q w → Happens q c a e r → Draws gives q w c (did a e) u → SeatAfter c a q.seat r.seat →
     Lawful gives p v (cs ++ c ∷ []) (es ++ did a e ∷ []) r u
-Lawful-did {W} gives p v [] [] q w c a e r u l h d = (
+Lawful-did {W} gives p v [] [] q w c a e r u l h d k = (
   r,
   u,
   subst (λ (x : Past). Happens x c a e r) l.0 h,
   subst (λ (x : W). Draws gives p x c (did a e) u) l.1
       (subst (λ (x : Past). Draws gives x w c (did a e) u) l.0 d),
   (refl, refl),
+  subst (λ (x : Past). SeatAfter c a x.seat r.seat) l.0 k,
 )
-Lawful-did gives p v [] (did b x ∷ es) q w c a e r u l h d = absurd l
-Lawful-did gives p v [] (refused why ∷ es) q w c a e r u l h d = absurd l
-Lawful-did gives p v [] (short final n ∷ es) q w c a e r u l h d = Lawful-did gives p v [] es q w c a e r u l h d
-Lawful-did gives p v [] (unsent n ∷ es) q w c a e r u l h d = Lawful-did gives p v [] es q w c a e r u l h d
-Lawful-did gives p v [] (stop cause ∷ es) q w c a e r u l h d = Lawful-did gives p v [] es q w c a e r u l h d
-Lawful-did gives p v (k ∷ cs) [] q w c a e r u l h d = absurd l
-Lawful-did gives p v (k ∷ cs) (did b x ∷ es) q w c a e r u l h d =
-    (l.0, l.1, l.2, l.3, Lawful-did gives l.0 l.1 cs es q w c a e r u l.4 h d)
-Lawful-did gives p v (k ∷ cs) (refused why ∷ es) q w c a e r u l h d =
-    (l.0, l.1, l.2, l.3, Lawful-did gives l.0 l.1 cs es q w c a e r u l.4 h d)
-Lawful-did gives p v (k ∷ cs) (short final n ∷ es) q w c a e r u l h d = Lawful-did gives p v (k ∷ cs) es q w c a e r u l h d
-Lawful-did gives p v (k ∷ cs) (unsent n ∷ es) q w c a e r u l h d = Lawful-did gives p v (k ∷ cs) es q w c a e r u l h d
-Lawful-did gives p v (k ∷ cs) (stop cause ∷ es) q w c a e r u l h d = Lawful-did gives p v (k ∷ cs) es q w c a e r u l h d
+Lawful-did gives p v [] (did b y ∷ es) q w c a e r u l h d k = absurd l
+Lawful-did gives p v [] (refused why ∷ es) q w c a e r u l h d k = absurd l
+Lawful-did gives p v [] (short final n ∷ es) q w c a e r u l h d k = Lawful-did gives p v [] es q w c a e r u l h d k
+Lawful-did gives p v [] (unsent n ∷ es) q w c a e r u l h d k = Lawful-did gives p v [] es q w c a e r u l h d k
+Lawful-did gives p v [] (stop cause ∷ es) q w c a e r u l h d k = Lawful-did gives p v [] es q w c a e r u l h d k
+Lawful-did gives p v (x ∷ cs) [] q w c a e r u l h d k = absurd l
+Lawful-did gives p v (x ∷ cs) (did b y ∷ es) q w c a e r u l h d k =
+    (l.0, l.1, l.2, l.3, Lawful-did gives l.0 l.1 cs es q w c a e r u l.4 h d k, l.5)
+Lawful-did gives p v (x ∷ cs) (refused why ∷ es) q w c a e r u l h d k =
+    (l.0, l.1, l.2, l.3, Lawful-did gives l.0 l.1 cs es q w c a e r u l.4 h d k)
+Lawful-did gives p v (x ∷ cs) (short final n ∷ es) q w c a e r u l h d k = Lawful-did gives p v (x ∷ cs) es q w c a e r u l h d k
+Lawful-did gives p v (x ∷ cs) (unsent n ∷ es) q w c a e r u l h d k = Lawful-did gives p v (x ∷ cs) es q w c a e r u l h d k
+Lawful-did gives p v (x ∷ cs) (stop cause ∷ es) q w c a e r u l h d k = Lawful-did gives p v (x ∷ cs) es q w c a e r u l h d k
 
 -- one more call, which was refused
 pub Lawful-refused : {W : Type 0} (gives : W → ℕ → W → Type 0) (p : Past) (v : W) (cs : List Call) (es : List Entry) (q : Past) (w : W)
@@ -64,7 +65,7 @@ Lawful-refused gives p v [] (unsent n ∷ es) q w c why r u l h d = Lawful-refus
 Lawful-refused gives p v [] (stop cause ∷ es) q w c why r u l h d = Lawful-refused gives p v [] es q w c why r u l h d
 Lawful-refused gives p v (k ∷ cs) [] q w c why r u l h d = absurd l
 Lawful-refused gives p v (k ∷ cs) (did b x ∷ es) q w c why r u l h d =
-    (l.0, l.1, l.2, l.3, Lawful-refused gives l.0 l.1 cs es q w c why r u l.4 h d)
+    (l.0, l.1, l.2, l.3, Lawful-refused gives l.0 l.1 cs es q w c why r u l.4 h d, l.5)
 Lawful-refused gives p v (k ∷ cs) (refused y ∷ es) q w c why r u l h d =
     (l.0, l.1, l.2, l.3, Lawful-refused gives l.0 l.1 cs es q w c why r u l.4 h d)
 Lawful-refused gives p v (k ∷ cs) (short final n ∷ es) q w c why r u l h d = Lawful-refused gives p v (k ∷ cs) es q w c why r u l h d
@@ -98,7 +99,7 @@ Lawful-quiet gives p v [] (refused why ∷ es) q w x i l = absurd l
 Lawful-quiet gives p v [] (short final n ∷ es) q w x i l = Lawful-quiet gives p v [] es q w x i l
 Lawful-quiet gives p v [] (unsent n ∷ es) q w x i l = Lawful-quiet gives p v [] es q w x i l
 Lawful-quiet gives p v [] (stop cause ∷ es) q w x i l = Lawful-quiet gives p v [] es q w x i l
-Lawful-quiet gives p v (k ∷ cs) (did b y ∷ es) q w x i l = (l.0, l.1, l.2, l.3, Lawful-quiet gives l.0 l.1 cs es q w x i l.4)
+Lawful-quiet gives p v (k ∷ cs) (did b y ∷ es) q w x i l = (l.0, l.1, l.2, l.3, Lawful-quiet gives l.0 l.1 cs es q w x i l.4, l.5)
 Lawful-quiet gives p v (k ∷ cs) (refused why ∷ es) q w x i l = (l.0, l.1, l.2, l.3, Lawful-quiet gives l.0 l.1 cs es q w x i l.4)
 Lawful-quiet gives p v (k ∷ cs) (short final n ∷ es) q w x i l = Lawful-quiet gives p v (k ∷ cs) es q w x i l
 Lawful-quiet gives p v (k ∷ cs) (unsent n ∷ es) q w x i l = Lawful-quiet gives p v (k ∷ cs) es q w x i l
@@ -120,19 +121,20 @@ Lawful-short gives p v cs es q w sent (stop cause ∷ xs) i l = absurd i
 pub Lawful-plays : {W : Type 0} (gives : W → ℕ → W → Type 0) (p : Past) (v : W) (cs : List Call) (es : List Entry) (q : Past) (w : W)
     (c : Call) (a : Answer) (e : Event) (r : Past)
     (u : W) →
-    Lawful gives p v cs es q w → Plays gives q w c a e r u → Lawful gives p v (cs ++ c ∷ []) (es ++ entry_for a e ∷ []) r u
-Lawful-plays gives p v cs es q w c (answers.Refused why) e r u l h = Lawful-refused gives p v cs es q w c why r u l h.0 h.1
-Lawful-plays gives p v cs es q w c (answers.Opened n) e r u l h = Lawful-did gives p v cs es q w c (answers.Opened n) e r u l h.0 h.1
-Lawful-plays gives p v cs es q w c answers.Closed e r u l h = Lawful-did gives p v cs es q w c answers.Closed e r u l h.0 h.1
-Lawful-plays gives p v cs es q w c (answers.Looked ts) e r u l h = Lawful-did gives p v cs es q w c (answers.Looked ts) e r u l h.0 h.1
-Lawful-plays gives p v cs es q w c (answers.Defined d) e r u l h = Lawful-did gives p v cs es q w c (answers.Defined d) e r u l h.0 h.1
-Lawful-plays gives p v cs es q w c (answers.Begun n) e r u l h = Lawful-did gives p v cs es q w c (answers.Begun n) e r u l h.0 h.1
-Lawful-plays gives p v cs es q w c (answers.Listed ks) e r u l h = Lawful-did gives p v cs es q w c (answers.Listed ks) e r u l h.0 h.1
-Lawful-plays gives p v cs es q w c (answers.Found x) e r u l h = Lawful-did gives p v cs es q w c (answers.Found x) e r u l h.0 h.1
-Lawful-plays gives p v cs es q w c answers.Written e r u l h = Lawful-did gives p v cs es q w c answers.Written e r u l h.0 h.1
-Lawful-plays gives p v cs es q w c answers.Committed e r u l h = Lawful-did gives p v cs es q w c answers.Committed e r u l h.0 h.1
-Lawful-plays gives p v cs es q w c answers.RolledBack e r u l h = Lawful-did gives p v cs es q w c answers.RolledBack e r u l h.0 h.1
-Lawful-plays gives p v cs es q w c (answers.Shown n) e r u l h = Lawful-did gives p v cs es q w c (answers.Shown n) e r u l h.0 h.1
+    Lawful gives p v cs es q w → Plays gives q w c a e r u → SeatAfter c a q.seat r.seat →
+    Lawful gives p v (cs ++ c ∷ []) (es ++ entry_for a e ∷ []) r u
+Lawful-plays gives p v cs es q w c (answers.Refused why) e r u l h k = Lawful-refused gives p v cs es q w c why r u l h.0 h.1
+Lawful-plays gives p v cs es q w c (answers.Opened n) e r u l h k = Lawful-did gives p v cs es q w c (answers.Opened n) e r u l h.0 h.1 k
+Lawful-plays gives p v cs es q w c answers.Closed e r u l h k = Lawful-did gives p v cs es q w c answers.Closed e r u l h.0 h.1 k
+Lawful-plays gives p v cs es q w c (answers.Looked ts) e r u l h k = Lawful-did gives p v cs es q w c (answers.Looked ts) e r u l h.0 h.1 k
+Lawful-plays gives p v cs es q w c (answers.Defined d) e r u l h k = Lawful-did gives p v cs es q w c (answers.Defined d) e r u l h.0 h.1 k
+Lawful-plays gives p v cs es q w c (answers.Begun n) e r u l h k = Lawful-did gives p v cs es q w c (answers.Begun n) e r u l h.0 h.1 k
+Lawful-plays gives p v cs es q w c (answers.Listed ks) e r u l h k = Lawful-did gives p v cs es q w c (answers.Listed ks) e r u l h.0 h.1 k
+Lawful-plays gives p v cs es q w c (answers.Found x) e r u l h k = Lawful-did gives p v cs es q w c (answers.Found x) e r u l h.0 h.1 k
+Lawful-plays gives p v cs es q w c answers.Written e r u l h k = Lawful-did gives p v cs es q w c answers.Written e r u l h.0 h.1 k
+Lawful-plays gives p v cs es q w c answers.Committed e r u l h k = Lawful-did gives p v cs es q w c answers.Committed e r u l h.0 h.1 k
+Lawful-plays gives p v cs es q w c answers.RolledBack e r u l h k = Lawful-did gives p v cs es q w c answers.RolledBack e r u l h.0 h.1 k
+Lawful-plays gives p v cs es q w c (answers.Shown n) e r u l h k = Lawful-did gives p v cs es q w c (answers.Shown n) e r u l h.0 h.1 k
 
 -- what an answered call leaves of the own events, and of the tables
 pub record Leaves (p q : Past) (e : Event) : Type 0 where

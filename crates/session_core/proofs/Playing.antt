@@ -43,8 +43,8 @@ use Rattle.session_core.specs.declared.stage.Stage.{Stage}
 use Rattle.session_core.specs.declared.stage.Stage.TheVariants as stages
 use Rattle.session_core.specs.Wants.{Want, of_message}
 use Rattle.session_core.specs.Wants as wishes
-use Rattle.session_core.specs.Record.{Draws, Happens, ReadsBack, ReadsFrom, may_be_refused, limit_for, HasNewName}
-use Rattle.session_core.specs.Plays.{Plays, MayAsk, SeatAfter, owed_of}
+use Rattle.session_core.specs.Record.{SeatAfter, Draws, Happens, ReadsBack, ReadsFrom, may_be_refused, limit_for, HasNewName}
+use Rattle.session_core.specs.Plays.{Plays, MayAsk, owed_of}
 use Rattle.session_core.specs.Stands.{IsFit, owed_at, wants}
 use Rattle.session_core.specs.Serve.{Sits}
 use Rattle.session_core.proofs.Lawfuls.{Happens-leaves, Declines-goes}

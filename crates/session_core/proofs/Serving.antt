@@ -1,5 +1,5 @@
 -- A run over a link goes on.
-use Rattle.std.proofs.Common.{◌≡◌, ◌↔◌, IfSome, Bool, true, false, ℕ, ◌+◌, ◌≤◌, List, [], ◌∷◌, ◌++◌, length, take, refl, sym, ◌∙◌, ap, subst, arith, Option, Some, None, length-append}
+use Rattle.std.proofs.Common.{◌≡◌, ◌↔◌, IfSome, Bool, true, false, ℕ, ◌+◌, ◌<◌, ◌≤◌, List, [], ◌∷◌, ◌++◌, length, take, refl, sym, ◌∙◌, ap, subst, arith, Option, Some, None, length-append}
 use Rattle.std.proofs.lemmas.List.{append-nil}
 use Rattle.std.proofs.lemmas.Grind.{common_steps}
 use Rattle.cell_base.specs.declared.level.Level.{Level}
@@ -30,6 +30,7 @@ use Rattle.session_core.specs.Wants as wishes
 use Rattle.session_core.specs.Talk.{Talk, IsTalk, unread}
 use Rattle.session_core.specs.Told.{told, opened_in}
 use Rattle.session_core.specs.Sessions.{Stands, StandsShort}
+use Rattle.session_core.specs.Record.{SeatAfter}
 use Rattle.session_core.specs.Plays.{Plays, owed_of}
 use Rattle.session_core.specs.Stands.{IsFit, Lacks, LacksBy, owed_at, outer_end, IsStopped, outer, end_of, wants, IsHolding, Shows, IsLast}
 use Rattle.session_core.specs.Serve.{Carries, IsAtEnd, Blames, Ran, Serves, Sits, most_read}
@@ -94,8 +95,8 @@ pub Ran-answered : {W : Type 0} (gives : W → ℕ → W → Type 0) (level : Le
     ((taken : List ℕ) (es : List Entry) (asked : List Call) (sent : List ℕ) → Stands s taken es asked sent →
     StandsShort r taken (es ++ entry_for a e ∷ []) (asked ++ c ∷ []) sent) →
     level_of r.runner ≡ level_of s.runner → outer r.stage ≡ outer s.stage → ((lost : List ℕ) → Lacks s.stage lost → Lacks r.stage lost) →
-    Plays gives q w c a e q' w' → Ran gives level p v f s q w g many → Ran gives level p v f r q' w' g many
-Ran-answered gives level p v f s r q q' w w' g many c a e grown same outer_is lacks plays ran =
+    Plays gives q w c a e q' w' → SeatAfter c a q.seat q'.seat → Ran gives level p v f s q w g many → Ran gives level p v f r q' w' g many
+Ran-answered gives level p v f s r q q' w w' g many c a e grown same outer_is lacks plays seat ran =
     let (taken, es, asked, sent, lost, many_is, run) = ran in
     let (added, is_short, stands) = grown taken es asked sent run.stands in (
       taken,
@@ -108,7 +109,7 @@ Ran-answered gives level p v f s r q q' w w' g many c a e grown same outer_is la
         stands = stands;
         served_level = same ∙ run.served_level;
         lawful = Lawful-short gives p v (asked ++ c ∷ []) (es ++ entry_for a e ∷ []) q' w' sent added is_short
-            (Lawful-plays gives p v asked es q w c a e q' w' run.lawful plays);
+            (Lawful-plays gives p v asked es q w c a e q' w' run.lawful plays seat);
         carries = Both-weaker f.traffic g.traffic
             (λ x y k. Carries-record level taken (es ++ entry_for a e ∷ []) added sent lost x y
             (Carries-record level taken es (entry_for a e ∷ []) sent lost x y k)) run.carries;
@@ -221,8 +222,8 @@ Ran-unsent gives level p v f s r q w g h many reply part lost grown holds same o
 
 -- why a stop came
 abbrev pub IsCause : Stop → Sight → Sight → List ℕ → Type 0
-IsCause stops.EndOfInput f g taken = IsAtEnd g.traffic
-IsCause stops.ReadFault f g taken = Rose f.read_faults g.read_faults
+IsCause stops.EndOfInput f g taken = (length taken < most_read) × IsAtEnd g.traffic
+IsCause stops.ReadFault f g taken = (length taken < most_read) × Rose f.read_faults g.read_faults
 IsCause stops.Spent f g taken = length taken ≡ most_read
 
 Blames-stopped : (cause : Stop) (x : Option End) (f g : Sight) (taken : List ℕ) → IsStopped cause x → IsCause cause f g taken →

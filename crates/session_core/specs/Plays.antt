@@ -1,9 +1,9 @@
--- The calls of a book: when one may be asked, what it comes to, and where it leaves the book's session.
-use Rattle.std.specs.Prelude.{◌≡◌, ℕ, ◌≤◌, [], ◌∷◌, ◌++◌, length}
+-- The calls of a book: when one may be asked, and what it comes to.
+use Rattle.std.specs.Prelude.{◌≡◌, ℕ, ◌≤◌, length}
 use Rattle.sound_table.specs.Sound.{IsSound}
 use Rattle.history_core.specs.declared.event.Event.{Event}
 use Rattle.history_core.specs.Events.{table_of}
-use Rattle.history_core.specs.Book.{Seat, away, seated, pending, Past, IsSeated, IsIdle, IsInTransaction, IsStorable, HasTable, session_of, writes_of}
+use Rattle.history_core.specs.Book.{Seat, away, seated, pending, Past, IsSeated, IsIdle, IsInTransaction, IsStorable, HasTable}
 use Rattle.block_machine.specs.Calls.{Call}
 use Rattle.block_machine.specs.Calls as calls
 use Rattle.block_machine.specs.Script.{did, refused}
@@ -31,16 +31,6 @@ MayAsk calls.Show past = IsSeated past.seat
 abbrev pub Plays : {W : Type 0} → (W → ℕ → W → Type 0) → Past → W → Call → Answer → Event → Past → W → Type 0
 Plays gives p v c (answers.Refused why) e q w = Declines p c why q × Draws gives p v c (refused why) w
 Plays gives p v c a e q w = Happens p c a e q × Draws gives p v c (did a e) w
-
--- where an answer leaves the session of a book
-abbrev pub SeatAfter : Call → Answer → Seat → Seat → Type 0
-SeatAfter calls.Open (answers.Opened s) old new = new ≡ seated s
-SeatAfter calls.Close answers.Closed old new = new ≡ away
-SeatAfter calls.Begin (answers.Begun n) old new = new ≡ pending (session_of old) []
-SeatAfter (calls.Write cell value) answers.Written old new = new ≡ pending (session_of old) (writes_of old ++ (cell, value) ∷ [])
-SeatAfter calls.Commit answers.Committed old new = new ≡ seated (session_of old)
-SeatAfter calls.Rollback answers.RolledBack old new = new ≡ seated (session_of old)
-SeatAfter _ _ old new = new ≡ old
 
 abbrev pub owed_of : Seat → Owed
 owed_of away = owes.Nothing

@@ -1,5 +1,5 @@
 -- When a session's record is lawful: its calls were made of the book one after another, and each entry is what came of its call.
-use Rattle.std.specs.Prelude.{◌≡◌, ◌≢◌, ◌⊎◌, ℕ, List, [], ◌∷◌, length, Contains, Option, Some}
+use Rattle.std.specs.Prelude.{◌≡◌, ◌≢◌, ◌⊎◌, ℕ, List, [], ◌∷◌, ◌++◌, length, Contains, Option, Some}
 use Rattle.cell_base.specs.declared.cell.Cell.{Cell}
 use Rattle.cell_base.specs.declared.value.Value.{Value}
 use Rattle.history_core.specs.declared.event.Event.{Event}
@@ -11,7 +11,7 @@ use Rattle.history_core.specs.declared.fault.BookFault.TheVariants as faults
 use Rattle.history_core.specs.declared.fault.DefineAnswer.TheVariants as defines
 use Rattle.history_core.specs.Events.{begun, names}
 use Rattle.history_core.specs.Legal.{full_for, full_load}
-use Rattle.history_core.specs.Book.{Past, IsUnwritten, HasWrite, LastWrite, session_of, Adds, GoesOn, AnswersTables, AnswersDefine}
+use Rattle.history_core.specs.Book.{Past, Seat, away, seated, pending, IsUnwritten, HasWrite, LastWrite, session_of, writes_of, Adds, GoesOn, AnswersTables, AnswersDefine}
 use Rattle.block_machine.specs.Calls.{Call}
 use Rattle.block_machine.specs.Calls as calls
 use Rattle.block_machine.specs.declared.call.Answer.{Answer}
@@ -87,13 +87,24 @@ Draws gives old before (calls.Touch cell) entry after =
     ⊎ (IsUnwritten cell old.seat × ((word : ℕ) × gives before word after × HoldsWord entry word))
 Draws gives old before _ entry after = after ≡ before
 
--- The calls were answered by the entries in order, from one past and one value of the words on to others.
+-- where an answer leaves the session of a book
+abbrev pub SeatAfter : Call → Answer → Seat → Seat → Type 0
+SeatAfter calls.Open (answers.Opened s) old new = new ≡ seated s
+SeatAfter calls.Close answers.Closed old new = new ≡ away
+SeatAfter calls.Begin (answers.Begun n) old new = new ≡ pending (session_of old) []
+SeatAfter (calls.Write cell value) answers.Written old new = new ≡ pending (session_of old) (writes_of old ++ (cell, value) ∷ [])
+SeatAfter calls.Commit answers.Committed old new = new ≡ seated (session_of old)
+SeatAfter calls.Rollback answers.RolledBack old new = new ≡ seated (session_of old)
+SeatAfter _ _ old new = new ≡ old
+
+-- The calls were answered by the entries in order, from one past and one value of the words on to others. Behind an answer the book's
+-- session is where the answer leaves it, and behind a refusal where it was.
 abbrev pub Lawful : {W : Type 0} → (W → ℕ → W → Type 0) → Past → W → List Call → List Entry → Past → W → Type 0
 Lawful gives p v [] [] q w = (q ≡ p) × (w ≡ v)
 Lawful gives p v (c ∷ cs) [] q w = ⊥
 Lawful gives p v [] (did a e ∷ es) q w = ⊥
 Lawful {W} gives p v (c ∷ cs) (did a e ∷ es) q w = (m : Past) × (u : W) × Happens p c a e m × Draws gives p v c (did a e) u ×
-    Lawful gives m u cs es q w
+    Lawful gives m u cs es q w × SeatAfter c a p.seat m.seat
 Lawful gives p v [] (refused why ∷ es) q w = ⊥
 Lawful {W} gives p v (c ∷ cs) (refused why ∷ es) q w = (m : Past) × (u : W) × Declines p c why m × Draws gives p v c (refused why) u ×
     Lawful gives m u cs es q w

@@ -1,5 +1,5 @@
 -- What a run of a session over a book, a link and words comes to.
-use Rattle.std.specs.Prelude.{◌≡◌, ℕ, ◌+◌, ◌≤◌, List, [], ◌∷◌, ◌++◌, length, Option, Some, None, Bool, false}
+use Rattle.std.specs.Prelude.{◌≡◌, ℕ, ◌+◌, ◌<◌, ◌≤◌, List, [], ◌∷◌, ◌++◌, length, Option, Some, None, Bool, false}
 use Rattle.cell_base.specs.declared.level.Level.{Level}
 use Rattle.link_traits.specs.Faults.{Rose}
 use Rattle.link_traits.specs.Traffic.{Traffic, Both, Sight}
@@ -60,11 +60,11 @@ abbrev pub IsAtEnd : Option Traffic → Type 0
 IsAtEnd None = Unit {0}
 IsAtEnd (Some t) = t.left ≡ []
 
--- an end whose cause is the link has that cause
+-- An end whose cause is the link has that cause. It comes where more might have been read, but for Spent, which comes where no more may be.
 abbrev pub Blames : Option End → Sight → Sight → List ℕ → Type 0
-Blames (Some ends.Closed) f g taken = IsAtEnd g.traffic
-Blames (Some ends.Cut) f g taken = IsAtEnd g.traffic
-Blames (Some ends.ReadFault) f g taken = Rose f.read_faults g.read_faults
+Blames (Some ends.Closed) f g taken = (length taken < most_read) × IsAtEnd g.traffic
+Blames (Some ends.Cut) f g taken = (length taken < most_read) × IsAtEnd g.traffic
+Blames (Some ends.ReadFault) f g taken = (length taken < most_read) × Rose f.read_faults g.read_faults
 Blames (Some ends.WriteFault) f g taken = Rose f.write_faults g.write_faults
 Blames (Some ends.Spent) f g taken = length taken ≡ most_read
 Blames _ f g taken = Unit {0}

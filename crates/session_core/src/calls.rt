@@ -6,7 +6,8 @@ ghost use Rattle.history_core.specs.Book.{IsSeated, IsUnwritten, HasWrite};
 ghost use Rattle.block_machine.specs.Calls as calls;
 ghost use Rattle.block_machine.specs.Calls.{asks_cells, call_for, call_of};
 ghost use Rattle.block_machine.specs.Stages.{Fits};
-ghost use Rattle.session_core.specs.Plays.{MayAsk, Plays, SeatAfter};
+ghost use Rattle.session_core.specs.Record.{SeatAfter};
+ghost use Rattle.session_core.specs.Plays.{MayAsk, Plays};
 
 use block_machine::{Answer, Call};
 use cell_base::{Cell, Memory, Value};

@@ -25,8 +25,11 @@ returns-then-n-eq0-clause-ran g c = λ level p v f many spent ran.
     (sight_of g.L.Sides.traffic g.L.Sides.read_faults g.L.Sides.write_faults c.read.new.self) many stops.EndOfInput
     c.stop-then-n-eq0.ensures.grown c.requires.wanted c.stop-then-n-eq0.ensures.runner c.stop-then-n-eq0.ensures.outer
     c.stop-then-n-eq0.ensures.lacks took c.read.ensures.cause.later c.read.ensures.write_faults
-    (λ taken is le. at_end c.in-Ok.n (g.L.Sides.traffic c.args.link.now) (g.L.Sides.traffic c.read.new.self) c.if-n-eq0.true
-    c.in-Ok.ensures.end took) ran)
+    (λ taken is le. (
+      omega (arith, is, spent, c.if-most-eq0.false),
+      at_end c.in-Ok.n (g.L.Sides.traffic c.args.link.now) (g.L.Sides.traffic c.read.new.self) c.if-n-eq0.true
+          c.in-Ok.ensures.end took,
+    )) ran)
 
 pub returns-else-n-eq0-clause-ran : goal.returns-else-n-eq0-clause-ran
 returns-else-n-eq0-clause-ran g c = λ level p v f many spent ran.
@@ -44,7 +47,7 @@ returns-in-Err-clause-ran g c = λ level p v f many spent ran.
     (sight_of g.L.Sides.traffic g.L.Sides.read_faults g.L.Sides.write_faults c.read.new.self) many stops.ReadFault
     c.stop-in-Err.ensures.grown c.requires.wanted c.stop-in-Err.ensures.runner c.stop-in-Err.ensures.outer c.stop-in-Err.ensures.lacks
     c.in-Err.ensures.err c.read.ensures.cause.later c.read.ensures.write_faults
-    (λ taken is le. omega (arith, le, c.in-Err.ensures.cause.failed refl)) ran
+    (λ taken is le. (omega (arith, is, spent, c.if-most-eq0.false), omega (arith, le, c.in-Err.ensures.cause.failed refl))) ran
 
 pub returns-then-most-eq0-clause-sits : goal.returns-then-most-eq0-clause-sits
 returns-then-most-eq0-clause-sits g c = sits_kept c.args.session.now c.stop.new.self (g.B.Book.past c.args.book.now) c.requires.sits
