@@ -6,16 +6,16 @@ use crate::events::push_event;
 use crate::extended_rows::extended_row;
 use crate::first_rows::first_row;
 use crate::key_rows::key_row;
-use crate::links::{joined, link};
+use crate::links::{failing_link, joined, link};
 use crate::message_rows::message_row;
-use crate::rows::Row;
+use crate::rows::{BEGIN, BEGUN, GREETING, IN_BLOCK, Row, STARTUP};
 use crate::text_rows::text_row;
 use crate::told::{asked, expected, words};
 use cell_base::{Items, Level};
 use choice_stream::ListWords;
 use history_core::Event;
 use link_traits::MemLink;
-use session_core::{Served, serve_link};
+use session_core::{End, Served, serve_link};
 use solo_book::SoloBook;
 use std::alloc::{AllocError, Global};
 use std::test::Fail;
@@ -194,5 +194,44 @@ fn told_words(alloc: Global) -> Result<Vec<u8>, Fail> {
 fn tells_messages_one_after_another(rt: HostRuntime) -> Result<(), Fail> {
     let alloc = rt.alloc();
     assert_eq!(rt; told_words(alloc)?.as_slice(), expected(alloc)?.as_slice());
+    Ok(())
+}
+
+// Whether a client that begins a block is served so, over a link whose reads and writes of these numbers fail. Its startup is the first
+// read, and BEGIN the second; the answer to the startup takes three writes, BEGIN's tag the fourth, and that the next query may come the
+// fifth.
+fn is_broken_off(
+    alloc: Global,
+    reads: &[u64],
+    writes: &[u64],
+    end: End,
+    sent: &[&[u8]],
+) -> Result<bool, Fail> {
+    let input = joined(alloc, &[STARTUP, BEGIN])?;
+    let sent = joined(alloc, sent)?;
+    let mut link = failing_link(alloc, &input, 16, reads, writes)?;
+    let mut book = SoloBook::new(alloc);
+    let mut words = ListWords::new(Items::new(alloc));
+    let served = serve_link(alloc, Level::Rc, &mut book, &mut link, &mut words);
+    let expected = Served {
+        session: Some(1),
+        end,
+        short: false,
+    };
+    let events = are_shown(
+        alloc,
+        book.history().events(),
+        &["open 1", "begin 1", "rollback 1", "close 1"],
+    )?;
+    Ok(served == expected && events && link.written() == sent.as_slice())
+}
+
+#[test]
+fn rolls_back_where_the_link_fails(rt: HostRuntime) -> Result<(), Fail> {
+    let alloc = rt.alloc();
+    let begun = [GREETING, BEGUN, IN_BLOCK];
+    assert!(rt; is_broken_off(alloc, &[3], &[], End::ReadFault, &begun)?);
+    assert!(rt; is_broken_off(alloc, &[], &[4], End::WriteFault, &begun[..1])?);
+    assert!(rt; is_broken_off(alloc, &[], &[5], End::WriteFault, &begun[..2])?);
     Ok(())
 }
