@@ -13,8 +13,8 @@ use Rattle.block_machine.specs.declared.call.Answer.TheVariants as answers
 use Rattle.block_machine.specs.declared.end.End.{End}
 use Rattle.block_machine.specs.declared.end.Stop.{Stop}
 
--- An entry of a session's record. A want of memory says whether it ends the session, and it and a failed write say how many
--- bytes had been told, so that it is known where they stand.
+-- An entry of a session's record. A want of memory says whether it ends the session, and how many bytes had been told, so that it is
+-- known where it stands; a failed write says how many had been told before those that it was to send.
 pub data Entry : Type 0 where
   -- the answer to a call, and the event that it made
   did : Answer → Event → Entry
@@ -117,18 +117,18 @@ on_shown (answers.Shown n) good bad = good n
 on_shown (answers.Refused fault) good bad = bad fault
 on_shown _ good bad = lost
 
--- A failed write stands directly after bytes were told.
-abbrev pub unless_unsent : Script → Script → Script
-unless_unsent fault rest said [] = rest said []
-unless_unsent fault rest said (did a e ∷ entries) = rest said (did a e ∷ entries)
-unless_unsent fault rest said (refused why ∷ entries) = rest said (refused why ∷ entries)
-unless_unsent fault rest said (short final n ∷ entries) = rest said (short final n ∷ entries)
-unless_unsent fault rest said (unsent n ∷ entries) = if n == length said.bytes then fault said entries else rest said (unsent n ∷ entries)
-unless_unsent fault rest said (stop cause ∷ entries) = rest said (stop cause ∷ entries)
+-- A failed write stands where as many bytes had been told as its entry says, before those that it was to send.
+abbrev pub unless_unsent : ℕ → Script → Script → Script
+unless_unsent before fault rest said [] = rest said []
+unless_unsent before fault rest said (did a e ∷ entries) = rest said (did a e ∷ entries)
+unless_unsent before fault rest said (refused why ∷ entries) = rest said (refused why ∷ entries)
+unless_unsent before fault rest said (short final n ∷ entries) = rest said (short final n ∷ entries)
+unless_unsent before fault rest said (unsent n ∷ entries) = if n == before then fault said entries else rest said (unsent n ∷ entries)
+unless_unsent before fault rest said (stop cause ∷ entries) = rest said (stop cause ∷ entries)
 
 -- bytes are told; what follows a write of them that fails, and what follows them
 abbrev pub tell : List ℕ → Script → Script → Script
-tell bytes fault rest said entries = unless_unsent fault rest (with_bytes said bytes) entries
+tell bytes fault rest said entries = unless_unsent (length said.bytes) fault rest (with_bytes said bytes) entries
 
 -- A want of memory of the session itself stands where as many bytes were told as its entry says: before a message or behind
 -- the start of the session, where it ends the session, in the reading of a query, or in a statement.

@@ -135,7 +135,8 @@ HasReply stage built = IsHolding stage → 0 < length (reply_of built stage)
 
 -- ---- entries
 
--- Between two messages memory may be wanting at once. Elsewhere a want of memory and a failed write stand where more was told than was sent.
+-- Between two messages memory may be wanting at once. Elsewhere a want of memory stands where more was told than was sent, and a failed
+-- write where no fewer bytes had been told.
 abbrev pub least : Stage → ℕ
 least (stages.Over state) = 0
 least _ = 1
@@ -145,7 +146,7 @@ IsFrom least sent [] = Unit {0}
 IsFrom least sent (did a e ∷ es) = Unit {0}
 IsFrom least sent (refused why ∷ es) = Unit {0}
 IsFrom least sent (short final n ∷ es) = least + sent ≤ n
-IsFrom least sent (unsent n ∷ es) = sent < n
+IsFrom least sent (unsent n ∷ es) = sent ≤ n
 IsFrom least sent (stop cause ∷ es) = Unit {0}
 
 -- the entries with a want of memory of the session before them, where there was one
