@@ -237,7 +237,8 @@ pub StandsFor-sent : (stage next : Stage) (r after : Runner) (greeting : List �
 StandsFor-sent stage next r after greeting held taken es asked sent w sends holds last awake same some s =
     let reply : List ℕ = reply_of stage r greeting in
     let now : List ℕ = sent ++ reply in
-    let said : Said = record { bytes = now; calls = asked } in record {
+    let said : Said = record { bytes = now; calls = asked } in
+    let longer : length sent < length now = omega (arith, s.some holds, length-append sent reply) in record {
       whole = s.whole;
       heard = λ bytes talk fed h. s.heard bytes talk (IsFed-back stage next bytes last fed) h;
       goes = λ talk more_es from.
@@ -247,8 +248,8 @@ StandsFor-sent stage next r after greeting held taken es asked sent w sends hold
           ∙ s.goes talk (with_wanting w now more_es)
           (from_holding stage r sent (with_wanting w now more_es) holds (IsFrom-read w sent reply (least next) more_es (s.some holds) from))
           ∙ holding_tells stage r greeting talk (record { bytes = sent; calls = asked }) (with_wanting w now more_es) holds
-          ∙ unless_unsent-passes (broken (owed_at stage r)) (after_reply stage r talk) said 0 (with_wanting w now more_es)
-          (IsFrom-with_wanting w now (least next) more_es from)
+          ∙ unless_unsent-passes (length sent) (broken (owed_at stage r)) (after_reply stage r talk) said 0
+          (with_wanting w now more_es) longer (IsFrom-with_wanting w now (least next) more_es from)
           ∙ sends greeting talk said more_es from;
       waits = λ other is. absurd (subst IsAwake is awake);
       some = some;
@@ -259,20 +260,19 @@ pub StandsFor-unsent : (stage next : Stage) (r : Runner) (greeting : List ℕ) (
     (asked : List Call) (sent : List ℕ) →
     StandsFor stage r greeting held taken es asked sent → IsHolding stage r → LeadsTo next (broken (owed_at stage r)) →
     HasReply next r greeting →
-    StandsFor next r greeting held taken (es ++ unsent (length (sent ++ reply_of stage r greeting)) ∷ []) asked
+    StandsFor next r greeting held taken (es ++ unsent (length sent) ∷ []) asked
     (sent ++ reply_of stage r greeting)
 StandsFor-unsent stage next r greeting held taken es asked sent s holds leads some =
     let reply : List ℕ = reply_of stage r greeting in
     let now : List ℕ = sent ++ reply in
-    let said : Said = record { bytes = now; calls = asked } in
-    let longer : 0 < length reply = s.some holds in record {
+    let said : Said = record { bytes = now; calls = asked } in record {
       whole = s.whole;
       heard = λ bytes talk fed h. s.heard bytes talk (IsFed-back stage next bytes (λ l. leads.0) fed) h;
       goes = λ talk more_es from.
-          ap (told (level_of r) (s.whole talk)) (append_assoc es (unsent (length now) ∷ []) more_es)
-          ∙ s.goes talk (unsent (length now) ∷ more_es) (omega (arith, longer, length-append sent reply))
-          ∙ holding_tells stage r greeting talk (record { bytes = sent; calls = asked }) (unsent (length now) ∷ more_es) holds
-          ∙ unless_unsent-takes (broken (owed_at stage r)) (after_reply stage r talk) said more_es
+          ap (told (level_of r) (s.whole talk)) (append_assoc es (unsent (length sent) ∷ []) more_es)
+          ∙ s.goes talk (unsent (length sent) ∷ more_es) (omega arith)
+          ∙ holding_tells stage r greeting talk (record { bytes = sent; calls = asked }) (unsent (length sent) ∷ more_es) holds
+          ∙ unless_unsent-takes (length sent) (broken (owed_at stage r)) (after_reply stage r talk) said more_es
           ∙ leads.1 r greeting talk said more_es;
       waits = λ other is. absurd (subst IsBusy is (busy-last next leads.0));
       some = some;

@@ -70,19 +70,19 @@ unless_short-twice false k rest said (short false n ∷ es) =
 unless_short-twice final k rest said (unsent n ∷ es) = refl
 unless_short-twice final k rest said (stop cause ∷ es) = refl
 
--- no failed write stands here any more
-pub unless_unsent-passes : (k rest : Script) (said : Said) (l : ℕ) (es : List Entry) → IsFrom l (length said.bytes) es →
-    unless_unsent k rest said es ≡ rest said es
-unless_unsent-passes k rest said l [] h = refl
-unless_unsent-passes k rest said l (did a e ∷ es) h = refl
-unless_unsent-passes k rest said l (refused why ∷ es) h = refl
-unless_unsent-passes k rest said l (short final n ∷ es) h = refl
-unless_unsent-passes k rest said l (unsent n ∷ es) h = rw (eqb-ne n (length said.bytes) (λ e. omega (arith, e, h))) refl
-unless_unsent-passes k rest said l (stop cause ∷ es) h = refl
+-- behind more bytes no failed write stands here any more
+pub unless_unsent-passes : (before : ℕ) (k rest : Script) (said : Said) (l : ℕ) (es : List Entry) → before < length said.bytes →
+    IsFrom l (length said.bytes) es → unless_unsent before k rest said es ≡ rest said es
+unless_unsent-passes before k rest said l [] b h = refl
+unless_unsent-passes before k rest said l (did a e ∷ es) b h = refl
+unless_unsent-passes before k rest said l (refused why ∷ es) b h = refl
+unless_unsent-passes before k rest said l (short final n ∷ es) b h = refl
+unless_unsent-passes before k rest said l (unsent n ∷ es) b h = rw (eqb-ne n before (λ e. omega (arith, e, h, b))) refl
+unless_unsent-passes before k rest said l (stop cause ∷ es) b h = refl
 
-pub unless_unsent-takes : (k rest : Script) (said : Said) (es : List Entry) →
-    unless_unsent k rest said (unsent (length said.bytes) ∷ es) ≡ k said es
-unless_unsent-takes k rest said es = rw (eqb-eq (length said.bytes) (length said.bytes) refl) refl
+pub unless_unsent-takes : (before : ℕ) (k rest : Script) (said : Said) (es : List Entry) →
+    unless_unsent before k rest said (unsent before ∷ es) ≡ k said es
+unless_unsent-takes before k rest said es = rw (eqb-eq before before refl) refl
 
 pub IsFrom-weaker : (l m sent : ℕ) (es : List Entry) → m ≤ l → IsFrom l sent es → IsFrom m sent es
 IsFrom-weaker l m sent [] h f = f

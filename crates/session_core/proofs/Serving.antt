@@ -1,6 +1,7 @@
 -- A run over a link goes on.
-use Rattle.std.proofs.Common.{◌≡◌, ◌↔◌, IfSome, Bool, true, false, ℕ, ◌+◌, ◌<◌, ◌≤◌, List, [], ◌∷◌, ◌++◌, length, take, refl, sym, ◌∙◌, ap, subst, arith, Option, Some, None, length-append}
+use Rattle.std.proofs.Common.{◌≡◌, inl, inr, ◌↔◌, IfSome, Bool, true, false, ℕ, ◌+◌, ◌<◌, ◌≤◌, List, [], ◌∷◌, ◌++◌, length, take, refl, sym, ◌∙◌, ap, subst, arith, Option, Some, None, length-append}
 use Rattle.std.proofs.lemmas.List.{append-nil}
+use Rattle.std.proofs.lemmas.List.Elements.{Contains-append_left, Contains-push}
 use Rattle.std.proofs.lemmas.Grind.{common_steps}
 use Rattle.cell_base.specs.declared.level.Level.{Level}
 use Rattle.link_traits.specs.Faults.{Rose}
@@ -33,7 +34,7 @@ use Rattle.session_core.specs.Sessions.{Stands, StandsShort}
 use Rattle.session_core.specs.Record.{SeatAfter}
 use Rattle.session_core.specs.Plays.{Plays, owed_of}
 use Rattle.session_core.specs.Stands.{IsFit, Lacks, LacksBy, owed_at, outer_end, IsStopped, outer, end_of, wants, IsHolding, Shows, IsLast}
-use Rattle.session_core.specs.Serve.{Carries, IsAtEnd, Blames, Ran, Serves, Sits, most_read}
+use Rattle.session_core.specs.Serve.{IsOfLast, Carries, IsAtEnd, Blames, Ran, Serves, Sits, most_read}
 use Rattle.session_core.proofs.Grows.{IsAsked, Shows-stands}
 use Rattle.session_core.proofs.Lawfuls.{Lawful-plays, Lawful-short, Lawful-quiet, own_events}
 use Rattle.session_core.proofs.Carrying.{Carries-record, Carries-wrote, Carries-took, Both-then, Both-weaker, Blames-same, Blames-none, Blames-wrote}
@@ -88,6 +89,11 @@ shows_more s level taken es asked sent served w st =
 
 -- ---- one step more
 
+-- what is lost stays a part of the last reply where the record goes on
+last_more : (es b : List Entry) (sent lost : List ℕ) → IsOfLast es sent lost → IsOfLast (es ++ b) sent lost
+last_more es b sent lost (inl none) = inl none
+last_more es b sent lost (inr (n, has, le)) = inr (n, Contains-append_left es b (unsent n) has, le)
+
 -- a call of the book; a want of memory of the session may stand behind it
 pub Ran-answered : {W : Type 0} (gives : W → ℕ → W → Type 0) (level : Level) (p : Past) (v : W) (f : Sight) (s r : Session) (q q' : Past)
     (w w' : W) (g : Sight) (many : ℕ) (c : Call)
@@ -114,6 +120,7 @@ Ran-answered gives level p v f s r q q' w w' g many c a e grown same outer_is la
             (λ x y k. Carries-record level taken (es ++ entry_for a e ∷ []) added sent lost x y
             (Carries-record level taken es (entry_for a e ∷ []) sent lost x y k)) run.carries;
         lacks = lacks lost run.lacks;
+        last = last_more (es ++ entry_for a e ∷ []) added sent lost (last_more es (entry_for a e ∷ []) sent lost run.last);
         blames = Blames-same (outer s.stage) (outer r.stage) f g taken outer_is run.blames;
         reads = run.reads;
         writes = run.writes;
@@ -143,6 +150,7 @@ Ran-taken gives level p v f s r q w g many grown taking same outer_is lacks ran 
         lawful = Lawful-short gives p v asked es q w sent added is_short run.lawful;
         carries = Both-weaker f.traffic g.traffic (λ x y k. Carries-record level taken es added sent lost x y k) run.carries;
         lacks = subst (λ (o : List ℕ). Lacks r.stage o) (sym none_lost) lacks;
+        last = inl none_lost;
         blames = Blames-none (outer r.stage) f g taken outer_is;
         reads = run.reads;
         writes = run.writes;
@@ -175,6 +183,7 @@ Ran-sent gives level p v f s r q w g h many reply grown holds same outer_is lack
             (λ x y z k l. Carries-wrote level taken es added sent reply reply [] x y z (sym (append-nil reply))
             (subst (λ (o : List ℕ). Carries level taken es sent o x y) none_lost k) l) run.carries wrote;
         lacks = lacks;
+        last = inl refl;
         blames = Blames-wrote (outer r.stage) f g h taken reply wrote same_reads more_writes
             (Blames-same (outer s.stage) (outer r.stage) f g taken outer_is run.blames);
         reads = omega (arith, run.reads, same_reads);
@@ -187,7 +196,7 @@ pub Ran-unsent : {W : Type 0} (gives : W → ℕ → W → Type 0) (level : Leve
     (g h : Sight) (many : ℕ)
     (reply part lost : List ℕ) →
     ((taken : List ℕ) (es : List Entry) (asked : List Call) (sent : List ℕ) → Stands s taken es asked sent →
-    Stands r taken (es ++ unsent (length (sent ++ reply)) ∷ []) asked (sent ++ reply)) →
+    Stands r taken (es ++ unsent (length sent) ∷ []) asked (sent ++ reply)) →
     IsHolding s.stage s.runner → level_of r.runner ≡ level_of s.runner → outer r.stage ≡ Some ends.WriteFault →
     ((l : List ℕ) → Lacks r.stage l) →
     reply ≡ part ++ lost → Both (Wrote part) g.traffic h.traffic → h.read_faults ≡ g.read_faults → Rose g.write_faults h.write_faults →
@@ -199,7 +208,7 @@ Ran-unsent gives level p v f s r q w g h many reply part lost grown holds same o
     let none_lost : before ≡ [] = Lacks-holding s.stage s.runner before holds run.lacks in
     let now : List ℕ = sent ++ reply in (
       taken,
-      es ++ unsent (length now) ∷ [],
+      es ++ unsent (length sent) ∷ [],
       asked,
       now,
       lost,
@@ -207,11 +216,16 @@ Ran-unsent gives level p v f s r q w g h many reply part lost grown holds same o
       record {
         stands = grown taken es asked sent run.stands;
         served_level = same ∙ run.served_level;
-        lawful = Lawful-quiet gives p v asked es q w (unsent (length now)) tt run.lawful;
+        lawful = Lawful-quiet gives p v asked es q w (unsent (length sent)) tt run.lawful;
         carries = Both-then f.traffic g.traffic h.traffic
-            (λ x y z k l. Carries-wrote level taken es (unsent (length now) ∷ []) sent reply part lost x y z reply_is
+            (λ x y z k l. Carries-wrote level taken es (unsent (length sent) ∷ []) sent reply part lost x y z reply_is
             (subst (λ (o : List ℕ). Carries level taken es sent o x y) none_lost k) l) run.carries wrote;
         lacks = lacks lost;
+        last = inr (
+          length sent,
+          Contains-push es (unsent (length sent)),
+          omega (arith, ap length reply_is, length-append part lost, length-append sent reply),
+        );
         blames = subst (λ (z : Option End). Blames z f h taken) (sym outer_is) (omega (arith, run.writes, rose));
         reads = omega (arith, run.reads, same_reads);
         writes = omega (arith, run.writes, more_writes);
@@ -262,6 +276,7 @@ Ran-stopped gives level p v f s r q w g h many cause grown bytes same outer_is l
             (Carries-took level taken [] es (stop cause ∷ []) asked sent x y z talk is shows
             (subst (λ (o : List ℕ). Carries level taken es sent o x y) none_lost k) l)) run.carries took;
         lacks = lacks;
+        last = inl refl;
         blames = Blames-stopped cause (outer r.stage) f h taken outer_is (why taken many_is run.reads);
         reads = omega (arith, run.reads, more_reads);
         writes = omega (arith, run.writes, same_writes);
@@ -295,6 +310,7 @@ Ran-halted gives level p v f s r q w g h many cause grown bytes same outer_is la
             subst (λ (o : List ℕ). Carries level taken (es ++ stop cause ∷ []) sent o x y) none_lost
             (Carries-record level taken es (stop cause ∷ []) sent lost x y k)) run.carries);
         lacks = lacks;
+        last = inl refl;
         blames = Blames-stopped cause (outer r.stage) f h taken outer_is (why taken many_is run.reads);
         reads = omega (arith, run.reads, more_reads);
         writes = omega (arith, run.writes, same_writes);
@@ -329,6 +345,7 @@ Ran-fed gives level p v f s r q w g h many piece n grown bytes same outer_is lac
             (λ x y z k l. Carries-took level taken piece es added asked sent x y z talk is shows
             (subst (λ (o : List ℕ). Carries level taken es sent o x y) none_lost k) l) run.carries took;
         lacks = lacks;
+        last = inl refl;
         blames = Blames-none (outer r.stage) f h (taken ++ piece) outer_is;
         reads = omega (arith, run.reads, more_reads);
         writes = omega (arith, run.writes, same_writes);
@@ -379,6 +396,7 @@ Serves-ran gives level p v f s number end wanting q w g many within over opened 
         lawful = run.lawful;
         own = own_events gives p v asked es q w run.lawful;
         carries = run.carries;
+        last = run.last;
         lacks = subst (λ (x : End). LacksBy x lost) end_is (subst (λ (x : Stage). Lacks x lost) is run.lacks);
         blames = subst (λ (x : End). Blames (outer_end x) f g taken) end_is
             (subst (λ (x : Stage). Blames (outer x) f g taken) is run.blames);
@@ -413,6 +431,7 @@ Ran-new gives level p v f s st served is = (
     lawful = (refl, refl);
     carries = carries_nothing level [] f.traffic;
     lacks = subst (λ (x : Stage). Lacks x []) (sym is) refl;
+    last = inl refl;
     blames = subst (λ (x : Stage). Blames (outer x) f f []) (sym is) tt;
     reads = omega arith;
     writes = omega arith;
@@ -502,6 +521,7 @@ Serves-none gives level p v f = (
     own = sym (append-nil p.own);
     carries = carries_nothing level (short true 0 ∷ []) f.traffic;
     lacks = refl;
+    last = inl refl;
     blames = tt;
     opened = refl;
     short = refl;

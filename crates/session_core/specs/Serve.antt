@@ -1,11 +1,11 @@
 -- What a run of a session over a book, a link and words comes to.
-use Rattle.std.specs.Prelude.{◌≡◌, ℕ, ◌+◌, ◌<◌, ◌≤◌, List, [], ◌∷◌, ◌++◌, length, Option, Some, None, Bool, false}
+use Rattle.std.specs.Prelude.{◌≡◌, ◌⊎◌, Contains, ℕ, ◌+◌, ◌<◌, ◌≤◌, List, [], ◌∷◌, ◌++◌, length, Option, Some, None, Bool, false}
 use Rattle.cell_base.specs.declared.level.Level.{Level}
 use Rattle.link_traits.specs.Faults.{Rose}
 use Rattle.link_traits.specs.Traffic.{Traffic, Both, Sight}
 use Rattle.history_core.specs.Book.{Past}
 use Rattle.block_machine.specs.Calls.{Call}
-use Rattle.block_machine.specs.Script.{Entry, more, ended, has_short}
+use Rattle.block_machine.specs.Script.{Entry, unsent, more, ended, has_short}
 use Rattle.block_machine.specs.Runners as runners
 use Rattle.block_machine.specs.declared.end.End.{End}
 use Rattle.block_machine.specs.declared.end.End.TheVariants as ends
@@ -69,6 +69,10 @@ Blames (Some ends.WriteFault) f g taken = Rose f.write_faults g.write_faults
 Blames (Some ends.Spent) f g taken = length taken ≡ most_read
 Blames _ f g taken = Unit {0}
 
+-- What a failed write left unsent is a part of the reply that was told last: behind as many bytes as had been told before that reply.
+abbrev pub IsOfLast : List Entry → List ℕ → List ℕ → Type 0
+IsOfLast es sent lost = (lost ≡ []) ⊎ ((n : ℕ) × Contains es (unsent n) × (n + length lost ≤ length sent))
+
 -- A session came from its beginning, over these objects as they were, to this state, over these objects as they are.
 pub record Runs {W : Type 0} (gives : W → ℕ → W → Type 0) (level : Level) (p : Past) (v : W) (f : Sight)
     (s : Session) (q : Past) (w : W) (g : Sight)
@@ -78,6 +82,7 @@ pub record Runs {W : Type 0} (gives : W → ℕ → W → Type 0) (level : Level
   pub lawful : Lawful gives p v asked es q w
   pub carries : Both (Carries level taken es sent lost) f.traffic g.traffic
   pub lacks : Lacks s.stage lost
+  pub last : IsOfLast es sent lost
   pub blames : Blames (outer s.stage) f g taken
   pub reads : f.read_faults ≤ g.read_faults
   pub writes : f.write_faults ≤ g.write_faults
@@ -90,7 +95,8 @@ Ran gives level p v f s q w g many =
 
 -- A link was served at a level. No more was taken than the most that is read. What was sent and the end are told of what was taken and of a
 -- record, whose calls were made of the book in order and whose events are those that the book made; its reads drew the words; and no reply
--- was held back over a read. Where a write failed, what is lost of what was told stands at its end. The session is the one that the record
+-- was held back over a read. Where a write failed, what is lost of what was told stands at its end, and is a part of the last
+-- reply. The session is the one that the record
 -- opened.
 pub record Serves {W : Type 0} (gives : W → ℕ → W → Type 0) (level : Level) (p : Past) (v : W) (f : Sight)
     (number : Option ℕ) (end : End) (wanting : Bool) (q : Past) (w : W) (g : Sight)
@@ -102,6 +108,7 @@ pub record Serves {W : Type 0} (gives : W → ℕ → W → Type 0) (level : Lev
   pub own : q.own ≡ p.own ++ events_of es
   pub carries : Both (Carries level taken es sent lost) f.traffic g.traffic
   pub lacks : LacksBy end lost
+  pub last : IsOfLast es sent lost
   pub blames : Blames (outer_end end) f g taken
   pub opened : number ≡ opened_in es
   pub short : wanting ≡ has_short es

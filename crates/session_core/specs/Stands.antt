@@ -210,8 +210,8 @@ IsFed (stages.Parting fatal) bytes = bytes ≡ []
 IsFed (stages.Ended finish) bytes = bytes ≡ []
 IsFed _ bytes = Unit {0}
 
--- Where bytes or a message are wanted, memory may be wanting at once. Elsewhere a want of memory and a failed write stand where more was
--- told than was sent.
+-- Where bytes or a message are wanted, memory may be wanting at once. Elsewhere a want of memory stands where more was told than was sent,
+-- and a failed write where no fewer bytes had been told.
 abbrev pub least : Stage → ℕ
 least (stages.Waiting phase) = 0
 least (stages.Taking phase) = 0

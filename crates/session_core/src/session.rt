@@ -299,8 +299,7 @@ impl Session {
         requires { IsHolding self.old.stage self.old.runner }
         ensures grown { (taken : List ℕ) (entries : List Entry) (asked : List Asked) (sent : List ℕ) →
             Stands self.old taken entries asked sent →
-            Stands self.new taken (entries ++ unsent
-            (length (sent ++ reply_of self.old.stage self.old.runner self.old.greeting.items)) ∷ []) asked
+            Stands self.new taken (entries ++ unsent (length sent) ∷ []) asked
             (sent ++ reply_of self.old.stage self.old.runner self.old.greeting.items) }
         ensures owed { owed_at self.new.stage self.new.runner ≡ owed_at self.old.stage self.old.runner }
         ensures outer { outer self.new.stage ≡ Some End.WriteFault }

@@ -1,8 +1,8 @@
-use Rattle.std.proofs.Common.{length, ◌++◌, refl, subst, ◌∙◌, arith}
+use Rattle.std.proofs.Common.{length, refl, subst, ◌∙◌, arith}
 use Rattle.block_machine.specs.declared.block.Owed.{Owed}
 use Rattle.block_machine.specs.Script.{unsent}
 use Rattle.session_core.specs.Told.{broken}
-use Rattle.session_core.specs.Stands.{reply_of, work_at}
+use Rattle.session_core.specs.Stands.{work_at}
 use Rattle.session_core.specs.Steps.{LeadsTo}
 use Rattle.session_core.proofs.Somes.{plain_some}
 use Rattle.session_core.proofs.Grows.{StandsFor-unsent}
@@ -18,10 +18,8 @@ returns-clause-grown c =
           c.args.self.now.frames taken es asked sent s.stage c.requires
           (subst (λ (o : Owed). LeadsTo c.leave-self.result (broken o)) c.owed_holding-owed.ensures c.leave-self.ensures.leads)
           (plain_some c.leave-self.result c.args.self.now.runner c.args.self.now.greeting.items c.leave-self.ensures.constant);
-      short = flag-kept c.args.self.now.short es
-          (unsent (length (sent ++ reply_of c.args.self.now.stage c.args.self.now.runner c.args.self.now.greeting.items))) s.short refl;
-      number = number-stopped c.args.self.now.number es
-          (unsent (length (sent ++ reply_of c.args.self.now.stage c.args.self.now.runner c.args.self.now.greeting.items))) refl s.number;
+      short = flag-kept c.args.self.now.short es (unsent (length sent)) s.short refl;
+      number = number-stopped c.args.self.now.number es (unsent (length sent)) refl s.number;
     }
 
 pub returns-clause-work : goal.returns-clause-work
