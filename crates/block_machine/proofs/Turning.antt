@@ -15,17 +15,21 @@ use Rattle.block_machine.specs.declared.step.Step.{Step}
 use Rattle.block_machine.specs.Script.{Script, Said, Entry}
 use Rattle.block_machine.specs.Statements.{told_of}
 use Rattle.block_machine.specs.Messages.{Outside, opens, readied}
-use Rattle.block_machine.specs.Stages.{Advances, IsFrom, IsKnownAfter, IsBusy, LeadsAt, TurnsTo, after_reply, least, state_behind, with_short}
+use Rattle.block_machine.specs.Stages.{Advances, IsFrom, IsKnownAfter, IsBusy, LeadsAt, TurnsTo}
+use Rattle.block_machine.specs.Stages.{after_reply, least, state_behind, with_short}
 
 -- ---- steps for which memory wasn't wanting
 
-pub turns_calm : (level : Level) (script : List Table → Outside → Script) (step : Step) (next : Stage) (built : List ℕ) (more : List Statement) → step ≡ record { stage = next; wanting = false } →
+pub turns_calm : (level : Level) (script : List Table → Outside → Script) (step : Step) (next : Stage) (built : List ℕ)
+    (more : List Statement) → step ≡ record { stage = next; wanting = false } →
     TurnsTo level script next false built more → TurnsTo level script step.stage step.wanting built more
 turns_calm level script step next built more is goes = subst (λ (s : Step). TurnsTo level script s.stage s.wanting built more) (sym is) goes
 
-pub advances_calm : (stage : Stage) (known : List Table) (answer : Answer) (step : Step) (next : Stage) (built : List ℕ) (after : List Table) → step ≡ record { stage = next; wanting = false } →
+pub advances_calm : (stage : Stage) (known : List Table) (answer : Answer) (step : Step) (next : Stage) (built : List ℕ)
+    (after : List Table) → step ≡ record { stage = next; wanting = false } →
     Advances stage known answer next false built after → Advances stage known answer step.stage step.wanting built after
-advances_calm stage known answer step next built after is goes = subst (λ (s : Step). Advances stage known answer s.stage s.wanting built after) (sym is) goes
+advances_calm stage known answer step next built after is goes =
+    subst (λ (s : Step). Advances stage known answer s.stage s.wanting built after) (sym is) goes
 
 -- what holds of its stage
 pub stage_calm : (P : Stage → Type 0) (step : Step) (next : Stage) → step ≡ record { stage = next; wanting = false } → P next → P step.stage
@@ -34,18 +38,21 @@ stage_calm P step next is holds = subst (λ (s : Step). P s.stage) (sym is) hold
 -- ---- the beginning of a message
 
 -- its first statement
-pub opens_more : (level : Level) (s : Statement) (all more : List Statement) (block : Block) (next : Stage) (w : Bool) (built : List ℕ) → all ≡ s ∷ more → IsBusy next →
-    LeadsAt level (told_of s block) next w built → TurnsTo level (opens all block) next w built more
+pub opens_more : (level : Level) (s : Statement) (all more : List Statement) (block : Block) (next : Stage) (w : Bool) (built : List ℕ) →
+    all ≡ s ∷ more → IsBusy next → LeadsAt level (told_of s block) next w built → TurnsTo level (opens all block) next w built more
 opens_more level s all more block (stages.Over state) w built is busy goes known outside said es same from = absurd busy
 opens_more level s all more block next w built is busy goes known outside said es same from =
-    ap (λ (xs : List Statement). opens xs block known outside said (with_short w said.bytes es)) is ∙ goes known more outside said es same from
+    ap (λ (xs : List Statement). opens xs block known outside said (with_short w said.bytes es)) is
+    ∙ goes known more outside said es same from
 
 -- ---- behind a reply
 
 -- the error of a statement
-pub turns_refused : (level : Level) (code : SqlState) (state : ErrorState) (next : TransactionState) (all : List Statement) (built : List ℕ) (more : List Statement) → next ≡ state_behind state →
+pub turns_refused : (level : Level) (code : SqlState) (state : ErrorState) (next : TransactionState) (all : List Statement) (built : List ℕ)
+    (more : List Statement) → next ≡ state_behind state →
     TurnsTo level (λ known. after_reply (stages.Failing code state) known all) (stages.Readying next) false built more
-turns_refused level code state next all built more is known outside said es same from = ap (λ (s : TransactionState). readied s known outside said es) (sym is)
+turns_refused level code state next all built more is known outside said es same from =
+    ap (λ (s : TransactionState). readied s known outside said es) (sym is)
 
 -- ---- what was told when a message is under way
 

@@ -6,12 +6,14 @@ use Rattle.block_machine.proofs.turns.answered.Goals as goal
 
 pub returns-in-Beginning-clause-goes : goal.returns-in-Beginning-clause-goes
 returns-in-Beginning-clause-goes c =
-    subst (λ (x : Stage). Advances x c.args.known.now.items c.args.answer c.start_course.result.stage c.start_course.result.wanting c.start_course.new.built.items c.args.known.now.items) (sym c.in-Beginning.is)
+    subst (λ (x : Stage). Advances x c.args.known.now.items c.args.answer c.start_course.result.stage c.start_course.result.wanting
+    c.start_course.new.built.items c.args.known.now.items) (sym c.in-Beginning.is)
     (c.start_course.ensures.goes c.args.known.now.items)
 
 pub returns-in-Running-clause-goes : goal.returns-in-Running-clause-goes
 returns-in-Running-clause-goes c =
-    subst (λ (x : Stage). Advances x c.args.known.now.items c.args.answer c.pursue.result.stage c.pursue.result.wanting c.pursue.new.built.items c.args.known.now.items) (sym c.in-Running.is)
+    subst (λ (x : Stage). Advances x c.args.known.now.items c.args.answer c.pursue.result.stage c.pursue.result.wanting
+    c.pursue.new.built.items c.args.known.now.items) (sym c.in-Running.is)
     (c.pursue.ensures.goes c.args.known.now.items)
 
 pub returns-in_default-clause-left : goal.returns-in_default-clause-left

@@ -11,22 +11,29 @@ use Rattle.block_machine.proofs.turns.answered_plain.Goals as goal
 
 pub returns-in-Looking-Looked-clause-goes : goal.returns-in-Looking-Looked-clause-goes
 returns-in-Looking-Looked-clause-goes c =
-    subst (λ (x : Stage). Advances x c.args.known.now.items c.args.answer c.look.result.stage c.look.result.wanting c.look.new.built.items c.look.new.known.items) (sym c.in-Looking-Looked.is-0)
-    (subst (λ (x : Answer). Advances (stages.Looking c.in-Looking-Looked.statement c.in-Looking-Looked.block) c.args.known.now.items x c.look.result.stage c.look.result.wanting c.look.new.built.items c.look.new.known.items)
+    subst (λ (x : Stage). Advances x c.args.known.now.items c.args.answer c.look.result.stage c.look.result.wanting c.look.new.built.items
+    c.look.new.known.items) (sym c.in-Looking-Looked.is-0)
+    (subst (λ (x : Answer). Advances (stages.Looking c.in-Looking-Looked.statement c.in-Looking-Looked.block) c.args.known.now.items x
+    c.look.result.stage c.look.result.wanting c.look.new.built.items c.look.new.known.items)
     (sym c.in-Looking-Looked.is-1)
-    (subst (λ (x : Statement). Advances (stages.Looking x c.in-Looking-Looked.block) c.args.known.now.items (answers.Looked c.in-Looking-Looked.tables) c.look.result.stage c.look.result.wanting c.look.new.built.items c.look.new.known.items)
+    (subst (λ (x : Statement). Advances (stages.Looking x c.in-Looking-Looked.block) c.args.known.now.items
+    (answers.Looked c.in-Looking-Looked.tables) c.look.result.stage c.look.result.wanting c.look.new.built.items
+    c.look.new.known.items)
     c.get.ensures c.look.ensures.goes))
 
 pub returns-in-Showing-Shown-clause-goes : goal.returns-in-Showing-Shown-clause-goes
 returns-in-Showing-Shown-clause-goes c =
-    subst (λ (x : Stage). Advances x c.args.known.now.items c.args.answer c.show_history.result.stage c.show_history.result.wanting c.show_history.new.built.items c.args.known.now.items) (sym c.in-Showing-Shown.is-0)
-    (subst (λ (x : Answer). Advances (stages.Showing c.in-Showing-Shown.block) c.args.known.now.items x c.show_history.result.stage c.show_history.result.wanting c.show_history.new.built.items c.args.known.now.items)
+    subst (λ (x : Stage). Advances x c.args.known.now.items c.args.answer c.show_history.result.stage c.show_history.result.wanting
+    c.show_history.new.built.items c.args.known.now.items) (sym c.in-Showing-Shown.is-0)
+    (subst (λ (x : Answer). Advances (stages.Showing c.in-Showing-Shown.block) c.args.known.now.items x c.show_history.result.stage
+    c.show_history.result.wanting c.show_history.new.built.items c.args.known.now.items)
     (sym c.in-Showing-Shown.is-1)
     (c.show_history.ensures.goes c.args.known.now.items))
 
 pub returns-in_default-clause-goes : goal.returns-in_default-clause-goes
 returns-in_default-clause-goes c =
-    advances_calm c.args.stage.now c.args.known.now.items c.args.answer c.calm.result c.advance.result c.args.built.now.items c.args.known.now.items c.calm.ensures
+    advances_calm c.args.stage.now c.args.known.now.items c.args.answer c.calm.result c.advance.result c.args.built.now.items
+    c.args.known.now.items c.calm.ensures
     (c.advance.ensures.goes c.args.built.now.items c.args.known.now.items)
 
 pub returns-in_default-clause-known : goal.returns-in_default-clause-known
@@ -34,11 +41,14 @@ returns-in_default-clause-known c = known_same c.args.known.now.items c.args.ans
 
 pub returns-in_default-clause-knows : goal.returns-in_default-clause-knows
 returns-in_default-clause-knows c =
-    stage_calm (λ (x : Stage). KnowsTables x c.args.known.now.items) c.calm.result c.advance.result c.calm.ensures (quiet_knows c.advance.result c.advance.ensures.quiet c.args.known.now.items)
+    stage_calm (λ (x : Stage). KnowsTables x c.args.known.now.items) c.calm.result c.advance.result c.calm.ensures
+    (quiet_knows c.advance.result c.advance.ensures.quiet c.args.known.now.items)
 
 pub returns-in_default-clause-sound : goal.returns-in_default-clause-sound
-returns-in_default-clause-sound c = stage_calm IsSoundStage c.calm.result c.advance.result c.calm.ensures (quiet_sound c.advance.result c.advance.ensures.quiet)
+returns-in_default-clause-sound c = stage_calm IsSoundStage c.calm.result c.advance.result c.calm.ensures (quiet_sound c.advance.result
+    c.advance.ensures.quiet)
 
 pub returns-in_default-clause-some : goal.returns-in_default-clause-some
 returns-in_default-clause-some c =
-    stage_calm (λ (x : Stage). HasReply x c.args.built.now.items) c.calm.result c.advance.result c.calm.ensures (holding_some c.args.built.now.items c.advance.result c.advance.ensures.constant)
+    stage_calm (λ (x : Stage). HasReply x c.args.built.now.items) c.calm.result c.advance.result c.calm.ensures
+    (holding_some c.args.built.now.items c.advance.result c.advance.ensures.constant)

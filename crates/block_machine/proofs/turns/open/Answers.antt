@@ -12,7 +12,8 @@ use Rattle.block_machine.proofs.turns.open.Goals as goal
 
 pub returns-in-Some-clause-goes : goal.returns-in-Some-clause-goes
 returns-in-Some-clause-goes c =
-    opens_more c.args.level c.in-Some.statement (into_iter_items c.args.rest.now) (into_iter_items c.next.new.self) c.args.block c.take.result.stage c.take.result.wanting c.take.new.built.items
+    opens_more c.args.level c.in-Some.statement (into_iter_items c.args.rest.now) (into_iter_items c.next.new.self) c.args.block
+    c.take.result.stage c.take.result.wanting c.take.new.built.items
     c.in-Some.ensures.cases.0 c.take.ensures.busy c.take.ensures.goes
 
 pub returns-in-Some-clause-rest : goal.returns-in-Some-clause-rest
@@ -22,5 +23,6 @@ returns-in-Some-clause-rest c =
 
 pub returns-in-None-clause-some : goal.returns-in-None-clause-some
 returns-in-None-clause-some c =
-    stage_calm (λ (x : Stage). HasReply x c.args.built.now.items) c.calm.result (stages.Telling (replies.Fixed fixed.Empty) c.args.block) c.calm.ensures
+    stage_calm (λ (x : Stage). HasReply x c.args.built.now.items) c.calm.result (stages.Telling (replies.Fixed fixed.Empty) c.args.block)
+    c.calm.ensures
     (holding_some c.args.built.now.items (stages.Telling (replies.Fixed fixed.Empty) c.args.block) tt)
