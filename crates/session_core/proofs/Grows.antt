@@ -32,7 +32,7 @@ use Rattle.session_core.specs.Wants.{Want, of_message}
 use Rattle.session_core.specs.Wants as wishes
 use Rattle.session_core.specs.Talk.{Talk, partial, unread, IsTalk}
 use Rattle.session_core.specs.Told.{ending, broken, owed_by, outside_of, stop_end, told}
-use Rattle.session_core.specs.Stands.{on, goes_on, least, StandsFor, IsAwake, IsBusy, Shows, HasReply, wants, reply_of, after_reply, IsHolding, IsLast, owed_at, end_of}
+use Rattle.session_core.specs.Stands.{on, goes_on, least, StandsFor, IsAwake, IsBusy, Shows, Tells, HasReply, wants, reply_of, after_reply, IsHolding, IsLast, owed_at, end_of}
 use Rattle.session_core.specs.Steps.{LeadsTo, Feeds, Sends, Steps, Advances, with_wanting}
 use Rattle.session_core.proofs.Entering.{takes_some}
 use Rattle.session_core.proofs.Passes.{eqb-ne, busy-last, least-busy, unless_unsent-passes, unless_unsent-takes, with_wanting-append, IsFrom-with_wanting, IsFrom-read, IsFed-last, IsFed-nothing, IsFed-back}
@@ -225,6 +225,23 @@ least_holding _ r h = absurd h
 from_holding : (stage : Stage) (r : Runner) (sent : List ℕ) (es : List Entry) → IsHolding stage r → IsFrom 1 (length sent) es →
     IsFrom (least stage) (length sent) es
 from_holding stage r sent es h from = subst (λ (n : ℕ). IsFrom n (length sent) es) (sym (least_holding stage r h)) from
+
+-- a reply that is held is told
+pub Tells-stands : (stage : Stage) (r : Runner) (greeting : List ℕ) (held : Held) (taken : List ℕ) (es : List Entry) (asked : List Call)
+    (sent reply : List ℕ) →
+    StandsFor stage r greeting held taken es asked sent → IsHolding stage r → reply ≡ reply_of stage r greeting →
+    Tells (level_of r) (owed_at stage r) reply taken es asked sent
+Tells-stands stage r greeting held taken es asked sent reply s holds is =
+    let at : Said = record { bytes = sent; calls = asked } in
+    let now : Said = record { bytes = sent ++ reply_of stage r greeting; calls = asked } in
+    let (heard, same) = at_end stage r greeting held taken es asked sent unread s tt in (
+      s.whole unread,
+      heard,
+      s.goes unread (unsent (length sent) ∷ []) (omega arith)
+          ∙ holding_tells stage r greeting unread at (unsent (length sent) ∷ []) holds
+          ∙ unless_unsent-takes (length sent) (broken (owed_at stage r)) (after_reply stage r unread) now []
+          ∙ ap (λ (x : List ℕ). broken (owed_at stage r) (record { bytes = sent ++ x; calls = asked }) []) (sym is),
+    )
 
 -- a reply that was sent
 pub StandsFor-sent : (stage next : Stage) (r after : Runner) (greeting : List ℕ) (held : Held) (taken : List ℕ) (es : List Entry)

@@ -1,6 +1,6 @@
 -- When a stage of a session stands for the bytes that it was fed, the record of what it was answered, the calls that it asked, and
 -- the bytes taken from it.
-use Rattle.std.specs.Prelude.{◌≡◌, ℕ, ◌+◌, ◌<◌, All, List, [], ◌++◌, length, Option, Some, None, Bool, true, false, not}
+use Rattle.std.specs.Prelude.{◌≡◌, ℕ, ◌+◌, ◌<◌, All, List, [], ◌∷◌, ◌++◌, length, Option, Some, None, Bool, true, false, not}
 use Rattle.cell_base.specs.declared.level.Level.{Level}
 use Rattle.cell_base.specs.declared.sql_state.SqlState.TheVariants as states
 use Rattle.pg_framing.specs.declared.replies.TransactionState.TheVariants as block_states
@@ -9,7 +9,7 @@ use Rattle.sound_table.specs.Sound.{IsSound}
 use Rattle.client_framing.specs.Fronts.{Held, IsPartial}
 use Rattle.block_machine.specs.Calls.{Call}
 use Rattle.block_machine.specs.Calls as calls
-use Rattle.block_machine.specs.Script.{Entry, Script, more, call, ended, tell}
+use Rattle.block_machine.specs.Script.{Entry, unsent, Script, more, call, ended, tell}
 use Rattle.block_machine.specs.Stages.{IsFrom, Fits}
 use Rattle.block_machine.specs.Runners.{follows, behind, wanted, held, work_of, left_of, running_of, owes, level_of, known_of, Holds, Knows, IsSoundRunner, is_under_way}
 use Rattle.block_machine.specs.declared.block.Owed.{Owed}
@@ -276,6 +276,12 @@ Shows level wishes.Message taken es asked sent = Unit {0}
 Shows level wishes.Send taken es asked sent = Unit {0}
 Shows level (wishes.Ended end) taken es asked sent = (talk : Talk) × IsTalk false taken talk ×
     (told level talk es ≡ (record { bytes = sent; calls = asked }, ended end))
+
+-- What a held reply adds to what is told of all that came in: where a write of it fails, it was told, and what is owed is asked for.
+abbrev pub Tells : Level → Owed → List ℕ → List ℕ → List Entry → List Call → List ℕ → Type 0
+Tells level owed reply taken es asked sent =
+    (talk : Talk) × IsTalk false taken talk ×
+    (told level talk (es ++ unsent (length sent) ∷ []) ≡ broken owed (record { bytes = sent ++ reply; calls = asked }) [])
 
 -- the answer fits what is wanted
 abbrev pub FitsWant : Want → Answer → Type 0

@@ -14,7 +14,7 @@ ghost use Rattle.block_machine.specs.declared.runner.Runner.{Runner as Machine};
 ghost use Rattle.session_core.specs.Wants as wishes;
 ghost use Rattle.session_core.specs.Wants.{IsWant};
 ghost use Rattle.session_core.specs.Told.{opened_in};
-ghost use Rattle.session_core.specs.Stands.{FitsWant, InPhase, IsFit, IsHolding, IsLast, IsStopped, IsUnder, Lacks, Shows, left_at, message_at, message_work, outer, owed_at, reply_of, statement_at, wants, work_at};
+ghost use Rattle.session_core.specs.Stands.{FitsWant, InPhase, IsFit, IsHolding, IsLast, IsStopped, IsUnder, Lacks, Shows, Tells, left_at, message_at, message_work, outer, owed_at, reply_of, statement_at, wants, work_at};
 
 use crate::answers::{after_sent, answered, is_want, number_after, owed_holding};
 use crate::messages::{feed_piece, take_message};
@@ -170,7 +170,11 @@ impl Session {
     /// The reply that is to be sent.
     pub fn reply(&self) -> &[u8]
         requires { IsHolding self.now.stage self.now.runner }
-        ensures { result.now ≡ reply_of self.now.stage self.now.runner self.now.greeting.items }
+        ensures reply { result.now ≡ reply_of self.now.stage self.now.runner self.now.greeting.items }
+        // It is told next of all that came in.
+        ensures told { (taken : List ℕ) (entries : List Entry) (asked : List Asked) (sent : List ℕ) →
+            Stands self.now taken entries asked sent →
+            Tells (level_of self.now.runner) (owed_at self.now.stage self.now.runner) result.now taken entries asked sent }
     {
         match self.stage {
             Stage::Running => self.runner.reply(),
