@@ -85,8 +85,9 @@ fn misuse<H: Host>(host: &mut H) -> Status
 /// at Read Committed over the host's standard link, with the numbers of WORDS as the choice words and 0 behind them; other words
 /// print the usage line.
 ///
-/// The status is 0 where the session ended well or was a cancel request, 1 where its bytes were at fault, 2 for the usage line, 3 where reading failed,
-/// 4 where writing failed, 5 where memory was wanting and 6 where the host gave no link.
+/// The status is 0 where the session ended well or was a cancel request; 1 where its input was cut short or was no messages, where its
+/// start was refused, or where more bytes were wanted than are read; 2 for the usage line; 3 where reading failed; 4 where writing failed;
+/// 5 where memory was wanting; and 6 where the host counted that it gave no link.
 pub fn monkey_main<H: Host>(alloc: Global, host: &mut H, words: &[Text]) -> Status
     requires objects { H.objects_out host.old ≡ 0 }
     requires out { IsSome (H.out host.old) }
