@@ -3,7 +3,8 @@
 //! What a session is told is a function of the bytes that its client sent and of the record of what became of its calls (`specs/Told`). A
 //! record is lawful where its calls were made of the book in order, and its events are those that the book made (`specs/Record`).
 //! [`serve_link`] runs a session over any book, link and choice words: what it sent is told of what it read and of a lawful record
-//! (`specs/Serve`).
+//! (`specs/Serve`). It drives a [`Session`], a machine that takes bytes and answers and hands out calls and replies: whatever it is fed and
+//! answered, what was taken from it and what it wants is told of all that came in (`specs/Sessions`).
 #![tactic(auto)]
 
 mod answers;
@@ -20,5 +21,7 @@ mod turns;
 mod user;
 mod want;
 
-pub use block_machine::{End, Stop};
+pub use block_machine::{Answer, Call, End, Stop};
 pub use serve::{Served, serve_link};
+pub use session::Session;
+pub use want::Want;
