@@ -23,7 +23,7 @@ use Rattle.session_core.specs.declared.stage.Reply.TheVariants as replies
 use Rattle.session_core.specs.declared.stage.Stage.{Stage}
 use Rattle.session_core.specs.declared.stage.Stage.TheVariants as stages
 use Rattle.session_core.specs.Users.{HasUser}
-use Rattle.session_core.specs.Talk.{Talk, encryption, cancel, start, nameless, version, query, unread_query, terminate, sync, nothing, extended, function}
+use Rattle.session_core.specs.Talk.{Talk, encryption, cancel, start, userless, version, query, unread_query, terminate, sync, nothing, extended, function}
 use Rattle.session_core.specs.Told.{ending, outside_of, refuses, session}
 use Rattle.session_core.specs.Stands.{IsFit, IsUnder, IsBusy, Lacks, NoBuilt, goes_on, on, outer, owed_at}
 use Rattle.session_core.specs.Steps.{Meets, Leads, LeadsTo, IsPassing, with_wanting}
@@ -103,10 +103,10 @@ pub meets_start : (pairs : List ((List ℕ) × (List ℕ))) (r : Runner) → Has
     Meets (fronts.Startup pairs) phases.Startup r stages.Opening r None
 meets_start pairs r has = inl (record { asked = start; says = has; busy = tt; passing = tt; goes = λ greeting talk said es from. refl })
 
-pub meets_nameless : (pairs : List ((List ℕ) × (List ℕ))) (r : Runner) → (HasUser pairs → ⊥) →
+pub meets_userless : (pairs : List ((List ℕ) × (List ℕ))) (r : Runner) → (HasUser pairs → ⊥) →
     Meets (fronts.Startup pairs) phases.Startup r (stages.Parting fatals.NoUser) r None
-meets_nameless pairs r none =
-    inl (record { asked = nameless; says = none; busy = tt; passing = tt; goes = λ greeting talk said es from. refl })
+meets_userless pairs r none =
+    inl (record { asked = userless; says = none; busy = tt; passing = tt; goes = λ greeting talk said es from. refl })
 
 pub meets_version : (code : ℕ) (r : Runner) → Meets (fronts.Version code) phases.Startup r (stages.Parting fatals.OtherVersion) r None
 meets_version code r = inl (record { asked = version; says = tt; busy = tt; passing = tt; goes = λ greeting talk said es from. refl })

@@ -16,7 +16,7 @@ use Rattle.session_core.specs.declared.stage.Reply.TheVariants as replies
 abbrev pub no_encryption : List ℕ
 no_encryption = codes "N"
 
--- what a session is told at its start
+-- AuthenticationOk, six ParameterStatus, BackendKeyData, ReadyForQuery
 unfoldable pub startup_reply : ℕ → List ℕ
 startup_reply session =
     auth_ok ++ (parameter (codes "server_version") (codes "14.0") ++ (parameter (codes "server_encoding") (codes "UTF8")

@@ -13,12 +13,12 @@ use Rattle.session_core.specs.Users.{HasUser}
 pub data Ask : Type 0 where
   -- a request for encryption, of either kind
   encryption : Ask
-  -- that what another session runs be cancelled
+  -- a cancel request
   cancel : Ask
   -- a startup that names a user
   start : Ask
   -- a startup that names none
-  nameless : Ask
+  userless : Ask
   -- a startup of another version
   version : Ask
   query : Message → Ask
@@ -38,7 +38,7 @@ Says Ssl encryption = Unit {0}
 Says Gss encryption = Unit {0}
 Says (Cancel pid secret) cancel = Unit {0}
 Says (Startup pairs) start = HasUser pairs
-Says (Startup pairs) nameless = ¬ (HasUser pairs)
+Says (Startup pairs) userless = ¬ (HasUser pairs)
 Says (Version code) version = Unit {0}
 Says (Query text) (query message) = IsMessage text message
 Says (Query text) unread_query = Unit {0}

@@ -24,7 +24,7 @@ use Rattle.block_machine.specs.declared.end.Stop.TheVariants as stops
 use Rattle.block_machine.specs.declared.message.Message.TheVariants as messages
 use Rattle.session_core.specs.declared.phase.Phase.{Phase}
 use Rattle.session_core.specs.declared.phase.Phase.TheVariants as phases
-use Rattle.session_core.specs.Talk.{Ask, encryption, cancel, start, nameless, version, query, unread_query, terminate, sync, nothing, extended, function, Talk, asks, partial, faulty, unread}
+use Rattle.session_core.specs.Talk.{Ask, encryption, cancel, start, userless, version, query, unread_query, terminate, sync, nothing, extended, function, Talk, asks, partial, faulty, unread}
 use Rattle.session_core.specs.Replies.{no_encryption, startup_reply, fatal_reply}
 
 -- the session that is open behind an answer
@@ -100,7 +100,7 @@ abbrev pub starting : Ask → List Table → (Phase → List Table → Script) �
 starting encryption known rest = tell no_encryption (broken owes.Nothing) (rest phases.Startup known)
 starting cancel known rest = closed ends.Cancelled
 starting start known rest = opens (rest (phases.Normal block_states.Idle) known)
-starting nameless known rest = closed (ends.Refused states.S28000)
+starting userless known rest = closed (ends.Refused states.S28000)
 starting version known rest = closed (ends.Refused states.S0A000)
 starting _ known rest = lost
 

@@ -21,7 +21,7 @@ mod turns;
 mod user;
 mod want;
 
-pub use block_machine::{End, Stop};
+pub use block_machine::{Answer, Call, End, Stop};
 pub use serve::{Served, serve_link};
 pub use session::Session;
 pub use want::Want;

@@ -6,8 +6,9 @@ use pg_framing::TransactionState;
 pub enum Phase {
     /// Before the startup message. The session isn't open.
     Startup,
-    /// The next message is served. The state of the transaction block is the one that was last told, or fell behind a failure since.
+    /// The next message is served. The state of the transaction block is the one that was last told.
     Normal(TransactionState),
-    /// A message of the extended query has failed: messages are discarded up to the next Sync.
+    /// A message of the extended query has failed: messages are discarded up to the next Sync. The state is the block's state behind that
+    /// failure.
     Discarding(TransactionState),
 }

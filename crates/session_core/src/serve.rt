@@ -162,9 +162,9 @@ fn run<B: Book, L: Link, W: Words>(
 }
 
 /// Serves one session at a level over a link, on a book that has none, with the words that choose what its reads find. What is sent,
-/// what is asked of the book and how the session ends are told of the bytes that were read and of a record, whose events are those
-/// that the book has made its own. `session` is the session that the record opened, and `short` says whether the record has a want of
-/// memory.
+/// but for what a failed write left, what is asked of the book and how the session ends are told of the bytes that were read and of a
+/// record, whose events are those that the book has made its own. `session` is the session that the record opened, and `short` says
+/// whether the record has a want of memory.
 pub fn serve_link<B: Book, L: Link, W: Words>(
     alloc: Global,
     level: Level,

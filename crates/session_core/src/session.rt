@@ -122,7 +122,7 @@ impl Session {
         ensures holding { result ≡ Want.Send → IsHolding self.now.stage self.now.runner }
         ensures running { result ≡ Want.Cells → (self.now.stage ≡ Stage.Running) × Runs self.now.runner }
         ensures calm { (result ≡ Want.Cells → ⊥) → statement_at self.now.stage self.now.runner ≡ 0 }
-        // What was sent and what is wanted is told of all that came in.
+        // Where bytes or a call are wanted, or the end is there, what was sent and what is wanted is told of all that came in.
         ensures told { (taken : List ℕ) (entries : List Entry) (asked : List Asked) (sent : List ℕ) →
             Stands self.now taken entries asked sent → Shows (level_of self.now.runner) (wanted self.now) taken entries asked sent }
     {

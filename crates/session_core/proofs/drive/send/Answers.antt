@@ -13,8 +13,8 @@ returns-in-Ok-clause-ran g c = λ level p v f many ran.
     (sight_of g.L.Sides.traffic g.L.Sides.read_faults g.L.Sides.write_faults c.send_all.new.sink) many
     (reply_of c.args.session.now.stage c.args.session.now.runner c.args.session.now.greeting.items)
     c.sent.ensures.grown c.requires.holding c.sent.ensures.level c.sent.ensures.outer c.sent.ensures.lacks
-    (subst (λ (x : List ℕ). Both (Wrote x) (g.L.Sides.traffic c.args.link.now) (g.L.Sides.traffic c.send_all.new.sink)) c.reply.ensures.reply
-    c.in-Ok.ensures.ok)
+    (subst (λ (x : List ℕ). Both (Wrote x) (g.L.Sides.traffic c.args.link.now) (g.L.Sides.traffic c.send_all.new.sink))
+    c.reply.ensures.reply c.in-Ok.ensures.ok)
     c.send_all.ensures.read_faults c.send_all.ensures.cause.later ran
 
 pub returns-in-Err-clause-ran : goal.returns-in-Err-clause-ran

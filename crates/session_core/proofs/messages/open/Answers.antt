@@ -9,7 +9,7 @@ use Rattle.session_core.specs.declared.stage.Reply.TheVariants as replies
 use Rattle.session_core.specs.declared.stage.Stage.TheVariants as stages
 use Rattle.session_core.specs.Users.{HasUser}
 use Rattle.session_core.specs.Steps.{Meets}
-use Rattle.session_core.proofs.Meeting.{meets_ssl, meets_gss, meets_cancel, meets_start, meets_nameless, meets_version, leads_own}
+use Rattle.session_core.proofs.Meeting.{meets_ssl, meets_gss, meets_cancel, meets_start, meets_userless, meets_version, leads_own}
 use Rattle.session_core.proofs.messages.open.Goals as goal
 
 pub returns-in-Ssl-clause-goes : goal.returns-in-Ssl-clause-goes
@@ -34,7 +34,7 @@ returns-then-has_user-clause-goes c = λ r.
 pub returns-else-has_user-clause-goes : goal.returns-else-has_user-clause-goes
 returns-else-has_user-clause-goes c = λ r.
     subst (λ (x : Front). Meets x phases.Startup r (stages.Parting fatals.NoUser) r None) (sym c.in-Startup.is)
-    (meets_nameless c.in-Startup.pairs r (λ has.
+    (meets_userless c.in-Startup.pairs r (λ has.
     let yes = c.has_user.ensures.1 (subst (λ (x : List ((List ℕ) × (List ℕ))). HasUser x) (sym c.as_slice.ensures) has) in
     let no = c.if-has_user.false in cc))
 
