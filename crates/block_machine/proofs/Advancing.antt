@@ -1,7 +1,6 @@
 -- A statement's steps behind answers.
-use Rattle.std.proofs.Common.{◌≡◌, ℕ, Bool, true, List, [], ◌∷◌, ◌++◌, length, refl, sym, ◌∙◌, ap, subst, false, Result, Ok, Err, IfOk}
+use Rattle.std.proofs.Common.{◌≡◌, ℕ, Bool, true, List, ◌++◌, length, sym, ◌∙◌, ap, subst, false, Result, IfOk}
 use Rattle.cell_base.specs.declared.memory.Memory.{Memory}
-use Rattle.history_core.specs.declared.event.Event.{Event}
 use Rattle.history_core.specs.declared.fault.BookFault.{BookFault}
 use Rattle.sql_tree.specs.declared.statement.Statement.{Statement}
 use Rattle.sql_tree.specs.declared.table.Table.{Table}
@@ -22,10 +21,10 @@ use Rattle.block_machine.specs.declared.call.Answer.TheVariants as answers
 use Rattle.block_machine.specs.declared.stage.Run.{Run}
 use Rattle.block_machine.specs.declared.stage.Stage.{Stage}
 use Rattle.block_machine.specs.declared.stage.Stage.TheVariants as stages
-use Rattle.block_machine.specs.Script.{Script, Said, Entry, with_call}
-use Rattle.block_machine.specs.Statements.{Around, refusal_state, fails, unless_short_in, concludes, runs, judged}
+use Rattle.block_machine.specs.Script.{Said, Entry, with_call}
+use Rattle.block_machine.specs.Statements.{refusal_state, fails, unless_short_in, concludes, runs, judged}
 use Rattle.block_machine.specs.Messages.{Outside, before}
-use Rattle.block_machine.specs.Stages.{IsScriptAt, IsScriptOf, LeadsTo, Advances, Fits, IsFrom, answer_with, block_of, entry_for, goes_on, with_short, wants}
+use Rattle.block_machine.specs.Stages.{IsScriptAt, IsScriptOf, LeadsTo, Advances, answer_with, block_of, goes_on, with_short}
 use Rattle.block_machine.proofs.Answered.{runs_answered, runs_refused}
 
 book_is : (d c : Call) → calls.Book d ≡ calls.Book c → d ≡ c

@@ -1,6 +1,5 @@
 -- A course behind each answer, and as a script.
-use Rattle.std.proofs.Common.{◌≡◌, ◌<◌, ℕ, Bool, true, false, List, [], ◌∷◌, length, refl, sym, ap, subst}
-use Rattle.cell_base.specs.declared.key.Key.{Key}
+use Rattle.std.proofs.Common.{◌≡◌, ℕ, true, List, [], ◌∷◌, refl, sym, ap, subst}
 use Rattle.cell_base.specs.declared.sql_state.SqlState.{SqlState}
 use Rattle.history_core.specs.declared.event.Event.{Event}
 use Rattle.history_core.specs.declared.fault.BookFault.{BookFault}
@@ -17,9 +16,8 @@ use Rattle.statement_course.specs.Laws.{ReadsFirst, OnlyWrites}
 use Rattle.outcome_replies.specs.Replies.{outcome_reply}
 use Rattle.outcome_replies.specs.Ends.{EndsIn}
 use Rattle.block_machine.specs.declared.block.Block.{Block}
-use Rattle.block_machine.specs.declared.call.Answer.{Answer}
 use Rattle.block_machine.specs.declared.call.Answer.TheVariants as answers
-use Rattle.block_machine.specs.Calls.{Call, asks_cells, call_for}
+use Rattle.block_machine.specs.Calls.{asks_cells, call_for}
 use Rattle.block_machine.specs.Script.{Entry, Said, call, with_call}
 use Rattle.block_machine.specs.Statements.{Around, refusal_state, succeeds, fails, concludes, runs, continues}
 use Rattle.block_machine.specs.Stages.{Fits, answer_with, entry_for}

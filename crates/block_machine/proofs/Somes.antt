@@ -1,5 +1,5 @@
 -- Each reply has bytes.
-use Rattle.std.proofs.Common.{◌≡◌, ℕ, ◌<◌, Bool, true, false, List, ◌++◌, length, refl, arith, length-append}
+use Rattle.std.proofs.Common.{ℕ, ◌<◌, Bool, List, ◌++◌, length, arith, length-append}
 use Rattle.cell_base.specs.declared.sql_state.SqlState.{SqlState}
 use Rattle.sql_tree.specs.declared.table.OutField.{OutField}
 use Rattle.statement_course.specs.declared.demand.Outcome.{Outcome}
@@ -9,7 +9,7 @@ use Rattle.pg_framing.specs.declared.replies.TransactionState.{TransactionState}
 use Rattle.pg_framing.specs.Replies.{framed, ready, row_description, command_complete, empty_query, error_response, notice_response}
 use Rattle.block_machine.specs.declared.reply.Fixed.{Fixed}
 use Rattle.block_machine.specs.declared.reply.Fixed.TheVariants as fixed
-use Rattle.block_machine.specs.Replies.{ready_reply, error_reply, empty_reply, done_reply, warned_reply, show_reply, start_reply, needless_start_reply, fixed_reply}
+use Rattle.block_machine.specs.Replies.{ready_reply, error_reply, empty_reply, done_reply, warned_reply, show_reply, fixed_reply}
 
 framed-some : (kind : ℕ) (body : List ℕ) → 0 < length (framed kind body)
 unfolding framed

@@ -1,5 +1,5 @@
 -- Where a message turns: at its beginning, behind a reply, behind an answer.
-use Rattle.std.proofs.Common.{◌≡◌, ℕ, Bool, true, false, List, [], ◌∷◌, length, refl, sym, ◌∙◌, ap, subst, inl}
+use Rattle.std.proofs.Common.{◌≡◌, ℕ, Bool, false, List, ◌∷◌, refl, sym, ◌∙◌, ap, subst, inl}
 use Rattle.cell_base.specs.declared.level.Level.{Level}
 use Rattle.cell_base.specs.declared.sql_state.SqlState.{SqlState}
 use Rattle.pg_framing.specs.declared.replies.TransactionState.{TransactionState}
@@ -12,7 +12,7 @@ use Rattle.block_machine.specs.declared.stage.ErrorState.{ErrorState}
 use Rattle.block_machine.specs.declared.stage.Stage.{Stage}
 use Rattle.block_machine.specs.declared.stage.Stage.TheVariants as stages
 use Rattle.block_machine.specs.declared.step.Step.{Step}
-use Rattle.block_machine.specs.Script.{Script, Said, Entry}
+use Rattle.block_machine.specs.Script.{Script, Entry}
 use Rattle.block_machine.specs.Statements.{told_of}
 use Rattle.block_machine.specs.Messages.{Outside, opens, readied}
 use Rattle.block_machine.specs.Stages.{Advances, IsFrom, IsKnownAfter, IsBusy, LeadsAt, TurnsTo}

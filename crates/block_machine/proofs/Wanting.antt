@@ -1,5 +1,5 @@
 -- Steps with a want of memory, and without one.
-use Rattle.std.proofs.Common.{◌≡◌, ℕ, Bool, true, false, List, [], ◌∷◌, length, refl, sym, ◌∙◌, ap, subst, Result, Ok, Err, IfOk}
+use Rattle.std.proofs.Common.{◌≡◌, ℕ, Bool, true, false, List, [], ◌∷◌, length, refl, ◌∙◌, ap, subst, Result, Ok, Err, IfOk}
 use Rattle.cell_base.specs.declared.level.Level.{Level}
 use Rattle.cell_base.specs.declared.memory.Memory.{Memory}
 use Rattle.cell_base.specs.declared.sql_state.SqlState.TheVariants as states

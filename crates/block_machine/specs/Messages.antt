@@ -5,9 +5,7 @@ use Rattle.cell_base.specs.declared.level.Level.{Level}
 use Rattle.cell_base.specs.declared.sql_state.SqlState.TheVariants as states
 use Rattle.pg_framing.specs.declared.replies.TransactionState.{TransactionState}
 use Rattle.pg_framing.specs.declared.replies.TransactionState.TheVariants as ready
-use Rattle.sql_lexer.specs.declared.fault.LexFault.TheVariants as lex
 use Rattle.sql_statements.specs.declared.fault.ParseFault.{ParseFault}
-use Rattle.sql_statements.specs.declared.fault.ParseFault.TheVariants as parse
 use Rattle.sql_statements.specs.Faults.{AreStatementsOf, IsFaultOfText, state_of}
 use Rattle.sql_tree.specs.declared.statement.Statement.{Statement}
 use Rattle.sql_tree.specs.declared.table.Table.{Table}

@@ -1,5 +1,5 @@
 -- The settings that SET and SHOW name (PostgreSQL's documentation, "SET", "SHOW"; those whose names begin `monkey.` are this server's own).
-use Rattle.std.specs.Prelude.{ℕ, ◌≤◌, length, ◌==◌, ◌||◌, List, codes, if◌then◌else◌, Bool, Option, Some, None}
+use Rattle.std.specs.Prelude.{ℕ, ◌≤◌, length, ◌==◌, List, codes, if◌then◌else◌, Bool, Option, Some, None}
 use Rattle.std.specs.List.{starts_with}
 use Rattle.std.specs.Str.{bytes_eq}
 use Rattle.pg_framing.specs.Spelling.{HasNoZero}

@@ -1,7 +1,6 @@
 -- What each stage of a message goes on with, what it wants and owes, and what a step from one to the next comes to.
 use Rattle.std.specs.Prelude.{◌≡◌, ℕ, ◌+◌, ◌<◌, ◌≤◌, ◌⊎◌, List, [], ◌∷◌, ◌++◌, length, All, Bool, true, false, Ok}
 use Rattle.cell_base.specs.declared.level.Level.{Level}
-use Rattle.cell_base.specs.declared.sql_state.SqlState.{SqlState}
 use Rattle.history_core.specs.declared.event.Event.{Event}
 use Rattle.history_core.specs.declared.fault.BookFault.TheVariants as faults
 use Rattle.pg_framing.specs.declared.replies.TransactionState.{TransactionState}
@@ -14,7 +13,7 @@ use Rattle.sound_table.specs.Sound.{IsSound}
 use Rattle.described_columns.specs.Described.{HasPlainNames}
 use Rattle.outcome_replies.specs.Replies.{CanBeTold}
 use Rattle.outcome_replies.specs.Ends.{EndsIn}
-use Rattle.statement_course.specs.Course.{Course, first_demand, behind}
+use Rattle.statement_course.specs.Course.{first_demand}
 use Rattle.statement_course.specs.Laws.{ReadsFirst}
 use Rattle.statement_course.specs.declared.demand.PlanAnswer.{PlanAnswer}
 use Rattle.statement_course.specs.declared.demand.PlanAnswer.TheVariants as plan_answers
@@ -23,10 +22,10 @@ use Rattle.block_machine.specs.Calls.{Call, Want, call_for}
 use Rattle.block_machine.specs.Calls as calls
 use Rattle.block_machine.specs.Replies.{ready_reply, error_reply, fixed_reply, bytes_of}
 use Rattle.block_machine.specs.Script.{Entry, did, refused, short, unsent, stop, Said, Script, lost, with_call, ask}
-use Rattle.block_machine.specs.Statements.{Around, owed_in, succeeds, refused_with, fails, starts, defines, runs, continues, begins, looks, shows_history}
+use Rattle.block_machine.specs.Statements.{Around, owed_in, succeeds, refused_with, fails, starts, defines, runs, begins, looks, shows_history}
 use Rattle.block_machine.specs.Messages.{Outside, owed_between, readied, ends, statements, before}
 use Rattle.block_machine.specs.declared.block.Block.{Block}
-use Rattle.block_machine.specs.declared.block.Block.TheVariants.{Implicit, Regular, Failed}
+use Rattle.block_machine.specs.declared.block.Block.TheVariants.{Implicit, Regular}
 use Rattle.block_machine.specs.declared.block.Owed.{Owed}
 use Rattle.block_machine.specs.declared.block.Owed.TheVariants as owes
 use Rattle.block_machine.specs.declared.block.Pending.{Pending}

@@ -10,7 +10,6 @@ use Rattle.history_core.specs.declared.fault.BookFault.{BookFault}
 use Rattle.history_core.specs.declared.fault.BookFault.TheVariants as faults
 use Rattle.pg_framing.specs.declared.replies.TransactionState.{TransactionState}
 use Rattle.pg_framing.specs.declared.replies.TransactionState.TheVariants as ready
-use Rattle.sql_tree.specs.declared.statement.Select.{Select}
 use Rattle.sql_tree.specs.declared.statement.Statement.{Statement}
 use Rattle.sql_tree.specs.declared.statement.Statement.TheVariants as tree
 use Rattle.sql_tree.specs.declared.statement.TableRef.{TableRef}

@@ -1,10 +1,10 @@
-use Rattle.std.proofs.Common.{sym, subst, ℕ, ◌<◌}
+use Rattle.std.proofs.Common.{sym, subst}
 use Rattle.sql_tree.specs.declared.statement.Statement.{Statement}
 use Rattle.block_machine.specs.declared.call.Answer.{Answer}
 use Rattle.block_machine.specs.declared.call.Answer.TheVariants as answers
 use Rattle.block_machine.specs.declared.stage.Stage.{Stage}
 use Rattle.block_machine.specs.declared.stage.Stage.TheVariants as stages
-use Rattle.block_machine.specs.Stages.{Advances, IsSoundStage, IsBusy, HasReply, KnowsTables, work_at}
+use Rattle.block_machine.specs.Stages.{Advances, IsSoundStage, HasReply, KnowsTables}
 use Rattle.block_machine.proofs.Holding.{holding_some, quiet_knows, quiet_sound}
 use Rattle.block_machine.proofs.Turning.{advances_calm, known_same, stage_calm}
 use Rattle.block_machine.proofs.turns.answered_plain.Goals as goal
