@@ -2,7 +2,8 @@
 ghost use Rattle.std.specs.Prelude.{◌≡◌, ℕ, ◌+◌, ◌<◌, ◌≤◌, true, false};
 ghost use Rattle.sql_tree.specs.declared.table.Table.{Table as Defined};
 ghost use Rattle.history_core.specs.Book.{Past};
-ghost use Rattle.link_traits.specs.Traffic.{Sight, sight_of};
+ghost use Rattle.link_traits.specs.Faults.{Rose};
+ghost use Rattle.link_traits.specs.Traffic.{Both, Sight, Wrote, WrotePart, sight_of};
 ghost use Rattle.block_machine.specs.Calls.{call_of};
 ghost use Rattle.block_machine.specs.Calls as calls;
 ghost use Rattle.block_machine.specs.Runners.{Runs};
@@ -86,6 +87,17 @@ fn answer_cells<B: Book, W: Words>(
     session.answer(answer);
 }
 
+// Sends a reply. Answers whether it was sent whole.
+fn send_whole<L: Link>(link: &mut L, reply: &[u8]) -> bool
+    ensures whole { result ≡ true → Both (Wrote reply.now) (L.traffic link.old) (L.traffic link.new) }
+    ensures part { result ≡ false → Both (WrotePart reply.now) (L.traffic link.old) (L.traffic link.new) }
+    ensures failed { result ≡ false → Rose (L.write_faults link.old) (L.write_faults link.new) }
+    ensures read_faults { L.read_faults link.new ≡ L.read_faults link.old }
+    ensures write_faults { L.write_faults link.old ≤ L.write_faults link.new }
+{
+    send_all(link, reply).is_ok()
+}
+
 // Sends the reply that the session holds.
 fn send<B: Book, L: Link, W: Words>(session: &mut Session, book: &B, link: &mut L, words: &W)
     requires holding { IsHolding session.old.stage session.old.runner }
@@ -99,9 +111,10 @@ fn send<B: Book, L: Link, W: Words>(session: &mut Session, book: &B, link: &mut 
         message_work session.new.stage session.new.runner < message_work session.old.stage session.old.runner }
     ensures last { IsLast session.old.stage → IsLast session.new.stage }
 {
-    match send_all(link, session.reply()) {
-        Ok(()) => session.sent(),
-        Err(_) => session.unsent(),
+    if send_whole(link, session.reply()) {
+        session.sent();
+    } else {
+        session.unsent();
     }
 }
 
