@@ -1,7 +1,8 @@
 // The host in memory.
-ghost use Rattle.std.specs.Prelude.{◌≡◌, ◌+◌, ◌≤◌, ◌↔◌, ◌⊎◌, ◌++◌, ◌∷◌, [], Some, None, map, IfOk, IsErr, IsErrOf, IsNone, IfSome};
-ghost use Rattle.link_traits.specs.Faults.{counted};
+ghost use Rattle.std.specs.Prelude.{◌≡◌, ◌+◌, ◌≤◌, ◌↔◌, ◌⊎◌, ◌++◌, ◌∷◌, [], Some, None, map, IfOk, OnOk, OnErr, IsErr, IsErrOf, IsNone, IfSome};
+ghost use Rattle.link_traits.specs.Faults.{Rose, counted};
 ghost use Rattle.link_traits.specs.Memory.{FailsNext, mem_sight};
+ghost use Rattle.link_traits.specs.Host.{standard_link_called};
 ghost use Rattle.link_traits.specs.Hosts.{MemHostState, call_told, sight_in};
 
 use crate::faults::fault;
@@ -151,7 +152,22 @@ impl Host for MemHost {
 
     ghost link_faults = { λ h. h.link_faults };
 
-    fn standard_link(&mut self) -> Result<MemLink, HostFault> {
+    /// Hands out the link that the host was made with, once. It fails only where this call is to fail or there is no link, and
+    /// a call that is to fail hands none out.
+    fn standard_link(&mut self) -> Result<MemLink, HostFault>
+        ensures ok { IfOk result (λ link. map call_told self.new.calls ≡ map call_told self.old.calls ++ standard_link_called (Some (mem_sight link)) ∷ []) }
+        ensures one_out { OnOk result (self.new.lent.objects_out ≡ self.old.lent.objects_out + 1) }
+        ensures failed { IsErrOf result HostFault.Failed → map call_told self.new.calls ≡ map call_told self.old.calls ++ standard_link_called None ∷ [] }
+        ensures cause { IsErrOf result HostFault.Failed → Rose self.old.link_faults self.new.link_faults }
+        ensures memory { IsErrOf result HostFault.Memory → map call_told self.new.calls ≡ map call_told self.old.calls }
+        ensures none_out { OnErr result (self.new.lent.objects_out ≡ self.old.lent.objects_out) }
+        ensures later { self.old.link_faults ≤ self.new.link_faults }
+        ensures back { map mem_sight self.new.lent.back ≡ map mem_sight self.old.lent.back }
+        ensures out { sight_in self.new.lent.sink ≡ sight_in self.old.lent.sink }
+        ensures link { IfOk result (λ link. self.old.standard ≡ Some link) }
+        ensures fails { IsErrOf result HostFault.Failed → FailsNext self.old.fails self.old.asked ⊎ (self.old.standard ≡ None) }
+        ensures planned { FailsNext self.old.fails self.old.asked → IsErr result }
+    {
         self.hand_out()
     }
 
