@@ -6,7 +6,7 @@ use Rattle.std.proofs.lemmas.Bool.{cond_both, or_parts, eqb-false}
 use Rattle.cell_base.specs.declared.key.Key.{Key}
 use Rattle.sql_tree.specs.declared.table.Table.{Table}
 use Rattle.statement_course.specs.Reading.{Part, part_before, parts_from}
-use Rattle.course_laws.specs.Laws.{IsOnce}
+use Rattle.course_laws.proofs.MentionsOnce.{IsOnce}
 use Rattle.course_laws.proofs.ReadingOnce.{AreApart}
 
 abbrev IsNew : List ℕ → Part → Type 0

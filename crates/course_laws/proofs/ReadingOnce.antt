@@ -15,7 +15,7 @@ use Rattle.statement_course.specs.Laws.{TouchesOnce, AreDistinct, table_number}
 use Rattle.statement_course.specs.Reading.{Part, read_columns, read_row, read_rows, read_keys, read_part, read_parts}
 use Rattle.statement_course.specs.Writing.{write_all, read_presences}
 use Rattle.statement_course.specs.declared.demand.Outcome.{Outcome}
-use Rattle.course_laws.specs.Laws.{IsOnce}
+use Rattle.course_laws.proofs.MentionsOnce.{IsOnce}
 
 -- ---- cells that were asked for
 

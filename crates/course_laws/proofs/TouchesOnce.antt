@@ -1,11 +1,11 @@
--- A statement that mentions each column once asks for no cell twice.
+-- A typed statement asks for no cell twice.
 use Rattle.std.proofs.Common.{ℕ, Bool, true, false, List, [], ◌∷◌, length, map, Option, Some, None, Ok, Err}
 use Rattle.std.specs.Prelude.{slice_get}
-use Rattle.std.specs.List.{AllByRecursion}
 use Rattle.std.proofs.lemmas.Bool.{cond_both}
 use Rattle.cell_base.specs.declared.cell.Cell.{Cell}
 use Rattle.cell_base.specs.declared.key.Key.{Key}
 use Rattle.sql_tree.specs.declared.table.Table.{Table}
+use Rattle.sql_tree.specs.declared.typed.Typed.{Typed}
 use Rattle.sql_tree.specs.declared.typed.Typed.TheVariants.{Select, Insert, Change}
 use Rattle.sql_tree.specs.declared.typed.TypedChange.{TypedChange}
 use Rattle.sql_tree.specs.declared.typed.TypedInsert.{TypedInsert}
@@ -22,7 +22,8 @@ use Rattle.statement_course.specs.Reading.{Part}
 use Rattle.statement_course.specs.Statements.{parts_of_select, course_of_select, course_of_rows, course_of_insert, part_of_change, course_of_changes, course_of_change, course_of}
 use Rattle.statement_course.specs.Writing.{write_all, insert_rows, inserts, updates, deletes}
 use Rattle.statement_course.specs.declared.demand.Outcome.TheVariants.{Updated, Deleted, Inserted}
-use Rattle.course_laws.specs.Laws.{IsOnce, StatementTouchesOnce}
+use Rattle.course_laws.specs.Laws.{StatementTouchesOnce}
+use Rattle.course_laws.proofs.MentionsOnce.{SelectOnce, ChangeOnce, MentionsOnce, mentions_once}
 use Rattle.course_laws.proofs.ReadingOnce.{PartsFree, KeysFree, parts_once, writes_once, presences_once}
 use Rattle.course_laws.proofs.PartsOnce.{picked}
 use Rattle.course_laws.proofs.KeysOnce.{KeysDistinct, rows_distinct}
@@ -35,7 +36,7 @@ keys_free : (table : ℕ) (keys : List Key) → KeysFree table keys []
 keys_free table [] = tt
 keys_free table (k ∷ ks) = (tt, keys_free table ks)
 
-select_once : (tables : List Table) (select : TypedSelect) → AllByRecursion IsOnce select.mentioned → TouchesOnce [] (course_of_select tables select)
+select_once : (tables : List Table) (select : TypedSelect) → SelectOnce select → TouchesOnce [] (course_of_select tables select)
 select_once tables select once =
     parts_once (parts_of_select tables select) [] [] _ (picked tables [] select.tables select.mentioned select.points once).apart
     (parts_free (parts_of_select tables select)) (λ picture after. tt)
@@ -65,15 +66,19 @@ changed_once change (Ok made) before =
     (TouchesOnce before)
     (λ _. writes_once (deletes change.table made) before (Deleted (length made))) (λ _. writes_once (updates change.table made) before (Updated (length made)))
 
-change_once : (change : TypedChange) (table : Option Table) → IsOnce change.mentioned → TouchesOnce [] (course_of_change change table)
+change_once : (change : TypedChange) (table : Option Table) → ChangeOnce change → TouchesOnce [] (course_of_change change table)
 change_once change None once = tt
 change_once change (Some table) once =
     parts_once (part_of_change table change ∷ []) [] [] (λ picture. course_of_changes change (changes_of table change (shown_of change.table picture)))
     (tt, once, tt) (tt, tt)
     (λ picture after. changed_once change (changes_of table change (shown_of change.table picture)) after)
 
-pub touches_once : StatementTouchesOnce
+-- a statement that mentions each column once
+mentioned_once : (tables : List Table) (t : Typed) → MentionsOnce t → TouchesOnce [] (course_of tables t)
 unfolding course_of
-touches_once tables (Select select) once = select_once tables select once
-touches_once tables (Insert insert) once = insert_once insert (slice_get tables insert.table)
-touches_once tables (Change change) once = change_once change (slice_get tables change.table) once
+mentioned_once tables (Select select) once = select_once tables select once
+mentioned_once tables (Insert insert) once = insert_once insert (slice_get tables insert.table)
+mentioned_once tables (Change change) once = change_once change (slice_get tables change.table) once
+
+pub touches_once : StatementTouchesOnce
+touches_once tables statement t is = mentioned_once tables t (mentions_once tables statement t is)

@@ -7,7 +7,7 @@ pub fn statement_reads_first()
     ensures { StatementReadsFirst }
 {}
 
-/// A statement that mentions each column once asks for no cell twice.
+/// A typed statement asks for no cell twice, where each scan lists a key once.
 pub fn statement_touches_once()
     ensures { StatementTouchesOnce }
 {}

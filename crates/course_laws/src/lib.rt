@@ -1,4 +1,5 @@
-//! What holds of the course of every statement: it asks for cells first and writes then, and asks for no cell twice.
+//! What holds of the course of every statement: it asks for cells first and writes then. A typed statement
+//! asks for no cell twice, where each scan lists a key once.
 #![tactic(auto)]
 
 mod law;

@@ -1,0 +1,4 @@
+pub mod Demands
+pub mod Shown
+pub mod Asked
+pub mod Laws
