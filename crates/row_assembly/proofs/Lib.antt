@@ -1,5 +1,4 @@
 pub mod Steps
 pub mod Walking
 pub mod Sizes
-pub mod Sorting
-pub mod Grouping
+pub mod Keeping

@@ -4,6 +4,7 @@
 
 mod combinations;
 mod conditions;
+mod gathering;
 mod group;
 mod limit;
 mod plain;

@@ -141,6 +141,29 @@ pub const FAULTS: &[(&str, &str)] = &[
         "S22003",
     ),
     ("SELECT sum(10 / v) FROM t", "S22012"),
+    // The third row's condition comes before the first row's operand, and the fourth combination's before the first one's.
+    (
+        "SELECT sum(9223372036854775807 + k) FROM t WHERE 10 / v = 1",
+        "S22012",
+    ),
+    (
+        "SELECT count(9223372036854775807 + a.k) FROM t a CROSS JOIN t b WHERE 1 / (b.k - 4) <> 9",
+        "S22012",
+    ),
+    // Over rows that aren't kept nothing but the conditions is evaluated.
+    (
+        "SELECT sum(9223372036854775807 + k) FROM t WHERE v <> 10 AND k > 9",
+        "null",
+    ),
+    // The first row's operands come before the second row's.
+    (
+        "SELECT sum(10 / (k - 2)), sum(9223372036854775807 + k) FROM t",
+        "S22003",
+    ),
+    (
+        "SELECT sum(9223372036854775805 + k), sum(10 / (k - 2)) FROM t",
+        "S22012",
+    ),
     (
         "SELECT count(*) / 0, sum(9223372036854775807 + k) FROM t",
         "S22003",
