@@ -1,9 +1,12 @@
 // The program over a host in memory: what it sends over the standard link, or prints.
 ghost use Rattle.std.specs.Prelude.{◌≡◌, ◌<◌};
 
-use cell_base::{Items, Memory, Text};
+use cell_base::{Items, Level, Memory, Text};
+use choice_stream::ListWords;
 use link_traits::{MemHost, MemLink, MemPlan, MemSink};
 use monkey_server::monkey_main;
+use session_core::serve_link;
+use solo_book::SoloBook;
 use std::alloc::Global;
 
 fn plan(alloc: Global, piece: u32) -> MemPlan
@@ -17,7 +20,7 @@ fn plan(alloc: Global, piece: u32) -> MemPlan
     }
 }
 
-pub fn link(alloc: Global, input: &[u8], piece: u32) -> Result<MemLink, Memory>
+fn link(alloc: Global, input: &[u8], piece: u32) -> Result<MemLink, Memory>
     requires { 0 < piece }
 {
     MemLink::new(
@@ -76,4 +79,13 @@ pub fn prints(alloc: Global, list: &[u8], line: &[u8]) -> Result<bool, Memory> {
         Some(out) => status.code == 2 && host.back().is_empty() && out.written() == line,
         None => false,
     })
+}
+
+// The number of events of a session with these words.
+pub fn events(alloc: Global, words: &[u32], input: &[u8]) -> Result<usize, Memory> {
+    let mut book = SoloBook::new(alloc);
+    let mut link = link(alloc, input, 64)?;
+    let mut words = ListWords::new(Items::from_slice(alloc, words)?);
+    serve_link(alloc, Level::Rc, &mut book, &mut link, &mut words);
+    Ok(book.history().events().len())
 }

@@ -11,3 +11,5 @@ mod command_lines;
 mod hosts;
 #[cfg(test)]
 mod sessions;
+#[cfg(test)]
+mod statements;

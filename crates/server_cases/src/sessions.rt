@@ -1,10 +1,5 @@
 // Sessions with what is sent in them. The bytes were put together by hand from the messages.
-use crate::hosts::{answers, link};
-use cell_base::{Items, Level, Memory};
-use choice_stream::ListWords;
-use session_core::serve_link;
-use solo_book::SoloBook;
-use std::alloc::Global;
+use crate::hosts::{answers, events};
 use std::test::Fail;
 
 // A startup, a table, a row, a read of the row, and the end.
@@ -46,15 +41,6 @@ const TYPED: &[u8] =
 // What they are answered.
 const JUDGED: &[u8] =
     b"R\0\0\0\x08\0\0\0\0S\0\0\0\x18server_version\014.0\0S\0\0\0\x19server_encoding\0UTF8\0S\0\0\0\x19client_encoding\0UTF8\0S\0\0\0\x17DateStyle\0ISO, MDY\0S\0\0\0\x19integer_datetimes\0on\0S\0\0\0#standard_conforming_strings\0on\0K\0\0\0\x0c\0\0\0\x01\0\0\0\0Z\0\0\0\x05IC\0\0\0\x11CREATE TABLE\0Z\0\0\0\x05IE\0\0\01SERROR\0VERROR\0C0A000\0Mfeature not supported\0\0Z\0\0\0\x05IE\0\0\03SERROR\0VERROR\0C42P07\0Mrelation already exists\0\0Z\0\0\0\x05IE\0\0\01SERROR\0VERROR\0C0A000\0Mfeature not supported\0\0Z\0\0\0\x05IE\0\0\01SERROR\0VERROR\0C42703\0Mcolumn does not exist\0\0Z\0\0\0\x05IE\0\0\03SERROR\0VERROR\0C42P01\0Mrelation does not exist\0\0Z\0\0\0\x05IE\0\0\0?SERROR\0VERROR\0C42883\0Moperator or function does not exist\0\0Z\0\0\0\x05IE\0\0\03SERROR\0VERROR\0C22001\0Mvalue too long for type\0\0Z\0\0\0\x05IE\0\0\0?SERROR\0VERROR\0C42883\0Moperator or function does not exist\0\0Z\0\0\0\x05IC\0\0\0\x0dUPDATE 0\0Z\0\0\0\x05I";
-
-// The number of events of a session with these words.
-fn events(alloc: Global, words: &[u32], input: &[u8]) -> Result<usize, Memory> {
-    let mut book = SoloBook::new(alloc);
-    let mut link = link(alloc, input, 64)?;
-    let mut words = ListWords::new(Items::from_slice(alloc, words)?);
-    serve_link(alloc, Level::Rc, &mut book, &mut link, &mut words);
-    Ok(book.history().events().len())
-}
 
 #[test]
 fn serves_sessions(rt: HostRuntime) -> Result<(), Fail> {

@@ -8,6 +8,8 @@
 #[cfg(test)]
 mod block_rows;
 #[cfg(test)]
+mod delete_rows;
+#[cfg(test)]
 mod events;
 #[cfg(test)]
 mod extended_rows;

@@ -2,6 +2,7 @@
 ghost use Rattle.std.specs.Prelude.{◌<◌};
 
 use crate::block_rows::block_row;
+use crate::delete_rows::delete_row;
 use crate::events::push_event;
 use crate::extended_rows::extended_row;
 use crate::first_rows::first_row;
@@ -67,6 +68,7 @@ enum Group {
     Messages,
     Blocks,
     Texts,
+    Deletes,
     Extended,
 }
 
@@ -78,6 +80,7 @@ fn row_at(group: Group, number: usize) -> Option<&'static Row> {
         Group::Messages => message_row(number),
         Group::Blocks => block_row(number),
         Group::Texts => text_row(number),
+        Group::Deletes => delete_row(number),
         Group::Extended => extended_row(number),
     }
 }
@@ -144,6 +147,14 @@ fn serves_texts(rt: HostRuntime) -> Result<(), Fail> {
     let alloc = rt.alloc();
     assert_eq!(rt; held(alloc, Group::Texts, 64)?, 4);
     assert!(rt; all_hold(alloc, Group::Texts, 4)?);
+    Ok(())
+}
+
+#[test]
+fn serves_deletes(rt: HostRuntime) -> Result<(), Fail> {
+    let alloc = rt.alloc();
+    assert_eq!(rt; held(alloc, Group::Deletes, 64)?, 5);
+    assert!(rt; all_hold(alloc, Group::Deletes, 5)?);
     Ok(())
 }
 
