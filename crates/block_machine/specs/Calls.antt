@@ -10,6 +10,7 @@ use Rattle.block_machine.specs.declared.call.Call.TheVariants as plain
 use Rattle.block_machine.specs.declared.want.Want.{Want as Told}
 use Rattle.block_machine.specs.declared.want.Want.TheVariants as told
 
+-- a call of the book
 pub data Call : Type 0 where
   Open : Call
   Close : Call
@@ -27,6 +28,7 @@ pub data Call : Type 0 where
   -- how many events the history has
   Show : Call
 
+-- what a message wants next: a call, its reply sent, or nothing
 pub data Want : Type 0 where
   Book : Call → Want
   Send : Want

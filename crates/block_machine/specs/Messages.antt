@@ -20,8 +20,8 @@ use Rattle.block_machine.specs.declared.block.Owed.TheVariants as owes
 use Rattle.block_machine.specs.declared.message.Message.{Message}
 use Rattle.block_machine.specs.declared.message.Message.TheVariants as messages
 
--- What a message stands in: the level that is served, what follows its end, by the state in which it leaves the session and the tables that are
--- then known, and what follows a reply that could not be sent, by what the session owes.
+-- What a message stands in: the level that is served, what follows its end, by the state in which it leaves the session and the
+-- tables that are then known, and what follows a reply that could not be sent, by what the session owes.
 pub record Outside : Type 0 where
   pub level : Level
   pub next : TransactionState → List Table → Script
@@ -33,18 +33,18 @@ owed_between ready.Idle = owes.Close
 owed_between ready.Block = owes.Rollback
 owed_between ready.Failed = owes.Close
 
--- the next message may come
+-- ReadyForQuery, and what follows the message
 abbrev pub readied : TransactionState → List Table → Outside → Script
 readied state known outside = tell (ready_reply state) (outside.broken (owed_between state)) (outside.next state known)
 
--- the end of a message commits the message's own transaction, where one is pending
+-- The end of a message commits the message's own transaction, where one is pending, and then ReadyForQuery is told.
 abbrev pub ends : Block → List Table → Outside → Script
 ends (Implicit false) known outside = readied ready.Idle known outside
 ends (Implicit true) known outside = ask calls.Commit (λ _. readied ready.Idle known outside)
 ends Regular known outside = readied ready.Block known outside
 ends Failed known outside = readied ready.Failed known outside
 
--- Statements one after another. Behind one that fails the others are skipped.
+-- Statements one after another. Behind the ErrorResponse of one that fails the others are skipped, and ReadyForQuery is told.
 abbrev pub statements : List Statement → Block → List Table → Outside → Script
 statements [] block known outside = ends block known outside
 statements (s ∷ more) block known outside =
@@ -70,12 +70,12 @@ block_at ready.Idle = Implicit false
 block_at ready.Block = Regular
 block_at ready.Failed = Failed
 
--- A message without a statement is told so.
+-- A message that is read. One without a statement is told EmptyQueryResponse.
 abbrev pub opens : List Statement → Block → List Table → Outside → Script
 opens [] block known outside = succeeds empty_reply block known (before [] outside)
 opens (s ∷ more) block known outside = statements (s ∷ more) block known outside
 
--- A message that can't be read fails before its first statement, also in a failed block.
+-- A message that can't be read is told ErrorResponse before its first statement, also in a failed block.
 abbrev pub message : Message → TransactionState → List Table → Outside → Script
 message (messages.Unread code) state known outside = fails code (block_at state) known (before [] outside)
 message (messages.Statements asked) state known outside = opens asked (block_at state) known outside

@@ -11,59 +11,66 @@ use Rattle.block_machine.specs.declared.reply.Fixed.TheVariants as fixed
 use Rattle.block_machine.specs.declared.reply.Reply.{Reply}
 use Rattle.block_machine.specs.declared.reply.Reply.TheVariants as replies
 
+-- ReadyForQuery: the next message may come; the session is in this state
 unfoldable pub ready_reply : TransactionState → List ℕ
 ready_reply state = ready state
 
+-- ErrorResponse with this code, of severity ERROR: the session goes on
 unfoldable pub error_reply : SqlState → List ℕ
 error_reply state = error_response false state
 
+-- EmptyQueryResponse: the message has no statement
 unfoldable pub empty_reply : List ℕ
 empty_reply = empty_query
 
--- a statement is done, whose tag has no count
+-- CommandComplete with this tag, which has no count
 unfoldable pub done_reply : List ℕ → List ℕ
 done_reply tag = command_complete tag
 
--- the same, behind a notice
+-- NoticeResponse with this code, and then CommandComplete with this tag
 unfoldable pub warned_reply : SqlState → List ℕ → List ℕ
 warned_reply state tag = notice_response state ++ command_complete tag
 
+-- CommandComplete of CREATE TABLE
 abbrev pub created_reply : List ℕ
 created_reply = done_reply (codes "CREATE TABLE")
 
+-- CommandComplete of SET
 abbrev pub set_reply : List ℕ
 set_reply = done_reply (codes "SET")
 
+-- CommandComplete of a COMMIT of a block
 abbrev pub commit_reply : List ℕ
 commit_reply = done_reply (codes "COMMIT")
 
+-- CommandComplete of a ROLLBACK of a block, and of a COMMIT of a failed one
 abbrev pub rollback_reply : List ℕ
 rollback_reply = done_reply (codes "ROLLBACK")
 
--- a COMMIT or a ROLLBACK outside a block
+-- a COMMIT or a ROLLBACK outside a block: NoticeResponse with 25P01, and CommandComplete
 abbrev pub needless_commit_reply : List ℕ
 needless_commit_reply = warned_reply states.S25P01 (codes "COMMIT")
 
 abbrev pub needless_rollback_reply : List ℕ
 needless_rollback_reply = warned_reply states.S25P01 (codes "ROLLBACK")
 
--- BEGIN, and START TRANSACTION where the flag is true
+-- CommandComplete of BEGIN, or of START TRANSACTION where the flag is true
 abbrev pub start_reply : Bool → List ℕ
 start_reply false = done_reply (codes "BEGIN")
 start_reply true = done_reply (codes "START TRANSACTION")
 
--- the same inside a block
+-- the same inside a block: NoticeResponse with 25001, and CommandComplete
 abbrev pub needless_start_reply : Bool → List ℕ
 needless_start_reply false = warned_reply states.S25001 (codes "BEGIN")
 needless_start_reply true = warned_reply states.S25001 (codes "START TRANSACTION")
 
--- one row of one text, whose column has the name that was asked for
+-- SHOW: RowDescription of one column of type text, with the name that was asked for; DataRow with the value; CommandComplete
 unfoldable pub show_reply : List ℕ → List ℕ → List ℕ
 show_reply name value =
     row_description (record { name = name; kind = types.Text } ∷ [])
     ++ (data_row (values.Text value ∷ []) ++ command_complete (codes "SHOW"))
 
--- a reply that is known beforehand
+-- the messages of a reply that is known beforehand
 abbrev pub fixed_reply : Fixed → List ℕ
 fixed_reply fixed.Empty = empty_reply
 fixed_reply fixed.Created = created_reply

@@ -15,12 +15,15 @@ use Rattle.block_machine.specs.Stages.{goes_on, wants, reply_of, after_reply, ow
 abbrev pub statements_of : Runner → List Statement
 statements_of r = into_iter_items r.rest
 
+-- what it goes on with
 abbrev pub follows : Runner → Outside → Script
 follows r outside = goes_on r.stage r.built.items r.known.items (statements_of r) outside
 
+-- what it wants
 abbrev pub wanted : Runner → Want
 wanted r = wants r.stage r.known.items
 
+-- the bytes of the reply that it holds; none where it holds none
 abbrev pub held : Runner → List ℕ
 held r = reply_of r.built.items r.stage
 
@@ -62,7 +65,7 @@ Runs r = IsRunning r.stage
 abbrev pub Knows : Runner → Type 0
 Knows r = KnowsTables r.stage r.known.items
 
--- the table that is about to be defined is sound, and so are the statements that wait; what a statement comes to can be told
+-- the table that is about to be defined is sound, and so are the statements that wait; what the one under way comes to can be told
 pub record IsSoundRunner (r : Runner) : Type 0 where
   pub stage : IsSoundStage r.stage
   pub rest : All IsSoundStatement (statements_of r)

@@ -36,6 +36,7 @@ is_short (short final n) = true
 is_short (unsent n) = false
 is_short (stop cause) = false
 
+-- whether any of these is one
 abbrev pub has_short : List Entry → Bool
 has_short [] = false
 has_short (e ∷ es) = is_short e || has_short es
@@ -62,6 +63,7 @@ with_call said c = record { bytes = said.bytes; calls = said.calls ++ c ∷ [] }
 abbrev pub Script : Type 0
 Script = Said → List Entry → Said × Next
 
+-- nothing more is said: the record has an entry that doesn't belong here
 abbrev pub lost : Script
 lost said entries = (said, astray)
 
@@ -126,18 +128,20 @@ unless_unsent before fault rest said (short final n ∷ entries) = rest said (sh
 unless_unsent before fault rest said (unsent n ∷ entries) = if n == before then fault said entries else rest said (unsent n ∷ entries)
 unless_unsent before fault rest said (stop cause ∷ entries) = rest said (stop cause ∷ entries)
 
--- bytes are told; what follows a write of them that fails, and what follows them
+-- bytes are told; what follows where their write fails, and what follows else
 abbrev pub tell : List ℕ → Script → Script → Script
 tell bytes fault rest said entries = unless_unsent (length said.bytes) fault rest (with_bytes said bytes) entries
 
--- A want of memory of the session itself stands where as many bytes were told as its entry says: before a message or behind
--- the start of the session, where it ends the session, in the reading of a query, or in a statement.
+-- A want of memory of the session itself stands where as many bytes were told as its entry says. Before a message, and behind the
+-- call that opens the session, it ends the session; in the reading of a query, or in a statement, it doesn't.
 abbrev pub unless_short : Bool → Script → Script → Script
 unless_short final short_of rest said [] = rest said []
 unless_short final short_of rest said (did a e ∷ entries) = rest said (did a e ∷ entries)
 unless_short final short_of rest said (refused why ∷ entries) = rest said (refused why ∷ entries)
-unless_short true short_of rest said (short true n ∷ entries) = if n == length said.bytes then short_of said entries else rest said (short true n ∷ entries)
-unless_short false short_of rest said (short false n ∷ entries) = if n == length said.bytes then short_of said entries else rest said (short false n ∷ entries)
+unless_short true short_of rest said (short true n ∷ entries) =
+    if n == length said.bytes then short_of said entries else rest said (short true n ∷ entries)
+unless_short false short_of rest said (short false n ∷ entries) =
+    if n == length said.bytes then short_of said entries else rest said (short false n ∷ entries)
 unless_short true short_of rest said (short false n ∷ entries) = rest said (short false n ∷ entries)
 unless_short false short_of rest said (short true n ∷ entries) = rest said (short true n ∷ entries)
 unless_short final short_of rest said (unsent n ∷ entries) = rest said (unsent n ∷ entries)

@@ -1,4 +1,5 @@
--- The settings that SET and SHOW name (PostgreSQL's documentation, "SET", "SHOW"; those whose names begin `monkey.` are this server's own).
+-- The settings that SET and SHOW name (PostgreSQL's documentation, "SET", "SHOW"). Those whose names begin `monkey.` are this server's
+-- own.
 use Rattle.std.specs.Prelude.{ℕ, ◌≤◌, length, ◌==◌, List, codes, if◌then◌else◌, Bool, Option, Some, None}
 use Rattle.std.specs.List.{starts_with}
 use Rattle.std.specs.Str.{bytes_eq}
@@ -6,11 +7,11 @@ use Rattle.pg_framing.specs.Spelling.{HasNoZero}
 use Rattle.cell_base.specs.declared.level.Level.{Level}
 use Rattle.cell_base.specs.declared.level.Level.TheVariants.{Rc, Ra, Cc}
 
--- the server's own settings can't be set
+-- whether a setting is one of the server's own, which can't be set
 abbrev pub is_own : List ℕ → Bool
 is_own name = starts_with ◌==◌ name (codes "monkey.")
 
--- how many events the history has
+-- the setting whose value is how many events the history has
 abbrev pub history_name : List ℕ
 history_name = codes "monkey.history"
 
@@ -20,13 +21,14 @@ level_word Rc = codes "rc"
 level_word Ra = codes "ra"
 level_word Cc = codes "cc"
 
--- those that are on
+-- the settings that are on; none where the name is another
 abbrev pub switch_value : List ℕ → Option (List ℕ)
 switch_value name =
     if bytes_eq name (codes "integer_datetimes") then Some (codes "on")
     else (if bytes_eq name (codes "standard_conforming_strings") then Some (codes "on") else None)
 
--- What a session is told at its start is the same for each session. A name that is written without quotes has small letters.
+-- The settings that a session is told at its start, by ParameterStatus, are the same for each session. SHOW takes DateStyle in small
+-- letters too, which is how its name is read where it stands without quotes.
 abbrev pub parameter_value : List ℕ → Option (List ℕ)
 parameter_value name =
     if bytes_eq name (codes "server_version") then Some (codes "14.0")

@@ -59,8 +59,10 @@ goes_on (stages.Beginning plan) built known more outside = begins (rest_of plan)
 goes_on (stages.Running run p) built known more outside = runs (rest_of run.plan) (block_of p) known (before more outside)
 goes_on (stages.Starting start) built known more outside = starts start (Implicit false) known (before more outside)
 goes_on (stages.Showing block) built known more outside = shows_history block known (before more outside)
-goes_on (stages.Committing reply) built known more outside = ask calls.Commit (λ _. succeeds (fixed_reply reply) (Implicit false) known (before more outside))
-goes_on (stages.RollingBack reply) built known more outside = ask calls.Rollback (λ _. succeeds (fixed_reply reply) (Implicit false) known (before more outside))
+goes_on (stages.Committing reply) built known more outside =
+    ask calls.Commit (λ _. succeeds (fixed_reply reply) (Implicit false) known (before more outside))
+goes_on (stages.RollingBack reply) built known more outside =
+    ask calls.Rollback (λ _. succeeds (fixed_reply reply) (Implicit false) known (before more outside))
 goes_on (stages.Telling reply block) built known more outside = succeeds (bytes_of built reply) block known (before more outside)
 goes_on (stages.Undoing code p) built known more outside = fails code (block_of p) known (before more outside)
 goes_on (stages.Failing code state) built known more outside = refused_with code (state_behind state) known (before more outside)
@@ -101,6 +103,7 @@ owed_at (stages.Failing code state) = owes.Close
 owed_at stages.Finishing = owes.Rollback
 owed_at (stages.Readying state) = owed_between state
 
+-- what is owed behind the answer to a call: a refusal changes nothing
 abbrev pub owed_after : Call → Answer → Owed → Owed
 owed_after calls.Open (answers.Opened s) owed = owes.Close
 owed_after calls.Close answers.Closed owed = owes.Nothing
@@ -118,6 +121,7 @@ IsHolding (stages.Failing code state) = Unit {0}
 IsHolding (stages.Readying state) = Unit {0}
 IsHolding _ = ⊥
 
+-- the bytes of the reply that is held, given those that were built; none where no reply is held
 abbrev pub reply_of : List ℕ → Stage → List ℕ
 reply_of built (stages.Telling reply block) = bytes_of built reply
 reply_of built (stages.Failing code state) = error_reply code
@@ -142,12 +146,13 @@ HasReply stage built = IsHolding stage → 0 < length (reply_of built stage)
 
 -- ---- entries
 
--- Between two messages memory may be wanting at once. Elsewhere a want of memory stands where more was told than was sent, and a failed
--- write where no fewer bytes had been told.
+-- how many bytes more are told at least before memory may be wanting: between two messages none
 abbrev pub least : Stage → ℕ
 least (stages.Over state) = 0
 least _ = 1
 
+-- A failed write as the first entry stands no earlier than where the bytes sent end; a want of memory, at least `least` bytes behind
+-- that.
 abbrev pub IsFrom : ℕ → ℕ → List Entry → Type 0
 IsFrom least sent [] = Unit {0}
 IsFrom least sent (did a e ∷ es) = Unit {0}
@@ -166,7 +171,8 @@ abbrev pub entry_for : Answer → Event → Entry
 entry_for (answers.Refused why) e = refused why
 entry_for a e = did a e
 
--- the answer is one of the call's name, or a refusal where the call may be refused
+-- The answer is one of the call's name, or a refusal where the call may be refused. Tables that are shown are sound, and with those known
+-- they are fewer than 4,294,967,296; so are the keys of a table.
 abbrev pub Fits : Call → Answer → Type 0
 Fits calls.Open (answers.Opened s) = Unit {0}
 Fits calls.Open (answers.Refused why) = Unit {0}
@@ -204,7 +210,8 @@ wants_memory _ = false
 -- the script of a statement is what a stage goes on with
 abbrev pub IsScriptAt : (Around → Script) → Stage → List ℕ → List Table → Type 0
 IsScriptAt script stage built known =
-    (more : List Statement) (outside : Outside) (said : Said) (es : List Entry) → script (before more outside) said es ≡ goes_on stage built known more outside said es
+    (more : List Statement) (outside : Outside) (said : Said) (es : List Entry) →
+    script (before more outside) said es ≡ goes_on stage built known more outside said es
 
 -- whatever the tables are
 abbrev pub IsScriptOf : (List Table → Around → Script) → Stage → List ℕ → Type 0
@@ -219,13 +226,15 @@ LeadsTo script next wanting built known =
 -- the same, whatever the tables are, where this level is served
 abbrev pub LeadsAt : Level → (List Table → Around → Script) → Stage → Bool → List ℕ → Type 0
 LeadsAt level script next wanting built =
-    (known : List Table) (more : List Statement) (outside : Outside) (said : Said) (es : List Entry) → outside.level ≡ level → IsFrom 1 (length said.bytes) es →
+    (known : List Table) (more : List Statement) (outside : Outside) (said : Said) (es : List Entry) →
+    outside.level ≡ level → IsFrom 1 (length said.bytes) es →
     script known (before more outside) said (with_short wanting said.bytes es) ≡ goes_on next built known more outside said es
 
 -- a message, or what follows a reply, leads to a stage and the statements that are then left
 abbrev pub TurnsTo : Level → (List Table → Outside → Script) → Stage → Bool → List ℕ → List Statement → Type 0
 TurnsTo level script next wanting built more =
-    (known : List Table) (outside : Outside) (said : Said) (es : List Entry) → outside.level ≡ level → IsFrom (least next) (length said.bytes) es →
+    (known : List Table) (outside : Outside) (said : Said) (es : List Entry) →
+    outside.level ≡ level → IsFrom (least next) (length said.bytes) es →
     script known outside said (with_short wanting said.bytes es) ≡ goes_on next built known more outside said es
 
 -- An answer to a stage's call leads on, with a want of memory behind it where there was one.
@@ -233,7 +242,8 @@ abbrev pub Advances : Stage → List Table → Answer → Stage → Bool → Lis
 Advances stage known answer next wanting built after =
     (c : Call) (unbuilt : List ℕ) (more : List Statement) (outside : Outside) (said : Said) (es : List Entry) (e : Event) →
     wants stage known ≡ calls.Book c → IsFrom 1 (length said.bytes) es →
-    goes_on stage unbuilt known more outside said (entry_for answer e ∷ with_short wanting said.bytes es) ≡ goes_on next built after more outside (with_call said c) es
+    goes_on stage unbuilt known more outside said (entry_for answer e ∷ with_short wanting said.bytes es)
+    ≡ goes_on next built after more outside (with_call said c) es
 
 -- The tables known behind an answer are those known before, and, behind a look, perhaps those that it showed.
 abbrev pub IsKnownAfter : List Table → Answer → List Table → Type 0
@@ -266,7 +276,7 @@ IsNoStatement (stages.Beginning plan) = ⊥
 IsNoStatement (stages.Running run p) = ⊥
 IsNoStatement _ = Unit {0}
 
--- neither a table nor a statement is kept
+-- neither a table nor a statement nor its plan is kept
 abbrev pub IsQuiet : Stage → Type 0
 IsQuiet (stages.Defining table block) = ⊥
 IsQuiet (stages.Looking statement block) = ⊥
@@ -290,7 +300,8 @@ KnowsTables (stages.Beginning plan) known = ReadsFirst (length known) (rest_of p
 KnowsTables (stages.Running run p) known = ReadsFirst (length known) (rest_of run.plan)
 KnowsTables _ known = Unit {0}
 
--- A statement as the grammar gives it for a text without a zero byte: a table that it creates is sound, and the names of its columns are plain.
+-- A statement as the grammar gives it for a text without a zero byte: the table that a CREATE TABLE creates is sound, and the columns of
+-- a SELECT have plain names.
 abbrev pub IsSoundStatement : Statement → Type 0
 IsSoundStatement (tree.Create create) = (table : Table) → built create ≡ Ok table → IsSound table
 IsSoundStatement statement = HasPlainNames statement
@@ -304,7 +315,8 @@ abbrev pub length_of : Message → ℕ
 length_of (messages.Statements statements) = length statements
 length_of (messages.Unread code) = 0
 
--- the table that is about to be defined is sound, and what a statement comes to can be told
+-- The table that is about to be defined is sound, a statement that looks has plain names, and what one that begins or runs comes to can
+-- be told.
 abbrev pub IsSoundStage : Stage → Type 0
 IsSoundStage (stages.Defining table block) = IsSound table
 IsSoundStage (stages.Looking statement block) = HasPlainNames statement

@@ -32,9 +32,9 @@ use Rattle.block_machine.specs.declared.block.Block.TheVariants.{Implicit, Regul
 use Rattle.block_machine.specs.declared.block.Owed.{Owed}
 use Rattle.block_machine.specs.declared.block.Owed.TheVariants as owes
 
--- What a statement stands in: the level that is served, and what follows it. Where it succeeded, that is by the block in which it leaves
--- the session and the tables that are then known; where it failed, by the state of its block behind it; where its reply could not be sent,
--- by what the session owes.
+-- What a statement stands in: the level that is served, and what follows it. Where it succeeded, that is by the block in which it
+-- leaves the session and the tables that are then known; where it failed, by the state in which it leaves the session and these
+-- tables; where its reply could not be sent, by what the session owes.
 pub record Around : Type 0 where
   pub level : Level
   pub succeeded : Block → List Table → Script
@@ -48,14 +48,16 @@ owed_in (Implicit true) = owes.Rollback
 owed_in Regular = owes.Rollback
 owed_in Failed = owes.Close
 
--- a statement that succeeds is told so
+-- a statement that succeeds is told this reply
 abbrev pub succeeds : List ℕ → Block → List Table → Around → Script
 succeeds reply block known around = tell reply (around.broken (owed_in block)) (around.succeeded block known)
 
+-- ErrorResponse, where no transaction is pending, and what follows a statement that failed
 abbrev pub refused_with : SqlState → TransactionState → List Table → Around → Script
 refused_with code state known around = tell (error_reply code) (around.broken owes.Close) (around.failed state known)
 
--- A statement that fails: the transaction that is pending is rolled back first, and then the error is told. A regular block is then failed.
+-- A statement that fails: the transaction that is pending is rolled back first, and then ErrorResponse is told. A regular block is then
+-- failed.
 abbrev pub fails : SqlState → Block → List Table → Around → Script
 fails code (Implicit false) known around = refused_with code ready.Idle known around
 fails code (Implicit true) known around = ask calls.Rollback (λ _. refused_with code ready.Idle known around)
@@ -67,6 +69,7 @@ abbrev pub refusal_state : BookFault → SqlState
 refusal_state (faults.Full limit) = states.S54000
 refusal_state faults.Memory = states.S53200
 
+-- a statement whose call was refused
 abbrev pub declined : Block → List Table → Around → BookFault → Script
 declined block known around why = fails (refusal_state why) block known around
 
@@ -76,14 +79,15 @@ unless_short_in block known around rest = unless_short false (fails states.S5320
 
 -- ---- BEGIN, COMMIT, ROLLBACK: one for each block
 
--- BEGIN, and START TRANSACTION where the flag is true
+-- BEGIN, and START TRANSACTION where the flag is true. A transaction that the message has begun goes on in the block.
 abbrev pub starts : Bool → Block → List Table → Around → Script
-starts start (Implicit false) known around = ask calls.Begin (λ a. on_begun a (succeeds (start_reply start) Regular known around) (declined (Implicit false) known around))
+starts start (Implicit false) known around =
+    ask calls.Begin (λ a. on_begun a (succeeds (start_reply start) Regular known around) (declined (Implicit false) known around))
 starts start (Implicit true) known around = succeeds (start_reply start) Regular known around
 starts start Regular known around = succeeds (needless_start_reply start) Regular known around
 starts start Failed known around = fails states.S25P02 Failed known around
 
--- COMMIT, END
+-- COMMIT, END. Of a failed block nothing is left to commit, and its reply is that of ROLLBACK.
 abbrev pub commits : Block → List Table → Around → Script
 commits (Implicit false) known around = succeeds needless_commit_reply (Implicit false) known around
 commits (Implicit true) known around = ask calls.Commit (λ _. succeeds needless_commit_reply (Implicit false) known around)
@@ -99,10 +103,12 @@ rolls_back Failed known around = succeeds rollback_reply (Implicit false) known 
 
 -- ---- CREATE TABLE
 
+-- A table that is built is defined at once, whatever becomes of the block. Where its name is taken the code is 42P07.
 abbrev pub defines : Result Table → Block → List Table → Around → Script
 defines (Err code) block known around = fails code block known around
 defines (Ok table) block known around =
-    ask (calls.Define table) (λ a. on_defined a (succeeds created_reply block known around) (fails states.S42P07 block known around) (declined block known around))
+    ask (calls.Define table) (λ a.
+    on_defined a (succeeds created_reply block known around) (fails states.S42P07 block known around) (declined block known around))
 
 -- ---- SELECT, INSERT, UPDATE, DELETE
 
@@ -115,20 +121,24 @@ concludes outcome block known around = succeeds (outcome_reply outcome) block kn
 -- stand behind each answer.
 abbrev pub runs : Course → Block → List Table → Around → Script
 runs (scan table next) block known around =
-    ask (calls.Scan table) (λ a. on_listed a (λ keys. unless_short_in block known around (runs (next keys) block known around)) (declined block known around))
+    ask (calls.Scan table) (λ a.
+    on_listed a (λ keys. unless_short_in block known around (runs (next keys) block known around)) (declined block known around))
 runs (touch cell next) block known around =
-    ask (calls.Touch cell) (λ a. on_found a (λ value. unless_short_in block known around (runs (next value) block known around)) (declined block known around))
+    ask (calls.Touch cell) (λ a.
+    on_found a (λ value. unless_short_in block known around (runs (next value) block known around)) (declined block known around))
 runs (write cell value next) block known around =
-    ask (calls.Write cell value) (λ a. on_written a (unless_short_in block known around (runs next block known around)) (declined block known around))
+    ask (calls.Write cell value) (λ a.
+    on_written a (unless_short_in block known around (runs next block known around)) (declined block known around))
 runs (done outcome) block known around = concludes outcome block known around
 
--- the same, behind an answer
+-- the same behind an answer, where memory may be wanting
 abbrev pub continues : Course → Block → List Table → Around → Script
 continues c block known around = unless_short_in block known around (runs c block known around)
 
--- an implicit block begins its transaction where none is pending
+-- A statement that runs: an implicit block begins its transaction where none is pending.
 abbrev pub begins : Course → Block → List Table → Around → Script
-begins c (Implicit false) known around = ask calls.Begin (λ a. on_begun a (continues c (Implicit true) known around) (declined (Implicit false) known around))
+begins c (Implicit false) known around =
+    ask calls.Begin (λ a. on_begun a (continues c (Implicit true) known around) (declined (Implicit false) known around))
 begins c (Implicit true) known around = runs c (Implicit true) known around
 begins c Regular known around = runs c Regular known around
 begins c Failed known around = fails states.S25P02 Failed known around
@@ -140,11 +150,14 @@ judged (Err code) block known around = fails code block known around
 
 -- A statement is typed over the tables that are known behind its look. A want of memory in its typing forgets what the look showed.
 abbrev pub typed_over : Statement → Block → List Table → List Table → Around → Script
-typed_over statement block known tables around = unless_short_in block known around (judged (typed (known ++ tables) statement) block (known ++ tables) around)
+typed_over statement block known tables around =
+    unless_short_in block known around (judged (typed (known ++ tables) statement) block (known ++ tables) around)
 
+-- A statement looks at the tables: the session is shown those that it doesn't know.
 abbrev pub looks : Statement → Block → List Table → Around → Script
 looks statement block known around =
-    ask (calls.Look (length known)) (λ a. on_looked a (λ tables. typed_over statement block known tables around) (declined block known around))
+    ask (calls.Look (length known)) (λ a.
+    on_looked a (λ tables. typed_over statement block known tables around) (declined block known around))
 
 -- the statement is kept meanwhile, for which memory may be wanting
 abbrev pub prepares : Statement → Block → List Table → Around → Script
@@ -159,8 +172,10 @@ abbrev pub judged_at_once : Result Typed → Block → List Table → Around →
 judged_at_once (Ok t) block known around = at_once (course_of [] t) block known around
 judged_at_once (Err code) block known around = fails code block known around
 
+-- a SELECT, given its FROM
 abbrev pub selects : List TableRef → Statement → Block → List Table → Around → Script
-selects [] statement block known around = unless_short_in block known around (judged_at_once (typed [] statement) block known around)
+selects [] statement block known around =
+    unless_short_in block known around (judged_at_once (typed [] statement) block known around)
 selects (entry ∷ more) statement block known around = prepares statement block known around
 
 -- ---- SET, SHOW
@@ -169,13 +184,17 @@ selects (entry ∷ more) statement block known around = prepares statement block
 abbrev pub sets : List ℕ → Block → List Table → Around → Script
 sets name block known around = if is_own name then fails states.S0A000 block known around else succeeds set_reply block known around
 
+-- a setting that isn't there is 0A000
 abbrev pub shows_value : List ℕ → Option (List ℕ) → Block → List Table → Around → Script
 shows_value name None block known around = fails states.S0A000 block known around
 shows_value name (Some value) block known around = unless_short_in block known around (succeeds (show_reply name value) block known around)
 
+-- how many events the history has is asked of the book
 abbrev pub shows_history : Block → List Table → Around → Script
 shows_history block known around =
-    ask calls.Show (λ a. on_shown a (λ n. unless_short_in block known around (succeeds (show_reply history_name (decimal n)) block known around)) (declined block known around))
+    ask calls.Show (λ a.
+    on_shown a (λ n. unless_short_in block known around (succeeds (show_reply history_name (decimal n)) block known around))
+    (declined block known around))
 
 abbrev pub shows_at : Level → List ℕ → Block → List Table → Around → Script
 shows_at level name block known around =
@@ -207,6 +226,7 @@ in_failed tree.Commit known around = commits Failed known around
 in_failed tree.Rollback known around = rolls_back Failed known around
 in_failed _ known around = fails states.S25P02 Failed known around
 
+-- a statement, in the block in which it stands
 abbrev pub told_of : Statement → Block → List Table → Around → Script
 told_of statement (Implicit pending) known around = performs statement (Implicit pending) known around
 told_of statement Regular known around = performs statement Regular known around

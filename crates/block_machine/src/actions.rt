@@ -65,7 +65,8 @@ fn conclude_demand(
     built: &mut Vec<u8>,
 ) -> Result<Stage, Memory>
     requires { (outcome : CameTo) × (demand.now ≡ Demand.Reply outcome) × CanBeTold outcome }
-    ensures goes { (outcome : CameTo) → demand.now ≡ Demand.Reply outcome → IfOk result (λ stage. IsScriptOf (concludes outcome block) stage built.new.items) }
+    ensures goes { (outcome : CameTo) → demand.now ≡ Demand.Reply outcome →
+        IfOk result (λ stage. IsScriptOf (concludes outcome block) stage built.new.items) }
     ensures owed { IfOk result (λ stage. owed_at stage ≡ owed_in block) }
     ensures work { IfOk result (λ stage. work_at stage ≤ 3) }
     ensures quiet { IfOk result IsQuiet }
@@ -158,7 +159,8 @@ fn tell_setting(
 
 // The step of a SHOW of another setting than the history.
 fn show_value(alloc: Global, level: Level, name: &str, block: Block, built: &mut Vec<u8>) -> Step
-    ensures goes { (known : List Defined) → LeadsTo (shows_value name.now (value_of level name.now) block known) result.stage result.wanting built.new.items known }
+    ensures goes { (known : List Defined) →
+        LeadsTo (shows_value name.now (value_of level name.now) block known) result.stage result.wanting built.new.items known }
     ensures owed { owed_at result.stage ≡ owed_in block }
     ensures work { work_at result.stage ≤ 3 }
     ensures quiet { IsQuiet result.stage }
@@ -173,7 +175,8 @@ fn show_value(alloc: Global, level: Level, name: &str, block: Block, built: &mut
 
 // The step of a SHOW.
 fn show(alloc: Global, level: Level, name: &str, block: Block, built: &mut Vec<u8>) -> Step
-    ensures goes { (known : List Defined) → LeadsTo (shows_at level name.now block known) result.stage result.wanting built.new.items known }
+    ensures goes { (known : List Defined) →
+        LeadsTo (shows_at level name.now block known) result.stage result.wanting built.new.items known }
     ensures owed { owed_at result.stage ≡ owed_in block }
     ensures work { work_at result.stage ≤ 4 }
     ensures quiet { IsQuiet result.stage }
@@ -202,7 +205,8 @@ fn tell_history(alloc: Global, n: u32, block: Block, built: &mut Vec<u8>) -> Res
 
 /// The step of SHOW monkey.history behind its number.
 pub fn show_history(alloc: Global, n: u32, block: Block, built: &mut Vec<u8>) -> Step
-    ensures goes { (known : List Defined) → Advances (Stage.Showing block) known (Answer.Shown n) result.stage result.wanting built.new.items known }
+    ensures goes { (known : List Defined) →
+        Advances (Stage.Showing block) known (Answer.Shown n) result.stage result.wanting built.new.items known }
     ensures owed { owed_at result.stage ≡ owed_in block }
     ensures work { work_at result.stage ≤ 3 }
     ensures quiet { IsQuiet result.stage }
@@ -316,7 +320,8 @@ pub fn next_statement(
     built: &mut Vec<u8>,
 ) -> Step
     requires { All IsSoundStatement (into_iter_items rest.old) }
-    ensures goes { TurnsTo level (statements (into_iter_items rest.old) block) result.stage result.wanting built.new.items (into_iter_items rest.new) }
+    ensures goes { TurnsTo level (statements (into_iter_items rest.old) block)
+        result.stage result.wanting built.new.items (into_iter_items rest.new) }
     ensures rest { All IsSoundStatement (into_iter_items rest.new) }
     ensures owed { owed_at result.stage ≡ owed_in block }
     ensures work { work_at result.stage + 8 * length (into_iter_items rest.new) < 3 + 8 * length (into_iter_items rest.old) }

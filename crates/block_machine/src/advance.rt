@@ -30,7 +30,7 @@ fn failed(pending: Pending) -> ErrorState
     }
 }
 
-// The stage in which a statement that succeeded is told so.
+// The stage in which a statement that succeeded is told this reply.
 fn tell(reply: Fixed, block: Block) -> Stage
     ensures { result ≡ Stage.Telling (Reply.Fixed reply) block }
 {
@@ -42,7 +42,8 @@ pub fn advance(stage: &Stage, answer: &Answer) -> Stage
     requires fits { FitsWant (wants stage.now []) answer.now }
     requires plain { IsPlain stage.now answer.now }
     ensures goes { (built : List ℕ) (known : List Defined) → Advances stage.now known answer.now result false built known }
-    ensures owed { (c : Asked) (known : List Defined) → wants stage.now known ≡ calls.Book c → owed_at result ≡ owed_after c answer.now (owed_at stage.now) }
+    ensures owed { (c : Asked) (known : List Defined) → wants stage.now known ≡ calls.Book c →
+        owed_at result ≡ owed_after c answer.now (owed_at stage.now) }
     ensures work { work_at result < work_at stage.now }
     ensures quiet { IsQuiet result }
     ensures busy { IsBusy result }

@@ -40,7 +40,7 @@ pub fn block_of(pending: Pending) -> Block
     }
 }
 
-/// The reply of BEGIN, or of START TRANSACTION where the flag is true.
+/// The reply to BEGIN, or to START TRANSACTION where the flag is true.
 pub fn started(start: bool) -> Fixed
     ensures { fixed_reply result ≡ start_reply start }
 {
@@ -58,14 +58,14 @@ fn started_again(start: bool) -> Fixed
     }
 }
 
-// The stage in which a statement that succeeded is told so.
+// The stage in which a statement that succeeded is told this reply.
 fn tell(reply: Fixed, block: Block) -> Stage
     ensures { result ≡ Stage.Telling (Reply.Fixed reply) block }
 {
     Stage::Telling(Reply::Fixed(reply), block)
 }
 
-/// BEGIN, or START TRANSACTION where the flag is true.
+/// The stage of BEGIN, or of START TRANSACTION where the flag is true.
 pub fn start(start: bool, block: Block) -> Stage
     ensures goes { (built : List ℕ) → IsScriptOf (starts start block) result built }
     ensures owed { owed_at result ≡ owed_in block }
@@ -82,7 +82,7 @@ pub fn start(start: bool, block: Block) -> Stage
     }
 }
 
-/// COMMIT.
+/// The stage of COMMIT.
 pub fn commit(block: Block) -> Stage
     ensures goes { (built : List ℕ) → IsScriptOf (commits block) result built }
     ensures owed { owed_at result ≡ owed_in block }
@@ -99,7 +99,7 @@ pub fn commit(block: Block) -> Stage
     }
 }
 
-/// ROLLBACK.
+/// The stage of ROLLBACK.
 pub fn roll_back(block: Block) -> Stage
     ensures goes { (built : List ℕ) → IsScriptOf (rolls_back block) result built }
     ensures owed { owed_at result ≡ owed_in block }
@@ -116,7 +116,7 @@ pub fn roll_back(block: Block) -> Stage
     }
 }
 
-/// A statement of a failed block.
+/// The stage of a statement of a failed block.
 pub fn refuse(statement: &Statement) -> Stage
     ensures goes { (built : List ℕ) → IsScriptOf (in_failed statement.now) result built }
     ensures owed { owed_at result ≡ owed_in Block.Failed }
@@ -132,7 +132,7 @@ pub fn refuse(statement: &Statement) -> Stage
     }
 }
 
-/// The end of a message.
+/// The stage of the end of a message.
 pub fn finish(block: Block) -> Stage
     ensures goes { (built : List ℕ) (known : List Defined) (more : List Tree) (outside : Outside) (said : Said) (es : List Entry) →
         ends block known outside said es ≡ goes_on result built known more outside said es }

@@ -124,11 +124,13 @@ fn go_on(
 ) -> Result<Stage, Memory>
     requires fits { FitsDemand (rest_of plan) answer }
     requires told { EndsIn CanBeTold (rest_of plan) }
-    ensures goes { IfOk result (λ stage. IsScriptOf (runs (behind (rest_of plan) answer) (stages_spec.block_of pending)) stage built.new.items) }
+    ensures goes { IfOk result (λ stage.
+        IsScriptOf (runs (behind (rest_of plan) answer) (stages_spec.block_of pending)) stage built.new.items) }
     ensures owed { IfOk result (λ stage. owed_at stage ≡ Owed.Rollback) }
     ensures work { IfOk result (λ stage. work_at stage ≤ 4 + running_at stage) }
     ensures left { IfOk result (λ stage. left_at stage ≤ left_of plan) }
-    ensures knows { IfOk result (λ stage. (known : List Defined) → ReadsFirst (length known) (behind (rest_of plan) answer) → KnowsTables stage known) }
+    ensures knows { IfOk result (λ stage. (known : List Defined) →
+        ReadsFirst (length known) (behind (rest_of plan) answer) → KnowsTables stage known) }
     ensures sound { IfOk result IsSoundStage }
     ensures busy { IfOk result IsBusy }
     ensures some { IfOk result (λ stage. HasReply stage built.new.items) }
@@ -165,7 +167,8 @@ pub fn pursue(
 ) -> Step
     requires fits { Fits (call_for (first_demand (rest_of run.plan))) answer }
     requires told { EndsIn CanBeTold (rest_of run.plan) }
-    ensures goes { (known : List Defined) → Advances (Stage.Running run pending) known answer result.stage result.wanting built.new.items known }
+    ensures goes { (known : List Defined) →
+        Advances (Stage.Running run pending) known answer result.stage result.wanting built.new.items known }
     ensures owed { owed_at result.stage ≡ Owed.Rollback }
     ensures work { work_at result.stage ≤ 4 + running_at result.stage }
     ensures left { left_at result.stage < 1 + left_of run.plan }
@@ -225,7 +228,8 @@ fn judge(
     requires few { length known.now < 2 ^ 32 }
     requires tables { All IsSound known.now }
     requires plain { HasPlainNames statement.now }
-    ensures goes { IfOk result (λ stage. IsScriptAt (judged (typed known.now statement.now) block known.now) stage built.new.items known.now) }
+    ensures goes { IfOk result (λ stage.
+        IsScriptAt (judged (typed known.now statement.now) block known.now) stage built.new.items known.now) }
     ensures owed { IfOk result (λ stage. owed_at stage ≡ owed_in block) }
     ensures work { IfOk result (λ stage. work_at stage ≤ 6) }
     ensures knows { IfOk result (λ stage. KnowsTables stage known.now) }
@@ -243,7 +247,7 @@ fn judge(
     }
 }
 
-/// The step of a statement that was shown the tables which it didn't know. Where memory is wanting they are forgotten.
+/// The step of a statement whose session was shown the tables that it didn't know. Where memory is wanting they are forgotten.
 pub fn look(
     alloc: Global,
     statement: &Statement,
@@ -256,7 +260,8 @@ pub fn look(
     requires sound { All IsSound known.old.items }
     requires more { All IsSound tables }
     requires plain { HasPlainNames statement.now }
-    ensures goes { Advances (Stage.Looking statement.now block) known.old.items (Answer.Looked tables) result.stage result.wanting built.new.items known.new.items }
+    ensures goes { Advances (Stage.Looking statement.now block) known.old.items (Answer.Looked tables)
+        result.stage result.wanting built.new.items known.new.items }
     ensures known { IsKnownAfter known.old.items (Answer.Looked tables) known.new.items }
     ensures few { length known.new.items < 2 ^ 32 }
     ensures tables { All IsSound known.new.items }

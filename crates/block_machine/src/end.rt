@@ -11,7 +11,7 @@ pub enum End {
     Closed,
     /// The input ended inside a message.
     Cut,
-    /// The bytes are no messages; FATAL 08P01 was sent.
+    /// The bytes are no messages; a fatal ErrorResponse with 08P01 was sent.
     Protocol(FrameFault),
     /// The client asked that another session's query be cancelled; nothing was sent.
     Cancelled,
@@ -21,9 +21,9 @@ pub enum End {
     WriteFault,
     /// Want of memory.
     Memory,
-    /// The session was not started; FATAL with this code was sent.
+    /// The session was not started; a fatal ErrorResponse with this code was sent.
     Refused(SqlState),
-    /// 1,073,741,824 bytes were read and more were wanted; FATAL 54000 was sent.
+    /// 1,073,741,824 bytes were read and more were wanted; a fatal ErrorResponse with 54000 was sent.
     Spent,
 }
 

@@ -1,4 +1,4 @@
-// The replies of statements that fail, one for each code.
+// The ErrorResponse of each code, for statements that fail.
 ghost use Rattle.std.specs.Prelude.{◌≡◌};
 ghost use Rattle.block_machine.specs.Replies.{error_reply};
 ghost use Rattle.cell_base.specs.declared.sql_state.SqlState.TheVariants as states;
@@ -7,7 +7,7 @@ use crate::replies::error;
 use cell_base::{Memory, SqlState};
 use std::alloc::Global;
 
-/// The replies of statements that fail, one for each code.
+/// The ErrorResponse of each code, of severity ERROR.
 #[derive(Debug, Drop)]
 pub struct Errors {
     s08p01: Vec<u8>,
@@ -97,7 +97,7 @@ impl Errors {
         })
     }
 
-    /// The bytes of the reply with this code.
+    /// The bytes of the ErrorResponse with this code.
     pub fn bytes(&self, state: SqlState) -> &[u8]
         ensures { result.now ≡ error_reply state }
     {

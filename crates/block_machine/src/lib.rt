@@ -1,8 +1,9 @@
 //! The statements of a session's query messages: one after another, in implicit, regular and failed blocks.
 //!
-//! A [`Runner`] takes a message (its statements, or the code with which it can't be read), asks for the calls of its statements, takes their
-//! answers, and hands out replies until the message is done. What a message asks for and is told stands in `specs/Statements` and
-//! `specs/Messages`, as scripts over what became of it; each step of the runner is one step of a script, whatever follows the message.
+//! A [`Runner`] takes a message (its statements, or the code with which it can't be read), asks for the calls of its statements,
+//! takes their answers, and hands out replies until the message is done. What a message asks for and is told stands in
+//! `specs/Statements` and `specs/Messages`, as scripts over what became of it; each step of the runner is one step of a script,
+//! whatever follows the message.
 #![tactic(auto)]
 
 mod actions;

@@ -21,7 +21,7 @@ pub struct Prepared {
     errors: Errors,
 }
 
-// That the next message may come, by the state of the session.
+// ReadyForQuery, by the state of the session.
 #[derive(Debug, Drop)]
 struct States {
     idle: Vec<u8>,
@@ -32,7 +32,7 @@ struct States {
     ghost failed_is: { failed.items ≡ ready_reply ready_states.Failed },
 }
 
-// The replies that no block has a part in.
+// EmptyQueryResponse, and the CommandComplete of CREATE TABLE and of SET.
 #[derive(Debug, Drop)]
 struct Plain {
     empty: Vec<u8>,
@@ -43,7 +43,7 @@ struct Plain {
     ghost set_is: { set.items ≡ set_reply },
 }
 
-// The replies of the statements that begin a block.
+// The replies to the statements that begin a block.
 #[derive(Debug, Drop)]
 struct Starts {
     begun: Vec<u8>,
@@ -56,7 +56,7 @@ struct Starts {
     ghost started_again_is: { started_again.items ≡ needless_start_reply true },
 }
 
-// The replies of the statements that end a block.
+// The replies to the statements that end a block.
 #[derive(Debug, Drop)]
 struct Stops {
     committed: Vec<u8>,
@@ -142,7 +142,7 @@ impl Prepared {
         }
     }
 
-    /// The bytes of the reply of a statement that succeeded, given those that were built.
+    /// The bytes of the reply to a statement that succeeded, given those that were built.
     pub fn bytes<'a>(&'a self, built: &'a [u8], reply: Reply) -> &'a [u8]
         ensures { result.now ≡ bytes_of built.now reply }
     {
@@ -152,14 +152,14 @@ impl Prepared {
         }
     }
 
-    /// The bytes of the error with this code.
+    /// The bytes of the ErrorResponse with this code.
     pub fn error(&self, state: SqlState) -> &[u8]
         ensures { result.now ≡ error_reply state }
     {
         self.errors.bytes(state)
     }
 
-    /// The bytes that say that the next message may come.
+    /// The bytes of ReadyForQuery in this state.
     pub fn ready(&self, state: TransactionState) -> &[u8]
         ensures { result.now ≡ ready_reply state }
     {

@@ -35,8 +35,8 @@ fn read_text(alloc: Global, text: &Text) -> Result<Message, Memory>
     }
 }
 
-/// What the bytes of a query message ask for, fewer than 4,294,967,296. Bytes that aren't UTF-8 are 22021, and a text that isn't read has the
-/// code of its fault.
+/// What the bytes of a query message ask for, fewer than 4,294,967,296. Bytes that aren't UTF-8 are 22021, and a text that isn't read
+/// has the code of its fault.
 pub fn read_message(alloc: Global, text: &[u8]) -> Result<Message, Memory>
     requires { length text.now < 2 ^ 32 }
     ensures message { IfOk result (IsMessage text.now) }

@@ -12,7 +12,7 @@ use pg_framing::{
 use sql_tree::OutField;
 use std::alloc::Global;
 
-/// That the next message may come.
+/// ReadyForQuery, by the state of the session.
 #[tactic(auto, unfolding(crate::specs::Replies::ready_reply))]
 pub fn ready(alloc: Global, state: TransactionState) -> Result<Vec<u8>, Memory>
     ensures { IfOk result (λ reply. reply.items ≡ ready_reply state) }
@@ -22,7 +22,7 @@ pub fn ready(alloc: Global, state: TransactionState) -> Result<Vec<u8>, Memory>
     Ok(reply)
 }
 
-/// The error of a statement.
+/// ErrorResponse with this code, of severity ERROR.
 #[tactic(auto, unfolding(crate::specs::Replies::error_reply))]
 pub fn error(alloc: Global, state: SqlState) -> Result<Vec<u8>, Memory>
     ensures { IfOk result (λ reply. reply.items ≡ error_reply state) }
@@ -32,7 +32,7 @@ pub fn error(alloc: Global, state: SqlState) -> Result<Vec<u8>, Memory>
     Ok(reply)
 }
 
-/// The reply of a message without a statement.
+/// EmptyQueryResponse.
 #[tactic(auto, unfolding(crate::specs::Replies::empty_reply))]
 pub fn empty(alloc: Global) -> Result<Vec<u8>, Memory>
     ensures { IfOk result (λ reply. reply.items ≡ empty_reply) }
@@ -42,7 +42,7 @@ pub fn empty(alloc: Global) -> Result<Vec<u8>, Memory>
     Ok(reply)
 }
 
-/// The tag of a statement.
+/// CommandComplete with this tag.
 #[tactic(auto, unfolding(crate::specs::Replies::done_reply))]
 pub fn done(alloc: Global, tag: &[u8]) -> Result<Vec<u8>, Memory>
     requires no_zero { HasNoZero tag.now }
@@ -54,7 +54,7 @@ pub fn done(alloc: Global, tag: &[u8]) -> Result<Vec<u8>, Memory>
     Ok(reply)
 }
 
-/// The tag of a statement that wasn't needed, behind a notice.
+/// The reply to a statement that wasn't needed: NoticeResponse with this code, and CommandComplete with this tag.
 #[tactic(auto, unfolding(crate::specs::Replies::warned_reply))]
 pub fn warned(alloc: Global, state: SqlState, tag: &[u8]) -> Result<Vec<u8>, Memory>
     requires no_zero { HasNoZero tag.now }
@@ -77,7 +77,7 @@ fn text_of(alloc: Global, text: &str) -> Result<Text, Memory>
     }
 }
 
-// The one column of a SHOW.
+// The one column of a SHOW, of type text.
 fn column(alloc: Global, name: &str) -> Result<OutField, Memory>
     ensures { IfOk result (λ field. field ≡ record { name = name.now; kind = SqlType.Text }) }
 {
@@ -87,7 +87,7 @@ fn column(alloc: Global, name: &str) -> Result<OutField, Memory>
     })
 }
 
-/// The value of a setting under the name that was asked for.
+/// The reply to a SHOW: RowDescription with the name that was asked for, DataRow with the value, and CommandComplete.
 #[tactic(auto, unfolding(crate::specs::Replies::show_reply))]
 pub fn shown(alloc: Global, name: &str, value: &str) -> Result<Vec<u8>, Memory>
     requires name { IsShown name.now }

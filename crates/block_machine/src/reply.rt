@@ -1,6 +1,7 @@
-// The replies of statements that succeed.
+// The replies to statements that succeed.
 
-/// A reply that is known beforehand: the tag of a statement, behind a notice where it wasn't needed.
+/// A reply that is known beforehand: CommandComplete with the tag of a statement, behind a NoticeResponse where the statement wasn't
+/// needed, or EmptyQueryResponse.
 #[derive(Clone, Copy, Debug, PartialEq, Eq)]
 pub enum Fixed {
     /// A message without a statement.
@@ -17,20 +18,21 @@ pub enum Fixed {
     BegunAgain,
     /// START TRANSACTION inside a block.
     StartedAgain,
-    /// COMMIT.
+    /// COMMIT of a block.
     Committed,
     /// COMMIT outside a block.
     CommittedNothing,
-    /// ROLLBACK, and COMMIT of a failed block.
+    /// ROLLBACK of a block, and COMMIT of a failed one.
     RolledBack,
     /// ROLLBACK outside a block.
     RolledBackNothing,
 }
 
-/// The reply of a statement that succeeded, or of a message without a statement.
+/// The reply to a statement that succeeded, or to a message without a statement.
 #[derive(Clone, Copy, Debug, PartialEq, Eq)]
 pub enum Reply {
     /// The reply that was built.
     Built,
+    /// One that is known beforehand.
     Fixed(Fixed),
 }

@@ -1,5 +1,5 @@
-// The statements of a session's messages as a machine: answers come in, calls and replies go out. It keeps the tables that the session was
-// shown, and what its running statement needs.
+// The statements of a session's messages as a machine: answers come in, calls and replies go out. It keeps the tables that the
+// session was shown, and what its running statement needs.
 ghost use Rattle.std.specs.Prelude.{◌≡◌, ℕ, ◌+◌, ◌*◌, ◌<◌, ◌≤◌, ◌^◌, List, [], ◌∷◌, length, All, true, IfOk, IfSome, IsNone};
 ghost use Rattle.sql_tree.specs.declared.table.Table.{Table as Defined};
 ghost use Rattle.sound_table.specs.Sound.{IsSound};
@@ -103,7 +103,8 @@ impl Runner {
         ensures running { result ≡ Want.Cells → IsRunning self.now.stage }
         ensures calm { (result ≡ Want.Cells → ⊥) → running_at self.now.stage ≡ 0 }
         // The call that is wanted is the one that the script asks.
-        ensures asks { (c : Asked) (outside : Outside) (said : Said) → wanted self.now ≡ calls.Book c → follows self.now outside said [] ≡ (said, asking c) }
+        ensures asks { (c : Asked) (outside : Outside) (said : Said) → wanted self.now ≡ calls.Book c →
+            follows self.now outside said [] ≡ (said, asking c) }
     {
         want_of(&self.stage, self.known.len() as u32)
     }
@@ -139,7 +140,8 @@ impl Runner {
         ensures held { result.now ≡ held self.now }
         // The reply is what the script tells next.
         ensures tells { (outside : Outside) (said : Said) (es : List Entry) → follows self.now outside said es ≡
-            tell (held self.now) (outside.broken (owed_at self.now.stage)) (after_reply self.now.stage self.now.known.items (statements_of self.now) outside) said es }
+            tell (held self.now) (outside.broken (owed_at self.now.stage))
+            (after_reply self.now.stage self.now.known.items (statements_of self.now) outside) said es }
     {
         match &self.stage {
             Stage::Telling(reply, _) => self.prepared.bytes(self.built.as_slice(), *reply),
@@ -153,7 +155,8 @@ impl Runner {
     pub fn begin(&mut self, message: Message) -> bool
         requires over { (state : TransactionState) × (self.old.stage ≡ Stage.Over state) }
         requires sound { IsSoundMessage message }
-        ensures goes { (state : TransactionState) (outside : Outside) (said : Said) (es : List Entry) → self.old.stage ≡ Stage.Over state → outside.level ≡ self.old.level → IsFrom 1 (length said.bytes) es →
+        ensures goes { (state : TransactionState) (outside : Outside) (said : Said) (es : List Entry) →
+            self.old.stage ≡ Stage.Over state → outside.level ≡ self.old.level → IsFrom 1 (length said.bytes) es →
             told message state self.old.known.items outside said (with_short result said.bytes es) ≡ follows self.new outside said es }
         ensures level { self.new.level ≡ self.old.level }
         ensures known { self.new.known.items ≡ self.old.known.items }
@@ -184,12 +187,15 @@ impl Runner {
         requires fits { FitsWant (wanted self.old) answer }
         requires tables { All IsSound self.old.known.items }
         requires sound { IsSoundStage self.old.stage }
-        ensures goes { (c : Asked) (outside : Outside) (said : Said) (es : List Entry) (e : Event) → wanted self.old ≡ calls.Book c → IsFrom 1 (length said.bytes) es →
-            follows self.old outside said (entry_for answer e ∷ with_short result said.bytes es) ≡ follows self.new outside (with_call said c) es }
+        ensures goes { (c : Asked) (outside : Outside) (said : Said) (es : List Entry) (e : Event) →
+            wanted self.old ≡ calls.Book c → IsFrom 1 (length said.bytes) es →
+            follows self.old outside said (entry_for answer e ∷ with_short result said.bytes es)
+            ≡ follows self.new outside (with_call said c) es }
         ensures level { self.new.level ≡ self.old.level }
         ensures known { IsKnownAfter self.old.known.items answer self.new.known.items }
         ensures rest { statements_of self.new ≡ statements_of self.old }
-        ensures owed { (c : Asked) → wanted self.old ≡ calls.Book c → owed_at self.new.stage ≡ owed_after c answer (owed_at self.old.stage) }
+        ensures owed { (c : Asked) → wanted self.old ≡ calls.Book c →
+            owed_at self.new.stage ≡ owed_after c answer (owed_at self.old.stage) }
         ensures work { work_of self.new < work_of self.old + running_at self.new.stage }
         ensures left { IsRunning self.old.stage → left_at self.new.stage < left_at self.old.stage }
         ensures knows { KnowsTables self.old.stage self.old.known.items → KnowsTables self.new.stage self.new.known.items }
@@ -208,8 +214,10 @@ impl Runner {
     pub fn sent(&mut self) -> bool
         requires holding { IsHolding self.old.stage }
         requires rest { All IsSoundStatement (statements_of self.old) }
-        ensures goes { (outside : Outside) (said : Said) (es : List Entry) → outside.level ≡ self.old.level → IsFrom (least self.new.stage) (length said.bytes) es →
-            after_reply self.old.stage self.old.known.items (statements_of self.old) outside said (with_short result said.bytes es) ≡ follows self.new outside said es }
+        ensures goes { (outside : Outside) (said : Said) (es : List Entry) →
+            outside.level ≡ self.old.level → IsFrom (least self.new.stage) (length said.bytes) es →
+            after_reply self.old.stage self.old.known.items (statements_of self.old) outside said (with_short result said.bytes es)
+            ≡ follows self.new outside said es }
         ensures level { self.new.level ≡ self.old.level }
         ensures known { self.new.known.items ≡ self.old.known.items }
         ensures rest { All IsSoundStatement (statements_of self.new) }
@@ -241,7 +249,8 @@ impl Runner {
 
     /// Begins with a message that fails before its first statement, with this code.
     pub fn refuse(&mut self, code: SqlState, state: TransactionState)
-        ensures goes { (outside : Outside) (said : Said) (es : List Entry) → told (Message.Unread code) state self.old.known.items outside said es ≡ follows self.new outside said es }
+        ensures goes { (outside : Outside) (said : Said) (es : List Entry) →
+            told (Message.Unread code) state self.old.known.items outside said es ≡ follows self.new outside said es }
         ensures level { self.new.level ≡ self.old.level }
         ensures known { self.new.known.items ≡ self.old.known.items }
         ensures rest { All IsSoundStatement (statements_of self.new) }

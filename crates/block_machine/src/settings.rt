@@ -41,7 +41,7 @@ fn switch_value(name: &str) -> Option<&'static str>
     }
 }
 
-// The value of a setting that a session is told at its start.
+// The value of a setting that a session is told at its start by ParameterStatus.
 fn parameter_value(name: &str) -> Option<&'static str>
     ensures some { IfSome result (λ value. parameter_value name.now ≡ Some value.now) }
     ensures none { IsNone result → parameter_value name.now ≡ None }

@@ -43,18 +43,18 @@ pub enum Stage {
     Starting(bool),
     /// SHOW monkey.history asks for its number.
     Showing(Block),
-    /// COMMIT commits, and is then told so.
+    /// COMMIT commits, and is then told this reply.
     Committing(Fixed),
-    /// ROLLBACK rolls back, and is then told so.
+    /// ROLLBACK rolls back, and is then told this reply.
     RollingBack(Fixed),
-    /// A statement's reply is held, behind which the next one follows in this block.
+    /// The reply to a statement is held, behind which the next statement follows in this block.
     Telling(Reply, Block),
     /// The rollback of a statement that failed with this code.
     Undoing(SqlState, Pending),
-    /// The error of a statement is held; the state that its block is in.
+    /// The ErrorResponse of a statement that failed with this code is held; the state in which it leaves its session.
     Failing(SqlState, ErrorState),
     /// The end of the message commits its own transaction.
     Finishing,
-    /// The message's last reply is held: the next one may come.
+    /// The ReadyForQuery that ends the message is held.
     Readying(TransactionState),
 }

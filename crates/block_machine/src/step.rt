@@ -61,10 +61,12 @@ pub fn short(block: Block) -> Step
 
 /// The step to a stage, or that of a statement for which memory was wanting.
 pub fn or_short(stage: Result<Stage, Memory>, block: Block) -> Step
-    ensures goes { (script : Around → Script) (built : List ℕ) (known : List Defined) → IfOk stage (λ it. IsScriptAt script it built known) →
+    ensures goes { (script : Around → Script) (built : List ℕ) (known : List Defined) →
+        IfOk stage (λ it. IsScriptAt script it built known) →
         LeadsTo (λ around. unless_short_in block known around (script around)) result.stage result.wanting built known }
     ensures owed { IfOk stage (λ it. owed_at it ≡ owed_in block) → owed_at result.stage ≡ owed_in block }
-    ensures work { (n : ℕ) → 3 ≤ n → IfOk stage (λ it. work_at it ≤ n + running_at it) → work_at result.stage ≤ n + running_at result.stage }
+    ensures work { (n : ℕ) → 3 ≤ n → IfOk stage (λ it. work_at it ≤ n + running_at it) →
+        work_at result.stage ≤ n + running_at result.stage }
     ensures left { (n : ℕ) → IfOk stage (λ it. left_at it ≤ n) → left_at result.stage ≤ n }
     ensures silent { IfOk stage (λ it. IsRunning it → ⊥) → IsRunning result.stage → ⊥ }
     ensures quiet { IfOk stage IsQuiet → IsQuiet result.stage }

@@ -55,7 +55,8 @@ fn open(
     built: &mut Vec<u8>,
 ) -> Step
     requires { All IsSoundStatement (into_iter_items rest.old) }
-    ensures goes { TurnsTo level (opens (into_iter_items rest.old) block) result.stage result.wanting built.new.items (into_iter_items rest.new) }
+    ensures goes { TurnsTo level (opens (into_iter_items rest.old) block)
+        result.stage result.wanting built.new.items (into_iter_items rest.new) }
     ensures rest { All IsSoundStatement (into_iter_items rest.new) }
     ensures owed { owed_at result.stage ≡ owed_in block }
     ensures work { work_at result.stage + 8 * length (into_iter_items rest.new) ≤ 3 + 8 * length (into_iter_items rest.old) }
@@ -81,7 +82,8 @@ pub fn begin_message(
     built: &mut Vec<u8>,
 ) -> Step
     requires { IsSoundMessage message }
-    ensures goes { (state : TransactionState) → block ≡ block_before state → TurnsTo level (told message state) result.stage result.wanting built.new.items (into_iter_items rest.new) }
+    ensures goes { (state : TransactionState) → block ≡ block_before state →
+        TurnsTo level (told message state) result.stage result.wanting built.new.items (into_iter_items rest.new) }
     ensures rest { All IsSoundStatement (into_iter_items rest.new) }
     ensures owed { owed_at result.stage ≡ owed_in block }
     ensures work { work_at result.stage + 8 * length (into_iter_items rest.new) ≤ 8 + 8 * length_of message }
@@ -120,7 +122,8 @@ fn answered_plain(
     ensures known { IsKnownAfter known.old.items answer known.new.items }
     ensures few { length known.new.items < 2 ^ 32 }
     ensures tables { All IsSound known.new.items }
-    ensures owed { (c : Asked) → wants stage.now known.old.items ≡ calls.Book c → owed_at result.stage ≡ owed_after c answer (owed_at stage.now) }
+    ensures owed { (c : Asked) → wants stage.now known.old.items ≡ calls.Book c →
+        owed_at result.stage ≡ owed_after c answer (owed_at stage.now) }
     ensures work { work_at result.stage < work_at stage.now }
     ensures knows { KnowsTables result.stage known.new.items }
     ensures sound { IsSoundStage result.stage }
@@ -152,7 +155,8 @@ pub fn answered(
     ensures known { IsKnownAfter known.old.items answer known.new.items }
     ensures few { length known.new.items < 2 ^ 32 }
     ensures tables { All IsSound known.new.items }
-    ensures owed { (c : Asked) → wants stage known.old.items ≡ calls.Book c → owed_at result.stage ≡ owed_after c answer (owed_at stage) }
+    ensures owed { (c : Asked) → wants stage known.old.items ≡ calls.Book c →
+        owed_at result.stage ≡ owed_after c answer (owed_at stage) }
     ensures work { work_at result.stage < work_at stage + running_at result.stage }
     ensures left { IsRunning stage → left_at result.stage < left_at stage }
     ensures knows { KnowsTables stage known.old.items → KnowsTables result.stage known.new.items }
@@ -188,10 +192,12 @@ pub fn next_step(
 ) -> Step
     requires holding { IsHolding stage.now }
     requires rest { All IsSoundStatement (into_iter_items rest.old) }
-    ensures goes { TurnsTo level (λ known. after_reply stage.now known (into_iter_items rest.old)) result.stage result.wanting built.new.items (into_iter_items rest.new) }
+    ensures goes { TurnsTo level (λ known. after_reply stage.now known (into_iter_items rest.old))
+        result.stage result.wanting built.new.items (into_iter_items rest.new) }
     ensures rest { All IsSoundStatement (into_iter_items rest.new) }
     ensures owed { owed_at result.stage ≡ owed_at stage.now }
-    ensures work { work_at result.stage + 8 * length (into_iter_items rest.new) < work_at stage.now + 8 * length (into_iter_items rest.old) }
+    ensures work { work_at result.stage + 8 * length (into_iter_items rest.new)
+        < work_at stage.now + 8 * length (into_iter_items rest.old) }
     ensures knows { (known : List Defined) → KnowsTables result.stage known }
     ensures silent { IsRunning result.stage → ⊥ }
     ensures sound { IsSoundStage result.stage }
