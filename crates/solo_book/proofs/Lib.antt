@@ -6,6 +6,7 @@ pub mod Legality
 pub mod Desks
 pub mod Books
 pub mod Indexes
+pub mod SourceSets
 pub mod Picks
 pub mod Cells
 pub mod KeyLists

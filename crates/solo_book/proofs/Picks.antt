@@ -1,11 +1,11 @@
 -- What the word picks where one session was opened.
-use Rattle.std.proofs.Common.{◌≡◌, ℕ, ◌+◌, ◌-◌, ◌%◌, ◌<◌, ◌≤◌, List, ◌∷◌, Some, Ok, Err, zero, suc, length, get_or, drop, take, arith, refl, ap, sym, ◌∙◌, subst, inl, inr}
+use Rattle.std.proofs.Common.{◌≡◌, ℕ, ◌+◌, ◌-◌, ◌%◌, ◌<◌, ◌≤◌, ◌↔◌, List, [], ◌∷◌, ◌++◌, Some, Ok, Err, zero, suc, length, get_or, drop, take, arith, refl, ap, sym, ◌∙◌, subst, inl, inr}
 use Rattle.std.specs.List.{Contains, slice_get}
 use Rattle.std.specs.List.Sorted.{IsStrictlyIncreasing, IsBinarySearchResult}
 use Rattle.std.specs.Ordering.{nat_cmp}
 use Rattle.std.proofs.lemmas.List.Sorted.{searched}
-use Rattle.std.proofs.lemmas.List.{get_or-drop, get_or_default, length-drop, take_all}
-use Rattle.std.proofs.lemmas.List.Elements.{Contains-get_or}
+use Rattle.std.proofs.lemmas.List.{get_or-drop, get_or_default, length-drop, take_all, append_assoc, append-nil}
+use Rattle.std.proofs.lemmas.List.Elements.{Contains-get_or, Contains-append_left, Contains-push, Contains-push_cases}
 use Rattle.std.proofs.lemmas.Option.{slice_get-get_or, slice_get_within, get_or_from_slice_get}
 use Rattle.std.proofs.lemmas.Bool.{cases_lt}
 use Rattle.cell_base.specs.declared.level.Level.{Level}
@@ -13,22 +13,16 @@ use Rattle.cell_base.specs.declared.level.Level.TheVariants.{Rc}
 use Rattle.history_core.specs.Chronicle.{Chronicle}
 use Rattle.cell_base.specs.declared.cell.Cell.{Cell}
 use Rattle.history_core.specs.declared.event.Event.{Event}
-use Rattle.history_core.specs.declared.txn.Seen.{Seen}
-use Rattle.history_core.specs.declared.txn.Seen.TheVariants.{Read as SeenRead, Scan as SeenScan}
-use Rattle.history_core.specs.declared.txn.Txn.{Txn}
-use Rattle.history_core.specs.Events.{opened}
+use Rattle.history_core.specs.Events.{begun, opened}
 use Rattle.history_core.specs.Transactions.{IsPending}
-use Rattle.history_core.specs.Relations.{Writes}
-use Rattle.history_core.specs.Records.{IsRecordOf}
+use Rattle.history_core.specs.Relations.{Writes, ReadsFrom}
 use Rattle.history_core.specs.Legal.{IsLegal, IsOffer}
 use Rattle.history_core.proofs.Prefixes.{Contains-from_slice_get}
-use Rattle.solo_book.specs.Passed.{IsPassed, ArePassed, RaisesTo, RaisesBy, left_of, IsPick}
+use Rattle.solo_book.specs.Passed.{IsPassed, AreSources, ArePassed, RaisesTo, left_of, IsPick}
 use Rattle.solo_book.specs.Desk.{IsChosen}
 use Rattle.solo_book.proofs.Legality.{picked_writes}
-use Rattle.solo_book.specs.Tests.{IsReadFrom}
 use Rattle.solo_book.specs.Index.{AreWriters}
 use Rattle.solo_book.specs.declared.desk.Choice.{Choice}
-use Rattle.solo_book.proofs.Bridge.{reads_from_record, record_reads_from, Any-from_contains}
 use Rattle.solo_book.proofs.OneSession.{permitted_unpassed, unpassed_permitted}
 use Rattle.solo_book.proofs.Indexes.{increasing_less, increasing_same}
 
@@ -73,10 +67,10 @@ left_rises xs n rises k within =
 
 -- what is left are the writers that no later writer has passed
 pub left_is_offer :
-    (events : List Event) (s k : ℕ) (x : Cell) (writers : List ℕ) (txn : Txn) (count : ℕ) → IsLegal Rc events → opened events ≤ 1 →
-    IsPending events k s → IsRecordOf events k txn → AreWriters events x writers → ArePassed txn.seen (length txn.seen) writers count →
-    IsOffer Rc events s x (left_of writers count)
-left_is_offer events s k x writers txn count legal one pending record_is are passed =
+    (events : List Event) (s k : ℕ) (x : Cell) (writers sources : List ℕ) (count : ℕ) → IsLegal Rc events → opened events ≤ 1 →
+    IsPending events k s → ((w : ℕ) → 0 < w → Contains sources w ↔ ReadsFrom events w k) → AreWriters events x writers →
+    ArePassed sources writers count → IsOffer Rc events s x (left_of writers count)
+left_is_offer events s k x writers sources count legal one pending hold are passed =
     let rises : IsStrictlyIncreasing (0 ∷ writers) = full_rises events x writers are in
     let short : length (left_of writers count) ≡ length (0 ∷ writers) - count = length-drop count (0 ∷ writers) in
     record {
@@ -112,10 +106,9 @@ left_is_offer events s k x writers txn count legal one pending record_is are pas
         let there = (are.exact later.later).1 (omega arith, later.writes) in
         let inside = there.1 in
         let is_later : get_or writers there.0 0 ≡ later.later = get_or_default writers there.0 0 later.later inside ∙ there.2 in
-        let seen = record_reads_from events k later.later txn (omega arith) record_is later.read in
-        let place : slice_get txn.seen seen.0 ≡ Some seen.1 = slice_get-get_or txn.seen seen.0 seen.1 seen.2 ∙ ap (λ (t : Seen). Some t) seen.3 in
         let low : there.0 < count =
-        passed.all seen.0 seen.1 seen.2 place later.later there.0 seen.4 (slice_get-get_or writers there.0 later.later inside ∙ ap (λ (v : ℕ). Some v) there.2) in
+        passed.all there.0 later.later (slice_get-get_or writers there.0 later.later inside ∙ ap (λ (v : ℕ). Some v) there.2)
+        ((hold later.later (omega arith)).1 later.read) in
         elim (cases_lt (there.0 + 1) i) [
           | inl less ↦
               let up : get_or (0 ∷ writers) (there.0 + 1) 0 < get_or (0 ∷ writers) i 0 =
@@ -131,21 +124,15 @@ left_is_offer events s k x writers txn count legal one pending record_is are pas
     is_passed : (w i : ℕ) → i < count → i < length (0 ∷ writers) → get_or (0 ∷ writers) i 0 ≡ w → IsPassed events k x w
     is_passed w i before within at =
         let last = passed.last (omega arith) in
-        let from : ℕ = last.1.1.0 in
-        let facts = last.1.1.1 in
-        let inside : count - 1 < length writers = slice_get_within writers (count - 1) from facts.2 in
-        let is_from : get_or writers (count - 1) 0 ≡ from = get_or_from_slice_get writers (count - 1) from 0 facts.2 in
+        let from : ℕ = last.0 in
+        let inside : count - 1 < length writers = slice_get_within writers (count - 1) from last.1.0 in
+        let is_from : get_or writers (count - 1) 0 ≡ from = get_or_from_slice_get writers (count - 1) from 0 last.1.0 in
         let same : get_or (0 ∷ writers) (suc (count - 1)) 0 ≡ get_or writers (count - 1) 0 = refl in
         let up : get_or (0 ∷ writers) i 0 < get_or (0 ∷ writers) (suc (count - 1)) 0 =
         increasing_less (0 ∷ writers) (full_rises events x writers are) i (suc (count - 1)) (omega arith) (omega arith) in
-        let member : Contains writers from = Contains-from_slice_get writers (count - 1) from facts.2 in
-        record {
-          later = from;
-          above = omega arith;
-          writes = ((are.exact from).0 member).1;
-          read = reads_from_record events k from txn record_is
-              (Any-from_contains (λ t. IsReadFrom t from) txn.seen last.1.0 (Contains-from_slice_get txn.seen last.0 last.1.0 facts.0) facts.1);
-        }
+        let member : Contains writers from = Contains-from_slice_get writers (count - 1) from last.1.0 in
+        let writer = (are.exact from).0 member in
+        record { later = from; above = omega arith; writes = writer.1; read = (hold from writer.0).0 last.1.1 }
 
 -- a search behind the first so many that found the source
 pub raised_found :
@@ -198,48 +185,85 @@ rises_loosely xs rises i j le within =
       | inr more ↦ let same : i ≡ j = omega arith in let e : get_or xs i 0 ≡ get_or xs j 0 = ap (λ (k : ℕ). get_or xs k 0) same in omega arith
     ]
 
--- one thing more was seen
-pub passed_more :
-    (seen : List Seen) (place : ℕ) (writers : List ℕ) (old new : ℕ) (s : Seen) → slice_get seen place ≡ Some s → RaisesBy writers old s new →
-    ArePassed seen place writers old → ArePassed seen (place + 1) writers new
-passed_more seen place writers old new (SeenRead number cell from) stands raises passed = record {
+-- one source more
+passed_push :
+    (done writers : List ℕ) (source old new : ℕ) → RaisesTo writers old source new → ArePassed done writers old →
+    ArePassed (done ++ source ∷ []) writers new
+passed_push done writers source old new raises passed = record {
   within = raises.within;
-  all = λ i s below is source k read at. elim (cases_lt i place) [
-    | inl before ↦ let low = passed.all i s before is source k read at in let up = raises.above in omega arith
-    | inr here ↦
-        let e : i ≡ place = omega arith in
-        let both : Some s ≡ Some (SeenRead number cell from) = sym is ∙ ap (λ (j : ℕ). slice_get seen j) e ∙ stands in
-        let same : s ≡ SeenRead number cell from = cc in
-        let from_is : from ≡ source = subst (λ (t : Seen). IsReadFrom t source) same read in
-        raises.all k (at ∙ ap (λ (v : ℕ). Some v) (sym from_is))
+  all = λ k from at there. elim (Contains-push_cases done source from there) [
+    | inl before ↦ let low = passed.all k from at before in let up = raises.above in omega arith
+    | inr here ↦ raises.all k (at ∙ ap (λ (v : ℕ). Some v) (sym here))
   ];
   last = λ some. elim raises.last [
     | inl same ↦
         let before = passed.last (omega arith) in
-        (before.0, (before.1.0, (before.1.1.0, (before.1.1.1.0, before.1.1.1.1, ap (λ (n : ℕ). slice_get writers (n - 1)) same ∙ before.1.1.1.2))))
-    | inr new_one ↦ (place, (SeenRead number cell from, (from, (stands, refl, new_one.1))))
+        (before.0, (ap (λ (n : ℕ). slice_get writers (n - 1)) same ∙ before.1.0, Contains-append_left done (source ∷ []) before.0 before.1.1))
+    | inr new_one ↦ (source, (new_one.1, Contains-push done source))
   ];
 }
-passed_more seen place writers old new (SeenScan number table keys) stands raises passed =
-    subst (λ (n : ℕ). ArePassed seen (place + 1) writers n) (sym raises) record {
-      within = passed.within;
-      all = λ i s below is source k read at. elim (cases_lt i place) [
-        | inl before ↦ passed.all i s before is source k read at
-        | inr here ↦
-            let e : i ≡ place = omega arith in
-            let both : Some s ≡ Some (SeenScan number table keys) = sym is ∙ ap (λ (j : ℕ). slice_get seen j) e ∙ stands in
-            let same : s ≡ SeenScan number table keys = cc in
-            absurd (subst (λ (t : Seen). IsReadFrom t source) same read)
-      ];
-      last = passed.last;
-    }
 
-pub passed_none : (seen : List Seen) (writers : List ℕ) → ArePassed seen 0 writers 0
-passed_none seen writers = record {
+passed_none : (writers : List ℕ) → ArePassed [] writers 0
+passed_none writers = record {
   within = omega arith;
-  all = λ i s below. absurd (omega arith);
+  all = λ k from at there. let within = there.1 in absurd (omega arith);
   last = λ some. absurd (omega arith);
 }
+
+-- of the sources, those before the rest were looked up
+pub record IsSearchPart (whole rest writers : List ℕ) (count : ℕ) : Type 0 where
+  pub done : List ℕ
+  pub split : whole ≡ done ++ rest
+  pub passed : ArePassed done writers count
+
+pub search_start : (whole rest writers : List ℕ) → rest ≡ whole → IsSearchPart whole rest writers 0
+search_start whole rest writers same = record { done = []; split = sym same; passed = passed_none writers }
+
+pub search_more :
+    (whole rest left writers : List ℕ) (source old new : ℕ) → rest ≡ source ∷ left → RaisesTo writers old source new →
+    IsSearchPart whole rest writers old → IsSearchPart whole left writers new
+search_more whole rest left writers source old new more raises part = record {
+  done = part.done ++ source ∷ [];
+  split = part.split ∙ ap (λ (ns : List ℕ). part.done ++ ns) more ∙ sym (append_assoc part.done (source ∷ []) left);
+  passed = passed_push part.done writers source old new raises part.passed;
+}
+
+pub search_end : (whole rest writers : List ℕ) (count : ℕ) → rest ≡ [] → IsSearchPart whole rest writers count → ArePassed whole writers count
+search_end whole rest writers count none part =
+    let all : whole ≡ part.done = part.split ∙ ap (λ (ns : List ℕ). part.done ++ ns) none ∙ append-nil part.done in
+    subst (λ (ns : List ℕ). ArePassed ns writers count) (sym all) part.passed
+
+-- none of the writers behind the first so many is among the sources
+pub record NoneBehind (sources writers : List ℕ) (count : ℕ) : Type 0 where
+  pub within : count ≤ length writers
+  pub all : (k from : ℕ) → slice_get writers k ≡ Some from → Contains sources from → k < count
+
+pub behind_start : (sources writers : List ℕ) → NoneBehind sources writers (length writers)
+behind_start sources writers = record { within = omega arith; all = λ k from at there. slice_get_within writers k from at }
+
+-- the last of them is no source
+pub behind_less :
+    (sources writers : List ℕ) (count last : ℕ) → slice_get writers (count - 1) ≡ Some last → (Contains sources last → ⊥) →
+    NoneBehind sources writers count → NoneBehind sources writers (count - 1)
+behind_less sources writers count last is no_source behind = record {
+  within = let h = behind.within in omega arith;
+  all = λ k from at there.
+      let low = behind.all k from at there in
+      elim (cases_lt k (count - 1)) [
+        | inl less ↦ less
+        | inr more ↦
+            let here : k ≡ count - 1 = omega arith in
+            let both : Some from ≡ Some last = sym at ∙ ap (λ (i : ℕ). slice_get writers i) here ∙ is in
+            let same : from ≡ last = cc in
+            absurd (no_source (subst (λ (n : ℕ). Contains sources n) same there))
+      ];
+}
+
+-- the last of them is a source, where there is one
+pub behind_end :
+    (sources writers : List ℕ) (count : ℕ) → NoneBehind sources writers count →
+    (0 < count → (from : ℕ) × ((slice_get writers (count - 1) ≡ Some from) × Contains sources from)) → ArePassed sources writers count
+behind_end sources writers count behind last = record { within = behind.within; all = behind.all; last = last }
 
 -- what is left behind the first so many, as a slice
 rest_is : (writers : List ℕ) (passed : ℕ) → take (length writers - passed) (drop passed writers) ≡ drop passed writers
@@ -271,14 +295,14 @@ search_absent writers passed source at rises within result =
 
 -- the read of what the word picks of those that are left was offered
 pub chosen_left :
-    (history : Chronicle) (s k : ℕ) (x : Cell) (writers : List ℕ) (seen : List Seen) (txn : Txn) (count word : ℕ) (choice : Choice) → history.level ≡ Rc →
-    IsLegal history.level history.events → opened history.events ≤ 1 → IsPending history.events k s → IsRecordOf history.events k txn →
-    AreWriters history.events x writers → seen ≡ txn.seen → ArePassed seen (length seen) writers count → IsPick writers count word choice →
+    (history : Chronicle) (s : ℕ) (x : Cell) (writers sources : List ℕ) (count word : ℕ) (choice : Choice) → history.level ≡ Rc →
+    IsLegal history.level history.events → opened history.events ≤ 1 → IsPending history.events (begun history.events) s →
+    AreSources history.events sources → AreWriters history.events x writers → ArePassed sources writers count → IsPick writers count word choice →
     IsChosen history s x word choice
-chosen_left history s k x writers seen txn count word choice level legal one pending record_is are same passed picks =
+chosen_left history s x writers sources count word choice level legal one pending hold are passed picks =
     let offer : IsOffer Rc history.events s x (left_of writers count) =
-    left_is_offer history.events s k x writers txn count (subst (λ (l : Level). IsLegal l history.events) level legal) one pending record_is are
-    (subst (λ (ss : List Seen). ArePassed ss (length ss) writers count) same passed) in
+    left_is_offer history.events s (begun history.events) x writers sources count (subst (λ (l : Level). IsLegal l history.events) level legal) one pending
+    hold are passed in
     let here : IsOffer history.level history.events s x (left_of writers count) =
     subst (λ (l : Level). IsOffer l history.events s x (left_of writers count)) (sym level) offer in
     record {

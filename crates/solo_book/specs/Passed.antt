@@ -1,12 +1,11 @@
 -- Which writes a read may still see where all transactions are of one session.
-use Rattle.std.specs.Prelude.{◌≡◌, ◌<◌, ◌≤◌, ◌-◌, ◌%◌, ◌⊎◌, ℕ, Some, List, ◌∷◌, length, slice_get, drop}
+use Rattle.std.specs.Prelude.{◌≡◌, ◌<◌, ◌≤◌, ◌-◌, ◌%◌, ◌⊎◌, ◌↔◌, ℕ, Some, List, ◌∷◌, Contains, length, slice_get, drop}
 use Rattle.cell_base.specs.declared.cell.Cell.{Cell}
 use Rattle.history_core.specs.declared.event.Event.{Event}
-use Rattle.history_core.specs.declared.txn.Seen.{Seen}
-use Rattle.history_core.specs.declared.txn.Seen.TheVariants.{Read, Scan}
+use Rattle.history_core.specs.declared.event.Event.TheVariants.{Begin, Read}
+use Rattle.history_core.specs.Events.{begun}
 use Rattle.history_core.specs.Relations.{Writes, ReadsFrom}
 use Rattle.solo_book.specs.declared.desk.Choice.{Choice}
-use Rattle.solo_book.specs.Tests.{IsReadFrom}
 
 -- the reader has read from a later writer of the cell
 pub record IsPassed (events : List Event) (reader : ℕ) (cell : Cell) (source : ℕ) : Type 0 where
@@ -15,12 +14,34 @@ pub record IsPassed (events : List Event) (reader : ℕ) (cell : Cell) (source :
   pub writes : Writes events later cell
   pub read : ReadsFrom events later reader
 
--- of the writers, so many from the first on are passed or read last by what was seen up to the place: none behind them is read
-pub record ArePassed (seen : List Seen) (place : ℕ) (writers : List ℕ) (count : ℕ) : Type 0 where
+-- apart from the initial transaction, exactly those from which the transaction that began last has read
+abbrev pub AreSources : List Event → List ℕ → Type 0
+AreSources events sources = (source : ℕ) → 0 < source → Contains sources source ↔ ReadsFrom events source (begun events)
+
+-- the sources and this one, and no other
+abbrev pub GainsSource : List ℕ → ℕ → List ℕ → Type 0
+GainsSource old source new = (other : ℕ) → Contains new other ↔ (Contains old other ⊎ (other ≡ source))
+
+-- the same sources
+abbrev pub AreSame : List ℕ → List ℕ → Type 0
+AreSame old new = (source : ℕ) → Contains new source ↔ Contains old source
+
+-- a read from the source
+abbrev pub TakesFrom : Event → ℕ → Type 0
+TakesFrom (Read s cell from count word value) source = from ≡ source
+TakesFrom _ source = ⊥
+
+-- any event but a Begin and a Read, which change the sources
+abbrev pub KeepsSources : Event → Type 0
+KeepsSources (Begin s) = ⊥
+KeepsSources (Read s cell from count word value) = ⊥
+KeepsSources _ = Unit {0}
+
+-- of the writers, so many from the first on are passed or read last: the last of them is among the sources, and none behind them
+pub record ArePassed (sources writers : List ℕ) (count : ℕ) : Type 0 where
   pub within : count ≤ length writers
-  pub all : (i : ℕ) (s : Seen) → i < place → slice_get seen i ≡ Some s → (from k : ℕ) → IsReadFrom s from → slice_get writers k ≡ Some from → k < count
-  pub last : 0 < count →
-      (i : ℕ) × ((s : Seen) × ((from : ℕ) × ((slice_get seen i ≡ Some s) × IsReadFrom s from × (slice_get writers (count - 1) ≡ Some from))))
+  pub all : (k from : ℕ) → slice_get writers k ≡ Some from → Contains sources from → k < count
+  pub last : 0 < count → (from : ℕ) × ((slice_get writers (count - 1) ≡ Some from) × Contains sources from)
 
 -- the count goes up to the writer, where it stands behind them
 pub record RaisesTo (writers : List ℕ) (old from new : ℕ) : Type 0 where
@@ -28,10 +49,6 @@ pub record RaisesTo (writers : List ℕ) (old from new : ℕ) : Type 0 where
   pub above : old ≤ new
   pub all : (k : ℕ) → slice_get writers k ≡ Some from → k < new
   pub last : (new ≡ old) ⊎ ((0 < new) × (slice_get writers (new - 1) ≡ Some from))
-
-abbrev pub RaisesBy : List ℕ → ℕ → Seen → ℕ → Type 0
-RaisesBy writers old (Read number cell from) new = RaisesTo writers old from new
-RaisesBy writers old (Scan number table keys) new = new ≡ old
 
 -- the initial transaction and the writers, without the first so many
 abbrev pub left_of : List ℕ → ℕ → List ℕ

@@ -7,18 +7,22 @@ ghost use Rattle.history_core.specs.Chronicle.{followed_by, with_table, IsLegalC
 ghost use Rattle.history_core.specs.Records.{IsNoDefinition, is_any_end};
 ghost use Rattle.history_core.specs.Events.{session_in};
 ghost use Rattle.solo_book.specs.Index.{IsLast, IsNoWrite};
+ghost use Rattle.solo_book.specs.Passed.{KeepsSources};
 
+use crate::desk::Choice;
 use crate::indexed::IndexedHistory;
 use cell_base::{Cell, Value};
 use history_core::{BookFault, Event};
 use sql_tree::Table;
 
-/// Appends an event that keeps the history legal, any but a definition, a write and a commit. On an error nothing changes.
+/// Appends an event that keeps the history legal, any but a definition, a begin, a read, a write and a commit. On an error
+/// nothing changes.
 pub fn append(history: &mut IndexedHistory, event: Event) -> Result<(), BookFault>
     requires legal { IsLegalChronicle history.old }
     requires follows { Follows history.old.events event }
     requires pushed { IsNoDefinition event }
     requires other { IsNoWrite event }
+    requires sources { KeepsSources event }
     requires offered { IsOffered history.old.level history.old.events event }
     ensures legal { IsLegalChronicle history.new }
     ensures ok { OnOk result (history.new ≡ followed_by history.old event) }
@@ -26,6 +30,45 @@ pub fn append(history: &mut IndexedHistory, event: Event) -> Result<(), BookFaul
     ensures err { OnErr result (history.new ≡ history.old) }
 {
     match history.push(event) {
+        Ok(()) => Ok(()),
+        Err(fault) => Err(fault),
+    }
+}
+
+/// Appends a begin. On an error nothing changes.
+pub fn append_begin(history: &mut IndexedHistory, session: u32) -> Result<(), BookFault>
+    requires legal { IsLegalChronicle history.old }
+    requires follows { Follows history.old.events (Event.Begin session) }
+    ensures legal { IsLegalChronicle history.new }
+    ensures ok { OnOk result (history.new ≡ followed_by history.old (Event.Begin session)) }
+    ensures full { (limit : Limit) → result ≡ Err (BookFault.Full limit) → full_for history.new.events (Event.Begin session) ≡ Some limit }
+    ensures err { OnErr result (history.new ≡ history.old) }
+{
+    match history.push_begin(session) {
+        Ok(()) => Ok(()),
+        Err(fault) => Err(fault),
+    }
+}
+
+/// Appends a read of the transaction that began last. On an error nothing changes.
+pub fn append_read(
+    history: &mut IndexedHistory,
+    session: u32,
+    cell: Cell,
+    choice: Choice,
+    word: u32,
+    value: Value,
+) -> Result<(), BookFault>
+    requires legal { IsLegalChronicle history.old }
+    requires follows { Follows history.old.events (Event.Read session cell choice.source choice.count word value) }
+    requires last { IsLast history.old.events session }
+    requires offered { IsOffered history.old.level history.old.events (Event.Read session cell choice.source choice.count word value) }
+    ensures legal { IsLegalChronicle history.new }
+    ensures ok { OnOk result (history.new ≡ followed_by history.old (Event.Read session cell choice.source choice.count word value)) }
+    ensures full { (limit : Limit) → result ≡ Err (BookFault.Full limit) → full_for history.new.events (Event.Read session cell choice.source choice.count word value) ≡ Some limit }
+    ensures err { OnErr result (history.new ≡ history.old) }
+{
+    match history.push_read(session, cell, choice, word, value) {
         Ok(()) => Ok(()),
         Err(fault) => Err(fault),
     }

@@ -11,7 +11,7 @@ ghost use Rattle.history_core.specs.Book.{IsStorable};
 ghost use Rattle.solo_book.specs.declared.desk.Stage.TheVariants as stages;
 ghost use Rattle.solo_book.specs.Desk.{IsDesk, GoesTo};
 
-use crate::append::{append, append_end, append_write};
+use crate::append::{append, append_begin, append_end, append_write};
 use crate::desk::{Desk, Stage};
 use cell_base::{Cell, Items, Memory, Value};
 use history_core::{BookFault, DefineAnswer, Event, Limit};
@@ -58,7 +58,7 @@ pub fn begin_transaction(desk: &mut Desk) -> Result<u32, BookFault>
     ensures full { (limit : Limit) → result ≡ Err (BookFault.Full limit) → full_for desk.new.history.events (Event.Begin 0) ≡ Some limit }
     ensures err { OnErr result (desk.new ≡ desk.old) }
 {
-    match append(&mut desk.history, Event::Begin(desk.sessions)) {
+    match append_begin(&mut desk.history, desk.sessions) {
         Ok(()) => {
             desk.stage = Stage::Pending;
             Ok(desk.history.history().begun())

@@ -1,4 +1,4 @@
-// A history with an index of the writers by cell, and one of the keys by table.
+// A history with an index of the writers by cell, one of the keys by table, and the sources of the last transaction's reads.
 ghost use Rattle.std.specs.Prelude.{◌≡◌, ◌↔◌, ◌≤◌, ◌<◌, [], length, Contains, Some, Err, IfSome, IfNone, OnOk, OnErr, IsTrue};
 ghost use Rattle.sound_table.specs.Sound.{IsSound};
 ghost use Rattle.history_core.specs.declared.event.Event.{Event};
@@ -7,24 +7,29 @@ ghost use Rattle.history_core.specs.Events.{session_in, begun, load_of};
 ghost use Rattle.history_core.specs.Legal.{Follows, full_for};
 ghost use Rattle.history_core.specs.Chronicle.{followed_by, with_table, IsFormedChronicle};
 ghost use Rattle.history_core.specs.Records.{IsNoDefinition, is_any_end};
-ghost use Rattle.solo_book.specs.Index.{IsIndex, numbers_at};
+ghost use Rattle.std.specs.HashSet.{spare};
+ghost use Rattle.solo_book.specs.Index.{IsIndex, IsLast, numbers_at};
 ghost use Rattle.solo_book.specs.Keys.{IsKeyIndex, IsKept};
+ghost use Rattle.solo_book.specs.Passed.{AreSources, TakesFrom};
 
+use crate::desk::Choice;
 use crate::index::{self, Index, note_writer, writers_of};
 use crate::keys::{self, KeyIndex, Keys, keys_of, note_key};
+use crate::sources::{self, Sources, forget, keep, take_room};
 use cell_base::{Cell, Level, Memory, Value};
 use history_core::{BookFault, Event, History, Limit};
 use sql_tree::Table;
 use std::alloc::Global;
 use std::marker::Model;
 
-/// A history, for each cell the transactions that wrote it, and for each table the keys that were written. Contracts see
-/// the history alone.
+/// A history, for each cell the transactions that wrote it, for each table the keys that were written, and the transactions
+/// from which the last one that began has read. Contracts see the history alone.
 #[derive(Debug, Drop)]
 pub struct IndexedHistory {
     history: History,
     index: Index,
     keys: KeyIndex,
+    sources: Sources,
 }
 
 impl Model for IndexedHistory {
@@ -38,10 +43,11 @@ impl Model for IndexedHistory {
 
     ghost use Rattle.solo_book.specs.Index.{IsIndex};
     ghost use Rattle.solo_book.specs.Keys.{IsKeyIndex};
+    ghost use Rattle.solo_book.specs.Passed.{AreSources};
 
     ghost view = { λ h. h.history };
 
-    ghost invariant = { λ h. IsIndex h.history.events h.index × IsKeyIndex h.history.events h.keys };
+    ghost invariant = { λ h. IsIndex h.history.events h.index × IsKeyIndex h.history.events h.keys × AreSources h.history.events h.sources.numbers.keys };
 }
 
 /// Lists the pending transaction at the cell, and keeps the key of a presence.
@@ -63,9 +69,37 @@ fn note_write(
     note_key(keys, cell)
 }
 
+/// Appends a read of the transaction that began last, and keeps its source, for which there is room.
+fn push_noted(
+    history: &mut History,
+    sources: &mut Sources,
+    read: Event,
+    source: u32,
+) -> Result<(), BookFault>
+    requires kept { AreSources history.old.events sources.old.numbers.keys }
+    requires room { 0 < spare sources.old.numbers }
+    requires takes { TakesFrom read source }
+    requires follows { Follows history.old.events read }
+    requires last { IsLast history.old.events (session_in read) }
+    requires pushed { IsNoDefinition read }
+    ensures kept { AreSources history.new.events sources.new.numbers.keys }
+    ensures ok { OnOk result (history.new ≡ followed_by history.old read) }
+    ensures full { (limit : Limit) → (result ≡ Err (BookFault.Full limit)) ↔ (full_for history.old.events read ≡ Some limit) }
+    ensures err { OnErr result (history.new ≡ history.old) }
+{
+    match history.push(read) {
+        Ok(()) => {
+            keep(sources, source);
+            Ok(())
+        }
+        Err(fault) => Err(fault),
+    }
+}
+
 impl IndexedHistory {
-    ghost use Rattle.solo_book.specs.Index.{AreWriters, IsLast, IsNoWrite};
+    ghost use Rattle.solo_book.specs.Index.{AreWriters, IsNoWrite};
     ghost use Rattle.solo_book.specs.Keys.{HoldWritten};
+    ghost use Rattle.solo_book.specs.Passed.{KeepsSources};
 
     /// A history of the level without events. Takes no memory.
     pub fn new(alloc: Global, level: Level) -> IndexedHistory
@@ -75,19 +109,65 @@ impl IndexedHistory {
             history: History::new(alloc, level),
             index: index::new(alloc),
             keys: keys::new(alloc),
+            sources: sources::new(alloc),
         }
     }
 
-    /// Appends an event, any but a definition, a write and a commit, as `History::push` does.
+    /// Appends an event, any but a definition, a begin, a read, a write and a commit, as `History::push` does.
     pub fn push(&mut self, event: Event) -> Result<(), BookFault>
         requires follows { Follows self.old.events event }
         requires pushed { IsNoDefinition event }
         requires other { IsNoWrite event }
+        requires sources { KeepsSources event }
         ensures ok { OnOk result (self.new ≡ followed_by self.old event) }
         ensures full { (limit : Limit) → (result ≡ Err (BookFault.Full limit)) ↔ (full_for self.old.events event ≡ Some limit) }
         ensures err { OnErr result (self.new ≡ self.old) }
     {
         self.history.push(event)
+    }
+
+    /// Appends a begin, as `History::push` does. The new transaction has read from none yet.
+    pub fn push_begin(&mut self, session: u32) -> Result<(), BookFault>
+        requires follows { Follows self.old.events (Event.Begin session) }
+        ensures ok { OnOk result (self.new ≡ followed_by self.old (Event.Begin session)) }
+        ensures full { (limit : Limit) → (result ≡ Err (BookFault.Full limit)) ↔ (full_for self.old.events (Event.Begin session) ≡ Some limit) }
+        ensures err { OnErr result (self.new ≡ self.old) }
+    {
+        match self.history.push(Event::Begin(session)) {
+            Ok(()) => {
+                forget(&mut self.sources);
+                Ok(())
+            }
+            Err(fault) => Err(fault),
+        }
+    }
+
+    /// Appends a read of the transaction that began last, as `History::push` does. The room for its source is taken first.
+    pub fn push_read(
+        &mut self,
+        session: u32,
+        cell: Cell,
+        choice: Choice,
+        word: u32,
+        value: Value,
+    ) -> Result<(), BookFault>
+        requires follows { Follows self.old.events (Event.Read session cell choice.source choice.count word value) }
+        requires last { IsLast self.old.events session }
+        ensures ok { OnOk result (self.new ≡ followed_by self.old (Event.Read session cell choice.source choice.count word value)) }
+        ensures full { (limit : Limit) → (result ≡ Err (BookFault.Full limit)) ↔ (full_for self.old.events (Event.Read session cell choice.source choice.count word value) ≡ Some limit) }
+        ensures err { OnErr result (self.new ≡ self.old) }
+    {
+        if self.history.load() >= 1_048_576 {
+            return Err(BookFault::Full(Limit::Load));
+        }
+        match take_room(&mut self.sources) {
+            Ok(()) => {
+                let source = choice.source;
+                let read = Event::Read(session, cell, source, choice.count, word, value);
+                push_noted(&mut self.history, &mut self.sources, read, source)
+            }
+            Err(_) => Err(BookFault::Memory),
+        }
     }
 
     /// Appends a write of the transaction that began last, as `History::push` does. Its places in both indexes are taken
@@ -158,6 +238,13 @@ impl IndexedHistory {
         ensures few { length result.now ≤ 16383 }
     {
         writers_of(&self.index, &self.history, cell)
+    }
+
+    /// The transactions from which the last one that began has read.
+    pub fn sources(&self) -> &Sources
+        ensures { AreSources self.now.events result.now.numbers.keys }
+    {
+        &self.sources
     }
 
     /// The keys that are kept of the table: each whose presence was written, and perhaps others.

@@ -7,9 +7,11 @@
 //! that the pending transaction has written is read from its own writes, which are found by a hash. The crate stands on
 //! `history_core`, which has the definitions, and on `order_witness`.
 //!
-//! An index keeps the writers of each cell as they write. So a read in the first session looks at no other transaction: it
-//! finds the cell's writers by a hash, and of those the ones that are passed by a binary search for each read that the same
-//! transaction made before. It takes memory for its event alone. A commit, a rollback and a close take none.
+//! An index keeps the writers of each cell as they write, and a set the transactions from which the last one that began has
+//! read. So a read in the first session looks at no other transaction and at no earlier read: it finds the cell's writers by
+//! a hash, and of those the ones that are passed by a look-up of each writer in the set, or by a binary search among the
+//! writers for each member of the set, whichever are fewer. It takes memory for its event and for its source alone. A commit,
+//! a rollback and a close take none.
 //!
 //! Beside it the keys of each table are kept in order, also those that only a transaction which was rolled back has written. So a
 //! scan passes over the keys of its table, asks of each whether it has a committed writer or is an own one, and looks at no event.
@@ -29,6 +31,7 @@ mod pairs;
 mod reading;
 mod scanning;
 mod single;
+mod sources;
 mod tables;
 mod tests_of_records;
 

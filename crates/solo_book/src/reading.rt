@@ -7,7 +7,7 @@ ghost use Rattle.history_core.specs.Legal.{WroteItself, full_load};
 ghost use Rattle.solo_book.specs.declared.desk.Stage.TheVariants as stages;
 ghost use Rattle.solo_book.specs.Desk.{IsDesk, IsChosen, ReadsTo};
 
-use crate::append::append;
+use crate::append::append_read;
 use crate::desk::{Choice, Desk};
 use crate::offering::tried_choice;
 use crate::own::last_write;
@@ -76,15 +76,8 @@ pub fn read_cell(desk: &mut Desk, cell: &Cell, word: u32) -> Result<Value, BookF
     let Ok(read) = cell.copy(desk.alloc) else {
         return Err(BookFault::Memory);
     };
-    let event = Event::Read(
-        desk.sessions,
-        read,
-        choice.source,
-        choice.count,
-        word,
-        value,
-    );
-    match append(&mut desk.history, event) {
+    let session = desk.sessions;
+    match append_read(&mut desk.history, session, read, choice, word, value) {
         Ok(()) => Ok(told),
         Err(fault) => Err(fault),
     }

@@ -2,16 +2,16 @@
 ghost use Rattle.std.specs.Prelude.{◌≡◌, ◌<◌, ◌≤◌, length};
 ghost use Rattle.std.specs.List.Sorted.{IsStrictlyIncreasing};
 ghost use Rattle.cell_base.specs.declared.level.Level.TheVariants.{Rc};
-ghost use Rattle.history_core.specs.Events.{opened};
-ghost use Rattle.history_core.specs.Transactions.{HasPending};
+ghost use Rattle.history_core.specs.Events.{begun, opened};
+ghost use Rattle.history_core.specs.Transactions.{IsPending};
 ghost use Rattle.history_core.specs.Legal.{IsLegal};
-ghost use Rattle.solo_book.specs.Passed.{ArePassed, RaisesTo, RaisesBy, IsPick};
+ghost use Rattle.solo_book.specs.Passed.{ArePassed, RaisesTo, IsPick};
 ghost use Rattle.solo_book.specs.Desk.{IsChosen};
 
 use crate::desk::Choice;
 use crate::indexed::IndexedHistory;
+use crate::sources::{Sources, count_sources, is_source};
 use cell_base::Cell;
-use history_core::Seen;
 
 /// How many of the writers are passed or read last, when one more read was from the source.
 fn raised_to(writers: &[u32], passed: usize, source: u32) -> usize
@@ -25,28 +25,38 @@ fn raised_to(writers: &[u32], passed: usize, source: u32) -> usize
     }
 }
 
-/// How many of the writers are passed or read last, when one more thing was seen.
-fn raised_by(writers: &[u32], passed: usize, seen: &Seen) -> usize
-    requires ascending { IsStrictlyIncreasing writers.now }
-    requires within { passed ≤ length writers.now }
-    ensures { RaisesBy writers.now passed seen.now result }
+/// How many of the writers are passed or read last, by a walk from the last writer on down to a source.
+fn count_walked(writers: &[u32], sources: &Sources) -> usize
+    ensures { ArePassed sources.now.numbers.keys writers.now result }
 {
-    match seen {
-        Seen::Read(_, _, source) => raised_to(writers, passed, *source),
-        Seen::Scan(_, _, _) => passed,
-    }
-}
-
-/// How many of the writers are passed or read last by what was seen.
-fn count_passed(writers: &[u32], all: &[Seen]) -> usize
-    requires { IsStrictlyIncreasing writers.now }
-    ensures { ArePassed all.now (length all.now) writers.now result }
-{
-    let mut passed = 0;
-    for seen in all {
-        passed = raised_by(writers, passed, seen);
+    let mut passed = writers.len();
+    while passed > 0 && !is_source(sources, writers[passed - 1]) {
+        passed -= 1;
     }
     passed
+}
+
+/// How many of the writers are passed or read last, by a search for each source.
+fn count_searched(writers: &[u32], sources: &Sources) -> usize
+    requires { IsStrictlyIncreasing writers.now }
+    ensures { ArePassed sources.now.numbers.keys writers.now result }
+{
+    let mut passed = 0;
+    for source in sources.numbers.iter() {
+        passed = raised_to(writers, passed, *source);
+    }
+    passed
+}
+
+/// How many of the writers are passed or read last, by the way that has fewer steps.
+fn count_passed(writers: &[u32], sources: &Sources) -> usize
+    requires { IsStrictlyIncreasing writers.now }
+    ensures { ArePassed sources.now.numbers.keys writers.now result }
+{
+    if writers.len() <= count_sources(sources) {
+        return count_walked(writers, sources);
+    }
+    count_searched(writers, sources)
 }
 
 /// What the word picks of the initial transaction and the writers, without the first so many.
@@ -62,19 +72,17 @@ fn pick(writers: &[u32], passed: usize, word: u32) -> Choice
 }
 
 /// What a read of the pending transaction takes, where one session was opened. Takes no memory. It costs a look at the
-/// cell's writers by the index, and for each earlier read of the transaction a binary search among those writers that the
-/// reads before it haven't passed.
+/// cell's writers by the index, and then, whichever are fewer, either a look-up by a hash for each of those writers, or a
+/// binary search among them for each of the transactions from which this one has read before. So the cost of a read is
+/// bounded by the writers of its cell, however much the transaction has read.
 pub fn single_choice(history: &IndexedHistory, session: u32, cell: &Cell, word: u32) -> Choice
     requires level { history.now.level ≡ Rc }
     requires legal { IsLegal history.now.level history.now.events }
     requires one { opened history.now.events ≤ 1 }
-    requires pending { HasPending history.now.events session }
+    requires pending { IsPending history.now.events (begun history.now.events) session }
     ensures { IsChosen history.now session cell.now word result }
 {
-    let Some(reader) = history.history().pending(session) else {
-        unreachable!()
-    };
     let writers = history.writers(cell);
-    let passed = count_passed(writers, history.history().txn(reader).seen.as_slice());
+    let passed = count_passed(writers, history.sources());
     pick(writers, passed, word)
 }

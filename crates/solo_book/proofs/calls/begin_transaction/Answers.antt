@@ -5,6 +5,6 @@ use Rattle.solo_book.proofs.calls.begin_transaction.Goals as goal
 
 pub returns-in-Ok-clause-kept : goal.returns-in-Ok-clause-kept
 returns-in-Ok-clause-kept c =
-    served_begins c.args.desk.now.history c.append.new.history c.args.desk.now.sessions
+    served_begins c.args.desk.now.history c.append_begin.new.history c.args.desk.now.sessions
     (at_stage c.args.desk.now.history c.args.desk.now.sessions c.args.desk.now.stage Seated c.requires.idle c.requires.kept)
-    (goes_with c.args.desk.now.history c.append.new.history (Begin c.args.desk.now.sessions) c.in-Ok.ensures.ok c.append.ensures.legal)
+    (goes_with c.args.desk.now.history c.append_begin.new.history (Begin c.args.desk.now.sessions) c.in-Ok.ensures.ok c.append_begin.ensures.legal)

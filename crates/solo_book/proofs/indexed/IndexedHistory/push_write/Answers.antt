@@ -7,6 +7,7 @@ use Rattle.solo_book.specs.Index.{IsLast}
 use Rattle.solo_book.proofs.Books.{on_ok}
 use Rattle.solo_book.proofs.Indexes.{indexed_either, indexed_write}
 use Rattle.solo_book.proofs.KeyLists.{keyed_either, keyed_write}
+use Rattle.solo_book.proofs.SourceSets.{sourced_either, sourced_kept}
 use Rattle.solo_book.proofs.indexed.IndexedHistory.push_write.Goals as goal
 
 pub note_write-requires-clause-some : goal.note_write-requires-clause-some
@@ -26,6 +27,9 @@ invariant_of-self c = (
   keyed_either c.self.inside.history c.push.new.self (Write c.args.session c.args.cell c.args.value) c.note_write.new.keys c.push.result
       (on_ok _ _ c.push.result (λ is. ap (λ (h : Chronicle). h.events) is) c.push.ensures.ok) c.push.ensures.err
       (keyed_write c.self.inside.history.events c.args.session c.args.cell c.args.value c.note_write.new.keys c.in-Ok.ensures.keyed) c.note_write.ensures.keys,
+  sourced_either c.self.inside.history c.push.new.self (Write c.args.session c.args.cell c.args.value) c.self.inside.sources.numbers.keys c.push.result
+      (on_ok _ _ c.push.result (λ is. ap (λ (h : Chronicle). h.events) is) c.push.ensures.ok) c.push.ensures.err
+      (sourced_kept c.self.inside.history.events (Write c.args.session c.args.cell c.args.value) c.self.inside.sources.numbers.keys tt) c.self.invariant.2,
 )
 
 pub returns-in-Ok-clause-full : goal.returns-in-Ok-clause-full
