@@ -13,7 +13,7 @@ use crate::offering::tried_choice;
 use crate::own::last_write;
 use crate::single::single_choice;
 use cell_base::{Cell, Memory, Value};
-use history_core::{BookFault, Event, History, Limit};
+use history_core::{BookFault, History, Limit};
 use std::alloc::Global;
 
 /// What the initial transaction wrote.
