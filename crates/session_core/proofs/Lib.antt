@@ -10,6 +10,7 @@ pub mod LastUser
 pub mod Texts
 pub mod Lawfuls
 pub mod Carrying
+pub mod TablesFew
 pub mod Playing
 pub mod Serving
 pub mod Nearing

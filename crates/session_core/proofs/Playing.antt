@@ -18,7 +18,7 @@ use Rattle.history_core.specs.declared.fault.DefineAnswer.{DefineAnswer}
 use Rattle.history_core.specs.declared.fault.DefineAnswer.TheVariants as defines
 use Rattle.history_core.specs.Chronicle.{IsLegalChronicle}
 use Rattle.history_core.specs.Book.{AnswersTables, AnswersDefine, Past, Seat, away, seated, pending, Adds, GoesOn, IsIdle, IsSeated, IsInTransaction, IsUnwritten, HasWrite, LastWrite, session_of}
-use Rattle.solo_book.proofs.Legality.{tables_few}
+use Rattle.session_core.proofs.TablesFew.{tables_few}
 use Rattle.statement_course.specs.Course.{Course, scan, touch, write, done, first_demand}
 use Rattle.statement_course.specs.Laws.{ReadsFirst, table_number}
 use Rattle.statement_course.specs.declared.demand.Demand.{Demand}

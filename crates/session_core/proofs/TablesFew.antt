@@ -1,5 +1,5 @@
 -- A legal history has few tables.
-use Rattle.std.proofs.Common.{◌≡◌, ℕ, ◌+◌, ◌<◌, ◌≤◌, List, [], ◌∷◌, ◌++◌, Option, Some, None, nat_le, length, arith, refl, ap, sym, ◌∙◌, map}
+use Rattle.std.proofs.Common.{◌≡◌, ℕ, ◌+◌, ◌<◌, ◌≤◌, List, [], ◌∷◌, ◌++◌, Option, Some, None, nat_le, length, arith, refl, ap, sym, ◌∙◌}
 use Rattle.std.specs.Bool.{if◌then◌else◌}
 use Rattle.std.proofs.lemmas.List.{length-map, length_push}
 use Rattle.std.proofs.lemmas.Bool.Decides.{nat_tests}
@@ -50,6 +50,6 @@ defined_few events =
 pub tables_few : (history : Chronicle) → IsLegalChronicle history → length history.tables ≤ 64
 tables_few history is =
     let count : length history.tables ≡ defined history.events =
-    sym (length-map history.tables (λ (t : Table). t.name)) ∙ ap length is.tables.named is in
+    sym (length-map history.tables (λ (t : Table). t.name)) ∙ ap length is.tables.named in
     let few = defined_few history.events is.legal.formed in
     omega arith
