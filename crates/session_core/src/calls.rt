@@ -2,6 +2,7 @@
 ghost use Rattle.std.specs.Prelude.{◌≡◌, true, IfOk};
 ghost use Rattle.sound_table.specs.Sound.{IsSound};
 ghost use Rattle.history_core.specs.declared.event.Event.{Event};
+ghost use Rattle.history_core.specs.Chronicle.{IsLegalChronicle};
 ghost use Rattle.history_core.specs.Book.{IsSeated, IsUnwritten, HasWrite};
 ghost use Rattle.block_machine.specs.Calls as calls;
 ghost use Rattle.block_machine.specs.Calls.{asks_cells, call_for, call_of};
@@ -24,6 +25,7 @@ pub fn define<B: Book, W: Words>(book: &mut B, words: &W, table: &Table) -> Answ
     ensures fits { Fits (calls.Define table.now) result }
     ensures plays { (e : Event) × Plays W.gives (B.past book.old) words.now (calls.Define table.now) result e (B.past book.new) words.now }
     ensures seat { SeatAfter (calls.Define table.now) result (B.past book.old).seat (B.past book.new).seat }
+    ensures legal { IsLegalChronicle (B.past book.old).seen → IsLegalChronicle (B.past book.new).seen }
     ensures stays { B.stays book.old book.new }
 {
     match book.define(table) {
@@ -38,6 +40,7 @@ pub fn call<B: Book, W: Words>(book: &mut B, words: &W, c: Call) -> Answer
     ensures fits { Fits (call_of c) result }
     ensures plays { (e : Event) × Plays W.gives (B.past book.old) words.now (call_of c) result e (B.past book.new) words.now }
     ensures seat { SeatAfter (call_of c) result (B.past book.old).seat (B.past book.new).seat }
+    ensures legal { IsLegalChronicle (B.past book.old).seen → IsLegalChronicle (B.past book.new).seen }
     ensures stays { B.stays book.old book.new }
 {
     match c {
@@ -79,6 +82,7 @@ fn read<B: Book, W: Words>(book: &mut B, words: &mut W, cell: &Cell) -> Answer
     ensures fits { Fits (calls.Touch cell.now) result }
     ensures plays { (e : Event) × Plays W.gives (B.past book.old) words.old (calls.Touch cell.now) result e (B.past book.new) words.new }
     ensures seat { SeatAfter (calls.Touch cell.now) result (B.past book.old).seat (B.past book.new).seat }
+    ensures legal { IsLegalChronicle (B.past book.old).seen → IsLegalChronicle (B.past book.new).seen }
     ensures stays { B.stays book.old book.new }
 {
     let word = words.next();
@@ -95,6 +99,7 @@ fn own<B: Book, W: Words>(book: &mut B, words: &W, cell: &Cell) -> Answer
     ensures fits { Fits (calls.Touch cell.now) result }
     ensures plays { (e : Event) × Plays W.gives (B.past book.old) words.now (calls.Touch cell.now) result e (B.past book.new) words.now }
     ensures seat { SeatAfter (calls.Touch cell.now) result (B.past book.old).seat (B.past book.new).seat }
+    ensures legal { IsLegalChronicle (B.past book.old).seen → IsLegalChronicle (B.past book.new).seen }
     ensures stays { B.stays book.old book.new }
 {
     match book.own(cell) {
@@ -109,6 +114,7 @@ fn touch<B: Book, W: Words>(book: &mut B, words: &mut W, cell: &Cell) -> Answer
     ensures fits { Fits (calls.Touch cell.now) result }
     ensures plays { (e : Event) × Plays W.gives (B.past book.old) words.old (calls.Touch cell.now) result e (B.past book.new) words.new }
     ensures seat { SeatAfter (calls.Touch cell.now) result (B.past book.old).seat (B.past book.new).seat }
+    ensures legal { IsLegalChronicle (B.past book.old).seen → IsLegalChronicle (B.past book.new).seen }
     ensures stays { B.stays book.old book.new }
 {
     if book.wrote(cell) {
@@ -124,6 +130,7 @@ fn write<B: Book, W: Words>(book: &mut B, words: &W, cell: Cell, value: Value) -
     ensures fits { Fits (calls.Write cell value) result }
     ensures plays { (e : Event) × Plays W.gives (B.past book.old) words.now (calls.Write cell value) result e (B.past book.new) words.now }
     ensures seat { SeatAfter (calls.Write cell value) result (B.past book.old).seat (B.past book.new).seat }
+    ensures legal { IsLegalChronicle (B.past book.old).seen → IsLegalChronicle (B.past book.new).seen }
     ensures stays { B.stays book.old book.new }
 {
     match book.write(cell, value) {
@@ -152,6 +159,7 @@ fn write_copy<B: Book, W: Words>(
     ensures plays { (e : Event) × Plays W.gives (B.past book.old) words.now (calls.Write cell.now value.now) result e (B.past book.new)
         words.now }
     ensures seat { SeatAfter (calls.Write cell.now value.now) result (B.past book.old).seat (B.past book.new).seat }
+    ensures legal { IsLegalChronicle (B.past book.old).seen → IsLegalChronicle (B.past book.new).seen }
     ensures stays { B.stays book.old book.new }
 {
     match copy(alloc, cell, value) {
@@ -167,6 +175,7 @@ pub fn ask<B: Book, W: Words>(alloc: Global, book: &mut B, words: &mut W, demand
     ensures fits { Fits (call_for demand.now) result }
     ensures plays { (e : Event) × Plays W.gives (B.past book.old) words.old (call_for demand.now) result e (B.past book.new) words.new }
     ensures seat { SeatAfter (call_for demand.now) result (B.past book.old).seat (B.past book.new).seat }
+    ensures legal { IsLegalChronicle (B.past book.old).seen → IsLegalChronicle (B.past book.new).seen }
     ensures stays { B.stays book.old book.new }
 {
     match demand {

@@ -1,6 +1,7 @@
 // The turns of a session: a call is made, a reply sent or a message looked at, until bytes are wanted or the end is there.
 ghost use Rattle.std.specs.Prelude.{◌≡◌, ℕ, ◌+◌, ◌<◌, ◌≤◌, true, false};
 ghost use Rattle.sql_tree.specs.declared.table.Table.{Table as Defined};
+ghost use Rattle.history_core.specs.Chronicle.{IsLegalChronicle};
 ghost use Rattle.history_core.specs.Book.{Past};
 ghost use Rattle.link_traits.specs.Faults.{Rose};
 ghost use Rattle.link_traits.specs.Traffic.{Both, Sight, Wrote, WrotePart, sight_of};
@@ -36,6 +37,7 @@ fn answer_define<B: Book, W: Words>(session: &mut Session, book: &mut B, words: 
         message_work session.new.stage session.new.runner <
         message_work session.old.stage session.old.runner + statement_at session.new.stage session.new.runner }
     ensures last { IsLast session.old.stage → IsLast session.new.stage }
+    ensures legal { IsLegalChronicle (B.past book.old).seen → IsLegalChronicle (B.past book.new).seen }
     ensures stays { B.stays book.old book.new }
 {
     let answer = define(book, words, session.table());
@@ -55,6 +57,7 @@ fn answer_call<B: Book, W: Words>(session: &mut Session, book: &mut B, words: &W
         message_work session.new.stage session.new.runner <
         message_work session.old.stage session.old.runner + statement_at session.new.stage session.new.runner }
     ensures last { IsLast session.old.stage → IsLast session.new.stage }
+    ensures legal { IsLegalChronicle (B.past book.old).seen → IsLegalChronicle (B.past book.new).seen }
     ensures stays { B.stays book.old book.new }
 {
     let answer = call(book, words, c);
@@ -81,6 +84,7 @@ fn answer_cells<B: Book, W: Words>(
         message_work session.old.stage session.old.runner + statement_at session.new.stage session.new.runner }
     ensures left { left_at session.new.stage session.new.runner < left_at session.old.stage session.old.runner }
     ensures last { IsLast session.old.stage → IsLast session.new.stage }
+    ensures legal { IsLegalChronicle (B.past book.old).seen → IsLegalChronicle (B.past book.new).seen }
     ensures stays { B.stays book.old book.new }
 {
     let answer = ask(alloc, book, words, session.demanded());
@@ -152,6 +156,7 @@ fn serve_want<B: Book, L: Link, W: Words>(
     // Where a message runs something is wanted.
     ensures runs { session.old.stage ≡ stages.Running → result ≡ true }
     ensures last { IsLast session.old.stage → IsLast session.new.stage }
+    ensures legal { IsLegalChronicle (B.past book.old).seen → IsLegalChronicle (B.past book.new).seen }
     ensures stays { B.stays book.old book.new }
 {
     match session.demand() {
@@ -197,6 +202,7 @@ fn step_on<B: Book, W: Words>(
     ensures left { result ≡ true → left_at session.new.stage session.new.runner < left_at session.old.stage session.old.runner }
     ensures calm { result ≡ false → statement_at session.new.stage session.new.runner ≡ 0 }
     ensures last { IsLast session.old.stage → IsLast session.new.stage }
+    ensures legal { IsLegalChronicle (B.past book.old).seen → IsLegalChronicle (B.past book.new).seen }
     ensures stays { B.stays book.old book.new }
 {
     match session.demand() {
@@ -219,6 +225,7 @@ fn run_on<B: Book, W: Words>(alloc: Global, session: &mut Session, book: &mut B,
     ensures message { message_work session.new.stage session.new.runner + statement_at session.old.stage session.old.runner ≤
         message_work session.old.stage session.old.runner }
     ensures last { IsLast session.old.stage → IsLast session.new.stage }
+    ensures legal { IsLegalChronicle (B.past book.old).seen → IsLegalChronicle (B.past book.new).seen }
     ensures stays { B.stays book.old book.new }
 {
     while step_on(alloc, session, book, words) {}
@@ -242,6 +249,7 @@ fn step_message<B: Book, L: Link, W: Words>(
         message_work session.old.stage session.old.runner }
     ensures calm { result ≡ false → message_at session.new.stage ≡ 0 }
     ensures last { IsLast session.old.stage → IsLast session.new.stage }
+    ensures legal { IsLegalChronicle (B.past book.old).seen → IsLegalChronicle (B.past book.new).seen }
     ensures stays { B.stays book.old book.new }
 {
     if !session.is_running() {
@@ -267,6 +275,7 @@ fn run_message<B: Book, L: Link, W: Words>(
     ensures sits { Sits session.new (B.past book.new) }
     ensures work { work_of session.new + message_at session.old.stage ≤ work_of session.old }
     ensures last { IsLast session.old.stage → IsLast session.new.stage }
+    ensures legal { IsLegalChronicle (B.past book.old).seen → IsLegalChronicle (B.past book.new).seen }
     ensures stays { B.stays book.old book.new }
 {
     while step_message(alloc, session, book, link, words) {}
@@ -289,6 +298,7 @@ fn turn<B: Book, L: Link, W: Words>(
     ensures work { result ≡ true → work_of session.new < work_of session.old }
     ensures rests { result ≡ false → IsResting (wanted session.new) }
     ensures last { IsLast session.old.stage → IsLast session.new.stage }
+    ensures legal { IsLegalChronicle (B.past book.old).seen → IsLegalChronicle (B.past book.new).seen }
     ensures stays { B.stays book.old book.new }
 {
     if !serve_want(alloc, session, book, link, words) {
@@ -313,6 +323,7 @@ pub fn drive<B: Book, L: Link, W: Words>(
     ensures sits { Sits session.new (B.past book.new) }
     ensures rests { IsResting (wanted session.new) }
     ensures last { IsLast session.old.stage → IsLast session.new.stage }
+    ensures legal { IsLegalChronicle (B.past book.old).seen → IsLegalChronicle (B.past book.new).seen }
     ensures stays { B.stays book.old book.new }
 {
     while turn(alloc, session, book, link, words) {}

@@ -1,5 +1,6 @@
 // Serves a session over a link.
 ghost use Rattle.std.specs.Prelude.{◌≡◌, ℕ, ◌+◌, ◌<◌, ◌≤◌, List, [], length, IfOk};
+ghost use Rattle.history_core.specs.Chronicle.{IsLegalChronicle};
 ghost use Rattle.history_core.specs.Book.{Past, away};
 ghost use Rattle.link_traits.specs.Traffic.{Sight, sight_of};
 ghost use Rattle.block_machine.specs.Calls.{Call as Asked};
@@ -144,6 +145,7 @@ fn run<B: Book, L: Link, W: Words>(
         result.session result.end result.short
         (B.past book.new) words.new (sight_of L.traffic L.read_faults L.write_faults link.new) talk taken es asked sent lost }
     ensures away { (B.past book.new).seat ≡ away }
+    ensures legal { IsLegalChronicle (B.past book.old).seen → IsLegalChronicle (B.past book.new).seen }
     ensures stays { B.stays book.old book.new }
 {
     let mut left = MOST_READ;
@@ -164,7 +166,7 @@ fn run<B: Book, L: Link, W: Words>(
 /// Serves one session at a level over a link, on a book that has none, with the words that choose what its reads find. What is sent,
 /// but for what a failed write left, what is asked of the book and how the session ends are told of the bytes that were read and of a
 /// record, whose events are those that the book has made its own. `session` is the session that the record opened, and `short` says
-/// whether the record has a want of memory.
+/// whether the record has a want of memory. A history that was legal when the session began is legal when it has ended.
 pub fn serve_link<B: Book, L: Link, W: Words>(
     alloc: Global,
     level: Level,
@@ -178,6 +180,7 @@ pub fn serve_link<B: Book, L: Link, W: Words>(
         result.end result.short
         (B.past book.new) words.new (sight_of L.traffic L.read_faults L.write_faults link.new) talk taken es asked sent lost }
     ensures away { (B.past book.new).seat ≡ away }
+    ensures legal { IsLegalChronicle (B.past book.old).seen → IsLegalChronicle (B.past book.new).seen }
     ensures stays { B.stays book.old book.new }
 {
     match begin(alloc, level) {

@@ -1,5 +1,6 @@
 use Rattle.std.proofs.Common.{ℕ}
 use Rattle.cell_base.specs.declared.level.Level.{Level}
+use Rattle.history_core.specs.Chronicle.{IsLegalChronicle}
 use Rattle.history_core.specs.Book.{Past}
 use Rattle.link_traits.specs.Traffic.{Sight, sight_of}
 use Rattle.session_core.specs.Sessions.{work_of}
@@ -16,6 +17,7 @@ invariant-loop-alloc g l = record {
       (sight_of g.L.Sides.traffic g.L.Sides.read_faults g.L.Sides.write_faults l.link) many;
   sits : Sits l.session (g.B.Book.past l.book);
   last : IsLast l.initial.session.stage → IsLast l.session.stage;
+  legal : IsLegalChronicle (g.B.Book.past l.initial.book).seen → IsLegalChronicle (g.B.Book.past l.book).seen;
   stays : g.B.Book.stays l.initial.book l.book;
 }
 

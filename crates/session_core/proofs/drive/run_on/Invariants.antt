@@ -1,5 +1,6 @@
 use Rattle.std.proofs.Common.{ℕ, ◌+◌, ◌≤◌}
 use Rattle.cell_base.specs.declared.level.Level.{Level}
+use Rattle.history_core.specs.Chronicle.{IsLegalChronicle}
 use Rattle.history_core.specs.Book.{Past}
 use Rattle.link_traits.specs.Traffic.{Sight}
 use Rattle.session_core.specs.Sessions.{work_of}
@@ -17,6 +18,7 @@ invariant-loop-alloc g l = record {
   message : message_work l.session.stage l.session.runner + statement_at l.initial.session.stage l.initial.session.runner ≤
       message_work l.initial.session.stage l.initial.session.runner + statement_at l.session.stage l.session.runner;
   last : IsLast l.initial.session.stage → IsLast l.session.stage;
+  legal : IsLegalChronicle (g.B.Book.past l.initial.book).seen → IsLegalChronicle (g.B.Book.past l.book).seen;
   stays : g.B.Book.stays l.initial.book l.book;
 }
 

@@ -15,6 +15,7 @@ loop-session-init g c = record {
         c.requires.stage,
   );
   sits = sits_new c.args.session.now (g.B.Book.past c.args.book.now) c.requires.stage c.requires.known c.requires.fit c.requires.away;
+  legal = λ legal. legal;
   stays = g.met.B.Book.stays_same c.args.book.now;
   room = c.requires.room;
 }
@@ -32,6 +33,9 @@ returns-in-Ended-clause-served g c =
 pub returns-in-Ended-clause-away : goal.returns-in-Ended-clause-away
 returns-in-Ended-clause-away g c = away_over c.drive.new.session (g.B.Book.past c.drive.new.book)
     (subst IsOver (sym c.finish.ensures.end) tt) c.drive.ensures.sits
+
+pub returns-in-Ended-clause-legal : goal.returns-in-Ended-clause-legal
+returns-in-Ended-clause-legal g c = λ legal. c.drive.ensures.legal (c.loop-session.invariant.legal legal)
 
 pub returns-in-Ended-clause-stays : goal.returns-in-Ended-clause-stays
 returns-in-Ended-clause-stays g c = g.met.B.Book.stays_trans _ _ _ c.loop-session.invariant.stays c.drive.ensures.stays
@@ -56,6 +60,7 @@ returns-then-n-eq0 g c =
       away = away_over c.drive-then-n-eq0.new.session (g.B.Book.past c.drive-then-n-eq0.new.book)
           (is_over c.drive-then-n-eq0.new.session.stage c.drive-then-n-eq0.new.session.runner c.drive-then-n-eq0.ensures.rests
           (c.drive-then-n-eq0.ensures.last (c.take_in-n.ensures.stopped c.if-n-eq0.true))) c.drive-then-n-eq0.ensures.sits;
+      legal = λ legal. c.drive-then-n-eq0.ensures.legal (c.drive.ensures.legal (c.loop-session.invariant.legal legal));
       stays = g.met.B.Book.stays_trans _ _ _ (g.met.B.Book.stays_trans _ _ _ c.loop-session.invariant.stays c.drive.ensures.stays)
           c.drive-then-n-eq0.ensures.stays;
     }
@@ -73,6 +78,7 @@ loop-session-preserved g c =
             c.args.words.now f many c.loop-session.invariant.ran.2),
       );
       sits = c.take_in-n.ensures.sits;
+      legal = λ legal. c.drive.ensures.legal (c.loop-session.invariant.legal legal);
       stays = g.met.B.Book.stays_trans _ _ _ c.loop-session.invariant.stays c.drive.ensures.stays;
       room = search rules;
     }

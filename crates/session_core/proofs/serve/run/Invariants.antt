@@ -1,4 +1,5 @@
 use Rattle.std.proofs.Common.{◌≡◌, ◌+◌, ◌<◌, ℕ, length}
+use Rattle.history_core.specs.Chronicle.{IsLegalChronicle}
 use Rattle.link_traits.specs.Traffic.{sight_of}
 use Rattle.block_machine.specs.Runners.{level_of}
 use Rattle.session_core.specs.Serve.{Ran, Sits}
@@ -11,6 +12,7 @@ invariant-loop-session g l = record {
       (sight_of g.L.Sides.traffic g.L.Sides.read_faults g.L.Sides.write_faults l.initial.link)
       l.session (g.B.Book.past l.book) l.words (sight_of g.L.Sides.traffic g.L.Sides.read_faults g.L.Sides.write_faults l.link) many;
   sits : Sits l.session (g.B.Book.past l.book);
+  legal : IsLegalChronicle (g.B.Book.past l.initial.book).seen → IsLegalChronicle (g.B.Book.past l.book).seen;
   stays : g.B.Book.stays l.initial.book l.book;
   room : 0 < length l.room;
 }
