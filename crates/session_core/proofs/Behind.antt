@@ -40,7 +40,7 @@ pub sends_on : (old new : Runner) (short : Bool) (w : Option Bool) → level_of 
     ((outside : Outside) (said : Said) (es : List Entry) → outside.level ≡ level_of old →
     IsFrom (running.least new.stage) (length said.bytes) es →
     behind old outside said (with_short short said.bytes es) ≡ follows new outside said es) → Sends stages.Running old stages.Running new w
-sends_on old new short w level busy calm shorts goes greeting talk said es from =
+sends_on old new short w level busy calm shorts goes startup talk said es from =
     ap (λ (x : List Entry). behind old (outside_of (level_of old) (on old talk)) said x)
     (sym (with_passing short w said.bytes es calm shorts))
     ∙ goes (outside_of (level_of old) (on old talk)) said es refl
@@ -55,7 +55,7 @@ pub sends_done : (old new : Runner) (state : TransactionState) (short : Bool) (w
     IsFrom (running.least new.stage) (length said.bytes) es →
     behind old outside said (with_short short said.bytes es) ≡ follows new outside said es) →
     Sends stages.Running old (stages.Taking (phases.Normal state)) new w
-sends_done old new state short w level over calm shorts goes greeting talk said es from =
+sends_done old new state short w level over calm shorts goes startup talk said es from =
     ap (λ (x : List Entry). behind old (outside_of (level_of old) (on old talk)) said x)
     (sym (with_passing short w said.bytes es calm shorts))
     ∙ goes (outside_of (level_of old) (on old talk)) said es refl
@@ -65,13 +65,13 @@ sends_done old new state short w level over calm shorts goes greeting talk said 
     (outside_of (level_of new) (on new talk)) said es) over
 
 -- an answer to the call of a message
-pub advances_running : (old new : Runner) (answer : Answer) (short : Bool) (w : Option Bool) (greeting : List ℕ) →
+pub advances_running : (old new : Runner) (answer : Answer) (short : Bool) (w : Option Bool) (startup : List ℕ) →
     level_of new ≡ level_of old → (short ≡ false → w ≡ None) → (short ≡ true → w ≡ Some false) →
     ((c : Call) (outside : Outside) (said : Said) (es : List Entry) (e : Event) → wanted old ≡ calls.Book c →
     IsFrom 1 (length said.bytes) es →
     follows old outside said (entry_for answer e ∷ with_short short said.bytes es) ≡ follows new outside (with_call said c) es) →
-    Advances stages.Running old answer stages.Running new w greeting
-advances_running old new answer short w greeting level calm shorts goes = record {
+    Advances stages.Running old answer stages.Running new w startup
+advances_running old new answer short w startup level calm shorts goes = record {
   goes = λ c before talk said es e is from.
       ap (λ (x : List Entry). follows old (outside_of (level_of old) (on old talk)) said (entry_for answer e ∷ x))
       (sym (with_passing short w said.bytes es calm shorts))

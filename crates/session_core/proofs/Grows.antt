@@ -41,69 +41,69 @@ use Rattle.session_core.proofs.Stepping.{session-short}
 -- ---- what is shown
 
 -- with nothing more to come
-at_end : (stage : Stage) (r : Runner) (greeting : List ℕ) (held : Held) (taken : List ℕ) (es : List Entry) (asked : List Call)
+at_end : (stage : Stage) (r : Runner) (startup : List ℕ) (held : Held) (taken : List ℕ) (es : List Entry) (asked : List Call)
     (sent : List ℕ) (talk : Talk) →
-    (s : StandsFor stage r greeting held taken es asked sent) → IsTalk held.started held.rest talk →
+    (s : StandsFor stage r startup held taken es asked sent) → IsTalk held.started held.rest talk →
     IsTalk false taken (s.whole talk) × (told (level_of r) (s.whole talk) es ≡
-    goes_on stage r greeting talk (record { bytes = sent; calls = asked }) [])
-at_end stage r greeting held taken es asked sent talk s h = (
+    goes_on stage r startup talk (record { bytes = sent; calls = asked }) [])
+at_end stage r startup held taken es asked sent talk s h = (
   subst (λ (x : List ℕ). IsTalk false x (s.whole talk)) (append-nil taken)
       (s.heard [] talk (IsFed-nothing stage) (subst (λ (x : List ℕ). IsTalk held.started x talk) (sym (append-nil held.rest)) h)),
   ap (told (level_of r) (s.whole talk)) (sym (append-nil es)) ∙ s.goes talk [] tt,
 )
 
-shown : (stage : Stage) (r : Runner) (greeting : List ℕ) (held : Held) (taken : List ℕ) (es : List Entry) (asked : List Call)
+shown : (stage : Stage) (r : Runner) (startup : List ℕ) (held : Held) (taken : List ℕ) (es : List Entry) (asked : List Call)
     (sent : List ℕ) (talk : Talk) (next : Next) →
-    StandsFor stage r greeting held taken es asked sent → IsTalk held.started held.rest talk →
-    goes_on stage r greeting talk (record { bytes = sent; calls = asked }) [] ≡ (record { bytes = sent; calls = asked }, next) →
+    StandsFor stage r startup held taken es asked sent → IsTalk held.started held.rest talk →
+    goes_on stage r startup talk (record { bytes = sent; calls = asked }) [] ≡ (record { bytes = sent; calls = asked }, next) →
     (t : Talk) × IsTalk false taken t × (told (level_of r) t es ≡ (record { bytes = sent; calls = asked }, next))
-shown stage r greeting held taken es asked sent talk next s h e =
-    let (a, b) = at_end stage r greeting held taken es asked sent talk s h in (s.whole talk, a, b ∙ e)
+shown stage r startup held taken es asked sent talk next s h e =
+    let (a, b) = at_end stage r startup held taken es asked sent talk s h in (s.whole talk, a, b ∙ e)
 
 -- what a message that runs wants is asked by its script
 abbrev pub IsAsked : Runner → Type 0
 IsAsked r = (c : Call) (outside : Outside) (said : Said) → wants stages.Running r ≡ wishes.Book c →
     follows r outside said [] ≡ (said, call c)
 
-Shows-message : (r : Runner) (w : calls.Want) (greeting : List ℕ) (held : Held) (taken : List ℕ) (es : List Entry) (asked : List Call)
+Shows-message : (r : Runner) (w : calls.Want) (startup : List ℕ) (held : Held) (taken : List ℕ) (es : List Entry) (asked : List Call)
     (sent : List ℕ) →
     ((c : Call) (outside : Outside) (said : Said) → of_message w ≡ wishes.Book c → follows r outside said [] ≡ (said, call c)) →
-    StandsFor stages.Running r greeting held taken es asked sent → Shows (level_of r) (of_message w) taken es asked sent
-Shows-message r (calls.Book c) greeting held taken es asked sent asks s =
-    shown stages.Running r greeting held taken es asked sent unread (call c) s tt
+    StandsFor stages.Running r startup held taken es asked sent → Shows (level_of r) (of_message w) taken es asked sent
+Shows-message r (calls.Book c) startup held taken es asked sent asks s =
+    shown stages.Running r startup held taken es asked sent unread (call c) s tt
     (asks c (outside_of (level_of r) (on r unread)) (record { bytes = sent; calls = asked }) refl)
-Shows-message r calls.Send greeting held taken es asked sent asks s = tt
-Shows-message r calls.Nothing greeting held taken es asked sent asks s = tt
+Shows-message r calls.Send startup held taken es asked sent asks s = tt
+Shows-message r calls.Nothing startup held taken es asked sent asks s = tt
 
-pub Shows-stands : (stage : Stage) (r : Runner) (greeting : List ℕ) (held : Held) (taken : List ℕ) (es : List Entry) (asked : List Call)
+pub Shows-stands : (stage : Stage) (r : Runner) (startup : List ℕ) (held : Held) (taken : List ℕ) (es : List Entry) (asked : List Call)
     (sent : List ℕ) → (stage ≡ stages.Running → IsAsked r) →
-    StandsFor stage r greeting held taken es asked sent → Shows (level_of r) (wants stage r) taken es asked sent
-Shows-stands (stages.Waiting phase) r greeting held taken es asked sent asks s =
-    shown (stages.Waiting phase) r greeting held taken es asked sent (partial held.rest) more s (refl, s.waits phase refl) refl
-Shows-stands (stages.Taking phase) r greeting held taken es asked sent asks s = tt
-Shows-stands stages.Opening r greeting held taken es asked sent asks s = shown stages.Opening r greeting held taken es asked sent unread
+    StandsFor stage r startup held taken es asked sent → Shows (level_of r) (wants stage r) taken es asked sent
+Shows-stands (stages.Waiting phase) r startup held taken es asked sent asks s =
+    shown (stages.Waiting phase) r startup held taken es asked sent (partial held.rest) more s (refl, s.waits phase refl) refl
+Shows-stands (stages.Taking phase) r startup held taken es asked sent asks s = tt
+Shows-stands stages.Opening r startup held taken es asked sent asks s = shown stages.Opening r startup held taken es asked sent unread
     (call calls.Open) s tt refl
-Shows-stands stages.Running r greeting held taken es asked sent asks s = Shows-message r (wanted r) greeting held taken es asked sent
+Shows-stands stages.Running r startup held taken es asked sent asks s = Shows-message r (wanted r) startup held taken es asked sent
     (asks refl) s
-Shows-stands stages.Undoing r greeting held taken es asked sent asks s = shown stages.Undoing r greeting held taken es asked sent unread
+Shows-stands stages.Undoing r startup held taken es asked sent asks s = shown stages.Undoing r startup held taken es asked sent unread
     (call calls.Rollback) s tt refl
-Shows-stands (stages.Telling reply) r greeting held taken es asked sent asks s = tt
-Shows-stands (stages.Leaving f) r greeting held taken es asked sent asks s = shown (stages.Leaving f) r greeting held taken es asked sent
+Shows-stands (stages.Telling reply) r startup held taken es asked sent asks s = tt
+Shows-stands (stages.Leaving f) r startup held taken es asked sent asks s = shown (stages.Leaving f) r startup held taken es asked sent
     unread (call calls.Rollback) s tt refl
-Shows-stands (stages.Closing f) r greeting held taken es asked sent asks s = shown (stages.Closing f) r greeting held taken es asked sent
+Shows-stands (stages.Closing f) r startup held taken es asked sent asks s = shown (stages.Closing f) r startup held taken es asked sent
     unread (call calls.Close) s tt refl
-Shows-stands (stages.Parting f) r greeting held taken es asked sent asks s = tt
-Shows-stands (stages.Ended f) r greeting held taken es asked sent asks s = shown (stages.Ended f) r greeting held taken es asked sent unread
+Shows-stands (stages.Parting f) r startup held taken es asked sent asks s = tt
+Shows-stands (stages.Ended f) r startup held taken es asked sent asks s = shown (stages.Ended f) r startup held taken es asked sent unread
     (ended (end_of f)) s tt refl
 
 -- ---- a message is taken, a piece comes in
 
-pub StandsFor-taken : (phase : Phase) (r next : Runner) (greeting : List ℕ) (before after : Held) (taken : List ℕ) (es : List Entry)
+pub StandsFor-taken : (phase : Phase) (r next : Runner) (startup : List ℕ) (before after : Held) (taken : List ℕ) (es : List Entry)
     (asked : List Call) (sent : List ℕ) (stage : Stage) (w : Option Bool) →
-    StandsFor (stages.Taking phase) r greeting before taken es asked sent → Steps phase r before stage next w after →
-    level_of next ≡ level_of r → HasReply stage next greeting →
-    StandsFor stage next greeting after taken (es ++ with_wanting w sent []) asked sent
-StandsFor-taken phase r next greeting before after taken es asked sent stage w s steps same some = record {
+    StandsFor (stages.Taking phase) r startup before taken es asked sent → Steps phase r before stage next w after →
+    level_of next ≡ level_of r → HasReply stage next startup →
+    StandsFor stage next startup after taken (es ++ with_wanting w sent []) asked sent
+StandsFor-taken phase r next startup before after taken es asked sent stage w s steps same some = record {
   whole = λ talk. s.whole (steps.turns talk);
   heard = λ bytes talk fed h. s.heard bytes (steps.turns talk) tt (steps.heard bytes talk fed h);
   goes = λ talk more_es from.
@@ -111,16 +111,16 @@ StandsFor-taken phase r next greeting before after taken es asked sent stage w s
       ∙ ap (told (level_of r) (s.whole (steps.turns talk))) (append_assoc es (with_wanting w sent []) more_es
       ∙ ap (λ x. es ++ x) (with_wanting-append w sent more_es))
       ∙ s.goes (steps.turns talk) (with_wanting w sent more_es) (IsFrom-with_wanting w sent (least stage) more_es from)
-      ∙ steps.goes greeting talk (record { bytes = sent; calls = asked }) more_es from;
+      ∙ steps.goes startup talk (record { bytes = sent; calls = asked }) more_es from;
   waits = steps.waits;
   some = some;
 }
 
-StandsFor-fed : (phase : Phase) (r : Runner) (greeting : List ℕ) (held : Held) (piece taken : List ℕ) (es : List Entry) (asked : List Call)
+StandsFor-fed : (phase : Phase) (r : Runner) (startup : List ℕ) (held : Held) (piece taken : List ℕ) (es : List Entry) (asked : List Call)
     (sent : List ℕ) →
-    StandsFor (stages.Waiting phase) r greeting held taken es asked sent →
-    StandsFor (stages.Taking phase) r greeting (record held { rest = held.rest ++ piece }) (taken ++ piece) (es ++ []) asked sent
-StandsFor-fed phase r greeting held piece taken es asked sent s = record {
+    StandsFor (stages.Waiting phase) r startup held taken es asked sent →
+    StandsFor (stages.Taking phase) r startup (record held { rest = held.rest ++ piece }) (taken ++ piece) (es ++ []) asked sent
+StandsFor-fed phase r startup held piece taken es asked sent s = record {
   whole = s.whole;
   heard = λ bytes talk fed h. subst (λ (x : List ℕ). IsTalk false x (s.whole talk)) (sym (append_assoc taken piece bytes))
       (s.heard (piece ++ bytes) talk tt (subst (λ (x : List ℕ). IsTalk held.started x talk) (append_assoc held.rest piece bytes) h));
@@ -131,12 +131,12 @@ StandsFor-fed phase r greeting held piece taken es asked sent s = record {
 }
 
 -- the feeding itself met want of memory
-StandsFor-no_memory : (phase : Phase) (r : Runner) (greeting : List ℕ) (held : Held) (piece taken : List ℕ) (es : List Entry)
+StandsFor-no_memory : (phase : Phase) (r : Runner) (startup : List ℕ) (held : Held) (piece taken : List ℕ) (es : List Entry)
     (asked : List Call) (sent : List ℕ) (stage : Stage) →
-    StandsFor (stages.Waiting phase) r greeting held taken es asked sent → HasReply stage r greeting →
+    StandsFor (stages.Waiting phase) r startup held taken es asked sent → HasReply stage r startup →
     LeadsTo stage (ending (owed_by phase) ends.Memory) →
-    StandsFor stage r greeting held (taken ++ piece) (es ++ short true (length sent) ∷ []) asked sent
-StandsFor-no_memory phase r greeting held piece taken es asked sent stage s some leads = record {
+    StandsFor stage r startup held (taken ++ piece) (es ++ short true (length sent) ∷ []) asked sent
+StandsFor-no_memory phase r startup held piece taken es asked sent stage s some leads = record {
   whole = λ talk. s.whole unread;
   heard = λ bytes talk fed h. subst (λ (x : List ℕ). IsTalk false x (s.whole unread)) (sym (append_assoc taken piece bytes))
       (s.heard (piece ++ bytes) unread tt tt);
@@ -144,28 +144,28 @@ StandsFor-no_memory phase r greeting held piece taken es asked sent stage s some
       ap (told (level_of r) (s.whole unread)) (append_assoc es (short true (length sent) ∷ []) more_es)
       ∙ s.goes unread (short true (length sent) ∷ more_es) (omega arith)
       ∙ session-short (level_of r) phase (known_of r) unread (record { bytes = sent; calls = asked }) more_es
-      ∙ leads.1 r greeting talk (record { bytes = sent; calls = asked }) more_es;
+      ∙ leads.1 r startup talk (record { bytes = sent; calls = asked }) more_es;
   waits = λ other is. absurd (subst IsBusy is (busy-last stage leads.0));
   some = some;
 }
 
 -- a piece that came in
-pub StandsFor-piece : (phase : Phase) (r : Runner) (greeting : List ℕ) (held after : Held) (piece taken : List ℕ) (es : List Entry)
+pub StandsFor-piece : (phase : Phase) (r : Runner) (startup : List ℕ) (held after : Held) (piece taken : List ℕ) (es : List Entry)
     (asked : List Call) (sent : List ℕ) (stage : Stage) (w : Option Bool) →
-    Feeds phase piece held stage w after → StandsFor (stages.Waiting phase) r greeting held taken es asked sent →
-    HasReply stage r greeting →
-    StandsFor stage r greeting after (taken ++ piece) (es ++ with_wanting w sent []) asked sent
-StandsFor-piece phase r greeting held after piece taken es asked sent stage w (inl (same, none, taking)) s some =
-    subst (λ (x : Held). StandsFor stage r greeting x (taken ++ piece) (es ++ with_wanting w sent []) asked sent) (sym same)
-    (subst (λ (v : Option Bool). StandsFor stage r greeting (record held { rest = held.rest ++ piece }) (taken ++ piece)
+    Feeds phase piece held stage w after → StandsFor (stages.Waiting phase) r startup held taken es asked sent →
+    HasReply stage r startup →
+    StandsFor stage r startup after (taken ++ piece) (es ++ with_wanting w sent []) asked sent
+StandsFor-piece phase r startup held after piece taken es asked sent stage w (inl (same, none, taking)) s some =
+    subst (λ (x : Held). StandsFor stage r startup x (taken ++ piece) (es ++ with_wanting w sent []) asked sent) (sym same)
+    (subst (λ (v : Option Bool). StandsFor stage r startup (record held { rest = held.rest ++ piece }) (taken ++ piece)
     (es ++ with_wanting v sent []) asked sent) (sym none)
-    (subst (λ (x : Stage). StandsFor x r greeting (record held { rest = held.rest ++ piece }) (taken ++ piece) (es ++ []) asked sent)
+    (subst (λ (x : Stage). StandsFor x r startup (record held { rest = held.rest ++ piece }) (taken ++ piece) (es ++ []) asked sent)
     (sym taking)
-    (StandsFor-fed phase r greeting held piece taken es asked sent s)))
-StandsFor-piece phase r greeting held after piece taken es asked sent stage w (inr (same, is, leads)) s some =
-    subst (λ (x : Held). StandsFor stage r greeting x (taken ++ piece) (es ++ with_wanting w sent []) asked sent) (sym same)
-    (subst (λ (v : Option Bool). StandsFor stage r greeting held (taken ++ piece) (es ++ with_wanting v sent []) asked sent) (sym is)
-    (StandsFor-no_memory phase r greeting held piece taken es asked sent stage s some leads))
+    (StandsFor-fed phase r startup held piece taken es asked sent s)))
+StandsFor-piece phase r startup held after piece taken es asked sent stage w (inr (same, is, leads)) s some =
+    subst (λ (x : Held). StandsFor stage r startup x (taken ++ piece) (es ++ with_wanting w sent []) asked sent) (sym same)
+    (subst (λ (v : Option Bool). StandsFor stage r startup held (taken ++ piece) (es ++ with_wanting v sent []) asked sent) (sym is)
+    (StandsFor-no_memory phase r startup held piece taken es asked sent stage s some leads))
 
 -- ---- an answer
 
@@ -173,12 +173,12 @@ pub IsFrom-entry : (l n : ℕ) (a : Answer) (e : Event) (es : List Entry) → Is
 IsFrom-entry l n (answers.Refused why) e es = tt
 IsFrom-entry l n _ e es = tt
 
-pub StandsFor-answered : (stage next : Stage) (r after : Runner) (greeting now_greeting : List ℕ) (held : Held) (taken : List ℕ)
+pub StandsFor-answered : (stage next : Stage) (r after : Runner) (startup now_startup : List ℕ) (held : Held) (taken : List ℕ)
     (es : List Entry) (asked : List Call) (sent : List ℕ) (c : Call) (a : Answer) (e : Event) (w : Option Bool) →
-    StandsFor stage r greeting held taken es asked sent → Advances stage r a next after w now_greeting → wants stage r ≡ wishes.Book c →
-    level_of after ≡ level_of r → HasReply next after now_greeting →
-    StandsFor next after now_greeting held taken ((es ++ entry_for a e ∷ []) ++ with_wanting w sent []) (asked ++ c ∷ []) sent
-StandsFor-answered stage next r after greeting now_greeting held taken es asked sent c a e w s adv wants_c same some = record {
+    StandsFor stage r startup held taken es asked sent → Advances stage r a next after w now_startup → wants stage r ≡ wishes.Book c →
+    level_of after ≡ level_of r → HasReply next after now_startup →
+    StandsFor next after now_startup held taken ((es ++ entry_for a e ∷ []) ++ with_wanting w sent []) (asked ++ c ∷ []) sent
+StandsFor-answered stage next r after startup now_startup held taken es asked sent c a e w s adv wants_c same some = record {
   whole = s.whole;
   heard = λ bytes talk fed h. s.heard bytes talk (IsFed-back stage next bytes adv.last fed) h;
   goes = λ talk more_es from.
@@ -188,7 +188,7 @@ StandsFor-answered stage next r after greeting now_greeting held taken es asked 
       ∙ ap (λ x. es ++ entry_for a e ∷ x) (with_wanting-append w sent more_es))
       ∙ s.goes talk (entry_for a e ∷ with_wanting w sent more_es)
       (IsFrom-entry (least stage) (length sent) a e (with_wanting w sent more_es))
-      ∙ adv.goes c greeting talk (record { bytes = sent; calls = asked }) more_es e wants_c
+      ∙ adv.goes c startup talk (record { bytes = sent; calls = asked }) more_es e wants_c
       (subst (λ (n : ℕ). IsFrom n (length sent) more_es) (least-busy next adv.busy) from);
   waits = λ other is. absurd (subst IsBusy is adv.busy);
   some = some;
@@ -208,13 +208,13 @@ message_tells (message_stage.Readying state) built known rest outside said es h 
 message_tells _ built known rest outside said es h = absurd h
 
 -- a reply that is held is what the script tells next
-holding_tells : (stage : Stage) (r : Runner) (greeting : List ℕ) (talk : Talk) (said : Said) (es : List Entry) → IsHolding stage r →
-    goes_on stage r greeting talk said es ≡ tell (reply_of stage r greeting) (broken (owed_at stage r)) (after_reply stage r talk) said es
-holding_tells stages.Running r greeting talk said es h = message_tells r.stage r.built.items r.known.items (statements_of r)
+holding_tells : (stage : Stage) (r : Runner) (startup : List ℕ) (talk : Talk) (said : Said) (es : List Entry) → IsHolding stage r →
+    goes_on stage r startup talk said es ≡ tell (reply_of stage r startup) (broken (owed_at stage r)) (after_reply stage r talk) said es
+holding_tells stages.Running r startup talk said es h = message_tells r.stage r.built.items r.known.items (statements_of r)
     (outside_of (level_of r) (on r talk)) said es h
-holding_tells (stages.Telling reply) r greeting talk said es h = refl
-holding_tells (stages.Parting fatal) r greeting talk said es h = refl
-holding_tells _ r greeting talk said es h = absurd h
+holding_tells (stages.Telling reply) r startup talk said es h = refl
+holding_tells (stages.Parting fatal) r startup talk said es h = refl
+holding_tells _ r startup talk said es h = absurd h
 
 least_holding : (stage : Stage) (r : Runner) → IsHolding stage r → least stage ≡ 1
 least_holding stages.Running r h = refl
@@ -227,32 +227,32 @@ from_holding : (stage : Stage) (r : Runner) (sent : List ℕ) (es : List Entry) 
 from_holding stage r sent es h from = subst (λ (n : ℕ). IsFrom n (length sent) es) (sym (least_holding stage r h)) from
 
 -- a reply that is held is told
-pub Tells-stands : (stage : Stage) (r : Runner) (greeting : List ℕ) (held : Held) (taken : List ℕ) (es : List Entry) (asked : List Call)
+pub Tells-stands : (stage : Stage) (r : Runner) (startup : List ℕ) (held : Held) (taken : List ℕ) (es : List Entry) (asked : List Call)
     (sent reply : List ℕ) →
-    StandsFor stage r greeting held taken es asked sent → IsHolding stage r → reply ≡ reply_of stage r greeting →
+    StandsFor stage r startup held taken es asked sent → IsHolding stage r → reply ≡ reply_of stage r startup →
     Tells (level_of r) (owed_at stage r) reply taken es asked sent
-Tells-stands stage r greeting held taken es asked sent reply s holds is =
+Tells-stands stage r startup held taken es asked sent reply s holds is =
     let at : Said = record { bytes = sent; calls = asked } in
-    let now : Said = record { bytes = sent ++ reply_of stage r greeting; calls = asked } in
-    let (heard, same) = at_end stage r greeting held taken es asked sent unread s tt in (
+    let now : Said = record { bytes = sent ++ reply_of stage r startup; calls = asked } in
+    let (heard, same) = at_end stage r startup held taken es asked sent unread s tt in (
       s.whole unread,
       heard,
       s.goes unread (unsent (length sent) ∷ []) (omega arith)
-          ∙ holding_tells stage r greeting unread at (unsent (length sent) ∷ []) holds
+          ∙ holding_tells stage r startup unread at (unsent (length sent) ∷ []) holds
           ∙ unless_unsent-takes (length sent) (broken (owed_at stage r)) (after_reply stage r unread) now []
           ∙ ap (λ (x : List ℕ). broken (owed_at stage r) (record { bytes = sent ++ x; calls = asked }) []) (sym is),
     )
 
 -- a reply that was sent
-pub StandsFor-sent : (stage next : Stage) (r after : Runner) (greeting : List ℕ) (held : Held) (taken : List ℕ) (es : List Entry)
+pub StandsFor-sent : (stage next : Stage) (r after : Runner) (startup : List ℕ) (held : Held) (taken : List ℕ) (es : List Entry)
     (asked : List Call) (sent : List ℕ) (w : Option Bool) →
     Sends stage r next after w → IsHolding stage r → (IsLast stage → IsLast next) → IsAwake next → level_of after ≡ level_of r →
-    HasReply next after greeting →
-    StandsFor stage r greeting held taken es asked sent →
-    StandsFor next after greeting held taken (es ++ with_wanting w (sent ++ reply_of stage r greeting) []) asked
-    (sent ++ reply_of stage r greeting)
-StandsFor-sent stage next r after greeting held taken es asked sent w sends holds last awake same some s =
-    let reply : List ℕ = reply_of stage r greeting in
+    HasReply next after startup →
+    StandsFor stage r startup held taken es asked sent →
+    StandsFor next after startup held taken (es ++ with_wanting w (sent ++ reply_of stage r startup) []) asked
+    (sent ++ reply_of stage r startup)
+StandsFor-sent stage next r after startup held taken es asked sent w sends holds last awake same some s =
+    let reply : List ℕ = reply_of stage r startup in
     let now : List ℕ = sent ++ reply in
     let said : Said = record { bytes = now; calls = asked } in
     let longer : length sent < length now = omega (arith, s.some holds, length-append sent reply) in record {
@@ -264,23 +264,23 @@ StandsFor-sent stage next r after greeting held taken es asked sent w sends hold
           ∙ ap (λ x. es ++ x) (with_wanting-append w now more_es))
           ∙ s.goes talk (with_wanting w now more_es)
           (from_holding stage r sent (with_wanting w now more_es) holds (IsFrom-read w sent reply (least next) more_es (s.some holds) from))
-          ∙ holding_tells stage r greeting talk (record { bytes = sent; calls = asked }) (with_wanting w now more_es) holds
+          ∙ holding_tells stage r startup talk (record { bytes = sent; calls = asked }) (with_wanting w now more_es) holds
           ∙ unless_unsent-passes (length sent) (broken (owed_at stage r)) (after_reply stage r talk) said 0
           (with_wanting w now more_es) longer (IsFrom-with_wanting w now (least next) more_es from)
-          ∙ sends greeting talk said more_es from;
+          ∙ sends startup talk said more_es from;
       waits = λ other is. absurd (subst IsAwake is awake);
       some = some;
     }
 
 -- a reply that was not sent whole
-pub StandsFor-unsent : (stage next : Stage) (r : Runner) (greeting : List ℕ) (held : Held) (taken : List ℕ) (es : List Entry)
+pub StandsFor-unsent : (stage next : Stage) (r : Runner) (startup : List ℕ) (held : Held) (taken : List ℕ) (es : List Entry)
     (asked : List Call) (sent : List ℕ) →
-    StandsFor stage r greeting held taken es asked sent → IsHolding stage r → LeadsTo next (broken (owed_at stage r)) →
-    HasReply next r greeting →
-    StandsFor next r greeting held taken (es ++ unsent (length sent) ∷ []) asked
-    (sent ++ reply_of stage r greeting)
-StandsFor-unsent stage next r greeting held taken es asked sent s holds leads some =
-    let reply : List ℕ = reply_of stage r greeting in
+    StandsFor stage r startup held taken es asked sent → IsHolding stage r → LeadsTo next (broken (owed_at stage r)) →
+    HasReply next r startup →
+    StandsFor next r startup held taken (es ++ unsent (length sent) ∷ []) asked
+    (sent ++ reply_of stage r startup)
+StandsFor-unsent stage next r startup held taken es asked sent s holds leads some =
+    let reply : List ℕ = reply_of stage r startup in
     let now : List ℕ = sent ++ reply in
     let said : Said = record { bytes = now; calls = asked } in record {
       whole = s.whole;
@@ -288,21 +288,21 @@ StandsFor-unsent stage next r greeting held taken es asked sent s holds leads so
       goes = λ talk more_es from.
           ap (told (level_of r) (s.whole talk)) (append_assoc es (unsent (length sent) ∷ []) more_es)
           ∙ s.goes talk (unsent (length sent) ∷ more_es) (omega arith)
-          ∙ holding_tells stage r greeting talk (record { bytes = sent; calls = asked }) (unsent (length sent) ∷ more_es) holds
+          ∙ holding_tells stage r startup talk (record { bytes = sent; calls = asked }) (unsent (length sent) ∷ more_es) holds
           ∙ unless_unsent-takes (length sent) (broken (owed_at stage r)) (after_reply stage r talk) said more_es
-          ∙ leads.1 r greeting talk said more_es;
+          ∙ leads.1 r startup talk said more_es;
       waits = λ other is. absurd (subst IsBusy is (busy-last next leads.0));
       some = some;
     }
 
 -- ---- the end of the input
 
-pub StandsFor-stopped : (phase : Phase) (r : Runner) (greeting : List ℕ) (held : Held) (taken : List ℕ) (es : List Entry)
+pub StandsFor-stopped : (phase : Phase) (r : Runner) (startup : List ℕ) (held : Held) (taken : List ℕ) (es : List Entry)
     (asked : List Call) (sent : List ℕ) (stage : Stage) (cause : Stop) (end : End) →
-    StandsFor (stages.Waiting phase) r greeting held taken es asked sent → LeadsTo stage (ending (owed_by phase) end) →
-    HasReply stage r greeting →
-    stop_end cause (length held.rest) ≡ end → StandsFor stage r greeting held taken (es ++ stop cause ∷ []) asked sent
-StandsFor-stopped phase r greeting held taken es asked sent stage cause end s leads some right = record {
+    StandsFor (stages.Waiting phase) r startup held taken es asked sent → LeadsTo stage (ending (owed_by phase) end) →
+    HasReply stage r startup →
+    stop_end cause (length held.rest) ≡ end → StandsFor stage r startup held taken (es ++ stop cause ∷ []) asked sent
+StandsFor-stopped phase r startup held taken es asked sent stage cause end s leads some right = record {
   whole = λ talk. s.whole (partial held.rest);
   heard = λ bytes talk fed h.
       let nothing : bytes ≡ [] = IsFed-last stage bytes leads.0 fed in
@@ -313,7 +313,7 @@ StandsFor-stopped phase r greeting held taken es asked sent stage cause end s le
       ap (told (level_of r) (s.whole (partial held.rest))) (append_assoc es (stop cause ∷ []) more_es)
       ∙ s.goes (partial held.rest) (stop cause ∷ more_es) tt
       ∙ ap (λ x. ending (owed_by phase) x (record { bytes = sent; calls = asked }) more_es) right
-      ∙ leads.1 r greeting talk (record { bytes = sent; calls = asked }) more_es;
+      ∙ leads.1 r startup talk (record { bytes = sent; calls = asked }) more_es;
   waits = λ other is. absurd (subst IsBusy is (busy-last stage leads.0));
   some = some;
 }
@@ -343,10 +343,10 @@ nothing_waits = record {
   no_fault = λ fault has. no_fault fault has;
 }
 
-pub StandsFor-new : (r : Runner) (greeting : List ℕ) → known_of r ≡ [] →
-    StandsFor (stages.Waiting phases.Startup) r greeting (record { started = false; rest = []; fault = None }) [] [] [] []
+pub StandsFor-new : (r : Runner) (startup : List ℕ) → known_of r ≡ [] →
+    StandsFor (stages.Waiting phases.Startup) r startup (record { started = false; rest = []; fault = None }) [] [] [] []
 unfolding told
-StandsFor-new r greeting none = record {
+StandsFor-new r startup none = record {
   whole = λ talk. talk;
   heard = λ bytes talk fed h. h;
   goes = λ talk es from. ap (λ (known : List Table). on r talk phases.Startup known (record { bytes = []; calls = [] }) es) (sym none);

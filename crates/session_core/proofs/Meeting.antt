@@ -51,10 +51,10 @@ pub message_begins : (asked : Message) (state : TransactionState) (old middle ne
     (short ≡ true → w ≡ Some false) →
     ((outside : Outside) (said : Said) (es : List Entry) → outside.level ≡ level_of middle → IsFrom 1 (length said.bytes) es →
     message asked state (known_of middle) outside said (with_short short said.bytes es) ≡ follows new outside said es) →
-    (greeting : List ℕ) (talk : Talk) (said : Said) (es : List Entry) → IsFrom 1 (length said.bytes) es →
+    (startup : List ℕ) (talk : Talk) (said : Said) (es : List Entry) → IsFrom 1 (length said.bytes) es →
     message asked state (known_of old) (outside_of (level_of old) (on old talk)) said
-    (with_wanting w said.bytes es) ≡ goes_on stages.Running new greeting talk said es
-message_begins asked state old middle new short w middle_level middle_known level calm shorts goes greeting talk said es from =
+    (with_wanting w said.bytes es) ≡ goes_on stages.Running new startup talk said es
+message_begins asked state old middle new short w middle_level middle_known level calm shorts goes startup talk said es from =
     ap (λ (x : List Entry). message asked state (known_of old) (outside_of (level_of old) (on old talk)) said x)
     (sym (with_passing short w said.bytes es calm shorts))
     ∙ ap (λ (k : List Table). message asked state k (outside_of (level_of old) (on old talk)) said (with_short short said.bytes es))
@@ -66,9 +66,9 @@ message_begins asked state old middle new short w middle_level middle_known leve
 pub message_fails : (asked : Message) (state : TransactionState) (old new : Runner) → level_of new ≡ level_of old →
     ((outside : Outside) (said : Said) (es : List Entry) → message asked state
     (known_of old) outside said es ≡ follows new outside said es) →
-    (greeting : List ℕ) (talk : Talk) (said : Said) (es : List Entry) →
-    message asked state (known_of old) (outside_of (level_of old) (on old talk)) said es ≡ goes_on stages.Running new greeting talk said es
-message_fails asked state old new level goes greeting talk said es =
+    (startup : List ℕ) (talk : Talk) (said : Said) (es : List Entry) →
+    message asked state (known_of old) (outside_of (level_of old) (on old talk)) said es ≡ goes_on stages.Running new startup talk said es
+message_fails asked state old new level goes startup talk said es =
     goes (outside_of (level_of old) (on old talk)) said es ∙ level_same old new talk said es level
 
 -- ---- what a message leads to
@@ -84,32 +84,32 @@ leads_own owed stage r is under inner lacks constant fit = record {
   under = under;
   inner = inner;
   lacks = lacks;
-  some = λ greeting. plain_some stage r greeting constant;
+  some = λ startup. plain_some stage r startup constant;
 }
 
 -- ---- messages before the startup
 
 pub meets_ssl : (r : Runner) → Meets fronts.Ssl phases.Startup r (stages.Telling replies.NoEncryption) r None
-meets_ssl r = inl (record { asked = encryption; says = tt; busy = tt; passing = tt; goes = λ greeting talk said es from. refl })
+meets_ssl r = inl (record { asked = encryption; says = tt; busy = tt; passing = tt; goes = λ startup talk said es from. refl })
 
 pub meets_gss : (r : Runner) → Meets fronts.Gss phases.Startup r (stages.Telling replies.NoEncryption) r None
-meets_gss r = inl (record { asked = encryption; says = tt; busy = tt; passing = tt; goes = λ greeting talk said es from. refl })
+meets_gss r = inl (record { asked = encryption; says = tt; busy = tt; passing = tt; goes = λ startup talk said es from. refl })
 
 pub meets_cancel : (pid secret : ℕ) (r : Runner) → Meets (fronts.Cancel pid secret) phases.Startup r
     (stages.Ended finishes.Cancelled) r None
-meets_cancel pid secret r = inl (record { asked = cancel; says = tt; busy = tt; passing = tt; goes = λ greeting talk said es from. refl })
+meets_cancel pid secret r = inl (record { asked = cancel; says = tt; busy = tt; passing = tt; goes = λ startup talk said es from. refl })
 
 pub meets_start : (pairs : List ((List ℕ) × (List ℕ))) (r : Runner) → HasUser pairs →
     Meets (fronts.Startup pairs) phases.Startup r stages.Opening r None
-meets_start pairs r has = inl (record { asked = start; says = has; busy = tt; passing = tt; goes = λ greeting talk said es from. refl })
+meets_start pairs r has = inl (record { asked = start; says = has; busy = tt; passing = tt; goes = λ startup talk said es from. refl })
 
 pub meets_userless : (pairs : List ((List ℕ) × (List ℕ))) (r : Runner) → (HasUser pairs → ⊥) →
     Meets (fronts.Startup pairs) phases.Startup r (stages.Parting fatals.NoUser) r None
 meets_userless pairs r none =
-    inl (record { asked = userless; says = none; busy = tt; passing = tt; goes = λ greeting talk said es from. refl })
+    inl (record { asked = userless; says = none; busy = tt; passing = tt; goes = λ startup talk said es from. refl })
 
 pub meets_version : (code : ℕ) (r : Runner) → Meets (fronts.Version code) phases.Startup r (stages.Parting fatals.OtherVersion) r None
-meets_version code r = inl (record { asked = version; says = tt; busy = tt; passing = tt; goes = λ greeting talk said es from. refl })
+meets_version code r = inl (record { asked = version; says = tt; busy = tt; passing = tt; goes = λ startup talk said es from. refl })
 
 -- ---- messages that are served
 
@@ -122,19 +122,19 @@ meets_terminate state stage r leads =
       busy = busy-last stage leads.0;
       passing = tt;
       goes =
-          λ greeting talk said es from. leads.1 r greeting talk said es;
+          λ startup talk said es from. leads.1 r startup talk said es;
     })
 
 pub meets_sync : (state : TransactionState) (r : Runner) → Meets fronts.Sync (phases.Normal state) r (stages.Telling
     (replies.Ready state)) r None
-meets_sync state r = inl (record { asked = sync; says = tt; busy = tt; passing = tt; goes = λ greeting talk said es from. refl })
+meets_sync state r = inl (record { asked = sync; says = tt; busy = tt; passing = tt; goes = λ startup talk said es from. refl })
 
 pub meets_extended : (step : Extended) (state : TransactionState) (stage : Stage) (r : Runner) → IsBusy stage →
-    ((greeting : List ℕ) (talk : Talk) (said : Said) (es : List Entry) →
-    refuses (level_of r) state (known_of r) (on r talk) said es ≡ goes_on stage r greeting talk said es) →
+    ((startup : List ℕ) (talk : Talk) (said : Said) (es : List Entry) →
+    refuses (level_of r) state (known_of r) (on r talk) said es ≡ goes_on stage r startup talk said es) →
     Meets (fronts.Extended step) (phases.Normal state) r stage r None
 meets_extended step state stage r busy goes =
-    inl (record { asked = extended; says = tt; busy = busy; passing = tt; goes = λ greeting talk said es from. goes greeting talk said es })
+    inl (record { asked = extended; says = tt; busy = busy; passing = tt; goes = λ startup talk said es from. goes startup talk said es })
 
 pub meets_flush : (state : TransactionState) (r : Runner) → Meets fronts.Flush (phases.Normal state) r (stages.Taking
     (phases.Normal state)) r None
@@ -146,18 +146,18 @@ meets_copy part state r = inr (record { asked = nothing; says = tt; goes = λ le
 
 pub meets_query : (text : List ℕ) (asked : Message) (state : TransactionState) (old new : Runner) (w : Option Bool) → IsMessage text asked →
     IsPassing w →
-    ((greeting : List ℕ) (talk : Talk) (said : Said) (es : List Entry) → IsFrom 1 (length said.bytes) es →
+    ((startup : List ℕ) (talk : Talk) (said : Said) (es : List Entry) → IsFrom 1 (length said.bytes) es →
     message asked state (known_of old) (outside_of (level_of old) (on old talk)) said
-    (with_wanting w said.bytes es) ≡ goes_on stages.Running new greeting talk said es) →
+    (with_wanting w said.bytes es) ≡ goes_on stages.Running new startup talk said es) →
     Meets (fronts.Query text) (phases.Normal state) old stages.Running new w
 meets_query text asked state old new w is passing goes =
     inl (record { asked = query asked; says = is; busy = tt; passing = passing; goes = goes })
 
 -- memory is wanting for what a query asks
 pub meets_unread : (text : List ℕ) (state : TransactionState) (old new : Runner) →
-    ((greeting : List ℕ) (talk : Talk) (said : Said) (es : List Entry) →
+    ((startup : List ℕ) (talk : Talk) (said : Said) (es : List Entry) →
     message (messages.Unread states.S53200) state (known_of old)
-    (outside_of (level_of old) (on old talk)) said es ≡ goes_on stages.Running new greeting talk said es) →
+    (outside_of (level_of old) (on old talk)) said es ≡ goes_on stages.Running new startup talk said es) →
     Meets (fronts.Query text) (phases.Normal state) old stages.Running new (Some false)
 meets_unread text state old new goes =
     inl (record {
@@ -165,18 +165,18 @@ meets_unread text state old new goes =
       says = tt;
       busy = tt;
       passing = tt;
-      goes = λ greeting talk said es from.
+      goes = λ startup talk said es from.
           unless_short-takes false (message (messages.Unread states.S53200) state (known_of old)
-          (outside_of (level_of old) (on old talk))) lost said es ∙ goes greeting talk said es;
+          (outside_of (level_of old) (on old talk))) lost said es ∙ goes startup talk said es;
     })
 
 pub meets_function : (state : TransactionState) (old new : Runner) →
-    ((greeting : List ℕ) (talk : Talk) (said : Said) (es : List Entry) →
+    ((startup : List ℕ) (talk : Talk) (said : Said) (es : List Entry) →
     message (messages.Unread states.S0A000) state (known_of old)
-    (outside_of (level_of old) (on old talk)) said es ≡ goes_on stages.Running new greeting talk said es) →
+    (outside_of (level_of old) (on old talk)) said es ≡ goes_on stages.Running new startup talk said es) →
     Meets fronts.Function (phases.Normal state) old stages.Running new None
 meets_function state old new goes =
-    inl (record { asked = function; says = tt; busy = tt; passing = tt; goes = λ greeting talk said es from. goes greeting talk said es })
+    inl (record { asked = function; says = tt; busy = tt; passing = tt; goes = λ startup talk said es from. goes startup talk said es })
 
 -- ---- messages that are discarded
 
@@ -189,12 +189,12 @@ drops_terminate state stage r leads =
       busy = busy-last stage leads.0;
       passing = tt;
       goes =
-          λ greeting talk said es from. leads.1 r greeting talk said es;
+          λ startup talk said es from. leads.1 r startup talk said es;
     })
 
 pub drops_sync : (state : TransactionState) (r : Runner) → Meets fronts.Sync (phases.Discarding state) r (stages.Telling
     (replies.Ready state)) r None
-drops_sync state r = inl (record { asked = sync; says = tt; busy = tt; passing = tt; goes = λ greeting talk said es from. refl })
+drops_sync state r = inl (record { asked = sync; says = tt; busy = tt; passing = tt; goes = λ startup talk said es from. refl })
 
 pub drops_query : (text : List ℕ) (state : TransactionState) (r : Runner) →
     Meets (fronts.Query text) (phases.Discarding state) r (stages.Taking (phases.Discarding state)) r None

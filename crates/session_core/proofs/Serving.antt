@@ -85,7 +85,7 @@ shows_more s level taken es asked sent served w st =
     IsAsked s.runner = λ e. absurd (let clash : stages.Waiting phase ≡ stages.Running = sym is ∙ e in cc clash) in
     subst (λ (l : Level). Shows l wishes.Bytes taken es asked sent) served
     (subst (λ (x : Want). Shows (level_of s.runner) x taken es asked sent) w
-    (Shows-stands s.stage s.runner s.greeting.items s.frames taken es asked sent not_running st.stage))
+    (Shows-stands s.stage s.runner s.startup.items s.frames taken es asked sent not_running st.stage))
 
 -- ---- one step more
 
@@ -382,7 +382,7 @@ Serves-ran gives level p v f s number end wanting q w g many within over opened 
     let shows : Shows level (wishes.Ended end) taken es asked sent =
     subst (λ (l : Level). Shows l (wishes.Ended end) taken es asked sent) run.served_level
     (subst (λ (x : Want). Shows (level_of s.runner) x taken es asked sent) over
-    (Shows-stands s.stage s.runner s.greeting.items s.frames taken es asked sent not_running run.stands.stage)) in (
+    (Shows-stands s.stage s.runner s.startup.items s.frames taken es asked sent not_running run.stands.stage)) in (
       shows.0,
       taken,
       es,

@@ -43,11 +43,11 @@ unfolding fatal_reply
 fatal-some state = report-some _ state
 
 -- each reply but one that was built has bytes
-pub plain_some : (stage : Stage) (r : Runner) (greeting : List ℕ) → NoBuilt stage → HasReply stage r greeting
-plain_some stages.Running r greeting h k = absurd h
-plain_some (stages.Telling replies.NoEncryption) r greeting h k = omega arith
-plain_some (stages.Telling replies.Greeting) r greeting h k = absurd h
-plain_some (stages.Telling (replies.Ready state)) r greeting h k = ready-some state
-plain_some (stages.Telling (replies.Unsupported state)) r greeting h k = error-some _
-plain_some (stages.Parting fatal) r greeting h k = fatal-some (fatal_state fatal)
-plain_some _ r greeting h k = absurd k
+pub plain_some : (stage : Stage) (r : Runner) (startup : List ℕ) → NoBuilt stage → HasReply stage r startup
+plain_some stages.Running r startup h k = absurd h
+plain_some (stages.Telling replies.NoEncryption) r startup h k = omega arith
+plain_some (stages.Telling replies.Startup) r startup h k = absurd h
+plain_some (stages.Telling (replies.Ready state)) r startup h k = ready-some state
+plain_some (stages.Telling (replies.Unsupported state)) r startup h k = error-some _
+plain_some (stages.Parting fatal) r startup h k = fatal-some (fatal_state fatal)
+plain_some _ r startup h k = absurd k

@@ -49,7 +49,7 @@ pub Steps-partial : (phase : Phase) (r : Runner) (before after : Held) → after
 Steps-partial phase r before after is nothing = record {
   turns = λ talk. talk;
   heard = λ bytes talk fed h. subst (λ (x : Held). IsTalk x.started (x.rest ++ bytes) talk) is h;
-  goes = λ greeting talk said es from. refl;
+  goes = λ startup talk said es from. refl;
   waits = λ other e. subst (λ (x : Held). IsPartial x.started x.rest) (sym is) nothing;
 }
 
@@ -78,11 +78,11 @@ Steps-entered phase r before after front stage next wanting takes started enters
     enters.says,
     subst (λ (b : Bool). IsTalk b (after.rest ++ bytes) talk) started h,
   );
-  goes = λ greeting talk said es from.
+  goes = λ startup talk said es from.
       unless_short-over wanting (ending (owed_by phase) ends.Memory)
       (handled (level_of r) enters.asked phase (known_of r) (on r talk)) said es enters.passing
       (at_one stage (length said.bytes) es enters.busy from)
-      ∙ enters.goes greeting talk said es (at_one stage (length said.bytes) es enters.busy from);
+      ∙ enters.goes startup talk said es (at_one stage (length said.bytes) es enters.busy from);
   waits = λ other is. absurd (subst IsBusy is enters.busy);
 }
 
@@ -98,7 +98,7 @@ Steps-skipped phase r before after front takes started skips = record {
     skips.says,
     subst (λ (b : Bool). IsTalk b (after.rest ++ bytes) talk) started h,
   );
-  goes = λ greeting talk said es from.
+  goes = λ startup talk said es from.
       ap (λ (x : Script). unless_short true (ending (owed_by phase) ends.Memory) x said es)
       (skips.goes (level_of r) (known_of r) (on r talk))
       ∙ session-again (level_of r) phase (known_of r) talk said es;
@@ -127,10 +127,10 @@ Steps-faulty phase r before after fault stage same_phase same_rest has leads = r
       let nothing : bytes ≡ [] = IsFed-last stage bytes leads.0 fed in
       subst (λ (x : List ℕ). HasFault before.started (before.rest ++ x) fault) (sym nothing)
       (subst (λ (x : List ℕ). HasFault before.started x fault) (sym (append-nil before.rest)) has);
-  goes = λ greeting talk said es from.
+  goes = λ startup talk said es from.
       unless_short-passes true (ending (owed_by phase) ends.Memory) (ending (owed_by phase) (ends.Protocol fault)) said es
       (at_one stage (length said.bytes) es (busy-last stage leads.0) from)
-      ∙ leads.1 r greeting talk said es;
+      ∙ leads.1 r startup talk said es;
   waits = λ other is. absurd (subst IsBusy is (busy-last stage leads.0));
 }
 
@@ -139,7 +139,7 @@ pub Steps-memory : (phase : Phase) (r : Runner) (before after : Held) (stage : S
 Steps-memory phase r before after stage is leads = record {
   turns = λ talk. talk;
   heard = λ bytes talk fed h. subst (λ (x : Held). IsTalk x.started (x.rest ++ bytes) talk) is h;
-  goes = λ greeting talk said es from. session-short (level_of r) phase (known_of r) talk said es ∙ leads.1 r greeting talk said es;
+  goes = λ startup talk said es from. session-short (level_of r) phase (known_of r) talk said es ∙ leads.1 r startup talk said es;
   waits = λ other e. absurd (subst IsBusy e (busy-last stage leads.0));
 }
 

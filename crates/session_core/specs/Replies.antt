@@ -35,16 +35,16 @@ fatal_state fatals.OtherVersion = states.S0A000
 fatal_state fatals.Full = states.S54000
 fatal_state fatals.Spent = states.S54000
 
--- the bytes of a reply, given the greeting that was built
+-- the bytes of a reply, given the startup reply that was built
 abbrev pub bytes_of : List ℕ → Reply → List ℕ
-bytes_of greeting replies.NoEncryption = no_encryption
-bytes_of greeting replies.Greeting = greeting
-bytes_of greeting (replies.Ready state) = ready_reply state
-bytes_of greeting (replies.Unsupported state) = error_reply states.S0A000
+bytes_of startup replies.NoEncryption = no_encryption
+bytes_of startup replies.Startup = startup
+bytes_of startup (replies.Ready state) = ready_reply state
+bytes_of startup (replies.Unsupported state) = error_reply states.S0A000
 
 -- the phase behind a reply
 abbrev pub phase_behind : Reply → Phase
 phase_behind replies.NoEncryption = phases.Startup
-phase_behind replies.Greeting = phases.Normal ready_states.Idle
+phase_behind replies.Startup = phases.Normal ready_states.Idle
 phase_behind (replies.Ready state) = phases.Normal state
 phase_behind (replies.Unsupported state) = phases.Discarding state

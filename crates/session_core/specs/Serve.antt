@@ -95,9 +95,8 @@ Ran gives level p v f s q w g many =
 
 -- A link was served at a level. No more was taken than the most that is read. What was sent and the end are told of what was taken and of a
 -- record, whose calls were made of the book in order and whose events are those that the book made; its reads drew the words; and no reply
--- was held back over a read. Where a write failed, what is lost of what was told stands at its end, and is a part of the last
--- reply. The session is the one that the record
--- opened.
+-- was held back over a read. Where a write failed, what is lost of what was told stands at its end, and is a part of the last reply. The
+-- session is the one that the record opened.
 pub record Serves {W : Type 0} (gives : W → ℕ → W → Type 0) (level : Level) (p : Past) (v : W) (f : Sight)
     (number : Option ℕ) (end : End) (wanting : Bool) (q : Past) (w : W) (g : Sight)
     (talk : Talk) (taken : List ℕ) (es : List Entry) (asked : List Call) (sent lost : List ℕ) : Type 0 where

@@ -13,7 +13,7 @@ use Rattle.session_core.specs.Stands.{StandsFor, work_at}
 use Rattle.session_core.specs.Steps.{IsShort}
 
 pub record Stands (s : Session) (taken : List ℕ) (es : List Entry) (asked : List Call) (sent : List ℕ) : Type 0 where
-  pub stage : StandsFor s.stage s.runner s.greeting.items s.frames taken es asked sent
+  pub stage : StandsFor s.stage s.runner s.startup.items s.frames taken es asked sent
   pub short : s.short ≡ has_short es
   pub number : s.number ≡ opened_in es
 

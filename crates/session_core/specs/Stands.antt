@@ -58,19 +58,19 @@ end_of (finishes.Fatal fatal) = fatal_end fatal
 abbrev pub on : Runner → Talk → Phase → List Table → Script
 on r talk phase known = session (level_of r) phase known talk
 
--- What a stage goes on with, given what its runner goes on with, the greeting that was built, and what the client says from here on.
+-- What a stage goes on with, given what its runner goes on with, the startup reply that was built, and what the client says from here on.
 abbrev pub goes_on : Stage → Runner → List ℕ → Talk → Script
-goes_on (stages.Waiting phase) r greeting talk = on r talk phase (known_of r)
-goes_on (stages.Taking phase) r greeting talk = on r talk phase (known_of r)
-goes_on stages.Opening r greeting talk = opens (on r talk (phases.Normal block_states.Idle) (known_of r))
-goes_on stages.Running r greeting talk = follows r (outside_of (level_of r) (on r talk))
-goes_on stages.Undoing r greeting talk = refuses (level_of r) block_states.Block (known_of r) (on r talk)
-goes_on (stages.Telling reply) r greeting talk = tell (bytes_of greeting reply) (broken (owed_by (phase_behind reply)))
+goes_on (stages.Waiting phase) r startup talk = on r talk phase (known_of r)
+goes_on (stages.Taking phase) r startup talk = on r talk phase (known_of r)
+goes_on stages.Opening r startup talk = opens (on r talk (phases.Normal block_states.Idle) (known_of r))
+goes_on stages.Running r startup talk = follows r (outside_of (level_of r) (on r talk))
+goes_on stages.Undoing r startup talk = refuses (level_of r) block_states.Block (known_of r) (on r talk)
+goes_on (stages.Telling reply) r startup talk = tell (bytes_of startup reply) (broken (owed_by (phase_behind reply)))
     (on r talk (phase_behind reply) (known_of r))
-goes_on (stages.Leaving finish) r greeting talk = ending owed_kinds.Rollback (end_of finish)
-goes_on (stages.Closing finish) r greeting talk = closing (end_of finish)
-goes_on (stages.Parting fatal) r greeting talk = tell (fatal_reply (fatal_state fatal)) (broken owed_kinds.Nothing) (done (fatal_end fatal))
-goes_on (stages.Ended finish) r greeting talk = done (end_of finish)
+goes_on (stages.Leaving finish) r startup talk = ending owed_kinds.Rollback (end_of finish)
+goes_on (stages.Closing finish) r startup talk = closing (end_of finish)
+goes_on (stages.Parting fatal) r startup talk = tell (fatal_reply (fatal_state fatal)) (broken owed_kinds.Nothing) (done (fatal_end fatal))
+goes_on (stages.Ended finish) r startup talk = done (end_of finish)
 
 -- what a stage wants
 abbrev pub wants : Stage → Runner → Want
@@ -119,10 +119,10 @@ IsHolding (stages.Parting fatal) r = Unit {0}
 IsHolding _ r = ⊥
 
 abbrev pub reply_of : Stage → Runner → List ℕ → List ℕ
-reply_of stages.Running r greeting = held r
-reply_of (stages.Telling reply) r greeting = bytes_of greeting reply
-reply_of (stages.Parting fatal) r greeting = fatal_reply (fatal_state fatal)
-reply_of _ r greeting = []
+reply_of stages.Running r startup = held r
+reply_of (stages.Telling reply) r startup = bytes_of startup reply
+reply_of (stages.Parting fatal) r startup = fatal_reply (fatal_state fatal)
+reply_of _ r startup = []
 
 -- what follows a reply that was sent
 abbrev pub after_reply : Stage → Runner → Talk → Script
@@ -133,7 +133,7 @@ after_reply _ r talk = broken owed_kinds.Nothing
 
 -- a held reply has bytes
 abbrev pub HasReply : Stage → Runner → List ℕ → Type 0
-HasReply stage r greeting = IsHolding stage r → 0 < length (reply_of stage r greeting)
+HasReply stage r startup = IsHolding stage r → 0 < length (reply_of stage r startup)
 
 -- ---- what holds of a stage
 
@@ -193,7 +193,7 @@ IsUnder stage r = is_under stage r ≡ true
 -- the reply that is held, if one is, isn't one that was built
 abbrev pub NoBuilt : Stage → Type 0
 NoBuilt stages.Running = ⊥
-NoBuilt (stages.Telling replies.Greeting) = ⊥
+NoBuilt (stages.Telling replies.Startup) = ⊥
 NoBuilt _ = Unit {0}
 
 -- What holds of a runner whatever the stage: its tables, statements and demands are sound.
@@ -256,15 +256,15 @@ IsStopped _ _ = ⊥
 
 -- Whatever comes, told of the lists grown by it is what the state goes on with. `whole` puts what the client says from here on behind what
 -- it said before.
-pub record StandsFor (stage : Stage) (r : Runner) (greeting : List ℕ) (held : Held) (taken : List ℕ) (entries : List Entry)
+pub record StandsFor (stage : Stage) (r : Runner) (startup : List ℕ) (held : Held) (taken : List ℕ) (entries : List Entry)
     (asked : List Call) (sent : List ℕ) : Type 0 where
   pub whole : Talk → Talk
   pub heard : (bytes : List ℕ) (talk : Talk) → IsFed stage bytes → IsTalk held.started (held.rest ++ bytes) talk →
       IsTalk false (taken ++ bytes) (whole talk)
   pub goes : (talk : Talk) (es : List Entry) → IsFrom (least stage) (length sent) es →
-      told (level_of r) (whole talk) (entries ++ es) ≡ goes_on stage r greeting talk (record { bytes = sent; calls = asked }) es
+      told (level_of r) (whole talk) (entries ++ es) ≡ goes_on stage r startup talk (record { bytes = sent; calls = asked }) es
   pub waits : (phase : Phase) → stage ≡ stages.Waiting phase → IsPartial held.started held.rest
-  pub some : HasReply stage r greeting
+  pub some : HasReply stage r startup
 
 -- What a want says of all that came in and went out, given that the session wants it.
 abbrev pub Shows : Level → Want → List ℕ → List Entry → List Call → List ℕ → Type 0

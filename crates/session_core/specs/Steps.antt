@@ -49,8 +49,8 @@ IsShort sent (stop cause ∷ es) = ⊥
 
 -- an end leads to a stage
 abbrev pub LeadsTo : Stage → Script → Type 0
-LeadsTo stage script = IsLast stage × ((r : Runner) (greeting : List ℕ) (talk : Talk) (said : Said) (es : List Entry) →
-    script said es ≡ goes_on stage r greeting talk said es)
+LeadsTo stage script = IsLast stage × ((r : Runner) (startup : List ℕ) (talk : Talk) (said : Said) (es : List Entry) →
+    script said es ≡ goes_on stage r startup talk said es)
 
 -- the message stands behind the startup
 abbrev pub is_main : Front → Bool
@@ -82,9 +82,9 @@ pub record Enters (front : Front) (phase : Phase) (r : Runner) (stage : Stage) (
   pub says : Says front asked
   pub busy : IsBusy stage
   pub passing : IsPassing wanting
-  pub goes : (greeting : List ℕ) (talk : Talk) (said : Said) (es : List Entry) → IsFrom 1 (length said.bytes) es →
+  pub goes : (startup : List ℕ) (talk : Talk) (said : Said) (es : List Entry) → IsFrom 1 (length said.bytes) es →
       handled (level_of r) asked phase (known_of r) (on r talk) said (with_wanting wanting said.bytes es) ≡
-      goes_on stage next greeting talk said es
+      goes_on stage next startup talk said es
 
 -- A message of a client tells nothing and changes nothing.
 pub record Skips (front : Front) (phase : Phase) : Type 0 where
@@ -102,7 +102,7 @@ pub record Leads (owed : Owed) (r : Runner) (stage : Stage) (next : Runner) : Ty
   pub under : IsUnder stage next
   pub inner : outer stage ≡ None
   pub lacks : Lacks stage []
-  pub some : (greeting : List ℕ) → HasReply stage next greeting
+  pub some : (startup : List ℕ) → HasReply stage next startup
 
 -- A message leads to a stage, or is passed over.
 abbrev pub Meets : Front → Phase → Runner → Stage → Runner → Option Bool → Type 0
@@ -116,8 +116,8 @@ pub record Steps (phase : Phase) (r : Runner) (before : Held) (stage : Stage) (n
   pub turns : Talk → Talk
   pub heard : (bytes : List ℕ) (talk : Talk) → IsFed stage bytes → IsTalk after.started (after.rest ++ bytes) talk →
       IsTalk before.started (before.rest ++ bytes) (turns talk)
-  pub goes : (greeting : List ℕ) (talk : Talk) (said : Said) (es : List Entry) → IsFrom (least stage) (length said.bytes) es →
-      on r (turns talk) phase (known_of r) said (with_wanting wanting said.bytes es) ≡ goes_on stage next greeting talk said es
+  pub goes : (startup : List ℕ) (talk : Talk) (said : Said) (es : List Entry) → IsFrom (least stage) (length said.bytes) es →
+      on r (turns talk) phase (known_of r) said (with_wanting wanting said.bytes es) ≡ goes_on stage next startup talk said es
   pub waits : (other : Phase) → stage ≡ stages.Waiting other → IsPartial after.started after.rest
 
 -- A piece that comes in where bytes are wanted is held, or memory for it is wanting and the session ends.
@@ -129,16 +129,16 @@ Feeds phase piece before stage wanting after =
 -- A reply that was sent leads on, with a want of memory behind it where there was one.
 abbrev pub Sends : Stage → Runner → Stage → Runner → Option Bool → Type 0
 Sends stage r next after wanting =
-    (greeting : List ℕ) (talk : Talk) (said : Said) (es : List Entry) → IsFrom (least next) (length said.bytes) es →
-    after_reply stage r talk said (with_wanting wanting said.bytes es) ≡ goes_on next after greeting talk said es
+    (startup : List ℕ) (talk : Talk) (said : Said) (es : List Entry) → IsFrom (least next) (length said.bytes) es →
+    after_reply stage r talk said (with_wanting wanting said.bytes es) ≡ goes_on next after startup talk said es
 
 -- An answer to a stage's call leads on, with a want of memory behind it where there was one.
 pub record Advances (stage : Stage) (r : Runner) (answer : Answer) (next : Stage) (after : Runner) (wanting : Option Bool)
-    (greeting : List ℕ) : Type 0 where
+    (startup : List ℕ) : Type 0 where
   pub goes : (c : Call) (before : List ℕ) (talk : Talk) (said : Said) (es : List Entry) (e : Event) → wants stage r ≡ wishes.Book c →
       IsFrom 1 (length said.bytes) es →
       goes_on stage r before talk said (entry_for answer e ∷ with_wanting wanting said.bytes es) ≡
-      goes_on next after greeting talk (with_call said c) es
+      goes_on next after startup talk (with_call said c) es
   pub busy : IsBusy next
   pub last : IsLast stage → IsLast next
 

@@ -89,11 +89,11 @@ abbrev pub refusal_end : BookFault → End
 refusal_end (faults.Full limit) = ends.Refused states.S54000
 refusal_end faults.Memory = ends.Memory
 
-abbrev pub greets : ℕ → Script → Script
-greets session rest = unless_short true (closing ends.Memory) (tell (startup_reply session) (broken owes.Close) rest)
+abbrev pub tells_startup : ℕ → Script → Script
+tells_startup session rest = unless_short true (closing ends.Memory) (tell (startup_reply session) (broken owes.Close) rest)
 
 abbrev pub opens : Script → Script
-opens rest = ask calls.Open (λ a. on_opened a (λ session. greets session rest) (λ why. closed (refusal_end why)))
+opens rest = ask calls.Open (λ a. on_opened a (λ session. tells_startup session rest) (λ why. closed (refusal_end why)))
 
 -- rest is what follows, by the phase and the tables known
 abbrev pub starting : Ask → List Table → (Phase → List Table → Script) → Script

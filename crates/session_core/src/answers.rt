@@ -11,7 +11,7 @@ ghost use Rattle.session_core.specs.Steps.{Advances, Sends};
 
 use crate::messages::passing;
 use crate::phase::Phase;
-use crate::replies::startup;
+use crate::replies;
 use crate::stage::{Finish, Reply, Stage};
 use crate::turns::{Step, advance, calm, owed_by, phase_behind};
 use block_machine::{Answer, Owed, Runner};
@@ -35,7 +35,7 @@ fn run_on(runner: &mut Runner) -> Step
     ensures under { IsUnder result.stage runner.new }
     ensures awake { IsAwake result.stage }
     ensures phase { InPhase result.stage true }
-    ensures some { (greeting : List ℕ) → HasReply result.stage runner.new greeting }
+    ensures some { (startup : List ℕ) → HasReply result.stage runner.new startup }
 {
     let wanting = runner.sent();
     match runner.left() {
@@ -67,7 +67,7 @@ pub fn after_sent(stage: Stage, runner: &mut Runner) -> Step
     ensures awake { IsAwake result.stage }
     ensures phase { (started : Bool) → InPhase stage started → InPhase result.stage started }
     ensures last { IsLast stage → IsLast result.stage }
-    ensures some { (greeting : List ℕ) → HasReply result.stage runner.new greeting }
+    ensures some { (startup : List ℕ) → HasReply result.stage runner.new startup }
 {
     match stage {
         Stage::Telling(reply) => calm(Stage::Taking(phase_behind(reply))),
@@ -90,21 +90,21 @@ pub fn owed_holding(stage: Stage, runner: &Runner) -> Owed
     }
 }
 
-// Greets the client of a session that was opened.
-fn greet(alloc: Global, session: u32, greeting: &mut Vec<u8>) -> Step
-    ensures goes { (r : Machine) → Advances Stage.Opening r (Answer.Opened session) result.stage r result.wanting greeting.new.items }
+// Tells a session that was opened its startup reply, or ends it where memory for that is wanting.
+fn tell_startup(alloc: Global, session: u32, startup: &mut Vec<u8>) -> Step
+    ensures goes { (r : Machine) → Advances Stage.Opening r (Answer.Opened session) result.stage r result.wanting startup.new.items }
     ensures owed { (r : Machine) → owed_at result.stage r ≡ Owed.Close }
     ensures outer { outer result.stage ≡ None }
     ensures lacks { Lacks result.stage [] }
     ensures work { work_at result.stage < 8 }
     ensures phase { InPhase result.stage true }
     ensures under { (r : Machine) → IsUnder result.stage r }
-    ensures some { (r : Machine) → HasReply result.stage r greeting.new.items }
+    ensures some { (r : Machine) → HasReply result.stage r startup.new.items }
 {
-    match startup(alloc, session) {
+    match replies::startup(alloc, session) {
         Ok(reply) => {
-            *greeting = reply;
-            calm(Stage::Telling(Reply::Greeting))
+            *startup = reply;
+            calm(Stage::Telling(Reply::Startup))
         }
         Err(Memory) => Step {
             stage: Stage::Closing(Finish::Memory),
@@ -114,9 +114,9 @@ fn greet(alloc: Global, session: u32, greeting: &mut Vec<u8>) -> Step
 }
 
 // The step behind the answer to a call of the session's own.
-fn answer_own(alloc: Global, stage: Stage, answer: Answer, greeting: &mut Vec<u8>) -> Step
+fn answer_own(alloc: Global, stage: Stage, answer: Answer, startup: &mut Vec<u8>) -> Step
     requires fits { FitsWant (own_want stage) answer }
-    ensures goes { (r : Machine) → Advances stage r answer result.stage r result.wanting greeting.new.items }
+    ensures goes { (r : Machine) → Advances stage r answer result.stage r result.wanting startup.new.items }
     ensures owed { (c : Asked) (r : Machine) → wants stage r ≡ wishes.Book c →
         owed_at result.stage r ≡ owed_after c answer (owed_at stage r) }
     ensures outer { outer result.stage ≡ outer stage }
@@ -125,10 +125,10 @@ fn answer_own(alloc: Global, stage: Stage, answer: Answer, greeting: &mut Vec<u8
     ensures phase { (started : Bool) → InPhase stage started → InPhase result.stage started }
     ensures under { (r : Machine) → IsUnder result.stage r }
     ensures known { (r : Machine) → IsKnownAfter (known_of r) answer (known_of r) }
-    ensures some { (r : Machine) → HasReply result.stage r greeting.new.items }
+    ensures some { (r : Machine) → HasReply result.stage r startup.new.items }
 {
     match (stage, answer) {
-        (Stage::Opening, Answer::Opened(session)) => greet(alloc, session, greeting),
+        (Stage::Opening, Answer::Opened(session)) => tell_startup(alloc, session, startup),
         (stage, answer) => calm(advance(stage, &answer)),
     }
 }
@@ -137,7 +137,7 @@ fn answer_own(alloc: Global, stage: Stage, answer: Answer, greeting: &mut Vec<u8
 fn answer_message(runner: &mut Runner, answer: Answer) -> Step
     requires fits { FitsWant (wants Stage.Running runner.old) answer }
     requires fit { IsFit runner.old }
-    ensures goes { (greeting : List ℕ) → Advances Stage.Running runner.old answer result.stage runner.new result.wanting greeting }
+    ensures goes { (startup : List ℕ) → Advances Stage.Running runner.old answer result.stage runner.new result.wanting startup }
     ensures stage { result.stage ≡ Stage.Running }
     ensures owed { (c : Asked) → wants Stage.Running runner.old ≡ wishes.Book c →
         owed_at Stage.Running runner.new ≡ owed_after c answer (owed_at Stage.Running runner.old) }
@@ -148,7 +148,7 @@ fn answer_message(runner: &mut Runner, answer: Answer) -> Step
     ensures known { IsKnownAfter (known_of runner.old) answer (known_of runner.new) }
     ensures fit { IsFit runner.new }
     ensures under { IsUnder Stage.Running runner.new }
-    ensures some { (greeting : List ℕ) → HasReply Stage.Running runner.new greeting }
+    ensures some { (startup : List ℕ) → HasReply Stage.Running runner.new startup }
 {
     let wanting = runner.answer(answer);
     Step {
@@ -163,11 +163,11 @@ pub fn answered(
     stage: Stage,
     runner: &mut Runner,
     answer: Answer,
-    greeting: &mut Vec<u8>,
+    startup: &mut Vec<u8>,
 ) -> Step
     requires fits { FitsWant (wants stage runner.old) answer }
     requires fit { IsFit runner.old }
-    ensures goes { Advances stage runner.old answer result.stage runner.new result.wanting greeting.new.items }
+    ensures goes { Advances stage runner.old answer result.stage runner.new result.wanting startup.new.items }
     ensures owed { (c : Asked) → wants stage runner.old ≡ wishes.Book c →
         owed_at result.stage runner.new ≡ owed_after c answer (owed_at stage runner.old) }
     ensures outer { outer result.stage ≡ outer stage }
@@ -181,11 +181,11 @@ pub fn answered(
     ensures fit { IsFit runner.new }
     ensures under { IsUnder result.stage runner.new }
     ensures phase { (started : Bool) → InPhase stage started → InPhase result.stage started }
-    ensures some { HasReply result.stage runner.new greeting.new.items }
+    ensures some { HasReply result.stage runner.new startup.new.items }
 {
     match stage {
         Stage::Running => answer_message(runner, answer),
-        stage => answer_own(alloc, stage, answer, greeting),
+        stage => answer_own(alloc, stage, answer, startup),
     }
 }
 

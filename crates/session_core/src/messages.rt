@@ -36,9 +36,9 @@ pub fn passing(wanting: bool) -> Option<bool>
 fn run(message: Message, state: TransactionState, runner: &mut Runner) -> Step
     requires sound { IsSoundMessage message }
     requires fit { IsFit runner.old }
-    ensures goes { (greeting : List ℕ) (talk : Talk) (said : Said) (es : List Entry) → IsFrom 1 (length said.bytes) es →
+    ensures goes { (startup : List ℕ) (talk : Talk) (said : Said) (es : List Entry) → IsFrom 1 (length said.bytes) es →
         blocks.message message state (known_of runner.old) (outside_of (level_of runner.old) (on runner.old talk)) said
-        (with_wanting result.wanting said.bytes es) ≡ goes_on Stage.Running runner.new greeting talk said es }
+        (with_wanting result.wanting said.bytes es) ≡ goes_on Stage.Running runner.new startup talk said es }
     ensures stage { result.stage ≡ Stage.Running }
     ensures passing { IsPassing result.wanting }
     ensures leads { Leads (blocks.owed_between state) runner.old Stage.Running runner.new }
@@ -54,9 +54,9 @@ fn run(message: Message, state: TransactionState, runner: &mut Runner) -> Step
 // Runs a message that fails before its first statement, with this code.
 fn fail(code: SqlState, state: TransactionState, runner: &mut Runner)
     requires fit { IsFit runner.old }
-    ensures goes { (greeting : List ℕ) (talk : Talk) (said : Said) (es : List Entry) →
+    ensures goes { (startup : List ℕ) (talk : Talk) (said : Said) (es : List Entry) →
         blocks.message (Message.Unread code) state (known_of runner.old) (outside_of (level_of runner.old) (on runner.old talk)) said es ≡
-        goes_on Stage.Running runner.new greeting talk said es }
+        goes_on Stage.Running runner.new startup talk said es }
     ensures leads { Leads (blocks.owed_between state) runner.old Stage.Running runner.new }
 {
     runner.refuse(code, state);

@@ -86,13 +86,13 @@ impl Prepared {
         })
     }
 
-    /// The bytes of a reply, given the greeting that was built.
-    pub fn bytes<'a>(&'a self, greeting: &'a [u8], reply: Reply) -> &'a [u8]
-        ensures { result.now ≡ bytes_of greeting.now reply }
+    /// The bytes of a reply, given the startup reply that was built.
+    pub fn bytes<'a>(&'a self, startup: &'a [u8], reply: Reply) -> &'a [u8]
+        ensures { result.now ≡ bytes_of startup.now reply }
     {
         match reply {
             Reply::NoEncryption => b"N".as_slice(),
-            Reply::Greeting => greeting,
+            Reply::Startup => startup,
             Reply::Ready(state) => self.states.bytes(state),
             Reply::Unsupported(_) => self.unsupported.as_slice(),
         }

@@ -36,7 +36,8 @@ pub struct Session {
     alloc: Global,
     frames: Frames,
     prepared: Prepared,
-    greeting: Vec<u8>,
+    // The startup reply, once it was built.
+    startup: Vec<u8>,
     runner: Runner,
     stage: Stage,
     number: Option<u32>,
@@ -108,7 +109,7 @@ impl Session {
             alloc,
             frames: Frames::new(alloc),
             prepared: Prepared::new(alloc)?,
-            greeting: Vec::new(alloc),
+            startup: Vec::new(alloc),
             runner: Runner::new(alloc, level)?,
             stage: Stage::Waiting(Phase::Startup),
             number: None,
@@ -170,7 +171,7 @@ impl Session {
     /// The reply that is to be sent.
     pub fn reply(&self) -> &[u8]
         requires { IsHolding self.now.stage self.now.runner }
-        ensures reply { result.now ≡ reply_of self.now.stage self.now.runner self.now.greeting.items }
+        ensures reply { result.now ≡ reply_of self.now.stage self.now.runner self.now.startup.items }
         // It is told next of all that came in.
         ensures told { (taken : List ℕ) (entries : List Entry) (asked : List Asked) (sent : List ℕ) →
             Stands self.now taken entries asked sent →
@@ -178,7 +179,7 @@ impl Session {
     {
         match self.stage {
             Stage::Running => self.runner.reply(),
-            Stage::Telling(reply) => self.prepared.bytes(self.greeting.as_slice(), reply),
+            Stage::Telling(reply) => self.prepared.bytes(self.startup.as_slice(), reply),
             Stage::Parting(fatal) => self.prepared.last_bytes(fatal),
             _ => unreachable!(),
         }
@@ -268,7 +269,7 @@ impl Session {
             self.stage,
             &mut self.runner,
             answer,
-            &mut self.greeting,
+            &mut self.startup,
         );
         self.short = either(self.short, either(wants, step.wanting.is_some()));
         self.number = number;
@@ -281,7 +282,7 @@ impl Session {
         requires fit { IsFit self.old.runner }
         ensures grown { (taken : List ℕ) (entries : List Entry) (asked : List Asked) (sent : List ℕ) →
             Stands self.old taken entries asked sent →
-            StandsShort self.new taken entries asked (sent ++ reply_of self.old.stage self.old.runner self.old.greeting.items) }
+            StandsShort self.new taken entries asked (sent ++ reply_of self.old.stage self.old.runner self.old.startup.items) }
         ensures owed { owed_at self.new.stage self.new.runner ≡ owed_at self.old.stage self.old.runner }
         ensures outer { outer self.new.stage ≡ outer self.old.stage }
         ensures lacks { Lacks self.new.stage [] }
@@ -304,7 +305,7 @@ impl Session {
         ensures grown { (taken : List ℕ) (entries : List Entry) (asked : List Asked) (sent : List ℕ) →
             Stands self.old taken entries asked sent →
             Stands self.new taken (entries ++ unsent (length sent) ∷ []) asked
-            (sent ++ reply_of self.old.stage self.old.runner self.old.greeting.items) }
+            (sent ++ reply_of self.old.stage self.old.runner self.old.startup.items) }
         ensures owed { owed_at self.new.stage self.new.runner ≡ owed_at self.old.stage self.old.runner }
         ensures outer { outer self.new.stage ≡ Some End.WriteFault }
         ensures lacks { (lost : List ℕ) → Lacks self.new.stage lost }

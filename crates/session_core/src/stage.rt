@@ -32,8 +32,8 @@ pub enum Finish {
 pub enum Reply {
     /// A request for encryption is refused.
     NoEncryption,
-    /// The session was opened. The reply was built.
-    Greeting,
+    /// The session was opened. The startup reply was built.
+    Startup,
     /// A Sync is answered.
     Ready(TransactionState),
     /// The error of a message of the extended query, and the state that its block is then in.

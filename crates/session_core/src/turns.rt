@@ -107,7 +107,7 @@ pub fn phase_behind(reply: Reply) -> Phase
 {
     match reply {
         Reply::NoEncryption => Phase::Startup,
-        Reply::Greeting => Phase::Normal(TransactionState::Idle),
+        Reply::Startup => Phase::Normal(TransactionState::Idle),
         Reply::Ready(state) => Phase::Normal(state),
         Reply::Unsupported(state) => Phase::Discarding(state),
     }
@@ -149,8 +149,8 @@ pub fn finish_of(cause: Stop, nothing: bool) -> Finish
 
 /// The stage of a message of the extended query outside of discarding.
 pub fn refuse(state: TransactionState) -> Stage
-    ensures goes { (r : Runner) (greeting : List ℕ) (talk : Talk) (said : Said) (es : List Entry) →
-        refuses (level_of r) state (known_of r) (on r talk) said es ≡ goes_on result r greeting talk said es }
+    ensures goes { (r : Runner) (startup : List ℕ) (talk : Talk) (said : Said) (es : List Entry) →
+        refuses (level_of r) state (known_of r) (on r talk) said es ≡ goes_on result r startup talk said es }
     ensures owed { (r : Runner) → owed_at result r ≡ blocks.owed_between state }
     ensures outer { outer result ≡ None }
     ensures work { work_at result ≤ 7 }
@@ -171,7 +171,7 @@ pub fn refuse(state: TransactionState) -> Stage
 pub fn advance(stage: Stage, answer: &Answer) -> Stage
     requires fits { FitsWant (own_want stage) answer.now }
     requires plain { IsPlain stage answer.now }
-    ensures goes { (r : Runner) (greeting : List ℕ) → Advances stage r answer.now result r None greeting }
+    ensures goes { (r : Runner) (startup : List ℕ) → Advances stage r answer.now result r None startup }
     ensures owed { (c : Asked) (r : Runner) → wants stage r ≡ wishes.Book c → owed_at result r ≡ owed_after c answer.now (owed_at stage r) }
     ensures outer { outer result ≡ outer stage }
     ensures lacks { (lost : List ℕ) → Lacks stage lost → Lacks result lost }

@@ -11,18 +11,18 @@ use Rattle.session_core.proofs.answers.answer_own.Goals as goal
 
 pub returns-in-Opening-Opened-clause-goes : goal.returns-in-Opening-Opened-clause-goes
 returns-in-Opening-Opened-clause-goes c = λ r.
-    subst (λ (x : Stage). Advances x r c.args.answer c.greet.result.stage r c.greet.result.wanting c.greet.new.greeting.items)
+    subst (λ (x : Stage). Advances x r c.args.answer c.tell_startup.result.stage r c.tell_startup.result.wanting c.tell_startup.new.startup.items)
     (sym c.in-Opening-Opened.is-0)
-    (subst (λ (x : Answer). Advances stages.Opening r x c.greet.result.stage r c.greet.result.wanting c.greet.new.greeting.items)
+    (subst (λ (x : Answer). Advances stages.Opening r x c.tell_startup.result.stage r c.tell_startup.result.wanting c.tell_startup.new.startup.items)
     (sym c.in-Opening-Opened.is-1)
-    (c.greet.ensures.goes r))
+    (c.tell_startup.ensures.goes r))
 
 pub returns-in_default-clause-goes : goal.returns-in_default-clause-goes
 returns-in_default-clause-goes c = λ r.
-    subst (λ (x : Step). Advances c.args.stage r c.args.answer x.stage r x.wanting c.args.greeting.now.items) (sym c.calm.ensures)
-    (c.advance.ensures.goes r c.args.greeting.now.items)
+    subst (λ (x : Step). Advances c.args.stage r c.args.answer x.stage r x.wanting c.args.startup.now.items) (sym c.calm.ensures)
+    (c.advance.ensures.goes r c.args.startup.now.items)
 
 pub returns-in_default-clause-some : goal.returns-in_default-clause-some
 returns-in_default-clause-some c = λ r.
-    subst (λ (x : Step). HasReply x.stage r c.args.greeting.now.items) (sym c.calm.ensures)
-    (plain_some c.advance.result r c.args.greeting.now.items c.advance.ensures.constant)
+    subst (λ (x : Step). HasReply x.stage r c.args.startup.now.items) (sym c.calm.ensures)
+    (plain_some c.advance.result r c.args.startup.now.items c.advance.ensures.constant)

@@ -8,13 +8,13 @@ use Rattle.session_core.proofs.answers.answered.Goals as goal
 pub returns-in-Running-clause-goes : goal.returns-in-Running-clause-goes
 returns-in-Running-clause-goes c =
     subst (λ (x : Stage). Advances x c.args.runner.now c.args.answer c.answer_message.result.stage c.answer_message.new.runner
-    c.answer_message.result.wanting c.args.greeting.now.items)
-    (sym c.in-Running.is) (c.answer_message.ensures.goes c.args.greeting.now.items)
+    c.answer_message.result.wanting c.args.startup.now.items)
+    (sym c.in-Running.is) (c.answer_message.ensures.goes c.args.startup.now.items)
 
 pub returns-in-Running-clause-some : goal.returns-in-Running-clause-some
 returns-in-Running-clause-some c =
-    subst (λ (x : Stage). HasReply x c.answer_message.new.runner c.args.greeting.now.items) (sym c.answer_message.ensures.stage)
-    (c.answer_message.ensures.some c.args.greeting.now.items)
+    subst (λ (x : Stage). HasReply x c.answer_message.new.runner c.args.startup.now.items) (sym c.answer_message.ensures.stage)
+    (c.answer_message.ensures.some c.args.startup.now.items)
 
 pub returns-in_default : goal.returns-in_default
 returns-in_default c =

@@ -11,7 +11,7 @@ returns-then-send_whole-clause-ran g c = λ level p v f many ran.
     Ran-sent g.W.Words.gives level p v f c.args.session.now c.sent.new.self (g.B.Book.past c.args.book.now) c.args.words.now
     (sight_of g.L.Sides.traffic g.L.Sides.read_faults g.L.Sides.write_faults c.args.link.now)
     (sight_of g.L.Sides.traffic g.L.Sides.read_faults g.L.Sides.write_faults c.send_whole.new.link) many
-    (reply_of c.args.session.now.stage c.args.session.now.runner c.args.session.now.greeting.items)
+    (reply_of c.args.session.now.stage c.args.session.now.runner c.args.session.now.startup.items)
     c.sent.ensures.grown c.requires.holding c.sent.ensures.level c.sent.ensures.outer c.sent.ensures.lacks
     (subst (λ (x : List ℕ). Both (Wrote x) (g.L.Sides.traffic c.args.link.now) (g.L.Sides.traffic c.send_whole.new.link))
     c.reply.ensures.reply (c.send_whole.ensures.whole c.if-send_whole.true))
@@ -24,7 +24,7 @@ returns-else-send_whole-clause-ran g c = λ level p v f many ran.
     Ran-unsent g.W.Words.gives level p v f c.args.session.now c.unsent.new.self (g.B.Book.past c.args.book.now) c.args.words.now
     (sight_of g.L.Sides.traffic g.L.Sides.read_faults g.L.Sides.write_faults c.args.link.now)
     (sight_of g.L.Sides.traffic g.L.Sides.read_faults g.L.Sides.write_faults c.send_whole.new.link) many
-    (reply_of c.args.session.now.stage c.args.session.now.runner c.args.session.now.greeting.items) part lost
+    (reply_of c.args.session.now.stage c.args.session.now.runner c.args.session.now.startup.items) part lost
     c.unsent.ensures.grown c.requires.holding (ap level_of c.unsent.ensures.runner) c.unsent.ensures.outer c.unsent.ensures.lacks
     (sym c.reply.ensures.reply ∙ reply_is) wrote
     c.send_whole.ensures.read_faults (c.send_whole.ensures.failed c.if-send_whole.false) c.send_whole.ensures.write_faults ran

@@ -14,7 +14,7 @@ returns-clause-grown c =
       record {
         stage =
             StandsFor-answered c.args.self.now.stage c.answered-step.result.stage c.args.self.now.runner c.answered-step.new.runner
-            c.args.self.now.greeting.items c.answered-step.new.greeting.items c.args.self.now.frames taken es asked sent k
+            c.args.self.now.startup.items c.answered-step.new.startup.items c.args.self.now.frames taken es asked sent k
             c.args.answer e c.answered-step.result.wanting s.stage c.answered-step.ensures.goes w c.answered-step.ensures.level
             c.answered-step.ensures.some;
         short = flag-answered c.args.self.now.short c.either-self.result c.either.result c.is_want-wants.result

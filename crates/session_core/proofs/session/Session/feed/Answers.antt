@@ -15,12 +15,12 @@ returns-clause-grown c =
       IsShort-with_wanting c.feed_piece-step.result.wanting sent,
       record {
         stage =
-            StandsFor-piece c.phase_at-phase.result c.args.self.now.runner c.args.self.now.greeting.items c.args.self.now.frames
+            StandsFor-piece c.phase_at-phase.result c.args.self.now.runner c.args.self.now.startup.items c.args.self.now.frames
             c.feed_piece-step.new.frames c.args.piece.now taken es asked sent
             c.feed_piece-step.result.stage c.feed_piece-step.result.wanting c.feed_piece-step.ensures.feeds
-            (subst (λ (x : Stage). StandsFor x c.args.self.now.runner c.args.self.now.greeting.items c.args.self.now.frames taken es asked
+            (subst (λ (x : Stage). StandsFor x c.args.self.now.runner c.args.self.now.startup.items c.args.self.now.frames taken es asked
             sent) c.phase_at-phase.ensures s.stage)
-            ((c.feed_piece-step.ensures.leads c.args.self.now.runner c.requires.fit).some c.args.self.now.greeting.items);
+            ((c.feed_piece-step.ensures.leads c.args.self.now.runner c.requires.fit).some c.args.self.now.startup.items);
         short = flag-fed c.args.self.now.short c.either-self.result c.feed_piece-step.result.wanting es sent s.short (c.either-self.ensures
             ∙ ap (λ (b : Bool). c.args.self.now.short || b) c.is_some.ensures);
         number = number-fed c.args.self.now.number c.feed_piece-step.result.wanting es sent s.number;

@@ -10,16 +10,16 @@ use Rattle.session_core.proofs.session.Session.sent.Goals as goal
 pub returns-clause-grown : goal.returns-clause-grown
 returns-clause-grown c =
     λ taken es asked sent s.
-    let now : List ℕ = sent ++ reply_of c.args.self.now.stage c.args.self.now.runner c.args.self.now.greeting.items in (
+    let now : List ℕ = sent ++ reply_of c.args.self.now.stage c.args.self.now.runner c.args.self.now.startup.items in (
       with_wanting c.after_sent-step.result.wanting now [],
       IsShort-with_wanting c.after_sent-step.result.wanting now,
       record {
         stage =
             StandsFor-sent c.args.self.now.stage c.after_sent-step.result.stage c.args.self.now.runner c.after_sent-step.new.runner
-            c.args.self.now.greeting.items c.args.self.now.frames taken es asked sent
+            c.args.self.now.startup.items c.args.self.now.frames taken es asked sent
             c.after_sent-step.result.wanting c.after_sent-step.ensures.sends c.requires.holding c.after_sent-step.ensures.last
             c.after_sent-step.ensures.awake c.after_sent-step.ensures.level
-            (c.after_sent-step.ensures.some c.args.self.now.greeting.items) s.stage;
+            (c.after_sent-step.ensures.some c.args.self.now.startup.items) s.stage;
         short = flag-fed c.args.self.now.short c.either-self.result c.after_sent-step.result.wanting es now s.short (c.either-self.ensures
             ∙ ap (λ (b : Bool). c.args.self.now.short || b) c.is_some.ensures);
         number = number-fed c.args.self.now.number c.after_sent-step.result.wanting es now s.number;

@@ -14,13 +14,13 @@ pub returns-clause-grown : goal.returns-clause-grown
 returns-clause-grown c =
     λ taken es asked sent s. record {
       stage =
-          StandsFor-stopped c.phase_at-phase.result c.args.self.now.runner c.args.self.now.greeting.items c.args.self.now.frames taken es
+          StandsFor-stopped c.phase_at-phase.result c.args.self.now.runner c.args.self.now.startup.items c.args.self.now.frames taken es
           asked sent c.leave-self.result c.args.cause (end_of c.finish_of-finish.result)
-          (subst (λ (x : Stage). StandsFor x c.args.self.now.runner c.args.self.now.greeting.items c.args.self.now.frames taken es asked
+          (subst (λ (x : Stage). StandsFor x c.args.self.now.runner c.args.self.now.startup.items c.args.self.now.frames taken es asked
           sent) c.phase_at-phase.ensures s.stage)
           (subst (λ (o : Owed). LeadsTo c.leave-self.result (ending o (end_of c.finish_of-finish.result))) c.owed_by.ensures
           c.leave-self.ensures.leads)
-          (plain_some c.leave-self.result c.args.self.now.runner c.args.self.now.greeting.items c.leave-self.ensures.constant)
+          (plain_some c.leave-self.result c.args.self.now.runner c.args.self.now.startup.items c.leave-self.ensures.constant)
           (stopped_right c.args.self.now.frames.rest c.args.cause (end_of c.finish_of-finish.result) (nat_eq c.rest.result 0)
           (ap (λ (n : ℕ). nat_eq n 0) c.rest.ensures) c.finish_of-finish.ensures.nothing c.finish_of-finish.ensures.something);
       short = flag-kept c.args.self.now.short es (stop c.args.cause) s.short refl;

@@ -15,13 +15,13 @@ returns-clause-grown c =
       IsShort-with_wanting c.take_message-step.result.wanting sent,
       record {
         stage =
-            StandsFor-taken c.phase_taking-phase.result c.args.self.now.runner c.take_message-step.new.runner c.args.self.now.greeting.items
+            StandsFor-taken c.phase_taking-phase.result c.args.self.now.runner c.take_message-step.new.runner c.args.self.now.startup.items
             c.args.self.now.frames c.take_message-step.new.frames taken es asked sent
             c.take_message-step.result.stage c.take_message-step.result.wanting
-            (subst (λ (x : Stage). StandsFor x c.args.self.now.runner c.args.self.now.greeting.items c.args.self.now.frames taken es asked
+            (subst (λ (x : Stage). StandsFor x c.args.self.now.runner c.args.self.now.startup.items c.args.self.now.frames taken es asked
             sent) c.phase_taking-phase.ensures s.stage)
             c.take_message-step.ensures.goes c.take_message-step.ensures.leads.level_is
-            (c.take_message-step.ensures.leads.some c.args.self.now.greeting.items);
+            (c.take_message-step.ensures.leads.some c.args.self.now.startup.items);
         short = flag-fed c.args.self.now.short c.either-self.result c.take_message-step.result.wanting es sent s.short
             (c.either-self.ensures ∙ ap (λ (b : Bool). c.args.self.now.short || b) c.is_some.ensures);
         number = number-fed c.args.self.now.number c.take_message-step.result.wanting es sent s.number;

@@ -14,10 +14,10 @@ pub returns-clause-grown : goal.returns-clause-grown
 returns-clause-grown c =
     λ taken es asked sent s. record {
       stage =
-          StandsFor-unsent c.args.self.now.stage c.leave-self.result c.args.self.now.runner c.args.self.now.greeting.items
+          StandsFor-unsent c.args.self.now.stage c.leave-self.result c.args.self.now.runner c.args.self.now.startup.items
           c.args.self.now.frames taken es asked sent s.stage c.requires
           (subst (λ (o : Owed). LeadsTo c.leave-self.result (broken o)) c.owed_holding-owed.ensures c.leave-self.ensures.leads)
-          (plain_some c.leave-self.result c.args.self.now.runner c.args.self.now.greeting.items c.leave-self.ensures.constant);
+          (plain_some c.leave-self.result c.args.self.now.runner c.args.self.now.startup.items c.leave-self.ensures.constant);
       short = flag-kept c.args.self.now.short es (unsent (length sent)) s.short refl;
       number = number-stopped c.args.self.now.number es (unsent (length sent)) refl s.number;
     }

@@ -1,9 +1,9 @@
--- What is left to show of `greet`.
+-- What is left to show of `tell_startup`.
 use Rattle.std.proofs.Common.{ℕ, ◌<◌, List, length, sym, subst}
 use Rattle.session_core.specs.declared.turns.Step.{Step}
 use Rattle.session_core.specs.Stands.{HasReply}
 use Rattle.session_core.proofs.Somes.{startup-some}
-use Rattle.session_core.proofs.answers.greet.Goals as goal
+use Rattle.session_core.proofs.answers.tell_startup.Goals as goal
 
 pub returns-in-Ok-clause-some : goal.returns-in-Ok-clause-some
 returns-in-Ok-clause-some c = λ r.
