@@ -1,0 +1,14 @@
+use Rattle.session_core.proofs.drive.drive.Goals as goal
+
+pub loop-alloc-preserved : goal.loop-alloc-preserved
+loop-alloc-preserved g c = record {
+  ran = λ level p v f many ran. c.turn.ensures.ran level p v f many (c.loop-alloc.invariant.ran level p v f many ran);
+  sits = c.turn.ensures.sits;
+  last = λ last. c.turn.ensures.last (c.loop-alloc.invariant.last last);
+  legal = λ legal. c.turn.ensures.legal (c.loop-alloc.invariant.legal legal);
+  stays = g.met.B.Book.stays_trans _ _ _ c.loop-alloc.invariant.stays c.turn.ensures.stays;
+}
+
+pub returns-clause-ran : goal.returns-clause-ran
+returns-clause-ran g c = λ level p v f many ran.
+    c.turn.ensures.ran level p v f many (c.loop-alloc.invariant.ran level p v f many ran)

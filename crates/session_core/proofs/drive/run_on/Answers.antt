@@ -1,0 +1,18 @@
+use Rattle.std.proofs.Common.{arith}
+use Rattle.session_core.proofs.drive.run_on.Goals as goal
+
+pub loop-alloc-preserved : goal.loop-alloc-preserved
+loop-alloc-preserved g c = record {
+  ran = λ level p v f seen many ran.
+      c.step_on.ensures.ran level p v f seen many (c.loop-alloc.invariant.ran level p v f seen many ran);
+  sits = c.step_on.ensures.sits;
+  work = omega (arith, c.loop-alloc.invariant.work, c.step_on.ensures.work);
+  message = omega (arith, c.loop-alloc.invariant.message, c.step_on.ensures.message);
+  last = λ last. c.step_on.ensures.last (c.loop-alloc.invariant.last last);
+  legal = λ legal. c.step_on.ensures.legal (c.loop-alloc.invariant.legal legal);
+  stays = g.met.B.Book.stays_trans _ _ _ c.loop-alloc.invariant.stays c.step_on.ensures.stays;
+}
+
+pub returns-clause-ran : goal.returns-clause-ran
+returns-clause-ran g c = λ level p v f seen many ran.
+    c.step_on.ensures.ran level p v f seen many (c.loop-alloc.invariant.ran level p v f seen many ran)
