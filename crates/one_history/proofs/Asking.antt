@@ -1,27 +1,21 @@
 -- A call is asked: two rides over it get the same answer, and go on from the same past.
-use Rattle.std.proofs.Common.{◌≡◌, ◌≢◌, inl, inr, ◌⊎◌, Bool, true, false, ℕ, ◌+◌, List, [], ◌∷◌, ◌++◌, None, Some, length, take, get_or, refl, sym, ◌∙◌, ap, subst, append_assoc, arith}
-use Rattle.std.proofs.lemmas.List.{append_cancel_left, length_push}
-use Rattle.cell_base.specs.declared.level.Level.{Level}
-use Rattle.sql_tree.specs.declared.table.Table.{Table}
+use Rattle.std.proofs.Common.{◌≡◌, inl, inr, ◌⊎◌, true, false, ℕ, List, [], ◌∷◌, ◌++◌, length, refl, sym, ◌∙◌, ap, subst, append_assoc}
+use Rattle.std.proofs.lemmas.List.{append_cancel_left}
 use Rattle.history_core.specs.declared.event.Event.{Event}
-use Rattle.history_core.specs.declared.event.Event.TheVariants.{Open, Close, Define, Look, Begin, Scan, Read, Own, Write, Commit, Rollback, Show}
 use Rattle.history_core.specs.declared.fault.Limit.{Limit}
 use Rattle.history_core.specs.declared.fault.BookFault.{BookFault}
 use Rattle.history_core.specs.declared.fault.BookFault.TheVariants as faults
-use Rattle.history_core.specs.declared.fault.DefineAnswer.TheVariants as defines
-use Rattle.history_core.specs.Events.{names, defined, defined_name}
-use Rattle.history_core.specs.Legal.{full_for}
-use Rattle.history_core.specs.Book.{Past, Seat, Adds, GoesOn, session_of}
+use Rattle.history_core.specs.Book.{Past}
 use Rattle.block_machine.specs.Calls.{Call}
 use Rattle.block_machine.specs.Calls as calls
-use Rattle.block_machine.specs.Script.{Entry, did, refused, short, unsent, stop, has_short, Next, call, ended, astray, Said, with_bytes, with_call, Script, lost, ask}
+use Rattle.block_machine.specs.Script.{Entry, did, refused, short, unsent, stop, Next, call, ended, Said, with_call, Script, ask}
 use Rattle.block_machine.specs.declared.call.Answer.{Answer}
 use Rattle.block_machine.specs.declared.call.Answer.TheVariants as answers
 use Rattle.block_machine.specs.declared.end.End.{End}
-use Rattle.session_core.specs.Record.{Lawful, Happens, Declines, Draws, HoldsWord, SeatAfter, limit_for}
+use Rattle.session_core.specs.Record.{Lawful, Happens, Declines, Draws, SeatAfter}
 use Rattle.choice_stream.specs.Choices.{DrawsFirst}
-use Rattle.one_history.proofs.Leads.{Leads, Made, made_of, lawful_leads, leads_adds, leads_goes, leads_on, happens_adds, declines_goes, alone_between, goes_alone}
-use Rattle.one_history.proofs.Rides.{Goes, Grows, IsLast, Rides, IsNear, Same, Agree, astray_ended}
+use Rattle.one_history.proofs.Leads.{Leads, lawful_leads, leads_adds, leads_goes, happens_adds, declines_goes, alone_between}
+use Rattle.one_history.proofs.Rides.{Goes, Grows, IsLast, Rides, astray_ended}
 
 -- a call is never answered by a refusal that is an event
 no_event : (p : Past) (c : Call) (why : BookFault) (e : Event) (m : Past) → Happens p c (answers.Refused why) e m → ⊥

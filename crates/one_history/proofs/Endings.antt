@@ -1,18 +1,14 @@
 -- Two sessions that end leave the same, but for what their ends tell.
-use Rattle.std.proofs.Common.{◌≡◌, ◌≢◌, inl, inr, ◌⊎◌, Bool, true, false, ℕ, ◌+◌, List, [], ◌∷◌, ◌++◌, None, Some, length, take, map, refl, sym, ◌∙◌, ap, subst, append_assoc, arith}
+use Rattle.std.proofs.Common.{◌≡◌, ℕ, List, [], ◌∷◌, ◌++◌, length, refl, sym, ◌∙◌, ap, subst, arith}
 use Rattle.std.proofs.lemmas.List.{append-nil, take_all, length-map}
-use Rattle.cell_base.specs.declared.level.Level.{Level}
 use Rattle.cell_base.specs.declared.sql_state.SqlState.{SqlState}
 use Rattle.cell_base.specs.declared.sql_state.SqlState.TheVariants as states
-use Rattle.client_framing.specs.declared.front.FrameFault.{FrameFault}
-use Rattle.sql_tree.specs.declared.table.Table.{Table}
-use Rattle.history_core.specs.declared.event.Event.{Event}
-use Rattle.history_core.specs.Events.{names, defined}
+use Rattle.history_core.specs.Events.{defined}
 use Rattle.history_core.specs.Chronicle.{Chronicle, IsLegalChronicle}
 use Rattle.history_core.specs.Book.{Past}
 use Rattle.block_machine.specs.Calls.{Call}
 use Rattle.block_machine.specs.Calls as calls
-use Rattle.block_machine.specs.Script.{Entry, did, refused, short, unsent, stop, Next, call, ended, astray, Said, with_bytes, with_call, Script, ask}
+use Rattle.block_machine.specs.Script.{Entry, did, refused, short, unsent, stop, Next, call, ended, Said, with_bytes, with_call, Script, ask}
 use Rattle.block_machine.specs.declared.block.Owed.{Owed}
 use Rattle.block_machine.specs.declared.block.Owed.TheVariants as owes
 use Rattle.block_machine.specs.declared.call.Answer.{Answer}
@@ -25,7 +21,7 @@ use Rattle.session_core.specs.Told.{done, fatal, closed, closing, ending, broken
 use Rattle.choice_stream.specs.Choices.{DrawsFirst}
 use Rattle.one_history.specs.Laws.{farewell}
 use Rattle.one_history.proofs.Names.{name_of}
-use Rattle.one_history.proofs.Rides.{Goes, Grows, IsLast, Rides, IsNear, Same, Agree, Breaks, astray_ended, tells_on}
+use Rattle.one_history.proofs.Rides.{Goes, Grows, Rides, IsNear, Same, Agree, Breaks, astray_ended, tells_on}
 use Rattle.one_history.proofs.Turning.{ask_agrees}
 
 -- ---- a session that is done
@@ -67,7 +63,7 @@ parted : (state : SqlState) (end : End) → farewell end ≡ fatal_reply state �
     Goes (fatal state end) said es out to → IsDone end said es out to
 parted state end tells said es out to goes =
     let on = tells_on (fatal_reply state) (done ends.WriteFault) (done end) done_breaks said es out to
-        (record { is = goes.is; calm = goes.calm; written = goes.written }) in
+    (record { is = goes.is; calm = goes.calm; written = goes.written }) in
     let h = done_goes end (with_bytes said (fatal_reply state)) es out to on in
     record {
       none = h.0;

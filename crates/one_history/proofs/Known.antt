@@ -1,7 +1,7 @@
 -- What is known of an answer and its event from the events before them, the seat, the words and the tables that are defined at the end.
-use Rattle.std.proofs.Common.{◌≡◌, ◌≢◌, ℕ, ◌+◌, ◌<◌, ◌≤◌, List, [], ◌∷◌, ◌++◌, Some, None, Option, length, map, take, drop, arith, refl, ap, sym, ◌∙◌, subst, inl, inr, ◌⊎◌, append_assoc, length-append}
-use Rattle.std.specs.List.{Contains, slice_get}
-use Rattle.std.proofs.lemmas.List.{take_at, drop_at, append-nil, length-map, length_push}
+use Rattle.std.proofs.Common.{◌≡◌, ℕ, ◌+◌, List, [], ◌∷◌, ◌++◌, Some, None, length, take, drop, refl, ap, sym, ◌∙◌, subst, inl, inr, ◌⊎◌}
+use Rattle.std.specs.List.{Contains}
+use Rattle.std.proofs.lemmas.List.{take_at, drop_at, append-nil}
 use Rattle.cell_base.specs.declared.level.Level.{Level}
 use Rattle.cell_base.specs.declared.cell.Cell.{Cell}
 use Rattle.cell_base.specs.declared.key.Key.{Key}
@@ -12,9 +12,9 @@ use Rattle.history_core.specs.declared.event.Event.TheVariants.{Open, Close, Def
 use Rattle.history_core.specs.declared.fault.DefineAnswer.TheVariants as defines
 use Rattle.history_core.specs.Events.{names, defined, opened, begun, defined_name}
 use Rattle.history_core.specs.Relations.{WritesValue}
-use Rattle.history_core.specs.Legal.{MayCome, Follows, IsOffered, ListsKeys}
-use Rattle.history_core.specs.Chronicle.{Chronicle, IsLegalChronicle}
-use Rattle.history_core.specs.Book.{Past, Seat, session_of, HasWrite, IsUnwritten, LastWrite, Adds}
+use Rattle.history_core.specs.Legal.{Follows, IsOffered, ListsKeys}
+use Rattle.history_core.specs.Chronicle.{IsLegalChronicle}
+use Rattle.history_core.specs.Book.{Past, Seat, session_of, HasWrite, IsUnwritten, LastWrite}
 use Rattle.block_machine.specs.Calls.{Call}
 use Rattle.block_machine.specs.Calls as calls
 use Rattle.block_machine.specs.declared.call.Answer.{Answer}
@@ -23,7 +23,7 @@ use Rattle.block_machine.specs.Script.{did}
 use Rattle.session_core.specs.Record.{Happens, Draws, HoldsWord, ReadsBack, ReadsFrom}
 use Rattle.choice_stream.specs.Choices.{DrawsFirst}
 use Rattle.one_history.proofs.Leads.{Leads, Made}
-use Rattle.one_history.proofs.Names.{Placed, placed, names-more, name_of}
+use Rattle.one_history.proofs.Names.{placed, names-more}
 use Rattle.one_history.proofs.Values.{not_both}
 
 -- ---- what a touch finds

@@ -1,13 +1,11 @@
 -- Lists that ascend and hold the same are one.
-use Rattle.std.proofs.Common.{◌≡◌, ◌≢◌, rules, ℕ, ◌+◌, ◌<◌, zero, suc, List, [], ◌∷◌, ◌++◌, Some, Option, length, get_or, arith, refl, ap, sym, ◌∙◌, subst, inl, inr, ◌⊎◌, ◌↔◌}
+use Rattle.std.proofs.Common.{◌≡◌, rules, ℕ, ◌+◌, ◌<◌, zero, suc, List, [], ◌∷◌, ◌++◌, Some, length, get_or, arith, refl, ap, sym, ◌∙◌, subst, inl, inr, ◌⊎◌}
 use Rattle.std.specs.Prelude.{◌<ℤ◌, ℤ}
-use Rattle.std.specs.Ordering.{nat_cmp, int_cmp}
-use Rattle.std.specs.Cmp.Lexicographic.{slice_cmp}
+use Rattle.std.specs.Ordering.{int_cmp}
 use Rattle.std.specs.declared.cmp.Ordering.TheVariants.{Less, Equal}
-use Rattle.std.specs.List.{Contains, slice_get, slice_index}
+use Rattle.std.specs.List.{Contains, slice_get}
 use Rattle.std.specs.List.Sorted.{IsStrictlyIncreasing}
 use Rattle.std.specs.Int.Signed.{<ℤ_irrefl}
-
 use Rattle.std.proofs.lemmas.Cmp.{tied_itself, nat_list_cmp_total, int_cmp_total, int_ranked}
 use Rattle.std.proofs.lemmas.Option.{slice_get_within, get_or_from_slice_get}
 use Rattle.cell_base.specs.declared.key.Key.{Key}
@@ -72,8 +70,8 @@ one_ascending {X} R trans never (x ∷ xs) (y ∷ ys) up down there back =
     ] in
     let held : Ascends R (x ∷ ys) = subst (λ (w : X). Ascends R (w ∷ ys)) (sym same) down in
     let rest : xs ≡ ys = one_ascending R trans never xs ys up.1 down.1
-        (λ z at. rest_held R x xs ys never up z at (subst (λ (w : X). Contains (w ∷ ys) z) (sym same) (there z (contains_later x xs z at))))
-        (λ z at. rest_held R x ys xs never held z at (back z (contains_later y ys z at))) in
+    (λ z at. rest_held R x xs ys never up z at (subst (λ (w : X). Contains (w ∷ ys) z) (sym same) (there z (contains_later x xs z at))))
+    (λ z at. rest_held R x ys xs never held z at (back z (contains_later y ys z at))) in
     ap (λ (w : X). w ∷ xs) same ∙ ap (λ (zs : List X). y ∷ zs) rest
 
 -- ---- numbers

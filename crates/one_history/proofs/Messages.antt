@@ -1,13 +1,11 @@
 -- A message's script agrees with itself where what stands outside does.
-use Rattle.std.proofs.Common.{◌≡◌, Bool, true, false, ℕ, List, [], ◌∷◌}
-use Rattle.cell_base.specs.declared.level.Level.{Level}
+use Rattle.std.proofs.Common.{◌≡◌, true, false, List, [], ◌∷◌}
 use Rattle.pg_framing.specs.declared.replies.TransactionState.{TransactionState}
 use Rattle.pg_framing.specs.declared.replies.TransactionState.TheVariants as ready
 use Rattle.sql_tree.specs.declared.statement.Statement.{Statement}
 use Rattle.sql_tree.specs.declared.table.Table.{Table}
 use Rattle.block_machine.specs.Calls as calls
 use Rattle.block_machine.specs.Replies.{ready_reply, empty_reply}
-use Rattle.block_machine.specs.Script.{Script}
 use Rattle.block_machine.specs.Messages as told
 use Rattle.block_machine.specs.Messages.{Outside, owed_between, block_at, before}
 use Rattle.block_machine.specs.declared.block.Block.{Block}

@@ -1,6 +1,6 @@
 -- No two tables of a formed history have one name, so the table of a definition stands where its name does.
-use Rattle.std.proofs.Common.{◌≡◌, ◌≢◌, ℕ, ◌+◌, ◌<◌, ◌≤◌, List, [], ◌∷◌, ◌++◌, Some, None, Option, length, map, take, drop, get_or, arith, refl, ap, sym, ◌∙◌, subst, inl, inr, ◌⊎◌, append_assoc, length-append}
-use Rattle.std.specs.List.{Contains, slice_get, filter_map}
+use Rattle.std.proofs.Common.{◌≡◌, ℕ, ◌+◌, List, [], ◌∷◌, ◌++◌, Some, length, map, take, arith, ap, sym, ◌∙◌, subst, inl, inr, append_assoc, length-append}
+use Rattle.std.specs.List.{Contains, slice_get}
 use Rattle.std.proofs.lemmas.List.{map-append, take_at, length-map, append-nil}
 use Rattle.std.proofs.lemmas.List.Elements.{filter_map-append}
 use Rattle.std.proofs.lemmas.Option.{slice_get_within}
@@ -9,8 +9,8 @@ use Rattle.sql_tree.specs.declared.table.Table.{Table}
 use Rattle.history_core.specs.declared.event.Event.{Event}
 use Rattle.history_core.specs.declared.event.Event.TheVariants.{Open, Close, Define, Look, Begin, Scan, Read, Own, Write, Commit, Rollback, Show}
 use Rattle.history_core.specs.Events.{names, defined, defined_name}
-use Rattle.history_core.specs.Legal.{IsFormed, MayCome, Follows}
-use Rattle.history_core.specs.Chronicle.{Chronicle, IsLegalChronicle}
+use Rattle.history_core.specs.Legal.{IsFormed, MayCome}
+use Rattle.history_core.specs.Chronicle.{IsLegalChronicle}
 use Rattle.history_core.specs.Book.{Past}
 use Rattle.history_core.proofs.Prefixes.{along, formed_back}
 use Rattle.one_history.proofs.Lists.{middle_place}

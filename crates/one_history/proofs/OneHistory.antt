@@ -1,17 +1,15 @@
 -- Bytes and words have one history.
-use Rattle.std.proofs.Common.{◌≡◌, ◌≢◌, false, ℕ, List, [], ◌++◌, length, take, refl, sym, ◌∙◌, ap, subst}
+use Rattle.std.proofs.Common.{false, ℕ, List, [], length, refl, sym, ◌∙◌, ap, subst}
 use Rattle.cell_base.specs.declared.level.Level.{Level}
 use Rattle.history_core.specs.Chronicle.{Chronicle, IsLegalChronicle}
-use Rattle.history_core.specs.Book.{Past}
 use Rattle.block_machine.specs.Script.{Said}
 use Rattle.block_machine.specs.declared.end.End.{End}
 use Rattle.session_core.specs.declared.phase.Phase.TheVariants as phases
 use Rattle.session_core.specs.Told.{told, session}
-use Rattle.session_core.specs.Record.{events_of}
 use Rattle.session_core.proofs.Lawfuls.{own_events}
 use Rattle.choice_stream.specs.Choices.{DrawsFirst}
-use Rattle.one_history.specs.Laws.{Served, SameBytes, OneHistory, no_past}
-use Rattle.one_history.proofs.Rides.{IsLast, Rides, IsNear, Same, Agree}
+use Rattle.one_history.specs.Laws.{Served, OneHistory, no_past}
+use Rattle.one_history.proofs.Rides.{IsLast, Rides, IsNear, Agree}
 use Rattle.one_history.proofs.Talks.{sessions_agree}
 
 abbrev nothing_said : Said
@@ -46,8 +44,8 @@ one_history level taken words first second left right sent told one other a b =
     sessions_agree level phases.Startup [] false taken a.talk b.talk a.talk_is b.talk_is in
     let near : IsNear (no_past level) (no_past level) a.past b.past = record { level = refl; events = refl; seat = refl; tables = refl } in
     let same = agree.same nothing_said a.es b.es (no_past level) (no_past level) words (record { bytes = sent; calls = a.asked })
-        (record { bytes = told; calls = b.asked }) one other a.past b.past left right
-        (rides_of level taken words first left sent one a) (rides_of level taken words second right told other b) near in (
+    (record { bytes = told; calls = b.asked }) one other a.past b.past left right
+    (rides_of level taken words first left sent one a) (rides_of level taken words second right told other b) near in (
       sym a.history_is ∙ same.history ∙ b.history_is,
       same.words,
       record { common = same.common; first_is = same.first; second_is = same.second },

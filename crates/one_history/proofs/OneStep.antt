@@ -1,15 +1,12 @@
 -- One call has one answer and one event.
-use Rattle.std.proofs.Common.{◌≡◌, ◌≢◌, ℕ, ◌+◌, ◌<◌, ◌≤◌, List, [], ◌∷◌, ◌++◌, Some, None, Option, length, take, drop, arith, refl, ap, sym, ◌∙◌, subst, inl, inr, ◌⊎◌, ◌%◌}
-use Rattle.std.specs.List.{Contains}
-use Rattle.std.specs.Prelude.{unwrap_or, slice_get}
+use Rattle.std.proofs.Common.{◌≡◌, ℕ, List, ap, sym, ◌∙◌, subst, inl, inr, ◌⊎◌}
 use Rattle.cell_base.specs.declared.level.Level.{Level}
 use Rattle.cell_base.specs.declared.cell.Cell.{Cell}
 use Rattle.cell_base.specs.declared.key.Key.{Key}
 use Rattle.cell_base.specs.declared.value.Value.{Value}
 use Rattle.sql_tree.specs.declared.table.Table.{Table}
 use Rattle.history_core.specs.declared.event.Event.{Event}
-use Rattle.history_core.specs.declared.event.Event.TheVariants.{Open, Close, Define, Look, Begin, Scan, Read, Own, Write, Commit, Rollback, Show}
-use Rattle.history_core.specs.Relations.{WritesValue}
+use Rattle.history_core.specs.declared.event.Event.TheVariants.{Scan, Read, Own}
 use Rattle.history_core.specs.Legal.{IsOffered, ListsKeys}
 use Rattle.history_core.specs.Book.{Seat, session_of}
 use Rattle.block_machine.specs.Calls.{Call}

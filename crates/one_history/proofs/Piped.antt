@@ -1,5 +1,5 @@
 -- Two runs of the program over the same bytes have one history.
-use Rattle.std.proofs.Common.{◌≡◌, ◌≢◌, Bool, false, ℕ, List, refl, sym, ◌∙◌, subst}
+use Rattle.std.proofs.Common.{◌≢◌, false, ℕ, List, refl, sym, subst}
 use Rattle.cell_base.specs.declared.level.Level.TheVariants.{Rc}
 use Rattle.link_traits.specs.Traffic.{Sight}
 use Rattle.block_machine.specs.declared.end.End.{End}

@@ -1,15 +1,13 @@
 -- A call that is refused is not one that is answered.
-use Rattle.std.proofs.Common.{◌≡◌, ◌≢◌, ℕ, ◌+◌, List, [], ◌∷◌, ◌++◌, Bool, true, false, cond, Some, None, Option, length, arith, refl, ap, sym, ◌∙◌, subst, inl, inr, ◌⊎◌, nat_le}
-use Rattle.std.specs.Bool.{if◌then◌else◌}
+use Rattle.std.proofs.Common.{◌≡◌, ◌≢◌, ℕ, List, Bool, true, false, cond, Some, None, Option, refl, ap, sym, ◌∙◌, subst, inl, inr, ◌⊎◌, nat_le}
 use Rattle.std.specs.List.{Contains}
 use Rattle.cell_base.specs.declared.cell.Cell.{Cell}
 use Rattle.cell_base.specs.declared.value.Value.{Value}
 use Rattle.sql_tree.specs.declared.table.Table.{Table}
 use Rattle.history_core.specs.declared.event.Event.{Event}
-use Rattle.history_core.specs.declared.event.Event.TheVariants.{Open, Close, Define, Look, Begin, Scan, Read, Own, Write, Commit, Rollback, Show}
+use Rattle.history_core.specs.declared.event.Event.TheVariants.{Open, Define, Begin}
 use Rattle.history_core.specs.declared.fault.Limit.{Limit}
 use Rattle.history_core.specs.declared.fault.Limit.TheVariants as limits
-use Rattle.history_core.specs.declared.fault.BookFault.{BookFault}
 use Rattle.history_core.specs.declared.fault.BookFault.TheVariants as faults
 use Rattle.history_core.specs.Events.{names, defined, load_of}
 use Rattle.history_core.specs.Legal.{full_for, full_load, full_count}
@@ -44,7 +42,7 @@ refused_define : (n : Past) (events : List Event) (seat : Seat) (table : Table) 
     full_for events (Define 0 table.name) ≡ Some limit → (limit ≢ limits.Load → ¬ (Contains (names n.seen.events) table.name)) →
     full_for events e ≡ None → News events seat table a e ⊎ Olds events seat table a e → ⊥
 refused_define n events seat table a e limit same full new fits (inl one) = fits_as events e _ (full_for events (Define 0 table.name)) limit one.event refl fits full
-refused_define n events seat table a e limit same full new fits (inr two) = 
+refused_define n events seat table a e limit same full new fits (inr two) =
     let look : full_load events ≡ None = ap (λ (x : Event). full_for events x) (sym two.event) ∙ fits in
     let count : full_count events (Define 0 table.name) ≡ Some limit = other_limit (nat_le 1048576 (load_of events)) (full_count events (Define 0 table.name)) limit look full in
     new (tables_limit (nat_le 64 (defined events)) limit count) (subst (λ (es : List Event). Contains (names es) table.name) (sym same) two.old)

@@ -1,17 +1,12 @@
 -- Scripts that agree: from the same past and the same words, two records that they take to an end leave the same.
-use Rattle.std.proofs.Common.{◌≡◌, ◌≢◌, inl, inr, Bool, true, false, ℕ, List, [], ◌∷◌, ◌++◌, length, take, refl, sym, ◌∙◌, ap, subst, append_assoc}
+use Rattle.std.proofs.Common.{◌≡◌, ◌≢◌, inl, inr, Bool, true, false, ℕ, List, [], ◌∷◌, ◌++◌, length, take, refl, sym, ◌∙◌, ap}
 use Rattle.std.specs.Prelude.{◌==◌, ◌⊎◌}
 use Rattle.std.proofs.lemmas.Bool.{cond-true, cond-false}
-use Rattle.history_core.specs.declared.event.Event.{Event}
-use Rattle.history_core.specs.declared.fault.BookFault.{BookFault}
-use Rattle.history_core.specs.declared.fault.BookFault.TheVariants as faults
-use Rattle.history_core.specs.Chronicle.{Chronicle, IsLegalChronicle}
+use Rattle.history_core.specs.Chronicle.{IsLegalChronicle}
 use Rattle.history_core.specs.Events.{defined}
 use Rattle.history_core.specs.Book.{Past}
 use Rattle.block_machine.specs.Calls.{Call}
-use Rattle.block_machine.specs.Script.{Entry, did, refused, short, unsent, stop, has_short, Next, ended, astray, Said, with_bytes, with_call, Script, lost, ask, tell, unless_short, unless_unsent}
-use Rattle.block_machine.specs.declared.call.Answer.{Answer}
-use Rattle.block_machine.specs.declared.call.Answer.TheVariants as answers
+use Rattle.block_machine.specs.Script.{Entry, did, refused, short, unsent, stop, has_short, Next, ended, astray, Said, with_bytes, Script, lost, tell, unless_short, unless_unsent}
 use Rattle.block_machine.specs.declared.end.End.{End}
 use Rattle.block_machine.specs.declared.end.End.TheVariants as ends
 use Rattle.session_core.specs.Record.{Lawful}

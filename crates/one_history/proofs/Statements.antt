@@ -1,10 +1,8 @@
 -- A statement's script agrees with itself where what stands around it does.
-use Rattle.std.proofs.Common.{◌≡◌, Bool, true, false, cond, ℕ, List, [], ◌∷◌, ◌++◌, length, Option, Some, None, Ok, Err, subst, sym}
+use Rattle.std.proofs.Common.{◌≡◌, Bool, true, false, cond, ℕ, List, [], ◌∷◌, ◌++◌, length, Option, Some, None, Ok, Err, subst}
 use Rattle.std.specs.Fmt.{decimal}
 use Rattle.std.specs.Str.{bytes_eq}
 use Rattle.cell_base.specs.declared.level.Level.{Level}
-use Rattle.cell_base.specs.declared.key.Key.{Key}
-use Rattle.cell_base.specs.declared.value.Value.{Value}
 use Rattle.cell_base.specs.declared.sql_state.SqlState.{SqlState}
 use Rattle.cell_base.specs.declared.sql_state.SqlState.TheVariants as states
 use Rattle.history_core.specs.declared.fault.BookFault.{BookFault}
@@ -26,7 +24,7 @@ use Rattle.outcome_replies.specs.Replies.{outcome_reply}
 use Rattle.block_machine.specs.Calls as calls
 use Rattle.block_machine.specs.Settings.{is_own, history_name, value_of}
 use Rattle.block_machine.specs.Replies.{error_reply, created_reply, set_reply, commit_reply, rollback_reply, needless_commit_reply, needless_rollback_reply, start_reply, needless_start_reply, show_reply}
-use Rattle.block_machine.specs.Script.{Script, lost, ask, tell, unless_short}
+use Rattle.block_machine.specs.Script.{Script}
 use Rattle.block_machine.specs.Statements as told
 use Rattle.block_machine.specs.Statements.{Around, owed_in, refusal_state}
 use Rattle.block_machine.specs.declared.block.Block.{Block}

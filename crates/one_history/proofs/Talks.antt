@@ -1,26 +1,21 @@
 -- Sessions that hear the same bytes agree.
-use Rattle.std.proofs.Common.{◌≡◌, ◌≢◌, inl, inr, ◌⊎◌, Bool, true, false, ℕ, List, [], ◌∷◌, ◌++◌, length, refl, sym, ◌∙◌, ap, subst}
+use Rattle.std.proofs.Common.{◌≡◌, inl, inr, ◌⊎◌, Bool, true, false, ℕ, List, [], ◌∷◌, length, refl, sym, ◌∙◌, ap, subst}
 use Rattle.cell_base.specs.declared.level.Level.{Level}
 use Rattle.cell_base.specs.declared.sql_state.SqlState.TheVariants as states
 use Rattle.client_framing.specs.declared.front.Front.{Front}
 use Rattle.client_framing.specs.declared.front.Front.TheVariants.{Ssl, Gss, Cancel, Startup, Version, Query, Terminate, Sync, Flush, Extended, Function, Copy}
-use Rattle.client_framing.specs.declared.front.FrameFault.{FrameFault}
 use Rattle.client_framing.specs.Spelling.{phase_after}
-use Rattle.client_framing.specs.Fronts.{TakesFront, IsPartial, HasFault}
 use Rattle.client_framing.proofs.Streams.{front_unique, behind_unique, front_no_fault}
 use Rattle.pg_framing.specs.declared.replies.TransactionState.{TransactionState}
 use Rattle.pg_framing.specs.declared.replies.TransactionState.TheVariants as block_states
 use Rattle.sql_tree.specs.declared.table.Table.{Table}
-use Rattle.history_core.specs.declared.fault.BookFault.{BookFault}
 use Rattle.history_core.specs.Book.{Past}
 use Rattle.block_machine.specs.Calls.{Call}
 use Rattle.block_machine.specs.Calls as calls
-use Rattle.block_machine.specs.Script.{Entry, did, refused, short, unsent, stop, Next, more, ended, astray, Said, Script, lost, ask, on_opened, tell, unless_short}
+use Rattle.block_machine.specs.Script.{Entry, did, refused, short, unsent, stop, Next, more, ended, Said, Script, lost, on_opened, tell}
 use Rattle.block_machine.specs.Messages as messages
 use Rattle.block_machine.specs.Messages.{Outside, owed_between, block_at, IsMessage}
-use Rattle.block_machine.specs.declared.block.Block.{Block}
 use Rattle.block_machine.specs.declared.block.Owed.TheVariants as owes
-use Rattle.block_machine.specs.declared.call.Answer.{Answer}
 use Rattle.block_machine.specs.declared.end.End.{End}
 use Rattle.block_machine.specs.declared.end.End.TheVariants as ends
 use Rattle.block_machine.specs.declared.end.Stop.{Stop}
@@ -35,12 +30,12 @@ use Rattle.session_core.specs.Record.{Lawful}
 use Rattle.session_core.specs.Told as told
 use Rattle.session_core.specs.Told.{broken, closed, closing, ending, owed_by, outside_of, refusal_end, stop_end, greets, waiting, unless_memory_ends}
 use Rattle.choice_stream.specs.Choices.{DrawsFirst}
-use Rattle.one_history.proofs.Rides.{Goes, Grows, Rides, IsNear, Same, Agree, Breaks, IsNever, lost_never, lost_agrees, never_left, never_right, tell_agrees, calm_agrees, calm_on, astray_ended}
+use Rattle.one_history.proofs.Rides.{Grows, Rides, Agree, IsNever, lost_never, lost_agrees, never_left, never_right, tell_agrees, calm_agrees, calm_on, astray_ended}
 use Rattle.one_history.proofs.Turning.{ask_agrees}
 use Rattle.one_history.proofs.Cases.{opened_agrees}
-use Rattle.one_history.proofs.Statements.{Alike, fails}
+use Rattle.one_history.proofs.Statements.{fails}
 use Rattle.one_history.proofs.Messages.{Beside, readied, message}
-use Rattle.one_history.proofs.Endings.{closed_agrees, closing_agrees, ending_agrees, breaks}
+use Rattle.one_history.proofs.Endings.{closed_agrees, ending_agrees, breaks}
 use Rattle.one_history.proofs.OneMessage.{one_message}
 
 -- what follows a message agrees

@@ -1,10 +1,10 @@
 -- Two rides over one call get one answer, and stand at one past behind it.
-use Rattle.std.proofs.Common.{◌≡◌, ◌≢◌, inl, inr, ◌⊎◌, Bool, true, false, ℕ, ◌+◌, List, [], ◌∷◌, ◌++◌, None, Some, length, take, refl, sym, ◌∙◌, ap, subst, append_assoc, arith}
-use Rattle.std.proofs.lemmas.List.{length_push, append-nil}
+use Rattle.std.proofs.Common.{◌≡◌, inl, inr, ◌⊎◌, ℕ, ◌+◌, List, [], ◌∷◌, ◌++◌, None, length, take, refl, sym, ◌∙◌, ap, subst, arith}
+use Rattle.std.proofs.lemmas.List.{length_push}
 use Rattle.cell_base.specs.declared.level.Level.{Level}
 use Rattle.sql_tree.specs.declared.table.Table.{Table}
 use Rattle.history_core.specs.declared.event.Event.{Event}
-use Rattle.history_core.specs.declared.event.Event.TheVariants.{Open, Close, Define, Look, Begin, Scan, Read, Own, Write, Commit, Rollback, Show}
+use Rattle.history_core.specs.declared.event.Event.TheVariants.{Define}
 use Rattle.history_core.specs.declared.fault.Limit.{Limit}
 use Rattle.history_core.specs.declared.fault.BookFault.{BookFault}
 use Rattle.history_core.specs.declared.fault.BookFault.TheVariants as faults
@@ -13,20 +13,20 @@ use Rattle.history_core.specs.Events.{names, defined, defined_name}
 use Rattle.history_core.specs.Book.{Past, Seat, session_of, IsUnwritten}
 use Rattle.block_machine.specs.Calls.{Call}
 use Rattle.block_machine.specs.Calls as calls
-use Rattle.block_machine.specs.Script.{Entry, did, refused, Said, with_call, Script, ask}
+use Rattle.block_machine.specs.Script.{Entry, refused, Said, with_call, Script, ask}
 use Rattle.block_machine.specs.declared.call.Answer.{Answer}
 use Rattle.block_machine.specs.declared.call.Answer.TheVariants as answers
 use Rattle.block_machine.specs.declared.end.End.{End}
-use Rattle.session_core.specs.Record.{Happens, Declines, Draws, SeatAfter, limit_for}
+use Rattle.session_core.specs.Record.{Happens, Draws, SeatAfter}
 use Rattle.choice_stream.specs.Choices.{DrawsFirst}
-use Rattle.one_history.proofs.Leads.{Leads, Made, made_of, lawful_leads, leads_adds, happens_adds, declines_goes, goes_alone}
-use Rattle.one_history.proofs.Names.{names-more, Placed, placed}
+use Rattle.one_history.proofs.Leads.{Leads, made_of, lawful_leads, happens_adds, goes_alone}
+use Rattle.one_history.proofs.Names.{names-more, placed}
 use Rattle.one_history.proofs.Values.{not_both}
 use Rattle.one_history.proofs.Known.{Known, Way, known, same_names}
 use Rattle.one_history.proofs.OneStep.{IsOne, known_one}
 use Rattle.one_history.proofs.Refusals.{not_refused, one_refusal}
-use Rattle.one_history.proofs.Rides.{Grows, IsLast, Rides, IsNear, Same, Agree}
-use Rattle.one_history.proofs.Asking.{Answered, Stopped, Turned, turned, ask_grows}
+use Rattle.one_history.proofs.Rides.{IsLast, Rides, IsNear, Agree}
+use Rattle.one_history.proofs.Asking.{Answered, Stopped, turned, ask_grows}
 
 -- ---- the seat
 

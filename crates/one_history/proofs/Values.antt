@@ -1,19 +1,19 @@
 -- What is read is one value, and what was written last is one.
-use Rattle.std.proofs.Common.{◌≡◌, ◌≢◌, ℕ, ◌+◌, ◌<◌, ◌≤◌, zero, suc, List, [], ◌∷◌, ◌++◌, Some, Option, length, arith, refl, ap, sym, ◌∙◌, subst, inl, inr, ◌⊎◌, ◌%◌}
-use Rattle.std.specs.List.{All, Any, Contains, slice_get}
+use Rattle.std.proofs.Common.{◌≡◌, ◌≢◌, ℕ, ◌<◌, ◌≤◌, suc, List, [], ◌∷◌, ◌++◌, Some, length, arith, refl, ap, sym, ◌∙◌, subst, inl, inr, ◌%◌}
+use Rattle.std.specs.List.{All, slice_get}
 use Rattle.std.proofs.lemmas.List.Elements.{All-contains}
 use Rattle.cell_base.specs.declared.level.Level.{Level}
 use Rattle.cell_base.specs.declared.cell.Cell.{Cell}
 use Rattle.cell_base.specs.declared.key.Key.{Key}
 use Rattle.cell_base.specs.declared.value.Value.{Value}
 use Rattle.history_core.specs.declared.event.Event.{Event}
-use Rattle.history_core.specs.declared.event.Event.TheVariants.{Read, Scan, Write, Commit}
-use Rattle.history_core.specs.Transactions.{IsOf, IsCommitted}
+use Rattle.history_core.specs.declared.event.Event.TheVariants.{Read, Write}
+use Rattle.history_core.specs.Transactions.{IsCommitted}
 use Rattle.history_core.specs.Relations.{LastWrites, WritesValue}
-use Rattle.history_core.specs.Legal.{Follows, IsOffered, IsOffer, ListsKeys}
-use Rattle.history_core.specs.Book.{Seat, IsUnwritten, HasWrite, LastWrite, WritesLast, writes_of}
+use Rattle.history_core.specs.Legal.{IsOffered, IsOffer, ListsKeys}
+use Rattle.history_core.specs.Book.{Seat, IsUnwritten, HasWrite, LastWrite, writes_of}
 use Rattle.history_core.proofs.Prefixes.{start_positive}
-use Rattle.one_history.proofs.Lists.{one_rising, one_key_list, contains_first}
+use Rattle.one_history.proofs.Lists.{one_rising, one_key_list}
 
 -- ---- what a transaction wrote last
 
