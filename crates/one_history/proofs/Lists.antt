@@ -128,7 +128,7 @@ one_key_list xs ys up down there back =
 
 -- ---- places
 
--- the places of one element before two rests
+-- the place of an element between two lists
 pub middle_place : {X : Type 0} (xs ys : List X) (x : X) → slice_get (xs ++ x ∷ ys) (length xs) ≡ Some x
 middle_place [] ys x = refl
 middle_place (z ∷ zs) ys x = middle_place zs ys x

@@ -19,7 +19,7 @@ pub record Goes (s : Script) (said : Said) (es : List Entry) (out : Said) (end :
   pub calm : has_short es ≡ false
   pub written : end ≢ ends.WriteFault
 
--- it asks more calls
+-- it only adds calls to those that were asked
 abbrev pub Grows : Script → Type 0
 Grows s = (said : Said) (es : List Entry) (out : Said) (end : End) → Goes s said es out end → (more : List Call) × (out.calls ≡ said.calls ++ more)
 

@@ -33,8 +33,8 @@ farewell ends.Memory = []
 abbrev pub no_past : Level → Past
 no_past level = record { seen = record { level = level; events = []; tables = [] }; own = []; seat = away }
 
--- A session at that level took these bytes and was given these words. It was served alone to this end, memory was not wanting, and no
--- write failed. It was told these bytes, and the history and the words that are left are what it leaves.
+-- A session at that level took these bytes and was given these words. It was served to this end, alone with its book from no event on;
+-- memory was not wanting, and no write failed. It left this history and these words, and was told these bytes.
 pub record Served (level : Level) (taken words : List ℕ) (history : Chronicle) (left sent : List ℕ) (end : End) : Type 0 where
   pub talk : Talk
   pub es : List Entry
@@ -49,7 +49,7 @@ pub record Served (level : Level) (taken words : List ℕ) (history : Chronicle)
   pub calm : has_short es ≡ false
   pub written : end ≢ ends.WriteFault
 
--- the same bytes were told, but for what the ends tell
+-- the same bytes were told, and then what each end tells
 pub record SameBytes (first : List ℕ) (one : End) (second : List ℕ) (other : End) : Type 0 where
   pub common : List ℕ
   pub first_is : first ≡ common ++ farewell one
