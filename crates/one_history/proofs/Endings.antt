@@ -1,8 +1,9 @@
 -- Two sessions that end leave the same, but for what their ends tell.
-use Rattle.std.proofs.Common.{◌≡◌, ℕ, List, [], ◌∷◌, ◌++◌, length, refl, sym, ◌∙◌, ap, subst, arith}
+use Rattle.std.proofs.Common.{◌≡◌, inr, true, false, ℕ, List, [], ◌∷◌, ◌++◌, length, refl, sym, ◌∙◌, ap, subst, arith}
 use Rattle.std.proofs.lemmas.List.{append-nil, take_all, length-map}
 use Rattle.cell_base.specs.declared.sql_state.SqlState.{SqlState}
 use Rattle.cell_base.specs.declared.sql_state.SqlState.TheVariants as states
+use Rattle.history_core.specs.declared.fault.BookFault.TheVariants as faults
 use Rattle.history_core.specs.Events.{defined}
 use Rattle.history_core.specs.Chronicle.{Chronicle, IsLegalChronicle}
 use Rattle.history_core.specs.Book.{Past}
@@ -134,30 +135,30 @@ both_done one other said ds es a b v x y m n q r w u left right first second nea
 closed_grows : (end : End) → Grows (closed end)
 closed_grows end said es out to goes = ([], (closed_goes end said es out to goes).calls ∙ sym (append-nil said.calls))
 
-pub closed_agrees : (one other : End) → Agree (closed one) (closed other)
-closed_agrees one other = record {
+pub closed_agrees : (E : End → Type 0) → (one other : End) → Agree E (closed one) (closed other)
+closed_agrees E one other = record {
   left = closed_grows one;
   right = closed_grows other;
   same = λ said ds es a b v x y m n q r w u first second near.
-      both_done one other said ds es a b v x y m n q r w u (closed_goes one said ds x m first.goes) (closed_goes other said es y n second.goes)
-      first second near;
+      inr (both_done one other said ds es a b v x y m n q r w u (closed_goes one said ds x m first.goes) (closed_goes other said es y n second.goes)
+      first second near);
 }
 
-pub closing_agrees : (one other : End) → Agree (closing one) (closing other)
-closing_agrees one other = ask_agrees calls.Close (λ _. closed one) (λ _. closed other) (λ _. closed_agrees one other)
+pub closing_agrees : (E : End → Type 0) → (one other : End) → Agree E (closing one) (closing other)
+closing_agrees E one other = ask_agrees E calls.Close (λ _. closed one) (λ _. closed other) (λ _. closed_agrees E one other)
 
-pub ending_agrees : (owed : Owed) (one other : End) → Agree (ending owed one) (ending owed other)
-ending_agrees owes.Nothing one other = closed_agrees one other
-ending_agrees owes.Close one other = closing_agrees one other
-ending_agrees owes.Rollback one other = ask_agrees calls.Rollback (λ _. closing one) (λ _. closing other) (λ _. closing_agrees one other)
+pub ending_agrees : (E : End → Type 0) → (owed : Owed) (one other : End) → Agree E (ending owed one) (ending owed other)
+ending_agrees E owes.Nothing one other = closed_agrees E one other
+ending_agrees E owes.Close one other = closing_agrees E one other
+ending_agrees E owes.Rollback one other = ask_agrees E calls.Rollback (λ _. closing one) (λ _. closing other) (λ _. closing_agrees E one other)
 
 -- ---- a session that ends by a failed write
 
+no_call : (c : Call) (a out : Said) (end : End) → ◌≡◌ {A = Said × Next} (a, call c) (out, ended end) → ⊥
+no_call c a out end is = let both : call c ≡ ended end = ap (λ (x : Said × Next). x.1) is in cc
+
 call_breaks : (c : Call) (rest : Answer → Script) → ((a : Answer) → Breaks (rest a)) → Breaks (ask c rest)
 call_breaks c rest breaks said [] out end is = absurd (no_call c said out end is)
-  where
-    no_call : (c : Call) (a out : Said) (end : End) → ◌≡◌ {A = Said × Next} (a, call c) (out, ended end) → ⊥
-    no_call c a out end is = let both : call c ≡ ended end = ap (λ (x : Said × Next). x.1) is in cc
 call_breaks c rest breaks said (did a e ∷ es) out end is = breaks a (with_call said c) es out end is
 call_breaks c rest breaks said (refused why ∷ es) out end is = breaks (answers.Refused why) (with_call said c) es out end is
 call_breaks c rest breaks said (short final n ∷ es) out end is = absurd (astray_ended said out end is)
@@ -168,3 +169,29 @@ pub breaks : (owed : Owed) → Breaks (broken owed)
 breaks owes.Nothing = done_breaks
 breaks owes.Close = call_breaks calls.Close (λ _. done ends.WriteFault) (λ _. done_breaks)
 breaks owes.Rollback = call_breaks calls.Rollback (λ _. closing ends.WriteFault) (λ _. call_breaks calls.Close (λ _. done ends.WriteFault) (λ _. done_breaks))
+
+-- ---- the end to which a session comes
+
+call_end : (c : Call) (rest : Answer → Script) (end : End) →
+    ((a : Answer) (said : Said) (es : List Entry) (out : Said) (to : End) → Goes (rest a) said es out to → to ≡ end) →
+    (said : Said) (es : List Entry) (out : Said) (to : End) → Goes (ask c rest) said es out to → to ≡ end
+call_end c rest end on said [] out to goes = absurd (no_call c said out to goes.is)
+call_end c rest end on said (did a e ∷ es) out to goes =
+    on a (with_call said c) es out to (record { is = goes.is; calm = goes.calm; written = goes.written })
+call_end c rest end on said (refused (faults.Full limit) ∷ es) out to goes =
+    on (answers.Refused (faults.Full limit)) (with_call said c) es out to (record { is = goes.is; calm = goes.calm; written = goes.written })
+call_end c rest end on said (refused faults.Memory ∷ es) out to goes = absurd (let h : true ≡ false = goes.calm in cc)
+call_end c rest end on said (short final n ∷ es) out to goes = absurd (astray_ended said out to goes.is)
+call_end c rest end on said (unsent n ∷ es) out to goes = absurd (astray_ended said out to goes.is)
+call_end c rest end on said (stop cause ∷ es) out to goes = absurd (astray_ended said out to goes.is)
+
+closed_end : (end : End) (said : Said) (es : List Entry) (out : Said) (to : End) → Goes (closed end) said es out to → to ≡ end
+closed_end end said es out to goes = (closed_goes end said es out to goes).to_is
+
+closing_end : (end : End) (said : Said) (es : List Entry) (out : Said) (to : End) → Goes (closing end) said es out to → to ≡ end
+closing_end end said es out to goes = call_end calls.Close (λ _. closed end) end (λ _. closed_end end) said es out to goes
+
+pub ending_end : (owed : Owed) (end : End) (said : Said) (es : List Entry) (out : Said) (to : End) → Goes (ending owed end) said es out to → to ≡ end
+ending_end owes.Nothing end said es out to goes = closed_end end said es out to goes
+ending_end owes.Close end said es out to goes = closing_end end said es out to goes
+ending_end owes.Rollback end said es out to goes = call_end calls.Rollback (λ _. closing end) end (λ _. closing_end end) said es out to goes

@@ -4,6 +4,7 @@ use Rattle.pg_framing.specs.declared.replies.TransactionState.{TransactionState}
 use Rattle.pg_framing.specs.declared.replies.TransactionState.TheVariants as ready
 use Rattle.sql_tree.specs.declared.statement.Statement.{Statement}
 use Rattle.sql_tree.specs.declared.table.Table.{Table}
+use Rattle.block_machine.specs.declared.end.End.{End}
 use Rattle.block_machine.specs.Calls as calls
 use Rattle.block_machine.specs.Replies.{ready_reply, empty_reply}
 use Rattle.block_machine.specs.Messages as told
@@ -18,55 +19,55 @@ use Rattle.one_history.proofs.Turning.{ask_agrees}
 use Rattle.one_history.proofs.Statements.{Alike, succeeds, fails, told_of}
 
 -- what stands outside a message agrees
-pub record Beside (x y : Outside) : Type 0 where
+pub record Beside (E : End → Type 0) (x y : Outside) : Type 0 where
   pub level : x.level ≡ y.level
-  pub next : (state : TransactionState) (k : List Table) → Agree (x.next state k) (y.next state k)
+  pub next : (state : TransactionState) (k : List Table) → Agree E (x.next state k) (y.next state k)
   pub left : (owed : Owed) → Breaks (x.broken owed)
   pub right : (owed : Owed) → Breaks (y.broken owed)
 
-pub readied : (x y : Outside) → Beside x y → (state : TransactionState) (known : List Table) →
-    Agree (told.readied state known x) (told.readied state known y)
-readied x y h state known =
-    tell_agrees (ready_reply state) (x.broken (owed_between state)) (y.broken (owed_between state)) (x.next state known) (y.next state known)
+pub readied : (E : End → Type 0) → (x y : Outside) → Beside E x y → (state : TransactionState) (known : List Table) →
+    Agree E (told.readied state known x) (told.readied state known y)
+readied E x y h state known =
+    tell_agrees E (ready_reply state) (x.broken (owed_between state)) (y.broken (owed_between state)) (x.next state known) (y.next state known)
     (h.left (owed_between state)) (h.right (owed_between state)) (h.next state known)
 
-ends : (x y : Outside) → Beside x y → (block : Block) (known : List Table) → Agree (told.ends block known x) (told.ends block known y)
-ends x y h (Implicit false) known = readied x y h ready.Idle known
-ends x y h (Implicit true) known =
-    ask_agrees calls.Commit (λ _. told.readied ready.Idle known x) (λ _. told.readied ready.Idle known y) (λ _. readied x y h ready.Idle known)
-ends x y h Regular known = readied x y h ready.Block known
-ends x y h Failed known = readied x y h ready.Failed known
+ends : (E : End → Type 0) → (x y : Outside) → Beside E x y → (block : Block) (known : List Table) → Agree E (told.ends block known x) (told.ends block known y)
+ends E x y h (Implicit false) known = readied E x y h ready.Idle known
+ends E x y h (Implicit true) known =
+    ask_agrees E calls.Commit (λ _. told.readied ready.Idle known x) (λ _. told.readied ready.Idle known y) (λ _. readied E x y h ready.Idle known)
+ends E x y h Regular known = readied E x y h ready.Block known
+ends E x y h Failed known = readied E x y h ready.Failed known
 
-statements : (x y : Outside) → Beside x y → (list : List Statement) (block : Block) (known : List Table) →
-    Agree (told.statements list block known x) (told.statements list block known y)
-statements x y h [] block known = ends x y h block known
-statements x y h (s ∷ more) block known =
-    told_of (before more x) (before more y)
+statements : (E : End → Type 0) → (x y : Outside) → Beside E x y → (list : List Statement) (block : Block) (known : List Table) →
+    Agree E (told.statements list block known x) (told.statements list block known y)
+statements E x y h [] block known = ends E x y h block known
+statements E x y h (s ∷ more) block known =
+    told_of E (before more x) (before more y)
     (record {
       level = h.level;
-      succeeded = λ b k. statements x y h more b k;
-      failed = λ state k. readied x y h state k;
+      succeeded = λ b k. statements E x y h more b k;
+      failed = λ state k. readied E x y h state k;
       left = h.left;
       right = h.right;
     })
     s block known
 
 -- before other statements, and before the end
-pub alike : (x y : Outside) → Beside x y → (more : List Statement) → Alike (before more x) (before more y)
-alike x y h more = record {
+pub alike : (E : End → Type 0) → (x y : Outside) → Beside E x y → (more : List Statement) → Alike E (before more x) (before more y)
+alike E x y h more = record {
   level = h.level;
-  succeeded = λ b k. statements x y h more b k;
-  failed = λ state k. readied x y h state k;
+  succeeded = λ b k. statements E x y h more b k;
+  failed = λ state k. readied E x y h state k;
   left = h.left;
   right = h.right;
 }
 
-opens : (x y : Outside) → Beside x y → (list : List Statement) (block : Block) (known : List Table) →
-    Agree (told.opens list block known x) (told.opens list block known y)
-opens x y h [] block known = succeeds (before [] x) (before [] y) (alike x y h []) empty_reply block known
-opens x y h (s ∷ more) block known = statements x y h (s ∷ more) block known
+opens : (E : End → Type 0) → (x y : Outside) → Beside E x y → (list : List Statement) (block : Block) (known : List Table) →
+    Agree E (told.opens list block known x) (told.opens list block known y)
+opens E x y h [] block known = succeeds E (before [] x) (before [] y) (alike E x y h []) empty_reply block known
+opens E x y h (s ∷ more) block known = statements E x y h (s ∷ more) block known
 
-pub message : (x y : Outside) → Beside x y → (asked : Message) (state : TransactionState) (known : List Table) →
-    Agree (told.message asked state known x) (told.message asked state known y)
-message x y h (messages.Unread code) state known = fails (before [] x) (before [] y) (alike x y h []) code (block_at state) known
-message x y h (messages.Statements asked) state known = opens x y h asked (block_at state) known
+pub message : (E : End → Type 0) → (x y : Outside) → Beside E x y → (asked : Message) (state : TransactionState) (known : List Table) →
+    Agree E (told.message asked state known x) (told.message asked state known y)
+message E x y h (messages.Unread code) state known = fails E (before [] x) (before [] y) (alike E x y h []) code (block_at state) known
+message E x y h (messages.Statements asked) state known = opens E x y h asked (block_at state) known

@@ -1,5 +1,5 @@
 -- Bytes and words have one history.
-use Rattle.std.proofs.Common.{false, ℕ, List, [], length, refl, sym, ◌∙◌, ap, subst}
+use Rattle.std.proofs.Common.{◌≡◌, inl, inr, ◌⊎◌, false, ℕ, List, [], ◌∷◌, ◌++◌, length, refl, sym, ◌∙◌, ap, subst}
 use Rattle.cell_base.specs.declared.level.Level.{Level}
 use Rattle.history_core.specs.Chronicle.{Chronicle, IsLegalChronicle}
 use Rattle.block_machine.specs.Script.{Said}
@@ -8,9 +8,9 @@ use Rattle.session_core.specs.declared.phase.Phase.TheVariants as phases
 use Rattle.session_core.specs.Told.{told, session}
 use Rattle.session_core.proofs.Lawfuls.{own_events}
 use Rattle.choice_stream.specs.Choices.{DrawsFirst}
-use Rattle.one_history.specs.Laws.{Served, OneHistory, no_past}
+use Rattle.one_history.specs.Laws.{Served, OneHistory, WantsMore, no_past}
 use Rattle.one_history.proofs.Rides.{IsLast, Rides, IsNear, Agree}
-use Rattle.one_history.proofs.Talks.{sessions_agree}
+use Rattle.one_history.proofs.Talks.{IsSpared, sessions_agree}
 
 abbrev nothing_said : Said
 nothing_said = record { bytes = []; calls = [] }
@@ -38,15 +38,25 @@ rides_of level taken words history left sent end s = record {
   last = last_of level taken words history left sent end s;
 }
 
+-- an end that is let off is one that wanted the bytes that follow
+not_spared : (more : List ℕ) (end : End) → (more ≡ []) ⊎ (¬ (WantsMore end)) → IsSpared more end → ⊥
+not_spared [] end either spared = spared
+not_spared (x ∷ xs) end (inl none) spared = let both : x ∷ xs ≡ [] = none in cc
+not_spared (x ∷ xs) end (inr never) spared = never spared
+
 pub one_history : OneHistory
-one_history level taken words first second left right sent told one other a b =
-    let agree : Agree (session level phases.Startup [] a.talk) (session level phases.Startup [] b.talk) =
-    sessions_agree level phases.Startup [] false taken a.talk b.talk a.talk_is b.talk_is in
+one_history level taken more words first second left right sent told one other a b either =
+    let agree : Agree (IsSpared more) (session level phases.Startup [] a.talk) (session level phases.Startup [] b.talk) =
+    sessions_agree more level phases.Startup [] false taken a.talk b.talk a.talk_is b.talk_is in
     let near : IsNear (no_past level) (no_past level) a.past b.past = record { level = refl; events = refl; seat = refl; tables = refl } in
-    let same = agree.same nothing_said a.es b.es (no_past level) (no_past level) words (record { bytes = sent; calls = a.asked })
+    let rode = agree.same nothing_said a.es b.es (no_past level) (no_past level) words (record { bytes = sent; calls = a.asked })
     (record { bytes = told; calls = b.asked }) one other a.past b.past left right
-    (rides_of level taken words first left sent one a) (rides_of level taken words second right told other b) near in (
-      sym a.history_is ∙ same.history ∙ b.history_is,
-      same.words,
-      record { common = same.common; first_is = same.first; second_is = same.second },
-    )
+    (rides_of level taken words first left sent one a) (rides_of level (taken ++ more) words second right told other b) near in
+    elim rode [
+      | inl spared ↦ absurd (not_spared more one either spared)
+      | inr same ↦ (
+        sym a.history_is ∙ same.history ∙ b.history_is,
+        same.words,
+        record { common = same.common; first_is = same.first; second_is = same.second },
+      )
+    ]

@@ -52,11 +52,12 @@ pub record Same (x y : Said) (m n : End) (q r : Past) (w u : List ℕ) : Type 0 
   pub first : x.bytes ≡ common ++ farewell m
   pub second : y.bytes ≡ common ++ farewell n
 
-pub record Agree (s t : Script) : Type 0 where
+-- scripts that agree, but where the first comes to an end of these
+pub record Agree (E : End → Type 0) (s t : Script) : Type 0 where
   pub left : Grows s
   pub right : Grows t
   pub same : (said : Said) (ds es : List Entry) (a b : Past) (v : List ℕ) (x y : Said) (m n : End) (q r : Past) (w u : List ℕ) →
-      Rides s said ds a v x m q w → Rides t said es b v y n r u → IsNear a b q r → Same x y m n q r w u
+      Rides s said ds a v x m q w → Rides t said es b v y n r u → IsNear a b q r → E m ⊎ Same x y m n q r w u
 
 -- ---- scripts that never come to an end
 
@@ -69,22 +70,22 @@ IsNever s = (said : Said) (es : List Entry) (out : Said) (end : End) → Goes s 
 pub lost_never : IsNever lost
 lost_never said es out end goes = astray_ended said out end goes.is
 
-pub never_left : (s t : Script) → IsNever s → Grows t → Agree s t
-never_left s t never grows = record {
+pub never_left : (E : End → Type 0) → (s t : Script) → IsNever s → Grows t → Agree E s t
+never_left E s t never grows = record {
   left = λ said es out end goes. absurd (never said es out end goes);
   right = grows;
   same = λ said ds es a b v x y m n q r w u one other near. absurd (never said ds x m one.goes);
 }
 
-pub never_right : (s t : Script) → IsNever t → Grows s → Agree s t
-never_right s t never grows = record {
+pub never_right : (E : End → Type 0) → (s t : Script) → IsNever t → Grows s → Agree E s t
+never_right E s t never grows = record {
   left = grows;
   right = λ said es out end goes. absurd (never said es out end goes);
   same = λ said ds es a b v x y m n q r w u one other near. absurd (never said es y n other.goes);
 }
 
-pub lost_agrees : Agree lost lost
-lost_agrees = never_left lost lost lost_never (λ said es out end goes. absurd (lost_never said es out end goes))
+pub lost_agrees : (E : End → Type 0) → Agree E lost lost
+lost_agrees E = never_left E lost lost lost_never (λ said es out end goes. absurd (lost_never said es out end goes))
 
 -- ---- scripts that go on as others
 
@@ -112,8 +113,8 @@ rides_passing f s t keeps passes said es p v out end q w rides = record {
   last = rides.last;
 }
 
-pub agree_passing : (f : Said → Said) (s t s_on t_on : Script) → KeepsCalls f → Passes f s s_on → Passes f t t_on → Agree s_on t_on → Agree s t
-agree_passing f s t s_on t_on keeps one other agree = record {
+pub agree_passing : (E : End → Type 0) → (f : Said → Said) (s t s_on t_on : Script) → KeepsCalls f → Passes f s s_on → Passes f t t_on → Agree E s_on t_on → Agree E s t
+agree_passing E f s t s_on t_on keeps one other agree = record {
   left = grows_passing f s s_on keeps one agree.left;
   right = grows_passing f t t_on keeps other agree.right;
   same = λ said ds es a b v x y m n q r w u left right near.
@@ -148,10 +149,10 @@ tells_on bytes fault rest breaks said es out end goes =
     sends_on (length said.bytes) fault rest breaks (with_bytes said bytes) es out end
     (record { is = goes.is; calm = goes.calm; written = goes.written })
 
-pub tell_agrees : (bytes : List ℕ) (fault other s t : Script) → Breaks fault → Breaks other → Agree s t →
-    Agree (tell bytes fault s) (tell bytes other t)
-tell_agrees bytes fault other s t breaks breaks_too agree =
-    agree_passing (λ said. with_bytes said bytes) (tell bytes fault s) (tell bytes other t) s t (λ said. refl)
+pub tell_agrees : (E : End → Type 0) → (bytes : List ℕ) (fault other s t : Script) → Breaks fault → Breaks other → Agree E s t →
+    Agree E (tell bytes fault s) (tell bytes other t)
+tell_agrees E bytes fault other s t breaks breaks_too agree =
+    agree_passing E (λ said. with_bytes said bytes) (tell bytes fault s) (tell bytes other t) s t (λ said. refl)
     (tells_on bytes fault s breaks) (tells_on bytes other t breaks_too) agree
 
 -- ---- memory is not wanting
@@ -164,7 +165,7 @@ calm_on final short_of rest said (short other k ∷ es) out end goes = absurd (l
 calm_on final short_of rest said (unsent k ∷ es) out end goes = record { is = goes.is; calm = goes.calm; written = goes.written }
 calm_on final short_of rest said (stop cause ∷ es) out end goes = record { is = goes.is; calm = goes.calm; written = goes.written }
 
-pub calm_agrees : (final : Bool) (one other s t : Script) → Agree s t → Agree (unless_short final one s) (unless_short final other t)
-calm_agrees final one other s t agree =
-    agree_passing (λ said. said) (unless_short final one s) (unless_short final other t) s t (λ said. refl)
+pub calm_agrees : (E : End → Type 0) → (final : Bool) (one other s t : Script) → Agree E s t → Agree E (unless_short final one s) (unless_short final other t)
+calm_agrees E final one other s t agree =
+    agree_passing E (λ said. said) (unless_short final one s) (unless_short final other t) s t (λ said. refl)
     (calm_on final one s) (calm_on final other t) agree

@@ -218,8 +218,8 @@ leads_last : (s : Script) (said : Said) (p : Past) (v : List ℕ) (q : Past) (w 
 leads_last s said p v q w out end es rides = lawful_leads DrawsFirst p v rides.calls es q w rides.lawful
 
 -- scripts that ask one call agree where they agree behind each answer
-pub ask_agrees : (c : Call) (s t : Answer → Script) → ((a : Answer) → Agree (s a) (t a)) → Agree (ask c s) (ask c t)
-ask_agrees c s t agree = record {
+pub ask_agrees : (E : End → Type 0) → (c : Call) (s t : Answer → Script) → ((a : Answer) → Agree E (s a) (t a)) → Agree E (ask c s) (ask c t)
+ask_agrees E c s t agree = record {
   left = ask_grows c s (λ a. (agree a).left);
   right = ask_grows c t (λ a. (agree a).right);
   same = λ said ds es a b v x y m n q r w u one two near.
