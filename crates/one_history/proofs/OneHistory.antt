@@ -1,0 +1,62 @@
+-- Bytes and words have one history.
+use Rattle.std.proofs.Common.{◌≡◌, inl, inr, ◌⊎◌, false, ℕ, List, [], ◌∷◌, ◌++◌, length, refl, sym, ◌∙◌, ap, subst}
+use Rattle.cell_base.specs.declared.level.Level.{Level}
+use Rattle.history_core.specs.Chronicle.{Chronicle, IsLegalChronicle}
+use Rattle.block_machine.specs.Script.{Said}
+use Rattle.block_machine.specs.declared.end.End.{End}
+use Rattle.session_core.specs.declared.phase.Phase.TheVariants as phases
+use Rattle.session_core.specs.Told.{told, session}
+use Rattle.session_core.proofs.Lawfuls.{own_events}
+use Rattle.choice_stream.specs.Choices.{DrawsFirst}
+use Rattle.one_history.specs.Laws.{Served, OneHistory, WantsMore, no_past}
+use Rattle.one_history.proofs.Rides.{IsLast, Rides, IsNear, Agree}
+use Rattle.one_history.proofs.Talks.{IsSpared, sessions_agree}
+
+abbrev nothing_said : Said
+nothing_said = record { bytes = []; calls = [] }
+
+last_of : (level : Level) (taken words : List ℕ) (history : Chronicle) (left sent : List ℕ) (end : End) →
+    (s : Served level taken words history left sent end) → IsLast s.past
+last_of level taken words history left sent end s = record {
+  legal = subst (λ (h : Chronicle). IsLegalChronicle h) (sym s.history_is) s.legal;
+  alone =
+      ap (λ (h : Chronicle). length h.events) s.history_is ∙ ap length s.alone
+      ∙ sym (ap length (own_events DrawsFirst (no_past level) words s.asked s.es s.past left s.lawful));
+}
+
+-- a session that was served rode over its whole script
+rides_of : (level : Level) (taken words : List ℕ) (history : Chronicle) (left sent : List ℕ) (end : End) →
+    (s : Served level taken words history left sent end) →
+    Rides (session level phases.Startup [] s.talk) nothing_said s.es (no_past level) words (record { bytes = sent; calls = s.asked }) end s.past left
+unfolding told
+rides_of level taken words history left sent end s = record {
+  goes = record { is = s.told_is; calm = s.calm; written = s.written };
+  calls = s.asked;
+  asked = refl;
+  lawful = s.lawful;
+  alone = refl;
+  last = last_of level taken words history left sent end s;
+}
+
+-- an end that is let off is one that wanted the bytes that follow
+not_spared : (more : List ℕ) (end : End) → (more ≡ []) ⊎ (¬ (WantsMore end)) → IsSpared more end → ⊥
+not_spared [] end either spared = spared
+not_spared (x ∷ xs) end (inl none) spared = let both : x ∷ xs ≡ [] = none in cc
+not_spared (x ∷ xs) end (inr never) spared = never spared
+
+pub one_history : OneHistory
+one_history level taken more words first second left right sent told one other a b either =
+    let agree : Agree (IsSpared more) (session level phases.Startup [] a.talk) (session level phases.Startup [] b.talk) =
+    sessions_agree more level phases.Startup [] false taken a.talk b.talk a.talk_is b.talk_is in
+    let near : IsNear (no_past level) (no_past level) a.past b.past = record { level = refl; events = refl; seat = refl; tables = refl } in
+    let rode = agree.same nothing_said a.es b.es (no_past level) (no_past level) words (record { bytes = sent; calls = a.asked })
+    (record { bytes = told; calls = b.asked }) one other a.past b.past left right
+    (rides_of level taken words first left sent one a) (rides_of level (taken ++ more) words second right told other b) near in
+    elim rode [
+      | inl spared ↦ absurd (not_spared more one either spared)
+      | inr same ↦ (
+        sym a.history_is ∙ same.history ∙ b.history_is,
+        same.words,
+        record { common = same.common; first_is = same.first; second_is = same.second },
+      )
+    ]

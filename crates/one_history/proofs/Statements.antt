@@ -1,0 +1,251 @@
+-- A statement's script agrees with itself where what stands around it does.
+use Rattle.std.proofs.Common.{◌≡◌, Bool, true, false, cond, ℕ, List, [], ◌∷◌, ◌++◌, length, Option, Some, None, Ok, Err, subst}
+use Rattle.std.specs.Fmt.{decimal}
+use Rattle.std.specs.Str.{bytes_eq}
+use Rattle.cell_base.specs.declared.level.Level.{Level}
+use Rattle.cell_base.specs.declared.sql_state.SqlState.{SqlState}
+use Rattle.cell_base.specs.declared.sql_state.SqlState.TheVariants as states
+use Rattle.history_core.specs.declared.fault.BookFault.{BookFault}
+use Rattle.pg_framing.specs.declared.replies.TransactionState.{TransactionState}
+use Rattle.pg_framing.specs.declared.replies.TransactionState.TheVariants as ready
+use Rattle.sql_tree.specs.declared.statement.Statement.{Statement}
+use Rattle.sql_tree.specs.declared.statement.Statement.TheVariants as tree
+use Rattle.sql_tree.specs.declared.statement.TableRef.{TableRef}
+use Rattle.sql_tree.specs.declared.table.Table.{Table}
+use Rattle.sql_tree.specs.declared.typed.Typed.{Typed}
+use Rattle.sql_typing.specs.Outcome.{Outcome as Result}
+use Rattle.sql_typing.specs.Building.{built}
+use Rattle.sql_typing.specs.Typed.{typed}
+use Rattle.statement_course.specs.declared.demand.Outcome.{Outcome}
+use Rattle.statement_course.specs.declared.demand.Outcome.TheVariants as outcomes
+use Rattle.statement_course.specs.Course.{Course, scan, touch, write, done}
+use Rattle.statement_course.specs.Statements.{course_of}
+use Rattle.outcome_replies.specs.Replies.{outcome_reply}
+use Rattle.block_machine.specs.declared.end.End.{End}
+use Rattle.block_machine.specs.Calls as calls
+use Rattle.block_machine.specs.Settings.{is_own, history_name, value_of}
+use Rattle.block_machine.specs.Replies.{error_reply, created_reply, set_reply, commit_reply, rollback_reply, needless_commit_reply, needless_rollback_reply, start_reply, needless_start_reply, show_reply}
+use Rattle.block_machine.specs.Script.{Script}
+use Rattle.block_machine.specs.Statements as told
+use Rattle.block_machine.specs.Statements.{Around, owed_in, refusal_state}
+use Rattle.block_machine.specs.declared.block.Block.{Block}
+use Rattle.block_machine.specs.declared.block.Block.TheVariants.{Implicit, Regular, Failed}
+use Rattle.block_machine.specs.declared.block.Owed.{Owed}
+use Rattle.block_machine.specs.declared.block.Owed.TheVariants as owes
+use Rattle.one_history.proofs.Rides.{Agree, Breaks, lost_agrees, tell_agrees, calm_agrees}
+use Rattle.one_history.proofs.Turning.{ask_agrees}
+use Rattle.one_history.proofs.Cases.{looked_agrees, defined_agrees, begun_agrees, listed_agrees, found_agrees, written_agrees, shown_agrees}
+
+-- what stands around a statement agrees
+pub record Alike (E : End → Type 0) (x y : Around) : Type 0 where
+  pub level : x.level ≡ y.level
+  pub succeeded : (b : Block) (k : List Table) → Agree E (x.succeeded b k) (y.succeeded b k)
+  pub failed : (state : TransactionState) (k : List Table) → Agree E (x.failed state k) (y.failed state k)
+  pub left : (owed : Owed) → Breaks (x.broken owed)
+  pub right : (owed : Owed) → Breaks (y.broken owed)
+
+pub succeeds : (E : End → Type 0) → (x y : Around) → Alike E x y → (reply : List ℕ) (block : Block) (known : List Table) →
+    Agree E (told.succeeds reply block known x) (told.succeeds reply block known y)
+succeeds E x y h reply block known =
+    tell_agrees E reply (x.broken (owed_in block)) (y.broken (owed_in block)) (x.succeeded block known) (y.succeeded block known)
+    (h.left (owed_in block)) (h.right (owed_in block)) (h.succeeded block known)
+
+refused_with : (E : End → Type 0) → (x y : Around) → Alike E x y → (code : SqlState) (state : TransactionState) (known : List Table) →
+    Agree E (told.refused_with code state known x) (told.refused_with code state known y)
+refused_with E x y h code state known =
+    tell_agrees E (error_reply code) (x.broken owes.Close) (y.broken owes.Close) (x.failed state known) (y.failed state known)
+    (h.left owes.Close) (h.right owes.Close) (h.failed state known)
+
+pub fails : (E : End → Type 0) → (x y : Around) → Alike E x y → (code : SqlState) (block : Block) (known : List Table) →
+    Agree E (told.fails code block known x) (told.fails code block known y)
+fails E x y h code (Implicit false) known = refused_with E x y h code ready.Idle known
+fails E x y h code (Implicit true) known =
+    ask_agrees E calls.Rollback (λ _. told.refused_with code ready.Idle known x) (λ _. told.refused_with code ready.Idle known y)
+    (λ _. refused_with E x y h code ready.Idle known)
+fails E x y h code Regular known =
+    ask_agrees E calls.Rollback (λ _. told.refused_with code ready.Failed known x) (λ _. told.refused_with code ready.Failed known y)
+    (λ _. refused_with E x y h code ready.Failed known)
+fails E x y h code Failed known = refused_with E x y h code ready.Failed known
+
+declined : (E : End → Type 0) → (x y : Around) → Alike E x y → (block : Block) (known : List Table) (why : BookFault) →
+    Agree E (told.declined block known x why) (told.declined block known y why)
+declined E x y h block known why = fails E x y h (refusal_state why) block known
+
+calm : (E : End → Type 0) → (x y : Around) (block : Block) (known : List Table) (s t : Script) → Agree E s t →
+    Agree E (told.unless_short_in block known x s) (told.unless_short_in block known y t)
+calm E x y block known s t agree = calm_agrees E false (told.fails states.S53200 block known x) (told.fails states.S53200 block known y) s t agree
+
+-- ---- BEGIN, COMMIT, ROLLBACK
+
+starts : (E : End → Type 0) → (x y : Around) → Alike E x y → (start : Bool) (block : Block) (known : List Table) →
+    Agree E (told.starts start block known x) (told.starts start block known y)
+starts E x y h start (Implicit false) known =
+    ask_agrees E calls.Begin _ _
+    (λ a. begun_agrees E a _ _ _ _ (succeeds E x y h (start_reply start) Regular known) (declined E x y h (Implicit false) known))
+starts E x y h start (Implicit true) known = succeeds E x y h (start_reply start) Regular known
+starts E x y h start Regular known = succeeds E x y h (needless_start_reply start) Regular known
+starts E x y h start Failed known = fails E x y h states.S25P02 Failed known
+
+commits : (E : End → Type 0) → (x y : Around) → Alike E x y → (block : Block) (known : List Table) → Agree E (told.commits block known x) (told.commits block known y)
+commits E x y h (Implicit false) known = succeeds E x y h needless_commit_reply (Implicit false) known
+commits E x y h (Implicit true) known = ask_agrees E calls.Commit _ _ (λ _. succeeds E x y h needless_commit_reply (Implicit false) known)
+commits E x y h Regular known = ask_agrees E calls.Commit _ _ (λ _. succeeds E x y h commit_reply (Implicit false) known)
+commits E x y h Failed known = succeeds E x y h rollback_reply (Implicit false) known
+
+rolls_back : (E : End → Type 0) → (x y : Around) → Alike E x y → (block : Block) (known : List Table) → Agree E (told.rolls_back block known x) (told.rolls_back block known y)
+rolls_back E x y h (Implicit false) known = succeeds E x y h needless_rollback_reply (Implicit false) known
+rolls_back E x y h (Implicit true) known = ask_agrees E calls.Rollback _ _ (λ _. succeeds E x y h needless_rollback_reply (Implicit false) known)
+rolls_back E x y h Regular known = ask_agrees E calls.Rollback _ _ (λ _. succeeds E x y h rollback_reply (Implicit false) known)
+rolls_back E x y h Failed known = succeeds E x y h rollback_reply (Implicit false) known
+
+-- ---- CREATE TABLE
+
+define_asks : (E : End → Type 0) → (x y : Around) → Alike E x y → (table : Table) (block : Block) (known : List Table) →
+    Agree E (told.defines (Ok table) block known x) (told.defines (Ok table) block known y)
+define_asks E x y h table block known =
+    ask_agrees E (calls.Define table) _ _
+    (λ a. defined_agrees E a _ _ _ _ _ _ (succeeds E x y h created_reply block known) (fails E x y h states.S42P07 block known) (declined E x y h block known))
+
+defines : (E : End → Type 0) → (x y : Around) → Alike E x y → (table : Result Table) (block : Block) (known : List Table) →
+    Agree E (told.defines table block known x) (told.defines table block known y)
+defines E x y h (Err code) block known = fails E x y h code block known
+defines E x y h (Ok table) block known = define_asks E x y h table block known
+
+-- ---- SELECT, INSERT, UPDATE, DELETE
+
+concludes : (E : End → Type 0) → (x y : Around) → Alike E x y → (outcome : Outcome) (block : Block) (known : List Table) →
+    Agree E (told.concludes outcome block known x) (told.concludes outcome block known y)
+concludes E x y h (outcomes.Failed code) block known = fails E x y h code block known
+concludes E x y h outcome block known = succeeds E x y h (outcome_reply outcome) block known
+
+runs : (E : End → Type 0) → (x y : Around) → Alike E x y → (c : Course) (block : Block) (known : List Table) → Agree E (told.runs c block known x) (told.runs c block known y)
+runs E x y h (scan table next) block known =
+    ask_agrees E (calls.Scan table) _ _
+    (λ a. listed_agrees E a _ _ _ _ (λ keys. calm E x y block known (told.runs (next keys) block known x) (told.runs (next keys) block known y) (runs E x y h (next keys) block known))
+    (declined E x y h block known))
+runs E x y h (touch cell next) block known =
+    ask_agrees E (calls.Touch cell) _ _
+    (λ a. found_agrees E a _ _ _ _ (λ value. calm E x y block known (told.runs (next value) block known x) (told.runs (next value) block known y) (runs E x y h (next value) block known))
+    (declined E x y h block known))
+runs E x y h (write cell value next) block known =
+    ask_agrees E (calls.Write cell value) _ _
+    (λ a. written_agrees E a _ _ _ _ (calm E x y block known (told.runs next block known x) (told.runs next block known y) (runs E x y h next block known))
+    (declined E x y h block known))
+runs E x y h (done outcome) block known = concludes E x y h outcome block known
+
+begins : (E : End → Type 0) → (x y : Around) → Alike E x y → (c : Course) (block : Block) (known : List Table) →
+    Agree E (told.begins c block known x) (told.begins c block known y)
+begins E x y h c (Implicit false) known =
+    ask_agrees E calls.Begin _ _
+    (λ a. begun_agrees E a _ _ _ _
+    (calm E x y (Implicit true) known (told.runs c (Implicit true) known x) (told.runs c (Implicit true) known y) (runs E x y h c (Implicit true) known))
+    (declined E x y h (Implicit false) known))
+begins E x y h c (Implicit true) known = runs E x y h c (Implicit true) known
+begins E x y h c Regular known = runs E x y h c Regular known
+begins E x y h c Failed known = fails E x y h states.S25P02 Failed known
+
+judged : (E : End → Type 0) → (x y : Around) → Alike E x y → (t : Result Typed) (block : Block) (known : List Table) →
+    Agree E (told.judged t block known x) (told.judged t block known y)
+judged E x y h (Ok t) block known = begins E x y h (course_of known t) block known
+judged E x y h (Err code) block known = fails E x y h code block known
+
+typed_over : (E : End → Type 0) → (x y : Around) → Alike E x y → (statement : Statement) (block : Block) (known tables : List Table) →
+    Agree E (told.typed_over statement block known tables x) (told.typed_over statement block known tables y)
+typed_over E x y h statement block known tables =
+    calm E x y block known (told.judged (typed (known ++ tables) statement) block (known ++ tables) x)
+    (told.judged (typed (known ++ tables) statement) block (known ++ tables) y)
+    (judged E x y h (typed (known ++ tables) statement) block (known ++ tables))
+
+looks : (E : End → Type 0) → (x y : Around) → Alike E x y → (statement : Statement) (block : Block) (known : List Table) →
+    Agree E (told.looks statement block known x) (told.looks statement block known y)
+looks E x y h statement block known =
+    ask_agrees E (calls.Look (length known)) _ _
+    (λ a. looked_agrees E a _ _ _ _ (λ tables. typed_over E x y h statement block known tables) (declined E x y h block known))
+
+prepares : (E : End → Type 0) → (x y : Around) → Alike E x y → (statement : Statement) (block : Block) (known : List Table) →
+    Agree E (told.prepares statement block known x) (told.prepares statement block known y)
+prepares E x y h statement block known =
+    calm E x y block known (told.looks statement block known x) (told.looks statement block known y) (looks E x y h statement block known)
+
+at_once : (E : End → Type 0) → (x y : Around) → Alike E x y → (c : Course) (block : Block) (known : List Table) →
+    Agree E (told.at_once c block known x) (told.at_once c block known y)
+at_once E x y h (done outcome) block known = concludes E x y h outcome block known
+at_once E x y h (scan table next) block known = (lost_agrees E)
+at_once E x y h (touch cell next) block known = (lost_agrees E)
+at_once E x y h (write cell value next) block known = (lost_agrees E)
+
+judged_at_once : (E : End → Type 0) → (x y : Around) → Alike E x y → (t : Result Typed) (block : Block) (known : List Table) →
+    Agree E (told.judged_at_once t block known x) (told.judged_at_once t block known y)
+judged_at_once E x y h (Ok t) block known = at_once E x y h (course_of [] t) block known
+judged_at_once E x y h (Err code) block known = fails E x y h code block known
+
+selects : (E : End → Type 0) → (x y : Around) → Alike E x y → (entries : List TableRef) (statement : Statement) (block : Block) (known : List Table) →
+    Agree E (told.selects entries statement block known x) (told.selects entries statement block known y)
+selects E x y h [] statement block known =
+    calm E x y block known (told.judged_at_once (typed [] statement) block known x) (told.judged_at_once (typed [] statement) block known y)
+    (judged_at_once E x y h (typed [] statement) block known)
+selects E x y h (entry ∷ more) statement block known = prepares E x y h statement block known
+
+-- ---- SET, SHOW
+
+either : (E : End → Type 0) → (b : Bool) (s t u v : Script) → Agree E s t → Agree E u v → Agree E (cond b s u) (cond b t v)
+either E true s t u v one two = one
+either E false s t u v one two = two
+
+sets : (E : End → Type 0) → (x y : Around) → Alike E x y → (name : List ℕ) (block : Block) (known : List Table) → Agree E (told.sets name block known x) (told.sets name block known y)
+sets E x y h name block known =
+    either E (is_own name) _ _ _ _ (fails E x y h states.S0A000 block known) (succeeds E x y h set_reply block known)
+
+shows_value : (E : End → Type 0) → (x y : Around) → Alike E x y → (name : List ℕ) (value : Option (List ℕ)) (block : Block) (known : List Table) →
+    Agree E (told.shows_value name value block known x) (told.shows_value name value block known y)
+shows_value E x y h name None block known = fails E x y h states.S0A000 block known
+shows_value E x y h name (Some value) block known =
+    calm E x y block known (told.succeeds (show_reply name value) block known x) (told.succeeds (show_reply name value) block known y)
+    (succeeds E x y h (show_reply name value) block known)
+
+shows_history : (E : End → Type 0) → (x y : Around) → Alike E x y → (block : Block) (known : List Table) → Agree E (told.shows_history block known x) (told.shows_history block known y)
+shows_history E x y h block known =
+    ask_agrees E calls.Show _ _
+    (λ a. shown_agrees E a _ _ _ _
+    (λ n. calm E x y block known (told.succeeds (show_reply history_name (decimal n)) block known x)
+    (told.succeeds (show_reply history_name (decimal n)) block known y) (succeeds E x y h (show_reply history_name (decimal n)) block known))
+    (declined E x y h block known))
+
+shows_at : (E : End → Type 0) → (x y : Around) → Alike E x y → (level : Level) (name : List ℕ) (block : Block) (known : List Table) →
+    Agree E (told.shows_at level name block known x) (told.shows_at level name block known y)
+shows_at E x y h level name block known =
+    either E (bytes_eq name history_name) _ _ _ _ (shows_history E x y h block known) (shows_value E x y h name (value_of level name) block known)
+
+shows : (E : End → Type 0) → (x y : Around) → Alike E x y → (name : List ℕ) (block : Block) (known : List Table) → Agree E (told.shows name block known x) (told.shows name block known y)
+shows E x y h name block known =
+    subst (λ (l : Level). Agree E (told.shows_at x.level name block known x) (told.shows_at l name block known y)) h.level
+    (shows_at E x y h x.level name block known)
+
+-- ---- all of them
+
+performs : (E : End → Type 0) → (x y : Around) → Alike E x y → (statement : Statement) (block : Block) (known : List Table) →
+    Agree E (told.performs statement block known x) (told.performs statement block known y)
+performs E x y h (tree.Select select) block known = selects E x y h select.from (tree.Select select) block known
+performs E x y h (tree.Insert insert) block known = prepares E x y h (tree.Insert insert) block known
+performs E x y h (tree.Update update) block known = prepares E x y h (tree.Update update) block known
+performs E x y h (tree.Delete delete) block known = prepares E x y h (tree.Delete delete) block known
+performs E x y h (tree.Create create) block known =
+    calm E x y block known (told.defines (built create) block known x) (told.defines (built create) block known y) (defines E x y h (built create) block known)
+performs E x y h (tree.Begin start) block known = starts E x y h start block known
+performs E x y h tree.Commit block known = commits E x y h block known
+performs E x y h tree.Rollback block known = rolls_back E x y h block known
+performs E x y h (tree.Set name values) block known = sets E x y h name block known
+performs E x y h tree.SetModes block known = succeeds E x y h set_reply block known
+performs E x y h (tree.Show name) block known = shows E x y h name block known
+
+in_failed : (E : End → Type 0) → (x y : Around) → Alike E x y → (statement : Statement) (known : List Table) →
+    Agree E (told.in_failed statement known x) (told.in_failed statement known y)
+in_failed E x y h tree.Commit known = commits E x y h Failed known
+in_failed E x y h tree.Rollback known = rolls_back E x y h Failed known
+in_failed E x y h _ known = fails E x y h states.S25P02 Failed known
+
+pub told_of : (E : End → Type 0) → (x y : Around) → Alike E x y → (statement : Statement) (block : Block) (known : List Table) →
+    Agree E (told.told_of statement block known x) (told.told_of statement block known y)
+told_of E x y h statement (Implicit pending) known = performs E x y h statement (Implicit pending) known
+told_of E x y h statement Regular known = performs E x y h statement Regular known
+told_of E x y h statement Failed known = in_failed E x y h statement known

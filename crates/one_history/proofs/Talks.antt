@@ -1,0 +1,440 @@
+-- Sessions that hear the same bytes agree.
+use Rattle.std.proofs.Common.{◌≡◌, inl, inr, ◌⊎◌, Bool, true, false, ℕ, List, [], ◌∷◌, ◌++◌, cond, length, refl, sym, ◌∙◌, ap, subst, append_assoc}
+use Rattle.std.specs.Prelude.{◌==◌}
+use Rattle.std.proofs.lemmas.List.{append-nil}
+use Rattle.cell_base.specs.declared.level.Level.{Level}
+use Rattle.cell_base.specs.declared.sql_state.SqlState.TheVariants as states
+use Rattle.client_framing.specs.declared.front.Front.{Front}
+use Rattle.client_framing.specs.declared.front.Front.TheVariants.{Ssl, Gss, Cancel, Startup, Version, Query, Terminate, Sync, Flush, Extended, Function, Copy}
+use Rattle.client_framing.specs.Spelling.{phase_after}
+use Rattle.client_framing.specs.Fronts.{TakesFront}
+use Rattle.client_framing.proofs.Streams.{front_unique, behind_unique, front_no_fault, fault_stays}
+use Rattle.pg_framing.specs.declared.replies.TransactionState.{TransactionState}
+use Rattle.pg_framing.specs.declared.replies.TransactionState.TheVariants as block_states
+use Rattle.sql_tree.specs.declared.table.Table.{Table}
+use Rattle.history_core.specs.Book.{Past}
+use Rattle.block_machine.specs.Calls.{Call}
+use Rattle.block_machine.specs.Calls as calls
+use Rattle.block_machine.specs.Script.{Entry, did, refused, short, unsent, stop, Next, more, ended, Said, Script, lost, on_opened, tell}
+use Rattle.block_machine.specs.Messages as messages
+use Rattle.block_machine.specs.Messages.{Outside, owed_between, block_at, IsMessage}
+use Rattle.block_machine.specs.declared.block.Owed.TheVariants as owes
+use Rattle.block_machine.specs.declared.end.End.{End}
+use Rattle.block_machine.specs.declared.end.End.TheVariants as ends
+use Rattle.block_machine.specs.declared.end.Stop.{Stop}
+use Rattle.block_machine.specs.declared.end.Stop.TheVariants as stops
+use Rattle.block_machine.specs.declared.message.Message.{Message}
+use Rattle.block_machine.specs.declared.message.Message.TheVariants as asked_by
+use Rattle.session_core.specs.declared.phase.Phase.{Phase}
+use Rattle.session_core.specs.declared.phase.Phase.TheVariants as phases
+use Rattle.session_core.specs.Replies.{no_encryption, startup_reply}
+use Rattle.session_core.specs.Users.{HasUser}
+use Rattle.session_core.specs.Talk.{Ask, encryption, cancel, start, userless, version, query, unread_query, terminate, sync, nothing, extended, function, Talk, asks, partial, faulty, unread, IsTalk, Says}
+use Rattle.session_core.specs.Record.{Lawful}
+use Rattle.session_core.specs.Told as told
+use Rattle.session_core.specs.Told.{broken, closed, closing, ending, owed_by, outside_of, refusal_end, stop_end, greets, waiting, unless_memory_ends}
+use Rattle.choice_stream.specs.Choices.{DrawsFirst}
+use Rattle.one_history.specs.Laws.{WantsMore}
+use Rattle.one_history.proofs.Rides.{Goes, Grows, Rides, Agree, IsNever, lost_never, lost_agrees, never_left, never_right, tell_agrees, calm_agrees, calm_on, astray_ended}
+use Rattle.one_history.proofs.Turning.{ask_agrees}
+use Rattle.one_history.proofs.Cases.{opened_agrees}
+use Rattle.one_history.proofs.Statements.{fails}
+use Rattle.one_history.proofs.Messages.{Beside, readied, message}
+use Rattle.one_history.proofs.Endings.{closed_agrees, ending_agrees, ending_end, breaks}
+use Rattle.one_history.proofs.OneMessage.{one_message}
+
+-- what follows a message agrees
+abbrev pub Follow : Type 0
+Follow = Phase → List Table → Script
+
+abbrev pub FollowAlike : (End → Type 0) → Follow → Follow → Type 0
+FollowAlike E s t = (p : Phase) (k : List Table) → Agree E (s p k) (t p k)
+
+-- ---- before the startup
+
+greeted : (E : End → Type 0) → (session : ℕ) (s t : Script) → Agree E s t → Agree E (greets session s) (greets session t)
+greeted E session s t agree =
+    calm_agrees E true (closing ends.Memory) (closing ends.Memory) (tell (startup_reply session) (broken owes.Close) s)
+    (tell (startup_reply session) (broken owes.Close) t)
+    (tell_agrees E (startup_reply session) (broken owes.Close) (broken owes.Close) s t (breaks owes.Close) (breaks owes.Close) agree)
+
+opens : (E : End → Type 0) → (s t : Script) → Agree E s t → Agree E (told.opens s) (told.opens t)
+opens E s t agree =
+    ask_agrees E calls.Open (λ a. on_opened a (λ session. greets session s) (λ why. closed (refusal_end why)))
+    (λ a. on_opened a (λ session. greets session t) (λ why. closed (refusal_end why)))
+    (λ a. opened_agrees E a (λ session. greets session s) (λ session. greets session t) (λ why. closed (refusal_end why))
+    (λ why. closed (refusal_end why)) (λ session. greeted E session s t agree) (λ why. closed_agrees E (refusal_end why) (refusal_end why)))
+
+starting : (E : End → Type 0) → (asked : Ask) (known : List Table) (s t : Follow) → FollowAlike E s t → Agree E (told.starting asked known s) (told.starting asked known t)
+starting E encryption known s t h =
+    tell_agrees E no_encryption (broken owes.Nothing) (broken owes.Nothing) (s phases.Startup known) (t phases.Startup known)
+    (breaks owes.Nothing) (breaks owes.Nothing) (h phases.Startup known)
+starting E cancel known s t h = closed_agrees E ends.Cancelled ends.Cancelled
+starting E start known s t h = opens E (s (phases.Normal block_states.Idle) known) (t (phases.Normal block_states.Idle) known) (h (phases.Normal block_states.Idle) known)
+starting E userless known s t h = closed_agrees E (ends.Refused states.S28000) (ends.Refused states.S28000)
+starting E version known s t h = closed_agrees E (ends.Refused states.S0A000) (ends.Refused states.S0A000)
+starting E (query m) known s t h = (lost_agrees E)
+starting E unread_query known s t h = (lost_agrees E)
+starting E terminate known s t h = (lost_agrees E)
+starting E sync known s t h = (lost_agrees E)
+starting E nothing known s t h = (lost_agrees E)
+starting E extended known s t h = (lost_agrees E)
+starting E function known s t h = (lost_agrees E)
+
+-- ---- after the startup
+
+beside : (E : End → Type 0) → (level : Level) (s t : Follow) → FollowAlike E s t → Beside E (outside_of level s) (outside_of level t)
+beside E level s t h = record {
+  level = refl;
+  next = λ state k. h (phases.Normal state) k;
+  left = breaks;
+  right = breaks;
+}
+
+refuses : (E : End → Type 0) → (level : Level) (state : TransactionState) (known : List Table) (s t : Follow) → FollowAlike E s t →
+    Agree E (told.refuses level state known s) (told.refuses level state known t)
+refuses E level state known s t h =
+    fails E (record { level = level; succeeded = λ block k. lost; failed = λ after k. s (phases.Discarding after) k; broken = broken })
+    (record { level = level; succeeded = λ block k. lost; failed = λ after k. t (phases.Discarding after) k; broken = broken })
+    (record {
+      level = refl;
+      succeeded = λ block k. (lost_agrees E);
+      failed = λ after k. h (phases.Discarding after) k;
+      left = breaks;
+      right = breaks;
+    })
+    states.S0A000 (block_at state) known
+
+-- a query that nobody reads needs a want of memory
+unread_never : (level : Level) (state : TransactionState) (known : List Table) (s : Follow) → IsNever (told.serving level unread_query state known s)
+unread_never level state known s said es out end goes =
+    lost_never said es out end
+    (calm_on false (messages.message (asked_by.Unread states.S53200) state known (outside_of level s)) lost said es out end
+    (record { is = goes.is; calm = goes.calm; written = goes.written }))
+
+serving : (E : End → Type 0) → (level : Level) (asked : Ask) (state : TransactionState) (known : List Table) (s t : Follow) → FollowAlike E s t →
+    Agree E (told.serving level asked state known s) (told.serving level asked state known t)
+serving E level (query asked) state known s t h = message E (outside_of level s) (outside_of level t) (beside E level s t h) asked state known
+serving E level unread_query state known s t h =
+    calm_agrees E false (messages.message (asked_by.Unread states.S53200) state known (outside_of level s))
+    (messages.message (asked_by.Unread states.S53200) state known (outside_of level t)) lost lost (lost_agrees E)
+serving E level terminate state known s t h = ending_agrees E (owed_between state) ends.Terminated ends.Terminated
+serving E level sync state known s t h = readied E (outside_of level s) (outside_of level t) (beside E level s t h) state known
+serving E level nothing state known s t h = h (phases.Normal state) known
+serving E level extended state known s t h = refuses E level state known s t h
+serving E level function state known s t h =
+    message E (outside_of level s) (outside_of level t) (beside E level s t h) (asked_by.Unread states.S0A000) state known
+serving E level encryption state known s t h = (lost_agrees E)
+serving E level cancel state known s t h = (lost_agrees E)
+serving E level start state known s t h = (lost_agrees E)
+serving E level userless state known s t h = (lost_agrees E)
+serving E level version state known s t h = (lost_agrees E)
+
+discarding : (E : End → Type 0) → (level : Level) (asked : Ask) (state : TransactionState) (known : List Table) (s t : Follow) → FollowAlike E s t →
+    Agree E (told.discarding level asked state known s) (told.discarding level asked state known t)
+discarding E level terminate state known s t h = ending_agrees E (owed_between state) ends.Terminated ends.Terminated
+discarding E level sync state known s t h = readied E (outside_of level s) (outside_of level t) (beside E level s t h) state known
+discarding E level _ state known s t h = h (phases.Discarding state) known
+
+handled : (E : End → Type 0) → (level : Level) (asked : Ask) (phase : Phase) (known : List Table) (s t : Follow) → FollowAlike E s t →
+    Agree E (told.handled level asked phase known s) (told.handled level asked phase known t)
+handled E level asked phases.Startup known s t h = starting E asked known s t h
+handled E level asked (phases.Normal state) known s t h = serving E level asked state known s t h
+handled E level asked (phases.Discarding state) known s t h = discarding E level asked state known s t h
+
+-- the same bytes are read by the one session and discarded by the other, which then needs a want of memory
+read_unread : (E : End → Type 0) → (level : Level) (asked : Message) (phase : Phase) (known : List Table) (s t : Follow) → FollowAlike E s t →
+    Agree E (told.handled level (query asked) phase known s) (told.handled level unread_query phase known t)
+read_unread E level asked phases.Startup known s t h = (lost_agrees E)
+read_unread E level asked (phases.Normal state) known s t h =
+    never_right E (told.serving level (query asked) state known s) (told.serving level unread_query state known t) (unread_never level state known t)
+    (serving E level (query asked) state known s t h).left
+read_unread E level asked (phases.Discarding state) known s t h = h (phases.Discarding state) known
+
+unread_read : (E : End → Type 0) → (level : Level) (asked : Message) (phase : Phase) (known : List Table) (s t : Follow) → FollowAlike E s t →
+    Agree E (told.handled level unread_query phase known s) (told.handled level (query asked) phase known t)
+unread_read E level asked phases.Startup known s t h = (lost_agrees E)
+unread_read E level asked (phases.Normal state) known s t h =
+    never_left E (told.serving level unread_query state known s) (told.serving level (query asked) state known t) (unread_never level state known s)
+    (serving E level (query asked) state known s t h).right
+unread_read E level asked (phases.Discarding state) known s t h = h (phases.Discarding state) known
+
+-- two readings of one message
+same_asks : (E : End → Type 0) → (level : Level) (a b : Ask) (phase : Phase) (known : List Table) (s t : Follow) → FollowAlike E s t → a ≡ b →
+    Agree E (told.handled level a phase known s) (told.handled level b phase known t)
+same_asks E level a b phase known s t h same =
+    subst (λ (x : Ask). Agree E (told.handled level a phase known s) (told.handled level x phase known t)) same (handled E level a phase known s t h)
+
+-- a front that asks for one thing, and what it is
+abbrev IsPlain : Front → Type 0
+IsPlain (Startup pairs) = ⊥
+IsPlain (Query text) = ⊥
+IsPlain _ = Unit {0}
+
+abbrev ask_of : Front → Ask
+ask_of Ssl = encryption
+ask_of Gss = encryption
+ask_of (Cancel pid secret) = cancel
+ask_of (Version code) = version
+ask_of Terminate = terminate
+ask_of Sync = sync
+ask_of Flush = nothing
+ask_of (Copy part) = nothing
+ask_of (Extended step) = extended
+ask_of Function = function
+ask_of _ = nothing
+
+only_ask : (front : Front) (a : Ask) → IsPlain front → Says front a → a ≡ ask_of front
+only_ask (Startup pairs) a plain x = absurd plain
+only_ask (Query text) a plain x = absurd plain
+only_ask Ssl encryption plain x = refl
+only_ask Gss encryption plain x = refl
+only_ask (Cancel pid secret) cancel plain x = refl
+only_ask (Version code) version plain x = refl
+only_ask Terminate terminate plain x = refl
+only_ask Sync sync plain x = refl
+only_ask Flush nothing plain x = refl
+only_ask (Copy part) nothing plain x = refl
+only_ask (Extended step) extended plain x = refl
+only_ask Function function plain x = refl
+only_ask _ _ plain x = absurd x
+
+-- what a startup asks for
+start_asks : (pairs : List ((List ℕ) × (List ℕ))) (a : Ask) → Says (Startup pairs) a →
+    ((a ≡ start) × HasUser pairs) ⊎ ((a ≡ userless) × (¬ (HasUser pairs)))
+start_asks pairs start x = inl (refl, x)
+start_asks pairs userless x = inr (refl, x)
+start_asks pairs _ x = absurd x
+
+one_start : (pairs : List ((List ℕ) × (List ℕ))) (a b : Ask) → ((a ≡ start) × HasUser pairs) ⊎ ((a ≡ userless) × (¬ (HasUser pairs))) →
+    ((b ≡ start) × HasUser pairs) ⊎ ((b ≡ userless) × (¬ (HasUser pairs))) → a ≡ b
+one_start pairs a b (inl x) (inl y) = x.0 ∙ sym y.0
+one_start pairs a b (inl x) (inr y) = absurd (y.1 x.1)
+one_start pairs a b (inr x) (inl y) = absurd (x.1 y.1)
+one_start pairs a b (inr x) (inr y) = x.0 ∙ sym y.0
+
+-- what a query asks for
+abbrev QueryAsks : List ℕ → Ask → Type 0
+QueryAsks text a = ((m : Message) × (a ≡ query m) × IsMessage text m) ⊎ (a ≡ unread_query)
+
+query_asks : (text : List ℕ) (a : Ask) → Says (Query text) a → QueryAsks text a
+query_asks text (query m) x = inl (m, refl, x)
+query_asks text unread_query x = inr refl
+query_asks text _ x = absurd x
+
+both_ask : (E : End → Type 0) → (level : Level) (a b c d : Ask) (phase : Phase) (known : List Table) (s t : Follow) → a ≡ c → b ≡ d →
+    Agree E (told.handled level c phase known s) (told.handled level d phase known t) →
+    Agree E (told.handled level a phase known s) (told.handled level b phase known t)
+both_ask E level a b c d phase known s t left right agree =
+    subst (λ (x : Ask). Agree E (told.handled level x phase known s) (told.handled level b phase known t)) (sym left)
+    (subst (λ (x : Ask). Agree E (told.handled level c phase known s) (told.handled level x phase known t)) (sym right) agree)
+
+one_query : (E : End → Type 0) → (level : Level) (text : List ℕ) (a b : Ask) (phase : Phase) (known : List Table) (s t : Follow) → FollowAlike E s t →
+    QueryAsks text a → QueryAsks text b → Agree E (told.handled level a phase known s) (told.handled level b phase known t)
+one_query E level text a b phase known s t h (inl x) (inl y) =
+    same_asks E level a b phase known s t h (x.1 ∙ ap (λ (z : Message). query z) (one_message text x.0 y.0 x.2 y.2) ∙ sym y.1)
+one_query E level text a b phase known s t h (inl x) (inr y) =
+    both_ask E level a b (query x.0) unread_query phase known s t x.1 y (read_unread E level x.0 phase known s t h)
+one_query E level text a b phase known s t h (inr x) (inl y) =
+    both_ask E level a b unread_query (query y.0) phase known s t x y.1 (unread_read E level y.0 phase known s t h)
+one_query E level text a b phase known s t h (inr x) (inr y) = same_asks E level a b phase known s t h (x ∙ sym y)
+
+asked_alike : (E : End → Type 0) → (level : Level) (front : Front) (a b : Ask) (phase : Phase) (known : List Table) (s t : Follow) → FollowAlike E s t →
+    Says front a → Says front b → Agree E (told.handled level a phase known s) (told.handled level b phase known t)
+asked_alike E level (Query text) a b phase known s t h x y = one_query E level text a b phase known s t h (query_asks text a x) (query_asks text b y)
+asked_alike E level (Startup pairs) a b phase known s t h x y =
+    same_asks E level a b phase known s t h (one_start pairs a b (start_asks pairs a x) (start_asks pairs b y))
+asked_alike E level front a b phase known s t h x y =
+    same_asks E level a b phase known s t h (only_ask front a tt x ∙ sym (only_ask front b tt y))
+
+-- ---- no more bytes come
+
+more_ended : (a out : Said) (end : End) → ◌≡◌ {A = Said × Next} (a, more) (out, ended end) → ⊥
+more_ended a out end is = let both : more ≡ ended end = ap (λ (x : Said × Next). x.1) is in cc
+
+waits_grows : (phase : Phase) (held : ℕ) → Grows (waiting phase held)
+waits_grows phase held said [] out end goes = absurd (more_ended said out end goes.is)
+waits_grows phase held said (stop cause ∷ es) out end goes =
+    (ending_agrees (λ (e : End). ⊥) (owed_by phase) (stop_end cause held) (stop_end cause held)).left said es out end
+    (record { is = goes.is; calm = goes.calm; written = goes.written })
+waits_grows phase held said (did a e ∷ es) out end goes = absurd (astray_ended said out end goes.is)
+waits_grows phase held said (refused why ∷ es) out end goes = absurd (astray_ended said out end goes.is)
+waits_grows phase held said (short final n ∷ es) out end goes = absurd (astray_ended said out end goes.is)
+waits_grows phase held said (unsent n ∷ es) out end goes = absurd (astray_ended said out end goes.is)
+
+-- a ride that waits goes on behind the stop
+pub record Halted (phase : Phase) (held : ℕ) (said : Said) (p : Past) (v : List ℕ) (out : Said) (end : End) (q : Past) (w : List ℕ) : Type 0 where
+  pub cause : Stop
+  pub es : List Entry
+  pub rides : Rides (ending (owed_by phase) (stop_end cause held)) said es p v out end q w
+
+lawful_behind : (p : Past) (v : List ℕ) (cs : List Call) (cause : Stop) (es : List Entry) (q : Past) (w : List ℕ) →
+    Lawful DrawsFirst p v cs (stop cause ∷ es) q w → Lawful DrawsFirst p v cs es q w
+lawful_behind p v [] cause es q w l = l
+lawful_behind p v (c ∷ cs) cause es q w l = l
+
+halted : (phase : Phase) (held : ℕ) (said : Said) (es : List Entry) (p : Past) (v : List ℕ) (out : Said) (end : End) (q : Past) (w : List ℕ) →
+    Rides (waiting phase held) said es p v out end q w → Halted phase held said p v out end q w
+halted phase held said [] p v out end q w rides = absurd (more_ended said out end rides.goes.is)
+halted phase held said (stop cause ∷ es) p v out end q w rides = record {
+  cause = cause;
+  es = es;
+  rides = record {
+    goes = record { is = rides.goes.is; calm = rides.goes.calm; written = rides.goes.written };
+    calls = rides.calls;
+    asked = rides.asked;
+    lawful = lawful_behind p v rides.calls cause es q w rides.lawful;
+    alone = rides.alone;
+    last = rides.last;
+  };
+}
+halted phase held said (did a e ∷ es) p v out end q w rides = absurd (astray_ended said out end rides.goes.is)
+halted phase held said (refused why ∷ es) p v out end q w rides = absurd (astray_ended said out end rides.goes.is)
+halted phase held said (short final n ∷ es) p v out end q w rides = absurd (astray_ended said out end rides.goes.is)
+halted phase held said (unsent n ∷ es) p v out end q w rides = absurd (astray_ended said out end rides.goes.is)
+
+waits : (E : End → Type 0) → (phase : Phase) (held : ℕ) → Agree E (waiting phase held) (waiting phase held)
+waits E phase held = record {
+  left = waits_grows phase held;
+  right = waits_grows phase held;
+  same = λ said ds es a b v x y m n q r w u one two near.
+      let left = halted phase held said ds a v x m q w one in
+      let right = halted phase held said es b v y n r u two in
+      (ending_agrees E (owed_by phase) (stop_end left.cause held) (stop_end right.cause held)).same said left.es right.es a b v x y m n q r w u
+      left.rides right.rides near;
+}
+
+-- ---- the whole stream
+
+calm_memory : (E : End → Type 0) → (phase : Phase) (s t : Script) → Agree E s t → Agree E (unless_memory_ends phase s) (unless_memory_ends phase t)
+calm_memory E phase s t agree = calm_agrees E true (ending (owed_by phase) ends.Memory) (ending (owed_by phase) ends.Memory) s t agree
+
+-- a session agrees with itself
+pub session_itself : (E : End → Type 0) → (level : Level) (phase : Phase) (known : List Table) (talk : Talk) →
+    Agree E (told.session level phase known talk) (told.session level phase known talk)
+session_itself E level phase known (asks asked talk) =
+    calm_memory E phase (told.handled level asked phase known (λ p k. told.session level p k talk))
+    (told.handled level asked phase known (λ p k. told.session level p k talk))
+    (handled E level asked phase known (λ p k. told.session level p k talk) (λ p k. told.session level p k talk)
+    (λ p k. session_itself E level p k talk))
+session_itself E level phase known (partial rest) =
+    calm_memory E phase (waiting phase (length rest)) (waiting phase (length rest)) (waits E phase (length rest))
+session_itself E level phase known (faulty fault) =
+    calm_memory E phase (ending (owed_by phase) (ends.Protocol fault)) (ending (owed_by phase) (ends.Protocol fault))
+    (ending_agrees E (owed_by phase) (ends.Protocol fault) (ends.Protocol fault))
+session_itself E level phase known unread = calm_memory E phase lost lost (lost_agrees E)
+
+-- bytes that nobody has looked at take no session to its end
+unheard : (level : Level) (phase : Phase) (known : List Table) → IsNever (told.session level phase known unread)
+unheard level phase known said es out end goes =
+    lost_never said es out end
+    (calm_on true (ending (owed_by phase) ends.Memory) lost said es out end (record { is = goes.is; calm = goes.calm; written = goes.written }))
+
+-- ---- the one session may hear more
+
+-- more bytes follow, and the session ended since it wanted more
+abbrev pub IsSpared : List ℕ → End → Type 0
+IsSpared [] end = ⊥
+IsSpared (x ∷ xs) end = WantsMore end
+
+wants_either : (b : Bool) → WantsMore (cond b ends.Closed ends.Cut)
+wants_either true = tt
+wants_either false = tt
+
+stop_wants : (cause : Stop) (held : ℕ) → WantsMore (stop_end cause held)
+stop_wants stops.EndOfInput held = wants_either (held == 0)
+stop_wants stops.ReadFault held = tt
+stop_wants stops.Spent held = tt
+
+-- a session that waits ends since it wants more
+waits_want : (phase : Phase) (held : ℕ) (said : Said) (es : List Entry) (out : Said) (end : End) → Goes (waiting phase held) said es out end →
+    WantsMore end
+waits_want phase held said [] out end goes = absurd (more_ended said out end goes.is)
+waits_want phase held said (stop cause ∷ es) out end goes =
+    let to : end ≡ stop_end cause held = ending_end (owed_by phase) (stop_end cause held) said es out end
+    (record { is = goes.is; calm = goes.calm; written = goes.written }) in
+    subst WantsMore (sym to) (stop_wants cause held)
+waits_want phase held said (did a e ∷ es) out end goes = absurd (astray_ended said out end goes.is)
+waits_want phase held said (refused why ∷ es) out end goes = absurd (astray_ended said out end goes.is)
+waits_want phase held said (short final n ∷ es) out end goes = absurd (astray_ended said out end goes.is)
+waits_want phase held said (unsent n ∷ es) out end goes = absurd (astray_ended said out end goes.is)
+
+partial_wants : (level : Level) (phase : Phase) (known : List Table) (rest : List ℕ) (said : Said) (es : List Entry) (out : Said) (end : End) →
+    Goes (told.session level phase known (partial rest)) said es out end → WantsMore end
+partial_wants level phase known rest said es out end goes =
+    waits_want phase (length rest) said es out end
+    (calm_on true (ending (owed_by phase) ends.Memory) (waiting phase (length rest)) said es out end
+    (record { is = goes.is; calm = goes.calm; written = goes.written }))
+
+-- bytes of no whole message, which no more follow
+last_agrees : (E : End → Type 0) → (level : Level) (phase : Phase) (known : List Table) (started : Bool) (bytes rest : List ℕ) (other : Talk) →
+    IsTalk started bytes (partial rest) → IsTalk started bytes other →
+    Agree E (told.session level phase known (partial rest)) (told.session level phase known other)
+last_agrees E level phase known started bytes rest unread a b =
+    never_right E (told.session level phase known (partial rest)) (told.session level phase known unread) (unheard level phase known)
+    (session_itself E level phase known (partial rest)).left
+last_agrees E level phase known started bytes rest (asks y other) a b = absurd (a.1.no_front b.0 b.1 b.2)
+last_agrees E level phase known started bytes rest (partial other) a b =
+    subst (λ (n : ℕ). Agree E (told.session level phase known (partial rest)) (unless_memory_ends phase (waiting phase n))) (ap length (a.0 ∙ sym b.0))
+    (session_itself E level phase known (partial rest))
+last_agrees E level phase known started bytes rest (faulty fault) a b = absurd (a.1.no_fault fault b)
+
+partial_agrees : (extra : List ℕ) (level : Level) (phase : Phase) (known : List Table) (started : Bool) (bytes rest : List ℕ) (other : Talk) →
+    IsTalk started bytes (partial rest) → IsTalk started (bytes ++ extra) other →
+    Agree (IsSpared extra) (told.session level phase known (partial rest)) (told.session level phase known other)
+partial_agrees [] level phase known started bytes rest other a b =
+    last_agrees (IsSpared []) level phase known started bytes rest other a (subst (λ (bs : List ℕ). IsTalk started bs other) (append-nil bytes) b)
+partial_agrees (z ∷ zs) level phase known started bytes rest other a b = record {
+  left = (session_itself (IsSpared (z ∷ zs)) level phase known (partial rest)).left;
+  right = (session_itself (IsSpared (z ∷ zs)) level phase known other).right;
+  same = λ said ds es p q v x y m n o r w u one two near. inl (partial_wants level phase known rest said ds x m one.goes);
+}
+
+-- a message stands at the front, whatever follows
+takes_further : (started : Bool) (bytes extra : List ℕ) (front : Front) (behind : List ℕ) → TakesFront started bytes front behind →
+    TakesFront started (bytes ++ extra) front (behind ++ extra)
+takes_further started bytes extra front behind takes = record {
+  taken = takes.taken;
+  spelled = takes.spelled;
+  whole = ap (λ (bs : List ℕ). bs ++ extra) takes.whole ∙ append_assoc takes.taken behind extra;
+}
+
+-- two talks, of the same bytes and of more
+pub sessions_agree : (extra : List ℕ) (level : Level) (phase : Phase) (known : List Table) (started : Bool) (bytes : List ℕ) (one other : Talk) →
+    IsTalk started bytes one → IsTalk started (bytes ++ extra) other →
+    Agree (IsSpared extra) (told.session level phase known one) (told.session level phase known other)
+sessions_agree extra level phase known started bytes unread other a b =
+    never_left (IsSpared extra) (told.session level phase known unread) (told.session level phase known other) (unheard level phase known)
+    (session_itself (IsSpared extra) level phase known other).left
+sessions_agree extra level phase known started bytes (partial rest) other a b =
+    partial_agrees extra level phase known started bytes rest other a b
+sessions_agree extra level phase known started bytes (asks x one) unread a b =
+    never_right (IsSpared extra) (told.session level phase known (asks x one)) (told.session level phase known unread) (unheard level phase known)
+    (session_itself (IsSpared extra) level phase known (asks x one)).left
+sessions_agree extra level phase known started bytes (asks x one) (asks y other) a b =
+    let further = takes_further started bytes extra a.0 a.1 a.2 in
+    let front : a.0 ≡ b.0 = front_unique started a.0 b.0 (bytes ++ extra) (a.1 ++ extra) b.1 further b.2 in
+    let behind : a.1 ++ extra ≡ b.1 = behind_unique started a.0 b.0 (bytes ++ extra) (a.1 ++ extra) b.1 further b.2 in
+    let says : Says a.0 y = subst (λ (f : Front). Says f y) (sym front) b.3 in
+    let after : IsTalk (phase_after started a.0) b.1 other =
+    subst (λ (f : Front). IsTalk (phase_after started f) b.1 other) (sym front) b.4 in
+    let rest : IsTalk (phase_after started a.0) (a.1 ++ extra) other =
+    subst (λ (bs : List ℕ). IsTalk (phase_after started a.0) bs other) (sym behind) after in
+    calm_memory (IsSpared extra) phase (told.handled level x phase known (λ p k. told.session level p k one))
+    (told.handled level y phase known (λ p k. told.session level p k other))
+    (asked_alike (IsSpared extra) level a.0 x y phase known (λ p k. told.session level p k one) (λ p k. told.session level p k other)
+    (λ p k. sessions_agree extra level p k (phase_after started a.0) a.1 one other a.4 rest) a.3 says)
+sessions_agree extra level phase known started bytes (asks x one) (partial rest) a b =
+    absurd (b.1.no_front a.0 (a.1 ++ extra) (takes_further started bytes extra a.0 a.1 a.2))
+sessions_agree extra level phase known started bytes (asks x one) (faulty fault) a b =
+    absurd (front_no_fault started a.0 fault (bytes ++ extra) (a.1 ++ extra) (takes_further started bytes extra a.0 a.1 a.2) b)
+sessions_agree extra level phase known started bytes (faulty fault) unread a b =
+    never_right (IsSpared extra) (told.session level phase known (faulty fault)) (told.session level phase known unread) (unheard level phase known)
+    (session_itself (IsSpared extra) level phase known (faulty fault)).left
+sessions_agree extra level phase known started bytes (faulty fault) (asks y other) a b =
+    absurd (front_no_fault started b.0 fault (bytes ++ extra) b.1 b.2 (fault_stays started bytes extra fault a))
+sessions_agree extra level phase known started bytes (faulty fault) (partial rest) a b =
+    absurd (b.1.no_fault fault (fault_stays started bytes extra fault a))
+sessions_agree extra level phase known started bytes (faulty fault) (faulty other) a b =
+    calm_memory (IsSpared extra) phase (ending (owed_by phase) (ends.Protocol fault)) (ending (owed_by phase) (ends.Protocol other))
+    (ending_agrees (IsSpared extra) (owed_by phase) (ends.Protocol fault) (ends.Protocol other))

@@ -1,0 +1,108 @@
+-- What is read is one value, and what was written last is one.
+use Rattle.std.proofs.Common.{◌≡◌, ◌≢◌, ℕ, ◌<◌, ◌≤◌, suc, List, [], ◌∷◌, ◌++◌, Some, length, arith, refl, ap, sym, ◌∙◌, subst, inl, inr, ◌%◌}
+use Rattle.std.specs.List.{All, slice_get}
+use Rattle.std.proofs.lemmas.List.Elements.{All-contains}
+use Rattle.cell_base.specs.declared.level.Level.{Level}
+use Rattle.cell_base.specs.declared.cell.Cell.{Cell}
+use Rattle.cell_base.specs.declared.key.Key.{Key}
+use Rattle.cell_base.specs.declared.value.Value.{Value}
+use Rattle.history_core.specs.declared.event.Event.{Event}
+use Rattle.history_core.specs.declared.event.Event.TheVariants.{Read, Write}
+use Rattle.history_core.specs.Transactions.{IsCommitted}
+use Rattle.history_core.specs.Relations.{LastWrites, WritesValue}
+use Rattle.history_core.specs.Legal.{IsOffered, IsOffer, ListsKeys}
+use Rattle.history_core.specs.Book.{Seat, IsUnwritten, HasWrite, LastWrite, writes_of}
+use Rattle.history_core.proofs.Prefixes.{start_positive}
+use Rattle.one_history.proofs.Lists.{one_rising, one_key_list}
+
+-- ---- what a transaction wrote last
+
+same_write : (a b : Event) (s t : ℕ) (x y : Cell) (v w : Value) → Some (Write s x v) ≡ Some (Write t y w) → v ≡ w
+same_write a b s t x y v w is = let both : Write s x v ≡ Write t y w = cc in cc
+
+pub one_last : (events : List Event) (number : ℕ) (cell : Cell) (v w : Value) → LastWrites events number cell v → LastWrites events number cell w → v ≡ w
+one_last events number cell v w a b =
+    let low : b.place ≤ a.place = a.last b.place b.session w b.write in
+    let high : a.place ≤ b.place = b.last a.place a.session v a.write in
+    let same : a.place ≡ b.place = omega arith in
+    let there : slice_get events a.place ≡ Some (Write b.session cell w) = ap (λ (k : ℕ). slice_get events k) same ∙ b.write.is in
+    same_write (Write a.session cell v) (Write b.session cell w) a.session b.session cell cell v w (sym a.write.is ∙ there)
+
+not_initial : (events : List Event) (number : ℕ) → number ≡ 0 → IsCommitted events number → ⊥
+not_initial events number is committed =
+    let of = committed.commit in
+    let h : 0 < number = start_positive events number committed.session of.start of.starts in
+    omega arith
+
+pub one_value : (events : List Event) (number : ℕ) (cell : Cell) (v w : Value) → WritesValue events number cell v → WritesValue events number cell w →
+    v ≡ w
+one_value events number cell v w (inl a) (inl b) = a.1 ∙ sym b.1
+one_value events number cell v w (inl a) (inr b) = absurd (not_initial events number a.0 b.0)
+one_value events number cell v w (inr a) (inl b) = absurd (not_initial events number b.0 a.0)
+one_value events number cell v w (inr a) (inr b) = one_last events number cell v w a.1 b.1
+
+-- ---- what is offered
+
+pub one_offer : (level : Level) (events : List Event) (s : ℕ) (cell : Cell) (xs ys : List ℕ) → IsOffer level events s cell xs →
+    IsOffer level events s cell ys → xs ≡ ys
+one_offer level events s cell xs ys a b =
+    one_rising xs ys a.ascending b.ascending (λ z there. (b.exact z).1 ((a.exact z).0 there)) (λ z there. (a.exact z).1 ((b.exact z).0 there))
+
+-- the source and the count of a read, and its value
+pub record OneRead (source other count more : ℕ) (v w : Value) : Type 0 where
+  pub sources : source ≡ other
+  pub counts : count ≡ more
+  pub values : v ≡ w
+
+pub one_read : (level : Level) (events : List Event) (s : ℕ) (cell : Cell) (source other count more word : ℕ) (v w : Value) →
+    IsOffered level events (Read s cell source count word v) → IsOffered level events (Read s cell other more word w) →
+    WritesValue events source cell v → WritesValue events other cell w → OneRead source other count more v w
+one_read level events s cell source other count more word v w (xs, a, many, at) (ys, b, many_too, at_too) value value_too =
+    let same : xs ≡ ys = one_offer level events s cell xs ys a b in
+    let counts : count ≡ more = many ∙ ap length same ∙ sym many_too in
+    let here : slice_get ys (word % more) ≡ Some source =
+    subst (λ (n : ℕ). slice_get ys (word % n) ≡ Some source) counts (subst (λ (zs : List ℕ). slice_get zs (word % count) ≡ Some source) same at) in
+    let both : Some source ≡ Some other = sym here ∙ at_too in
+    let sources : source ≡ other = cc in
+    record {
+      sources = sources;
+      counts = counts;
+      values = one_value events other cell v w (subst (λ (n : ℕ). WritesValue events n cell v) sources value) value_too;
+    }
+
+-- ---- what a scan lists
+
+pub one_listing : (events : List Event) (s table : ℕ) (xs ys : List Key) → ListsKeys events s table xs → ListsKeys events s table ys → xs ≡ ys
+one_listing events s table xs ys a b =
+    one_key_list xs ys a.ascending b.ascending (λ z there. (b.listed z).1 ((a.listed z).0 there)) (λ z there. (a.listed z).1 ((b.listed z).0 there))
+
+-- ---- what the seat says
+
+pub not_both : (cell : Cell) (seat : Seat) → HasWrite cell seat → IsUnwritten cell seat → ⊥
+not_both cell seat (k, x, within, at, is) unwritten = All-contains (λ (write : Cell × Value). write.0 ≢ cell) (writes_of seat) x unwritten (k, within, at) is
+
+none_here : (cell : Cell) (value : Value) (front back : List (Cell × Value)) → All (λ write. write.0 ≢ cell) (front ++ (cell, value) ∷ back) → ⊥
+none_here cell value [] back all = all 0 (cell, value) (omega arith) refl
+none_here cell value (x ∷ front) back all =
+    none_here cell value front back (All-later x (front ++ (cell, value) ∷ back) all)
+  where
+    All-later : (x : Cell × Value) (xs : List (Cell × Value)) → All (λ write. write.0 ≢ cell) (x ∷ xs) → All (λ write. write.0 ≢ cell) xs
+    All-later x xs all k d within = all (suc k) d (omega arith)
+
+-- the last of some writes to a cell is one
+last_one : (front others : List (Cell × Value)) (cell : Cell) (v w : Value) (back rest : List (Cell × Value)) →
+    front ++ (cell, v) ∷ back ≡ others ++ (cell, w) ∷ rest → All (λ write. write.0 ≢ cell) back → All (λ write. write.0 ≢ cell) rest → v ≡ w
+last_one [] [] cell v w back rest same a b = let both : ◌≡◌ {A = Cell × Value} (cell, v) (cell, w) = cc in ap (λ (x : Cell × Value). x.1) both
+last_one [] (y ∷ others) cell v w back rest same a b =
+    let tail : back ≡ others ++ (cell, w) ∷ rest = cc in
+    absurd (none_here cell w others rest (subst (λ (xs : List (Cell × Value)). All (λ write. write.0 ≢ cell) xs) tail a))
+last_one (x ∷ front) [] cell v w back rest same a b =
+    let tail : front ++ (cell, v) ∷ back ≡ rest = cc in
+    absurd (none_here cell v front back (subst (λ (xs : List (Cell × Value)). All (λ write. write.0 ≢ cell) xs) (sym tail) b))
+last_one (x ∷ front) (y ∷ others) cell v w back rest same a b =
+    let tail : front ++ (cell, v) ∷ back ≡ others ++ (cell, w) ∷ rest = cc in
+    last_one front others cell v w back rest tail a b
+
+pub one_last_write : (cell : Cell) (v w : Value) (seat : Seat) → LastWrite cell v seat → LastWrite cell w seat → v ≡ w
+one_last_write cell v w seat a b =
+    last_one a.before b.before cell v w a.after b.after (sym a.split ∙ b.split) a.last b.last
