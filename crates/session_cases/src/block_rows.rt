@@ -1,6 +1,6 @@
 // Sessions whose blocks go over several messages, or are cut off.
 use crate::rows::{
-    BEGIN, BEGUN, COMMIT, GREETING, IN_BLOCK, IN_FAILED, READY, ROLLED_BACK, Row, STARTUP,
+    BEGIN, BEGUN, COMMIT, IN_BLOCK, IN_FAILED, READY, ROLLED_BACK, Row, STARTED, STARTUP,
     TERMINATE, VIOLATION,
 };
 use client_framing::FrameFault;
@@ -10,7 +10,7 @@ use session_core::End;
 const CUT_INSIDE_A_BLOCK: Row = Row {
     words: &[0],
     input: &[STARTUP, BEGIN, b"Q\0\0\0 SE"],
-    sent: &[GREETING, BEGUN, IN_BLOCK],
+    sent: &[STARTED, BEGUN, IN_BLOCK],
     events: &["open 1", "begin 1", "rollback 1", "close 1"],
     end: End::Cut,
     session: Some(1),
@@ -20,7 +20,7 @@ const CUT_INSIDE_A_BLOCK: Row = Row {
 const SHORT_LENGTH_INSIDE_A_BLOCK: Row = Row {
     words: &[0],
     input: &[STARTUP, BEGIN, b"Q\0\0\0\x03"],
-    sent: &[GREETING, BEGUN, IN_BLOCK, VIOLATION],
+    sent: &[STARTED, BEGUN, IN_BLOCK, VIOLATION],
     events: &["open 1", "begin 1", "rollback 1", "close 1"],
     end: End::Protocol(FrameFault::BadLength(3)),
     session: Some(1),
@@ -37,7 +37,7 @@ const NO_ZERO_BYTE_INSIDE_A_BLOCK: Row = Row {
         b"Q\0\0\0\x06SEL",
     ],
     sent: &[
-        GREETING,
+        STARTED,
         b"C\0\0\0\x11CREATE TABLE\0",
         READY,
         BEGUN,
@@ -75,7 +75,7 @@ const EMPTY_TEXTS_IN_A_FAILED_BLOCK: Row = Row {
         TERMINATE,
     ],
     sent: &[
-        GREETING,
+        STARTED,
         BEGUN,
         IN_BLOCK,
         b"E\0\0\0,SERROR\0VERROR\0C22012\0Mdivision by zero\0\0",
@@ -106,7 +106,7 @@ const BLOCK_OVER_MESSAGES: Row = Row {
         TERMINATE,
     ],
     sent: &[
-        GREETING,
+        STARTED,
         b"C\0\0\0\x11CREATE TABLE\0",
         READY,
         BEGUN,
@@ -154,7 +154,7 @@ const UPDATE_MISSES_ITS_ROW: Row = Row {
         TERMINATE,
     ],
     sent: &[
-        GREETING,
+        STARTED,
         b"C\0\0\0\x11CREATE TABLE\0",
         READY,
         b"C\0\0\0\x0fINSERT 0 1\0",

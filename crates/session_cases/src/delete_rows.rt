@@ -1,6 +1,6 @@
 // Sessions that delete rows.
 use crate::rows::{
-    BEGIN, BEGUN, GREETING, IN_BLOCK, READY, ROLLBACK, ROLLED_BACK, Row, STARTUP, TERMINATE,
+    BEGIN, BEGUN, IN_BLOCK, READY, ROLLBACK, ROLLED_BACK, Row, STARTED, STARTUP, TERMINATE,
 };
 use session_core::End;
 
@@ -23,7 +23,7 @@ const NEWEST_ROWS: Row = Row {
         TERMINATE,
     ],
     sent: &[
-        GREETING,
+        STARTED,
         b"C\0\0\0\x11CREATE TABLE\0",
         READY,
         b"C\0\0\0\x0fINSERT 0 3\0",
@@ -133,7 +133,7 @@ const OLDER_STATES: Row = Row {
         TERMINATE,
     ],
     sent: &[
-        GREETING,
+        STARTED,
         b"C\0\0\0\x11CREATE TABLE\0",
         READY,
         b"C\0\0\0\x0fINSERT 0 1\0",
@@ -226,7 +226,7 @@ const OWN_ROWS: Row = Row {
         TERMINATE,
     ],
     sent: &[
-        GREETING,
+        STARTED,
         b"C\0\0\0\x11CREATE TABLE\0",
         READY,
         b"C\0\0\0\x0fINSERT 0 1\0",
@@ -317,7 +317,7 @@ const FAULTS_AND_NULLS: Row = Row {
         TERMINATE,
     ],
     sent: &[
-        GREETING,
+        STARTED,
         b"C\0\0\0\x11CREATE TABLE\0",
         READY,
         b"C\0\0\0\x0fINSERT 0 3\0",
@@ -410,7 +410,7 @@ const TEXT_KEYS: Row = Row {
         TERMINATE,
     ],
     sent: &[
-        GREETING,
+        STARTED,
         b"C\0\0\0\x11CREATE TABLE\0",
         READY,
         b"C\0\0\0\x0fINSERT 0 2\0",

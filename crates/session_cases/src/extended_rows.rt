@@ -1,7 +1,7 @@
 // Sessions whose clients send messages of the extended query, function calls, messages of a copy, and requests before the startup.
 use crate::rows::{
-    BEGIN, BEGUN, COMMIT, FLUSH, GREETING, IN_BLOCK, IN_FAILED, ONE, READY, ROLLBACK, ROLLED_BACK,
-    Row, STARTUP, SYNC, TERMINATE, UNSUPPORTED, VIOLATION,
+    BEGIN, BEGUN, COMMIT, FLUSH, IN_BLOCK, IN_FAILED, ONE, READY, ROLLBACK, ROLLED_BACK, Row,
+    STARTED, STARTUP, SYNC, TERMINATE, UNSUPPORTED, VIOLATION,
 };
 use cell_base::SqlState;
 use client_framing::FrameFault;
@@ -23,7 +23,7 @@ const DISCARDS_UP_TO_SYNC: Row = Row {
         TERMINATE,
     ],
     sent: &[
-        GREETING,
+        STARTED,
         UNSUPPORTED,
         READY,
         b"T\0\0\0!\0\x01?column?\0\0\0\0\0\0\0\0\0\0\x17\0\x04\xff\xff\xff\xff\0\0",
@@ -50,7 +50,7 @@ const BIND_FAILS_A_BLOCK: Row = Row {
         TERMINATE,
     ],
     sent: &[
-        GREETING,
+        STARTED,
         BEGUN,
         IN_BLOCK,
         UNSUPPORTED,
@@ -78,7 +78,7 @@ const ENDS_WHILE_DISCARDING: Row = Row {
         TERMINATE,
     ],
     sent: &[
-        GREETING,
+        STARTED,
         BEGUN,
         b"E\0\0\0,SERROR\0VERROR\0C22012\0Mdivision by zero\0\0",
         IN_FAILED,
@@ -104,7 +104,7 @@ const FUNCTION_FAILS_A_BLOCK: Row = Row {
         TERMINATE,
     ],
     sent: &[
-        GREETING,
+        STARTED,
         UNSUPPORTED,
         READY,
         BEGUN,
@@ -134,7 +134,7 @@ const COPY_TELLS_NOTHING: Row = Row {
         FLUSH,
         SYNC,
     ],
-    sent: &[GREETING, READY, BEGUN, IN_BLOCK, IN_BLOCK],
+    sent: &[STARTED, READY, BEGUN, IN_BLOCK, IN_BLOCK],
     events: &["open 1", "begin 1", "rollback 1", "close 1"],
     end: End::Closed,
     session: Some(1),
@@ -144,7 +144,7 @@ const COPY_TELLS_NOTHING: Row = Row {
 const CUT_WHILE_DISCARDING: Row = Row {
     words: &[],
     input: &[STARTUP, b"P\0\0\0\x04", b"Q\0\0\0\x0aSEL"],
-    sent: &[GREETING, UNSUPPORTED],
+    sent: &[STARTED, UNSUPPORTED],
     events: &["open 1", "close 1"],
     end: End::Cut,
     session: Some(1),
@@ -154,7 +154,7 @@ const CUT_WHILE_DISCARDING: Row = Row {
 const FAULT_WHILE_DISCARDING: Row = Row {
     words: &[],
     input: &[STARTUP, BEGIN, b"P\0\0\0\x04", b"z"],
-    sent: &[GREETING, BEGUN, IN_BLOCK, UNSUPPORTED, VIOLATION],
+    sent: &[STARTED, BEGUN, IN_BLOCK, UNSUPPORTED, VIOLATION],
     events: &["open 1", "begin 1", "rollback 1", "close 1"],
     end: End::Protocol(FrameFault::UnknownType(122)),
     session: Some(1),
@@ -164,7 +164,7 @@ const FAULT_WHILE_DISCARDING: Row = Row {
 const FAULT_INSIDE_A_BLOCK: Row = Row {
     words: &[],
     input: &[STARTUP, BEGIN, b"X\0\0\0\x05"],
-    sent: &[GREETING, BEGUN, IN_BLOCK, VIOLATION],
+    sent: &[STARTED, BEGUN, IN_BLOCK, VIOLATION],
     events: &["open 1", "begin 1", "rollback 1", "close 1"],
     end: End::Protocol(FrameFault::BadLength(5)),
     session: Some(1),
@@ -174,7 +174,7 @@ const FAULT_INSIDE_A_BLOCK: Row = Row {
 const ENDS_INSIDE_A_BLOCK: Row = Row {
     words: &[],
     input: &[STARTUP, BEGIN, TERMINATE],
-    sent: &[GREETING, BEGUN, IN_BLOCK],
+    sent: &[STARTED, BEGUN, IN_BLOCK],
     events: &["open 1", "begin 1", "rollback 1", "close 1"],
     end: End::Terminated,
     session: Some(1),
@@ -240,7 +240,7 @@ const SHOWS_LEVEL: Row = Row {
     words: &[],
     input: &[STARTUP, b"Q\0\0\0\x16SHOW monkey.level\0", TERMINATE],
     sent: &[
-        GREETING,
+        STARTED,
         b"T\0\0\0%\0\x01monkey.level\0\0\0\0\0\0\0\0\0\0\x19\xff\xff\xff\xff\xff\xff\0\0",
         b"D\0\0\0\x0c\0\x01\0\0\0\x02rc",
         b"C\0\0\0\x09SHOW\0",

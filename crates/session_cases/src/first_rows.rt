@@ -1,5 +1,5 @@
 // Sessions that insert, update and read a row of one table.
-use crate::rows::{GREETING, READY, Row, STARTUP, TERMINATE};
+use crate::rows::{READY, Row, STARTED, STARTUP, TERMINATE, UNSUPPORTED};
 use session_core::End;
 
 // First path, words 1,0,2: the read takes the initial value.
@@ -13,7 +13,7 @@ const MISSES_THE_ROW_BY_SECOND_WORD: Row = Row {
         TERMINATE,
     ],
     sent: &[
-        GREETING,
+        STARTED,
         b"C\0\0\0\x11CREATE TABLE\0",
         READY,
         b"C\0\0\0\x0fINSERT 0 1\0",
@@ -52,7 +52,7 @@ const FINDS_THE_ROW_BY_SECOND_WORD: Row = Row {
         TERMINATE,
     ],
     sent: &[
-        GREETING,
+        STARTED,
         b"C\0\0\0\x11CREATE TABLE\0",
         READY,
         b"C\0\0\0\x0fINSERT 0 1\0",
@@ -93,7 +93,7 @@ const MISSES_ITS_OWN_ROW: Row = Row {
         TERMINATE,
     ],
     sent: &[
-        GREETING,
+        STARTED,
         b"C\0\0\0\x11CREATE TABLE\0",
         READY,
         b"C\0\0\0\x0fINSERT 0 1\0",
@@ -132,7 +132,7 @@ const FINDS_ITS_OWN_ROW: Row = Row {
         TERMINATE,
     ],
     sent: &[
-        GREETING,
+        STARTED,
         b"C\0\0\0\x11CREATE TABLE\0",
         READY,
         b"C\0\0\0\x0fINSERT 0 1\0",
@@ -174,7 +174,7 @@ const UPDATE_AND_OLD_VALUE: Row = Row {
         TERMINATE,
     ],
     sent: &[
-        GREETING,
+        STARTED,
         b"C\0\0\0\x11CREATE TABLE\0",
         READY,
         b"C\0\0\0\x0fINSERT 0 1\0",
@@ -223,7 +223,7 @@ const UPDATE_AND_NEW_VALUE: Row = Row {
         TERMINATE,
     ],
     sent: &[
-        GREETING,
+        STARTED,
         b"C\0\0\0\x11CREATE TABLE\0",
         READY,
         b"C\0\0\0\x0fINSERT 0 1\0",
@@ -274,7 +274,7 @@ const OWN_WRITES_READ_BACK: Row = Row {
         TERMINATE,
     ],
     sent: &[
-        GREETING,
+        STARTED,
         b"C\0\0\0\x11CREATE TABLE\0",
         READY,
         b"C\0\0\0\x0aBEGIN\0",
@@ -313,6 +313,26 @@ const OWN_WRITES_READ_BACK: Row = Row {
     session: Some(1),
 };
 
+// A read before any table is there, a text that isn't read, and the end of input.
+const NO_TABLE_YET: Row = Row {
+    words: &[0],
+    input: &[
+        STARTUP,
+        b"Q\0\0\0 SELECT v FROM t WHERE k = 1\0",
+        b"Q\0\0\0\x0bVACUUM\0",
+    ],
+    sent: &[
+        STARTED,
+        b"E\0\0\03SERROR\0VERROR\0C42P01\0Mrelation does not exist\0\0",
+        READY,
+        UNSUPPORTED,
+        READY,
+    ],
+    events: &["open 1", "look 1 0", "close 1"],
+    end: End::Closed,
+    session: Some(1),
+};
+
 // Each session has a function of its own, so that a proof that runs over several holds none of their bytes.
 fn misses_the_row_by_second_word() -> &'static Row {
     &MISSES_THE_ROW_BY_SECOND_WORD
@@ -342,6 +362,10 @@ fn own_writes_read_back() -> &'static Row {
     &OWN_WRITES_READ_BACK
 }
 
+fn no_table_yet() -> &'static Row {
+    &NO_TABLE_YET
+}
+
 /// The session of this number, from 0 on; none behind the last.
 pub fn first_row(number: usize) -> Option<&'static Row> {
     match number {
@@ -352,6 +376,7 @@ pub fn first_row(number: usize) -> Option<&'static Row> {
         4 => Some(update_and_old_value()),
         5 => Some(update_and_new_value()),
         6 => Some(own_writes_read_back()),
+        7 => Some(no_table_yet()),
         _ => None,
     }
 }

@@ -1,5 +1,5 @@
 // Sessions that insert a key that is there already.
-use crate::rows::{GREETING, READY, Row, STARTUP, TERMINATE};
+use crate::rows::{READY, Row, STARTED, STARTUP, TERMINATE};
 use session_core::End;
 
 // A duplicate key that is seen.
@@ -13,7 +13,7 @@ const SEEN_DUPLICATE: Row = Row {
         TERMINATE,
     ],
     sent: &[
-        GREETING,
+        STARTED,
         b"C\0\0\0\x11CREATE TABLE\0",
         READY,
         b"C\0\0\0\x0fINSERT 0 1\0",
@@ -51,7 +51,7 @@ const UNSEEN_DUPLICATE: Row = Row {
         TERMINATE,
     ],
     sent: &[
-        GREETING,
+        STARTED,
         b"C\0\0\0\x11CREATE TABLE\0",
         READY,
         b"C\0\0\0\x0fINSERT 0 1\0",

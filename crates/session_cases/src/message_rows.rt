@@ -1,5 +1,5 @@
 // Sessions whose subject is their messages and blocks.
-use crate::rows::{GREETING, READY, Row, STARTUP, TERMINATE};
+use crate::rows::{READY, Row, STARTED, STARTUP, TERMINATE};
 use cell_base::SqlState;
 use client_framing::FrameFault;
 use session_core::End;
@@ -8,7 +8,7 @@ use session_core::End;
 const ENCRYPTION_REFUSED: Row = Row {
     words: &[0],
     input: &[b"\0\0\0\x08\x04\xd2\x16/", STARTUP, TERMINATE],
-    sent: &[b"N", GREETING],
+    sent: &[b"N", STARTED],
     events: &["open 1", "close 1"],
     end: End::Terminated,
     session: Some(1),
@@ -29,7 +29,7 @@ const SHORT_LENGTH: Row = Row {
     words: &[0],
     input: &[STARTUP, b"Q\0\0\0\x03"],
     sent: &[
-        GREETING,
+        STARTED,
         b"E\0\0\0.SFATAL\0VFATAL\0C08P01\0Mprotocol violation\0\0",
     ],
     events: &["open 1", "close 1"],
@@ -42,7 +42,7 @@ const NO_ZERO_BYTE: Row = Row {
     words: &[0],
     input: &[STARTUP, b"Q\0\0\0\x06SEL"],
     sent: &[
-        GREETING,
+        STARTED,
         b"E\0\0\0.SFATAL\0VFATAL\0C08P01\0Mprotocol violation\0\0",
     ],
     events: &["open 1", "close 1"],
@@ -54,7 +54,7 @@ const NO_ZERO_BYTE: Row = Row {
 const CUT_QUERY: Row = Row {
     words: &[0],
     input: &[STARTUP, b"Q\0\0\0 SE"],
-    sent: &[GREETING],
+    sent: &[STARTED],
     events: &["open 1", "close 1"],
     end: End::Cut,
     session: Some(1),
@@ -70,7 +70,7 @@ const FAULT_INSIDE_A_MESSAGE: Row = Row {
         TERMINATE,
     ],
     sent: &[
-        GREETING,
+        STARTED,
         b"C\0\0\0\x11CREATE TABLE\0",
         READY,
         b"C\0\0\0\x0fINSERT 0 1\0",
@@ -105,7 +105,7 @@ const FAILED_BLOCK: Row = Row {
         TERMINATE,
     ],
     sent: &[
-        GREETING,
+        STARTED,
         b"C\0\0\0\x11CREATE TABLE\0",
         READY,
         b"C\0\0\0\x0aBEGIN\0",
@@ -127,7 +127,7 @@ const SYNTAX_ERROR_BEHIND_A_STATEMENT: Row = Row {
     words: &[0],
     input: &[STARTUP, b"Q\0\0\0\x16SELECT 1; SELEC 2\0", TERMINATE],
     sent: &[
-        GREETING,
+        STARTED,
         b"E\0\0\0(SERROR\0VERROR\0C42601\0Msyntax error\0\0",
         READY,
     ],
@@ -150,7 +150,7 @@ const EMPTY_TEXTS_AND_NUMBER: Row = Row {
         TERMINATE,
     ],
     sent: &[
-        GREETING,
+        STARTED,
         b"C\0\0\0\x11CREATE TABLE\0",
         READY,
         b"T\0\0\0'\0\x01monkey.history\0\0\0\0\0\0\0\0\0\0\x19\xff\xff\xff\xff\xff\xff\0\0",
@@ -186,7 +186,7 @@ const DRIVER: Row = Row {
         TERMINATE,
     ],
     sent: &[
-        GREETING,
+        STARTED,
         b"C\0\0\0\x11CREATE TABLE\0",
         READY,
         b"C\0\0\0\x0fINSERT 0 1\0",

@@ -22,7 +22,7 @@ pub const STARTUP: &[u8] = b"\0\0\0\x10\0\x03\0\0user\0a\0\0";
 pub const TERMINATE: &[u8] = b"X\0\0\0\x04";
 
 /// What is sent at the start of session 1.
-pub const GREETING: &[u8] =
+pub const STARTED: &[u8] =
     b"R\0\0\0\x08\0\0\0\0S\0\0\0\x18server_version\014.0\0S\0\0\0\x19server_encoding\0UTF8\0S\0\0\0\x19client_encoding\0UTF8\0S\0\0\0\x17DateStyle\0ISO, MDY\0S\0\0\0\x19integer_datetimes\0on\0S\0\0\0#standard_conforming_strings\0on\0K\0\0\0\x0c\0\0\0\x01\0\0\0\0Z\0\0\0\x05I";
 
 /// The next query may come, outside a block.

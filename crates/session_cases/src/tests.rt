@@ -9,7 +9,7 @@ use crate::first_rows::first_row;
 use crate::key_rows::key_row;
 use crate::links::{failing_link, joined, link};
 use crate::message_rows::message_row;
-use crate::rows::{BEGIN, BEGUN, GREETING, IN_BLOCK, Row, STARTUP};
+use crate::rows::{BEGIN, BEGUN, IN_BLOCK, Row, STARTED, STARTUP};
 use crate::text_rows::text_row;
 use crate::told::{asked, expected, words};
 use cell_base::{Items, Level};
@@ -119,8 +119,8 @@ fn all_hold(alloc: Global, group: Group, count: usize) -> Result<bool, Fail> {
 #[test]
 fn serves_sessions_of_one_row(rt: HostRuntime) -> Result<(), Fail> {
     let alloc = rt.alloc();
-    assert_eq!(rt; held(alloc, Group::First, 64)?, 7);
-    assert!(rt; all_hold(alloc, Group::First, 7)?);
+    assert_eq!(rt; held(alloc, Group::First, 64)?, 8);
+    assert!(rt; all_hold(alloc, Group::First, 8)?);
     assert_eq!(rt; held(alloc, Group::Keys, 64)?, 2);
     assert!(rt; all_hold(alloc, Group::Keys, 2)?);
     Ok(())
@@ -240,7 +240,7 @@ fn is_broken_off(
 #[test]
 fn rolls_back_where_the_link_fails(rt: HostRuntime) -> Result<(), Fail> {
     let alloc = rt.alloc();
-    let begun = [GREETING, BEGUN, IN_BLOCK];
+    let begun = [STARTED, BEGUN, IN_BLOCK];
     assert!(rt; is_broken_off(alloc, &[3], &[], End::ReadFault, &begun)?);
     assert!(rt; is_broken_off(alloc, &[], &[4], End::WriteFault, &begun[..1])?);
     assert!(rt; is_broken_off(alloc, &[], &[5], End::WriteFault, &begun[..2])?);

@@ -1,5 +1,5 @@
 // Sessions whose subject is the SQL of their texts.
-use crate::rows::{GREETING, MANY, READY, Row, STARTUP, TERMINATE};
+use crate::rows::{MANY, READY, Row, STARTED, STARTUP, TERMINATE};
 use client_framing::FrameFault;
 use session_core::End;
 
@@ -17,7 +17,7 @@ const ARITHMETIC: Row = Row {
         TERMINATE,
     ],
     sent: &[
-        GREETING,
+        STARTED,
         b"T\0\0\0<\0\x02?column?\0\0\0\0\0\0\0\0\0\0\x17\0\x04\xff\xff\xff\xff\0\0?column?\0\0\0\0\0\0\0\0\0\0\x17\0\x04\xff\xff\xff\xff\0\0",
         b"D\0\0\0\x12\0\x02\0\0\0\x02-3\0\0\0\x02-1",
         b"C\0\0\0\x0dSELECT 1\0",
@@ -60,7 +60,7 @@ const ORDER_AND_AGGREGATES: Row = Row {
         TERMINATE,
     ],
     sent: &[
-        GREETING,
+        STARTED,
         b"C\0\0\0\x11CREATE TABLE\0",
         READY,
         b"C\0\0\0\x0fINSERT 0 3\0",
@@ -185,7 +185,7 @@ const DEFINITIONS_AND_CONVERSIONS: Row = Row {
         TERMINATE,
     ],
     sent: &[
-        GREETING,
+        STARTED,
         b"C\0\0\0\x11CREATE TABLE\0",
         READY,
         b"C\0\0\0\x0fINSERT 0 1\0",
@@ -251,7 +251,7 @@ const TEXTS_OUTSIDE_THE_SUBSET: Row = Row {
         b"Q\0\x10\0\x01",
     ],
     sent: &[
-        GREETING,
+        STARTED,
         b"C\0\0\0\x11CREATE TABLE\0",
         READY,
         b"E\0\0\01SERROR\0VERROR\0C0A000\0Mfeature not supported\0\0",
