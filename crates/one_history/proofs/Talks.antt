@@ -32,7 +32,7 @@ use Rattle.session_core.specs.Users.{HasUser}
 use Rattle.session_core.specs.Talk.{Ask, encryption, cancel, start, userless, version, query, unread_query, terminate, sync, nothing, extended, function, Talk, asks, partial, faulty, unread, IsTalk, Says}
 use Rattle.session_core.specs.Record.{Lawful}
 use Rattle.session_core.specs.Told as told
-use Rattle.session_core.specs.Told.{broken, closed, closing, ending, owed_by, outside_of, refusal_end, stop_end, greets, waiting, unless_memory_ends}
+use Rattle.session_core.specs.Told.{broken, closed, closing, ending, owed_by, outside_of, refusal_end, stop_end, tells_startup, waiting, unless_memory_ends}
 use Rattle.choice_stream.specs.Choices.{DrawsFirst}
 use Rattle.one_history.specs.Laws.{WantsMore}
 use Rattle.one_history.proofs.Rides.{Goes, Grows, Rides, Agree, IsNever, lost_never, lost_agrees, never_left, never_right, tell_agrees, calm_agrees, calm_on, astray_ended}
@@ -52,18 +52,18 @@ FollowAlike E s t = (p : Phase) (k : List Table) → Agree E (s p k) (t p k)
 
 -- ---- before the startup
 
-greeted : (E : End → Type 0) → (session : ℕ) (s t : Script) → Agree E s t → Agree E (greets session s) (greets session t)
-greeted E session s t agree =
+startup_told : (E : End → Type 0) → (session : ℕ) (s t : Script) → Agree E s t → Agree E (tells_startup session s) (tells_startup session t)
+startup_told E session s t agree =
     calm_agrees E true (closing ends.Memory) (closing ends.Memory) (tell (startup_reply session) (broken owes.Close) s)
     (tell (startup_reply session) (broken owes.Close) t)
     (tell_agrees E (startup_reply session) (broken owes.Close) (broken owes.Close) s t (breaks owes.Close) (breaks owes.Close) agree)
 
 opens : (E : End → Type 0) → (s t : Script) → Agree E s t → Agree E (told.opens s) (told.opens t)
 opens E s t agree =
-    ask_agrees E calls.Open (λ a. on_opened a (λ session. greets session s) (λ why. closed (refusal_end why)))
-    (λ a. on_opened a (λ session. greets session t) (λ why. closed (refusal_end why)))
-    (λ a. opened_agrees E a (λ session. greets session s) (λ session. greets session t) (λ why. closed (refusal_end why))
-    (λ why. closed (refusal_end why)) (λ session. greeted E session s t agree) (λ why. closed_agrees E (refusal_end why) (refusal_end why)))
+    ask_agrees E calls.Open (λ a. on_opened a (λ session. tells_startup session s) (λ why. closed (refusal_end why)))
+    (λ a. on_opened a (λ session. tells_startup session t) (λ why. closed (refusal_end why)))
+    (λ a. opened_agrees E a (λ session. tells_startup session s) (λ session. tells_startup session t) (λ why. closed (refusal_end why))
+    (λ why. closed (refusal_end why)) (λ session. startup_told E session s t agree) (λ why. closed_agrees E (refusal_end why) (refusal_end why)))
 
 starting : (E : End → Type 0) → (asked : Ask) (known : List Table) (s t : Follow) → FollowAlike E s t → Agree E (told.starting asked known s) (told.starting asked known t)
 starting E encryption known s t h =
