@@ -7,10 +7,9 @@ ghost use Rattle.std.specs.IoError.{error_kind};
 use cell_base::{Text, TextFault};
 use link_traits::StdHost;
 use monkey_server::monkey_main;
-use std::env;
-use std::io;
 use std::io::ErrorKind;
 use std::process::ExitCode;
+use std::{env, io};
 
 /// The status where the command line isn't text.
 const USAGE: u8 = 2;
