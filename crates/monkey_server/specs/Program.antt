@@ -1,5 +1,5 @@
 -- What the program does in a host.
-use Rattle.std.specs.Prelude.{◌≡◌, ℕ, List, [], ◌∷◌, ◌++◌, codes, Option, None, Some, Bool, true, false, ◌⊎◌}
+use Rattle.std.specs.Prelude.{◌≡◌, ℕ, List, [], ◌∷◌, ◌++◌, codes, Option, None, Some, IfSome, Bool, true, false, ◌⊎◌}
 use Rattle.cell_base.specs.declared.level.Level.TheVariants.{Rc}
 use Rattle.link_traits.specs.Faults.{Rose}
 use Rattle.link_traits.specs.Traffic.{Both, Wrote, WrotePart, Sight}
@@ -23,11 +23,18 @@ pub record Hosted : Type 0 where
   pub out : Option Sight
   pub objects_out : ℕ
   pub link_faults : ℕ
+  pub next_link : Option Sight
 
 -- what a host tells, by the meanings of `Host`
-abbrev pub hosted_of : {H : Type 0} → (H → List HostCall) → (H → List Sight) → (H → Option Sight) → (H → ℕ) → (H → ℕ) → H → Hosted
-hosted_of calls back out objects_out link_faults host =
-    record { calls = calls host; back = back host; out = out host; objects_out = objects_out host; link_faults = link_faults host }
+abbrev pub hosted_of : {H : Type 0} → (H → List HostCall) → (H → List Sight) → (H → Option Sight) → (H → ℕ) → (H → ℕ) → (H → Option Sight) → H → Hosted
+hosted_of calls back out objects_out link_faults next_link host = record {
+  calls = calls host;
+  back = back host;
+  out = out host;
+  objects_out = objects_out host;
+  link_faults = link_faults host;
+  next_link = next_link host;
+}
 
 abbrev pub usage_line : List ℕ
 usage_line = codes "usage: monkeydb pipe LEVEL WORDS | serve [OPTIONS] | check PATH | sim LEVEL SEED SESSIONS QUERIES" ++ 10 ∷ []
@@ -65,19 +72,20 @@ status_of ends.WriteFault false = 4
 status_of ends.Memory false = 5
 status_of _ false = 1
 
--- nothing was asked of the host
+-- memory was wanting, and no object of the host went out
 pub record Untouched (before : Hosted) (code : ℕ) (after : Hosted) : Type 0 where
   pub code_is : code ≡ 5
   pub calls : after.calls ≡ before.calls
   pub back : after.back ≡ before.back
   pub out : after.out ≡ before.out
 
--- the host handed the standard link out and got it back, over which a session was served
+-- The host handed the standard link out, the one that it had told beforehand where it had, and got it back. A session was served over it.
 pub record Piped (words : List ℕ) (before : Hosted) (code : ℕ) (after : Hosted) : Type 0 where
   pub given : Sight
   pub returned : Sight
   pub end : End
   pub wanting : Bool
+  pub told : IfSome before.next_link (λ next. given ≡ next)
   pub calls : after.calls ≡ before.calls ++ standard_link_called (Some given) ∷ []
   pub back : after.back ≡ before.back ++ returned ∷ []
   pub out : after.out ≡ before.out

@@ -52,7 +52,7 @@ fn serve_alone<L: Link>(alloc: Global, link: &mut L, words: Items<u32>) -> Serve
 // Serves one session over the standard link.
 fn pipe<H: Host>(alloc: Global, host: &mut H, words: Items<u32>) -> Status
     requires { H.objects_out host.old ≡ 0 }
-    ensures pipes { Pipes words (hosted_of H.calls H.back H.out H.objects_out H.link_faults host.old) result.code (hosted_of H.calls H.back H.out H.objects_out H.link_faults host.new) }
+    ensures pipes { Pipes words (hosted_of H.calls H.back H.out H.objects_out H.link_faults H.next_link host.old) result.code (hosted_of H.calls H.back H.out H.objects_out H.link_faults H.next_link host.new) }
     ensures none_out { H.objects_out host.new ≡ 0 }
 {
     let mut link = match host.standard_link() {
@@ -69,7 +69,7 @@ fn pipe<H: Host>(alloc: Global, host: &mut H, words: Items<u32>) -> Status
 fn misuse<H: Host>(host: &mut H) -> Status
     requires objects { H.objects_out host.old ≡ 0 }
     requires out { IsSome (H.out host.old) }
-    ensures misused { Misused (hosted_of H.calls H.back H.out H.objects_out H.link_faults host.old) result.code (hosted_of H.calls H.back H.out H.objects_out H.link_faults host.new) }
+    ensures misused { Misused (hosted_of H.calls H.back H.out H.objects_out H.link_faults H.next_link host.old) result.code (hosted_of H.calls H.back H.out H.objects_out H.link_faults H.next_link host.new) }
     ensures none_out { H.objects_out host.new ≡ 0 }
 {
     let mut out = host.take_out();
@@ -91,7 +91,7 @@ fn misuse<H: Host>(host: &mut H) -> Status
 pub fn monkey_main<H: Host>(alloc: Global, host: &mut H, words: &[Text]) -> Status
     requires objects { H.objects_out host.old ≡ 0 }
     requires out { IsSome (H.out host.old) }
-    ensures does { Does words.now (hosted_of H.calls H.back H.out H.objects_out H.link_faults host.old) result.code (hosted_of H.calls H.back H.out H.objects_out H.link_faults host.new) }
+    ensures does { Does words.now (hosted_of H.calls H.back H.out H.objects_out H.link_faults H.next_link host.old) result.code (hosted_of H.calls H.back H.out H.objects_out H.link_faults H.next_link host.new) }
     ensures none_out { H.objects_out host.new ≡ 0 }
 {
     match command_of(alloc, words) {

@@ -26,6 +26,7 @@ returns-clause-pipes g c = inl record {
   returned = sight_of g.H.Link.Sides.traffic g.H.Link.Sides.read_faults g.H.Link.Sides.write_faults c.serve_alone-served.new.link;
   end = c.serve_alone-served.result.end;
   wanting = c.serve_alone-served.result.short;
+  told = c.in-Ok.ensures.told;
   calls = c.link_back.ensures.calls ∙ c.in-Ok.ensures.ok;
   back = c.link_back.ensures.back
       ∙ ap (λ (links : List Sight). links ++ sight_of g.H.Link.Sides.traffic g.H.Link.Sides.read_faults g.H.Link.Sides.write_faults c.serve_alone-served.new.link ∷ [])
