@@ -1,4 +1,4 @@
-// A mock SQL server that shows what weak isolation permits.
+//! A mock SQL server that shows what weak isolation permits.
 #![tactic(auto)]
 
 ghost use Rattle.std.specs.Prelude.{◌≡◌, ◌≢◌};
@@ -6,47 +6,64 @@ ghost use Rattle.std.specs.IoError.{error_kind};
 
 use cell_base::{Text, TextFault};
 use link_traits::StdHost;
-use monkey_server::monkey_main;
+use monkey_server::{Status, monkey_main};
 use std::io::ErrorKind;
 use std::process::ExitCode;
 use std::{env, io};
 
-/// The status where the command line isn't text.
-const USAGE: u8 = 2;
+/// The status where memory is wanting before the program begins.
+const NO_MEMORY: Status = Status { code: 5 };
 
-/// The status where memory is wanting.
-const MEMORY: u8 = 5;
+/// Why the words of the command line can't be had.
+#[derive(Clone, Copy, Debug, PartialEq, Eq)]
+enum WordsFault {
+    /// They aren't text.
+    NotText,
+    /// Want of memory.
+    Memory,
+}
 
-// The status where the words of the command line can't be had.
-fn status_without_words(fault: &io::Error) -> u8
-    ensures memory { error_kind fault.now ≡ ErrorKind.OutOfMemory → result ≡ 5 }
-    ensures other { error_kind fault.now ≢ ErrorKind.OutOfMemory → result ≡ 2 }
+// What a fault of the system means for the words.
+fn fault_of(fault: &io::Error) -> WordsFault
+    ensures memory { error_kind fault.now ≡ ErrorKind.OutOfMemory → result ≡ WordsFault.Memory }
+    ensures other { error_kind fault.now ≢ ErrorKind.OutOfMemory → result ≡ WordsFault.NotText }
 {
     match fault.kind() {
-        ErrorKind::OutOfMemory => MEMORY,
-        _ => USAGE,
+        ErrorKind::OutOfMemory => WordsFault::Memory,
+        _ => WordsFault::NotText,
     }
 }
 
-fn main(rt: HostRuntime) -> ExitCode {
-    let Ok(mut host) = StdHost::new(rt.alloc(), rt.stdin(), rt.stdout()) else {
-        return ExitCode::from(MEMORY);
-    };
+// The words of the command line behind the program's own name.
+fn words_of(rt: &HostRuntime) -> Result<Vec<Text>, WordsFault> {
     let mut words = Vec::new(rt.alloc());
-    let args = match env::args(&rt) {
+    let args = match env::args(rt) {
         Ok(args) => args,
-        Err(fault) => return ExitCode::from(status_without_words(&fault)),
+        Err(fault) => return Err(fault_of(&fault)),
     };
     for arg in args.skip(1) {
         match Text::from_bytes(rt.alloc(), arg.as_bytes()) {
             Ok(word) => {
                 if words.push(word).is_err() {
-                    return ExitCode::from(MEMORY);
+                    return Err(WordsFault::Memory);
                 }
             }
-            Err(TextFault::NotUtf8) => return ExitCode::from(USAGE),
-            Err(TextFault::Memory) => return ExitCode::from(MEMORY),
+            Err(TextFault::NotUtf8) => return Err(WordsFault::NotText),
+            Err(TextFault::Memory) => return Err(WordsFault::Memory),
         }
     }
-    ExitCode::from(monkey_main(rt.alloc(), &mut host, &words).code)
+    Ok(words)
+}
+
+fn main(rt: HostRuntime) -> ExitCode {
+    let Ok(mut host) = StdHost::new(rt.alloc(), rt.stdin(), rt.stdout()) else {
+        return ExitCode::from(NO_MEMORY.code);
+    };
+    let status = match words_of(&rt) {
+        Ok(words) => monkey_main(rt.alloc(), &mut host, &words),
+        // Words that aren't text are none that the program knows.
+        Err(WordsFault::NotText) => monkey_main(rt.alloc(), &mut host, &[]),
+        Err(WordsFault::Memory) => NO_MEMORY,
+    };
+    ExitCode::from(status.code)
 }
