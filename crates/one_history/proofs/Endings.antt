@@ -1,5 +1,5 @@
--- Two sessions that end leave the same, but for what their ends tell.
-use Rattle.std.proofs.Common.{◌≡◌, inr, true, false, ℕ, List, [], ◌∷◌, ◌++◌, length, refl, sym, ◌∙◌, ap, subst, arith}
+-- Two sessions that end leave the same where their ends are alike.
+use Rattle.std.proofs.Common.{◌≡◌, inl, inr, ◌⊎◌, true, false, ℕ, List, [], ◌∷◌, ◌++◌, length, refl, sym, ◌∙◌, ap, subst, arith}
 use Rattle.std.proofs.lemmas.List.{append-nil, take_all, length-map}
 use Rattle.cell_base.specs.declared.sql_state.SqlState.{SqlState}
 use Rattle.cell_base.specs.declared.sql_state.SqlState.TheVariants as states
@@ -20,7 +20,7 @@ use Rattle.session_core.specs.Record.{Lawful}
 use Rattle.session_core.specs.Replies.{fatal_reply}
 use Rattle.session_core.specs.Told.{done, fatal, closed, closing, ending, broken}
 use Rattle.choice_stream.specs.Choices.{DrawsFirst}
-use Rattle.one_history.specs.Laws.{farewell}
+use Rattle.one_history.specs.Laws.{farewell, EndsApart, EndsAlike}
 use Rattle.one_history.proofs.Names.{name_of}
 use Rattle.one_history.proofs.Rides.{Goes, Grows, Rides, IsNear, Same, Agree, Breaks, astray_ended, tells_on}
 use Rattle.one_history.proofs.Turning.{ask_agrees}
@@ -118,39 +118,57 @@ near_last : (a b q r : Past) → q ≡ a → r ≡ b → IsNear a b q r → IsNe
 near_last a b q r left right near =
     subst (λ (x : Past). IsNear x r q r) (sym left) (subst (λ (x : Past). IsNear a x q r) (sym right) near)
 
-both_done : (one other : End) (said : Said) (ds es : List Entry) (a b : Past) (v : List ℕ) (x y : Said) (m n : End) (q r : Past) (w u : List ℕ) →
+-- two ends are one, or two for want of bytes of which not the bytes made one
+abbrev pub AreAlike : End → End → Type 0
+AreAlike one other = (one ≡ other) ⊎ EndsApart one other
+
+-- the same, and the bytes with them
+ends_alike : (one other : End) (said x y : List ℕ) (m n : End) → AreAlike one other → m ≡ one → n ≡ other → x ≡ said ++ farewell one →
+    y ≡ said ++ farewell other → EndsAlike x m y n
+ends_alike one other said x y m n (inl same) left right first second =
+    inl (left ∙ same ∙ sym right, first ∙ ap (λ (e : End). said ++ farewell e) same ∙ sym second)
+ends_alike one other said x y m n (inr apart) left right first second =
+    inr (
+      subst (λ (e : End). EndsApart e n) (sym left) (subst (λ (e : End). EndsApart one e) (sym right) apart),
+      record {
+        common = said;
+        first_is = first ∙ ap (λ (e : End). said ++ farewell e) (sym left);
+        second_is = second ∙ ap (λ (e : End). said ++ farewell e) (sym right);
+      },
+    )
+
+both_done : (one other : End) → AreAlike one other → (said : Said) (ds es : List Entry) (a b : Past) (v : List ℕ) (x y : Said) (m n : End) (q r : Past) (w u : List ℕ) →
     IsDone one said ds x m → IsDone other said es y n → Rides (closed one) said ds a v x m q w → Rides (closed other) said es b v y n r u →
     IsNear a b q r → Same x y m n q r w u
-both_done one other said ds es a b v x y m n q r w u left right first second near =
+both_done one other alike said ds es a b v x y m n q r w u left right first second near =
     let ends_left = at_last a v first.calls ds q w left.none first.lawful in
     let ends_right = at_last b v second.calls es r u right.none second.lawful in
     record {
       history = one_history q r first.last.legal second.last.legal (near_last a b q r ends_left.0 ends_right.0 near);
       words = ends_left.1 ∙ sym ends_right.1;
-      common = said.bytes;
-      first = left.bytes ∙ ap (λ (e : End). said.bytes ++ farewell e) (sym left.to_is);
-      second = right.bytes ∙ ap (λ (e : End). said.bytes ++ farewell e) (sym right.to_is);
+      alike = ends_alike one other said.bytes x.bytes y.bytes m n alike left.to_is right.to_is left.bytes right.bytes;
     }
 
 closed_grows : (end : End) → Grows (closed end)
 closed_grows end said es out to goes = ([], (closed_goes end said es out to goes).calls ∙ sym (append-nil said.calls))
 
-pub closed_agrees : (E : End → Type 0) → (one other : End) → Agree E (closed one) (closed other)
-closed_agrees E one other = record {
+pub closed_agrees : (E : End → Type 0) → (one other : End) → AreAlike one other → Agree E (closed one) (closed other)
+closed_agrees E one other alike = record {
   left = closed_grows one;
   right = closed_grows other;
   same = λ said ds es a b v x y m n q r w u first second near.
-      inr (both_done one other said ds es a b v x y m n q r w u (closed_goes one said ds x m first.goes) (closed_goes other said es y n second.goes)
+      inr (both_done one other alike said ds es a b v x y m n q r w u (closed_goes one said ds x m first.goes) (closed_goes other said es y n second.goes)
       first second near);
 }
 
-pub closing_agrees : (E : End → Type 0) → (one other : End) → Agree E (closing one) (closing other)
-closing_agrees E one other = ask_agrees E calls.Close (λ _. closed one) (λ _. closed other) (λ _. closed_agrees E one other)
+pub closing_agrees : (E : End → Type 0) → (one other : End) → AreAlike one other → Agree E (closing one) (closing other)
+closing_agrees E one other alike = ask_agrees E calls.Close (λ _. closed one) (λ _. closed other) (λ _. closed_agrees E one other alike)
 
-pub ending_agrees : (E : End → Type 0) → (owed : Owed) (one other : End) → Agree E (ending owed one) (ending owed other)
-ending_agrees E owes.Nothing one other = closed_agrees E one other
-ending_agrees E owes.Close one other = closing_agrees E one other
-ending_agrees E owes.Rollback one other = ask_agrees E calls.Rollback (λ _. closing one) (λ _. closing other) (λ _. closing_agrees E one other)
+pub ending_agrees : (E : End → Type 0) → (owed : Owed) (one other : End) → AreAlike one other → Agree E (ending owed one) (ending owed other)
+ending_agrees E owes.Nothing one other alike = closed_agrees E one other alike
+ending_agrees E owes.Close one other alike = closing_agrees E one other alike
+ending_agrees E owes.Rollback one other alike =
+    ask_agrees E calls.Rollback (λ _. closing one) (λ _. closing other) (λ _. closing_agrees E one other alike)
 
 -- ---- a session that ends by a failed write
 

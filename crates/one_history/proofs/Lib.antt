@@ -16,3 +16,4 @@ pub mod Endings
 pub mod Talks
 pub mod OneHistory
 pub mod Piped
+pub mod PipedRuns

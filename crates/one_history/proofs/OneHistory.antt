@@ -54,9 +54,5 @@ one_history level taken more words first second left right sent told one other a
     (rides_of level taken words first left sent one a) (rides_of level (taken ++ more) words second right told other b) near in
     elim rode [
       | inl spared ↦ absurd (not_spared more one either spared)
-      | inr same ↦ (
-        sym a.history_is ∙ same.history ∙ b.history_is,
-        same.words,
-        record { common = same.common; first_is = same.first; second_is = same.second },
-      )
+      | inr same ↦ (sym a.history_is ∙ same.history ∙ b.history_is, same.words, same.alike)
     ]

@@ -1,15 +1,16 @@
--- Two runs of the program over one input have one history.
-use Rattle.std.proofs.Common.{◌≡◌, ◌≢◌, inl, inr, ◌⊎◌, false, ℕ, List, [], ◌∷◌, ◌++◌, Option, Some, None, refl, sym, ◌∙◌, ap, subst}
+-- Two runs of the program over one input have one history, end alike and are told the same.
+use Rattle.std.proofs.Common.{◌≡◌, ◌≢◌, inl, inr, ◌⊎◌, false, ℕ, ◌+◌, ◌<◌, ◌≤◌, List, [], ◌∷◌, ◌++◌, length, Option, Some, None, arith, refl, sym, ◌∙◌, ap, subst}
+use Rattle.std.proofs.lemmas.List.{append-nil, length-append}
 use Rattle.cell_base.specs.declared.level.Level.{Level}
 use Rattle.cell_base.specs.declared.level.Level.TheVariants.{Rc}
 use Rattle.link_traits.specs.Traffic.{Traffic, Both, Sight}
 use Rattle.block_machine.specs.Script.{Entry}
 use Rattle.block_machine.specs.declared.end.End.{End}
 use Rattle.block_machine.specs.declared.end.End.TheVariants as ends
-use Rattle.session_core.specs.Serve.{Carries, Blames, IsAtEnd}
+use Rattle.session_core.specs.Serve.{Carries, Blames, IsAtEnd, most_read}
 use Rattle.session_core.specs.Stands.{outer_end}
 use Rattle.monkey_server.specs.Program.{ServesAlone}
-use Rattle.one_history.specs.Laws.{Served, SameBytes, WantsMore, ReadsAll, PipeHasOneHistory}
+use Rattle.one_history.specs.Laws.{Served, WantsMore, EndsApart, EndsAlike, PipeHasOneHistory}
 use Rattle.one_history.proofs.OneHistory.{one_history}
 
 served : (words : List ℕ) (f g : Sight) (end : End) (a : ServesAlone words f g end false) → end ≢ ends.WriteFault →
@@ -31,33 +32,52 @@ served words f g end a written = record {
 
 -- ---- what was taken of the input
 
--- what was taken stands at the front of the input, and is all of it where the session ended for want of more
+-- how many bytes were taken, where an end came since more were wanted
+abbrev pub Reached : End → ℕ → Type 0
+Reached ends.Closed n = n < most_read
+Reached ends.Cut n = n < most_read
+Reached ends.Spent n = n ≡ most_read
+Reached _ n = Unit {0}
+
+-- What was taken stands at the front of the input. Where the session ended for want of more, it is all of it, or as much as may be read.
 record Takes (input taken : List ℕ) (end : End) : Type 0 where
   pub behind : List ℕ
   pub split : input ≡ taken ++ behind
-  pub whole : WantsMore end → behind ≡ []
+  pub within : length taken ≤ most_read
+  pub whole : WantsMore end → (behind ≡ []) ⊎ (length taken ≡ most_read)
 
-carried : (level : Level) (taken : List ℕ) (es : List Entry) (sent lost : List ℕ) (old new : Option Traffic) (t : Traffic) →
-    Both (Carries level taken es sent lost) old new → old ≡ Some t → (u : Traffic) × (new ≡ Some u) × (t.left ≡ taken ++ u.left)
+pub carried : (level : Level) (taken : List ℕ) (es : List Entry) (sent lost : List ℕ) (old new : Option Traffic) (t : Traffic) →
+    Both (Carries level taken es sent lost) old new → old ≡ Some t → (u : Traffic) × (new ≡ Some u) × Carries level taken es sent lost t u
 carried level taken es sent lost None None t both is = absurd (let h : None ≡ Some t = is in cc)
 carried level taken es sent lost None (Some u) t both is = absurd both
 carried level taken es sent lost (Some x) None t both is = absurd both
 carried level taken es sent lost (Some x) (Some u) t both is =
-    let same : x ≡ t = cc in (u, refl, subst (λ (z : Traffic). z.left ≡ taken ++ u.left) same both.left)
+    let same : x ≡ t = cc in (u, refl, subst (λ (z : Traffic). Carries level taken es sent lost z u) same both)
 
-at_end : (end : End) (f g : Sight) (taken : List ℕ) (u : Traffic) → Blames (outer_end end) f g taken → g.traffic ≡ Some u → ReadsAll end →
-    WantsMore end → u.left ≡ []
-at_end ends.Closed f g taken u blames is reads wants = subst IsAtEnd is blames.1
-at_end ends.Cut f g taken u blames is reads wants = subst IsAtEnd is blames.1
-at_end ends.ReadFault f g taken u blames is reads wants = absurd (reads.0 refl)
-at_end ends.Spent f g taken u blames is reads wants = absurd (reads.1 refl)
+reaches : (end : End) (f g : Sight) (taken : List ℕ) → Blames (outer_end end) f g taken → Reached end (length taken)
+reaches ends.Closed f g taken blames = blames.0
+reaches ends.Cut f g taken blames = blames.0
+reaches ends.Spent f g taken blames = blames
+reaches _ f g taken blames = tt
+
+at_end : (end : End) (f g : Sight) (taken : List ℕ) (u : Traffic) → Blames (outer_end end) f g taken → g.traffic ≡ Some u →
+    end ≢ ends.ReadFault → WantsMore end → (u.left ≡ []) ⊎ (length taken ≡ most_read)
+at_end ends.Closed f g taken u blames is reads wants = inl (subst IsAtEnd is blames.1)
+at_end ends.Cut f g taken u blames is reads wants = inl (subst IsAtEnd is blames.1)
+at_end ends.ReadFault f g taken u blames is reads wants = absurd (reads refl)
+at_end ends.Spent f g taken u blames is reads wants = inr blames
 at_end _ f g taken u blames is reads wants = absurd wants
 
-takes : (words : List ℕ) (f g : Sight) (end : End) (a : ServesAlone words f g end false) (t : Traffic) → f.traffic ≡ Some t → ReadsAll end →
-    Takes t.left a.taken end
+takes : (words : List ℕ) (f g : Sight) (end : End) (a : ServesAlone words f g end false) (t : Traffic) → f.traffic ≡ Some t →
+    end ≢ ends.ReadFault → Takes t.left a.taken end
 takes words f g end a t is reads =
     let to = carried Rc a.taken a.es a.sent a.lost f.traffic g.traffic t a.serves.carries is in
-    record { behind = to.0.left; split = to.2; whole = λ wants. at_end end f g a.taken to.0 a.serves.blames to.1 reads wants }
+    record {
+      behind = to.0.left;
+      split = to.2.left;
+      within = a.serves.within;
+      whole = λ wants. at_end end f g a.taken to.0 a.serves.blames to.1 reads wants;
+    }
 
 -- ---- of two fronts of one list the one is a front of the other
 
@@ -89,27 +109,75 @@ wants_or_not ends.ReadFault = inl tt
 wants_or_not ends.Spent = inl tt
 wants_or_not _ = inr (λ wants. wants)
 
--- a session that ended for want of more left none
-left_none : (input taken other behind : List ℕ) (end : End) (a : Takes input taken end) (longer : Longer taken other a.behind behind) →
-    (longer.more ≡ []) ⊎ (¬ (WantsMore end))
-left_none input taken other behind end a longer =
+none_long : (xs : List ℕ) → length xs ≡ 0 → xs ≡ []
+none_long [] none = refl
+none_long (x ∷ xs) none = absurd (omega (arith, none))
+
+-- of a session that ended for want of more no other took more
+took_all : (input taken other behind : List ℕ) (end : End) (a : Takes input taken end) (longer : Longer taken other a.behind behind) →
+    length other ≤ most_read → (longer.more ≡ []) ⊎ (¬ (WantsMore end))
+took_all input taken other behind end a longer within =
     elim (wants_or_not end) [
-      | inl wants ↦ inl (no_front longer.more behind (sym longer.between ∙ a.whole wants))
+      | inl wants ↦ elim (a.whole wants) [
+        | inl none ↦ inl (no_front longer.more behind (sym longer.between ∙ none))
+        | inr full ↦ inl (none_long longer.more
+            (let sum : length other ≡ length taken + length longer.more = ap length longer.longer ∙ length-append taken longer.more in omega (arith, sum, full, within)))
+      ]
       | inr never ↦ inr never
     ]
 
 -- ---- two runs
 
-same_back : (first : List ℕ) (one : End) (second : List ℕ) (other : End) → SameBytes first one second other → SameBytes second other first one
-same_back first one second other same = record { common = same.common; first_is = same.second_is; second_is = same.first_is }
+-- no two runs that took as many bytes end apart, unless a read failed
+spent_apart : (other : End) (n : ℕ) → n ≡ most_read → ends.Spent ≢ other → other ≢ ends.ReadFault → WantsMore other → Reached other n → ⊥
+spent_apart ends.Closed n full apart reads wants reached = omega (arith, full, reached)
+spent_apart ends.Cut n full apart reads wants reached = omega (arith, full, reached)
+spent_apart ends.ReadFault n full apart reads wants reached = reads refl
+spent_apart ends.Spent n full apart reads wants reached = apart refl
+spent_apart _ n full apart reads wants reached = wants
+
+never_apart : (one other : End) (n : ℕ) → one ≢ ends.ReadFault → other ≢ ends.ReadFault → Reached one n → Reached other n → EndsApart one other → ⊥
+never_apart one other n reads reads_too reached reached_too apart =
+    elim apart.cause [
+      | inl first ↦ elim first [
+        | inl fault ↦ reads fault
+        | inr spent ↦ spent_apart other n (subst (λ (e : End). Reached e n) spent reached) (λ same. apart.apart (spent ∙ same)) reads_too
+            apart.second reached_too
+      ]
+      | inr second ↦ elim second [
+        | inl fault ↦ reads_too fault
+        | inr spent ↦ spent_apart one n (subst (λ (e : End). Reached e n) spent reached_too) (λ same. apart.apart (sym same ∙ sym spent)) reads
+            apart.first reached
+      ]
+    ]
+
+as_many : (taken longer more : List ℕ) (end : End) → longer ≡ taken ++ more → (more ≡ []) ⊎ (¬ (WantsMore end)) → WantsMore end →
+    length longer ≡ length taken
+as_many taken longer more end is (inl none) wants = ap length (is ∙ ap (λ (zs : List ℕ). taken ++ zs) none ∙ append-nil taken)
+as_many taken longer more end is (inr never) wants = absurd (never wants)
+
+same_ends : (sent told : List ℕ) (one other : End) → EndsAlike sent one told other → (EndsApart one other → ⊥) → (one ≡ other) × (sent ≡ told)
+same_ends sent told one other (inl both) never = both
+same_ends sent told one other (inr apart) never = absurd (never apart.0)
+
+-- two runs have one history, end alike and were told the same
+abbrev pub OneRun : (words : List ℕ) (f g h k : Sight) (one other : End) → ServesAlone words f g one false → ServesAlone words h k other false → Type 0
+OneRun words f g h k one other a b = (a.past.seen ≡ b.past.seen) × (a.rest ≡ b.rest) × (one ≡ other) × (a.sent ≡ b.sent)
 
 -- the second run took what the first one took, and more
 run_longer : (words : List ℕ) (f g h k : Sight) (one other : End) (a : ServesAlone words f g one false) (b : ServesAlone words h k other false)
-    (more : List ℕ) → one ≢ ends.WriteFault → other ≢ ends.WriteFault → b.taken ≡ a.taken ++ more → (more ≡ []) ⊎ (¬ (WantsMore one)) →
-    (a.past.seen ≡ b.past.seen) × (a.rest ≡ b.rest) × SameBytes a.sent one b.sent other
-run_longer words f g h k one other a b more written sent longer either =
+    (more : List ℕ) → one ≢ ends.WriteFault → other ≢ ends.WriteFault → one ≢ ends.ReadFault → other ≢ ends.ReadFault →
+    b.taken ≡ a.taken ++ more → (more ≡ []) ⊎ (¬ (WantsMore one)) → OneRun words f g h k one other a b
+run_longer words f g h k one other a b more written sent reads reads_too longer either =
+    let is =
     one_history Rc a.taken more words a.past.seen b.past.seen a.rest b.rest a.sent b.sent one other (served words f g one a written)
-    (subst (λ (bytes : List ℕ). Served Rc bytes words b.past.seen b.rest b.sent other) longer (served words h k other b sent)) either
+    (subst (λ (bytes : List ℕ). Served Rc bytes words b.past.seen b.rest b.sent other) longer (served words h k other b sent)) either in
+    let never : EndsApart one other → ⊥ =
+    λ apart.
+    never_apart one other (length a.taken) reads reads_too (reaches one f g a.taken a.serves.blames)
+    (subst (λ (n : ℕ). Reached other n) (as_many a.taken b.taken more one longer either apart.first) (reaches other h k b.taken b.serves.blames))
+    apart in
+    let both = same_ends a.sent b.sent one other is.2 never in (is.0, is.1, both.0, both.1)
 
 pub piped : PipeHasOneHistory
 piped words f g h k t u one other a b at also input written sent reads reads_too =
@@ -117,9 +185,10 @@ piped words f g h k t u one other a b at also input written sent reads reads_too
     let second : Takes u.left b.taken other = takes words h k other b u also reads_too in
     elim (fronts a.taken b.taken first.behind second.behind (sym first.split ∙ input ∙ second.split)) [
       | inl on ↦
-          run_longer words f g h k one other a b on.more written sent on.longer (left_none t.left a.taken b.taken second.behind one first on)
+          run_longer words f g h k one other a b on.more written sent reads reads_too on.longer
+          (took_all t.left a.taken b.taken second.behind one first on second.within)
       | inr on ↦
-          let back = run_longer words h k f g other one b a on.more sent written on.longer
-          (left_none u.left b.taken a.taken first.behind other second on) in
-          (sym back.0, sym back.1, same_back b.sent other a.sent one back.2)
+          let back = run_longer words h k f g other one b a on.more sent written reads_too reads on.longer
+          (took_all u.left b.taken a.taken first.behind other second on first.within) in
+          (sym back.0, sym back.1, sym back.2, sym back.3)
     ]

@@ -11,7 +11,7 @@ use Rattle.block_machine.specs.declared.end.End.{End}
 use Rattle.block_machine.specs.declared.end.End.TheVariants as ends
 use Rattle.session_core.specs.Record.{Lawful}
 use Rattle.choice_stream.specs.Choices.{DrawsFirst}
-use Rattle.one_history.specs.Laws.{farewell}
+use Rattle.one_history.specs.Laws.{EndsAlike}
 
 -- the script takes the record to this end; memory is not wanting, and no write fails
 pub record Goes (s : Script) (said : Said) (es : List Entry) (out : Said) (end : End) : Type 0 where
@@ -48,9 +48,7 @@ pub record IsNear (a b q r : Past) : Type 0 where
 pub record Same (x y : Said) (m n : End) (q r : Past) (w u : List ℕ) : Type 0 where
   pub history : q.seen ≡ r.seen
   pub words : w ≡ u
-  pub common : List ℕ
-  pub first : x.bytes ≡ common ++ farewell m
-  pub second : y.bytes ≡ common ++ farewell n
+  pub alike : EndsAlike x.bytes m y.bytes n
 
 -- scripts that agree, but where the first comes to an end of these
 pub record Agree (E : End → Type 0) (s t : Script) : Type 0 where

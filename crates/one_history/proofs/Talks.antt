@@ -5,10 +5,11 @@ use Rattle.std.proofs.lemmas.List.{append-nil}
 use Rattle.cell_base.specs.declared.level.Level.{Level}
 use Rattle.cell_base.specs.declared.sql_state.SqlState.TheVariants as states
 use Rattle.client_framing.specs.declared.front.Front.{Front}
+use Rattle.client_framing.specs.declared.front.FrameFault.{FrameFault}
 use Rattle.client_framing.specs.declared.front.Front.TheVariants.{Ssl, Gss, Cancel, Startup, Version, Query, Terminate, Sync, Flush, Extended, Function, Copy}
 use Rattle.client_framing.specs.Spelling.{phase_after}
 use Rattle.client_framing.specs.Fronts.{TakesFront}
-use Rattle.client_framing.proofs.Streams.{front_unique, behind_unique, front_no_fault, fault_stays}
+use Rattle.client_framing.proofs.Streams.{front_unique, behind_unique, front_no_fault, fault_unique, fault_stays}
 use Rattle.pg_framing.specs.declared.replies.TransactionState.{TransactionState}
 use Rattle.pg_framing.specs.declared.replies.TransactionState.TheVariants as block_states
 use Rattle.sql_tree.specs.declared.table.Table.{Table}
@@ -34,13 +35,13 @@ use Rattle.session_core.specs.Record.{Lawful}
 use Rattle.session_core.specs.Told as told
 use Rattle.session_core.specs.Told.{broken, closed, closing, ending, owed_by, outside_of, refusal_end, stop_end, tells_startup, waiting, unless_memory_ends}
 use Rattle.choice_stream.specs.Choices.{DrawsFirst}
-use Rattle.one_history.specs.Laws.{WantsMore}
+use Rattle.one_history.specs.Laws.{WantsMore, ReadsPart}
 use Rattle.one_history.proofs.Rides.{Goes, Grows, Rides, Agree, IsNever, lost_never, lost_agrees, never_left, never_right, tell_agrees, calm_agrees, calm_on, astray_ended}
 use Rattle.one_history.proofs.Turning.{ask_agrees}
 use Rattle.one_history.proofs.Cases.{opened_agrees}
 use Rattle.one_history.proofs.Statements.{fails}
 use Rattle.one_history.proofs.Messages.{Beside, readied, message}
-use Rattle.one_history.proofs.Endings.{closed_agrees, ending_agrees, ending_end, breaks}
+use Rattle.one_history.proofs.Endings.{AreAlike, closed_agrees, ending_agrees, ending_end, breaks}
 use Rattle.one_history.proofs.OneMessage.{one_message}
 
 -- what follows a message agrees
@@ -63,16 +64,16 @@ opens E s t agree =
     ask_agrees E calls.Open (λ a. on_opened a (λ session. tells_startup session s) (λ why. closed (refusal_end why)))
     (λ a. on_opened a (λ session. tells_startup session t) (λ why. closed (refusal_end why)))
     (λ a. opened_agrees E a (λ session. tells_startup session s) (λ session. tells_startup session t) (λ why. closed (refusal_end why))
-    (λ why. closed (refusal_end why)) (λ session. startup_told E session s t agree) (λ why. closed_agrees E (refusal_end why) (refusal_end why)))
+    (λ why. closed (refusal_end why)) (λ session. startup_told E session s t agree) (λ why. closed_agrees E (refusal_end why) (refusal_end why) (inl refl)))
 
 starting : (E : End → Type 0) → (asked : Ask) (known : List Table) (s t : Follow) → FollowAlike E s t → Agree E (told.starting asked known s) (told.starting asked known t)
 starting E encryption known s t h =
     tell_agrees E no_encryption (broken owes.Nothing) (broken owes.Nothing) (s phases.Startup known) (t phases.Startup known)
     (breaks owes.Nothing) (breaks owes.Nothing) (h phases.Startup known)
-starting E cancel known s t h = closed_agrees E ends.Cancelled ends.Cancelled
+starting E cancel known s t h = closed_agrees E ends.Cancelled ends.Cancelled (inl refl)
 starting E start known s t h = opens E (s (phases.Normal block_states.Idle) known) (t (phases.Normal block_states.Idle) known) (h (phases.Normal block_states.Idle) known)
-starting E userless known s t h = closed_agrees E (ends.Refused states.S28000) (ends.Refused states.S28000)
-starting E version known s t h = closed_agrees E (ends.Refused states.S0A000) (ends.Refused states.S0A000)
+starting E userless known s t h = closed_agrees E (ends.Refused states.S28000) (ends.Refused states.S28000) (inl refl)
+starting E version known s t h = closed_agrees E (ends.Refused states.S0A000) (ends.Refused states.S0A000) (inl refl)
 starting E (query m) known s t h = (lost_agrees E)
 starting E unread_query known s t h = (lost_agrees E)
 starting E terminate known s t h = (lost_agrees E)
@@ -118,7 +119,7 @@ serving E level (query asked) state known s t h = message E (outside_of level s)
 serving E level unread_query state known s t h =
     calm_agrees E false (messages.message (asked_by.Unread states.S53200) state known (outside_of level s))
     (messages.message (asked_by.Unread states.S53200) state known (outside_of level t)) lost lost (lost_agrees E)
-serving E level terminate state known s t h = ending_agrees E (owed_between state) ends.Terminated ends.Terminated
+serving E level terminate state known s t h = ending_agrees E (owed_between state) ends.Terminated ends.Terminated (inl refl)
 serving E level sync state known s t h = readied E (outside_of level s) (outside_of level t) (beside E level s t h) state known
 serving E level nothing state known s t h = h (phases.Normal state) known
 serving E level extended state known s t h = refuses E level state known s t h
@@ -132,7 +133,7 @@ serving E level version state known s t h = (lost_agrees E)
 
 discarding : (E : End → Type 0) → (level : Level) (asked : Ask) (state : TransactionState) (known : List Table) (s t : Follow) → FollowAlike E s t →
     Agree E (told.discarding level asked state known s) (told.discarding level asked state known t)
-discarding E level terminate state known s t h = ending_agrees E (owed_between state) ends.Terminated ends.Terminated
+discarding E level terminate state known s t h = ending_agrees E (owed_between state) ends.Terminated ends.Terminated (inl refl)
 discarding E level sync state known s t h = readied E (outside_of level s) (outside_of level t) (beside E level s t h) state known
 discarding E level _ state known s t h = h (phases.Discarding state) known
 
@@ -252,10 +253,49 @@ asked_alike E level front a b phase known s t h x y =
 more_ended : (a out : Said) (end : End) → ◌≡◌ {A = Said × Next} (a, more) (out, ended end) → ⊥
 more_ended a out end is = let both : more ≡ ended end = ap (λ (x : Said × Next). x.1) is in cc
 
+wants_either : (b : Bool) → WantsMore (cond b ends.Closed ends.Cut)
+wants_either true = tt
+wants_either false = tt
+
+stop_wants : (cause : Stop) (held : ℕ) → WantsMore (stop_end cause held)
+stop_wants stops.EndOfInput held = wants_either (held == 0)
+stop_wants stops.ReadFault held = tt
+stop_wants stops.Spent held = tt
+
+-- an end of input is neither a failed read nor the limit of bytes
+not_fault : (b : Bool) → cond b ends.Closed ends.Cut ≡ ends.ReadFault → ⊥
+not_fault true is = let h : ends.Closed ≡ ends.ReadFault = is in cc
+not_fault false is = let h : ends.Cut ≡ ends.ReadFault = is in cc
+
+not_spent : (b : Bool) → cond b ends.Closed ends.Cut ≡ ends.Spent → ⊥
+not_spent true is = let h : ends.Closed ≡ ends.Spent = is in cc
+not_spent false is = let h : ends.Cut ≡ ends.Spent = is in cc
+
+two_stops : (one other : Stop) (held : ℕ) → (stop_end one held ≡ stop_end other held → ⊥) →
+    ReadsPart (stop_end one held) ⊎ ReadsPart (stop_end other held) → AreAlike (stop_end one held) (stop_end other held)
+two_stops one other held apart cause =
+    inr record { apart = apart; first = stop_wants one held; second = stop_wants other held; cause = cause }
+
+-- two stops where so many bytes are held end alike
+stops_alike : (one other : Stop) (held : ℕ) → AreAlike (stop_end one held) (stop_end other held)
+stops_alike stops.EndOfInput stops.EndOfInput held = inl refl
+stops_alike stops.EndOfInput stops.ReadFault held = two_stops stops.EndOfInput stops.ReadFault held (not_fault (held == 0)) (inr (inl refl))
+stops_alike stops.EndOfInput stops.Spent held = two_stops stops.EndOfInput stops.Spent held (not_spent (held == 0)) (inr (inr refl))
+stops_alike stops.ReadFault stops.EndOfInput held =
+    two_stops stops.ReadFault stops.EndOfInput held (λ is. not_fault (held == 0) (sym is)) (inl (inl refl))
+stops_alike stops.ReadFault stops.ReadFault held = inl refl
+stops_alike stops.ReadFault stops.Spent held =
+    two_stops stops.ReadFault stops.Spent held (λ is. let same : ends.ReadFault ≡ ends.Spent = is in cc) (inl (inl refl))
+stops_alike stops.Spent stops.EndOfInput held =
+    two_stops stops.Spent stops.EndOfInput held (λ is. not_spent (held == 0) (sym is)) (inl (inr refl))
+stops_alike stops.Spent stops.ReadFault held =
+    two_stops stops.Spent stops.ReadFault held (λ is. let same : ends.Spent ≡ ends.ReadFault = is in cc) (inl (inr refl))
+stops_alike stops.Spent stops.Spent held = inl refl
+
 waits_grows : (phase : Phase) (held : ℕ) → Grows (waiting phase held)
 waits_grows phase held said [] out end goes = absurd (more_ended said out end goes.is)
 waits_grows phase held said (stop cause ∷ es) out end goes =
-    (ending_agrees (λ (e : End). ⊥) (owed_by phase) (stop_end cause held) (stop_end cause held)).left said es out end
+    (ending_agrees (λ (e : End). ⊥) (owed_by phase) (stop_end cause held) (stop_end cause held) (inl refl)).left said es out end
     (record { is = goes.is; calm = goes.calm; written = goes.written })
 waits_grows phase held said (did a e ∷ es) out end goes = absurd (astray_ended said out end goes.is)
 waits_grows phase held said (refused why ∷ es) out end goes = absurd (astray_ended said out end goes.is)
@@ -300,8 +340,8 @@ waits E phase held = record {
   same = λ said ds es a b v x y m n q r w u one two near.
       let left = halted phase held said ds a v x m q w one in
       let right = halted phase held said es b v y n r u two in
-      (ending_agrees E (owed_by phase) (stop_end left.cause held) (stop_end right.cause held)).same said left.es right.es a b v x y m n q r w u
-      left.rides right.rides near;
+      (ending_agrees E (owed_by phase) (stop_end left.cause held) (stop_end right.cause held) (stops_alike left.cause right.cause held)).same
+      said left.es right.es a b v x y m n q r w u left.rides right.rides near;
 }
 
 -- ---- the whole stream
@@ -321,7 +361,7 @@ session_itself E level phase known (partial rest) =
     calm_memory E phase (waiting phase (length rest)) (waiting phase (length rest)) (waits E phase (length rest))
 session_itself E level phase known (faulty fault) =
     calm_memory E phase (ending (owed_by phase) (ends.Protocol fault)) (ending (owed_by phase) (ends.Protocol fault))
-    (ending_agrees E (owed_by phase) (ends.Protocol fault) (ends.Protocol fault))
+    (ending_agrees E (owed_by phase) (ends.Protocol fault) (ends.Protocol fault) (inl refl))
 session_itself E level phase known unread = calm_memory E phase lost lost (lost_agrees E)
 
 -- bytes that nobody has looked at take no session to its end
@@ -336,15 +376,6 @@ unheard level phase known said es out end goes =
 abbrev pub IsSpared : List ℕ → End → Type 0
 IsSpared [] end = ⊥
 IsSpared (x ∷ xs) end = WantsMore end
-
-wants_either : (b : Bool) → WantsMore (cond b ends.Closed ends.Cut)
-wants_either true = tt
-wants_either false = tt
-
-stop_wants : (cause : Stop) (held : ℕ) → WantsMore (stop_end cause held)
-stop_wants stops.EndOfInput held = wants_either (held == 0)
-stop_wants stops.ReadFault held = tt
-stop_wants stops.Spent held = tt
 
 -- a session that waits ends since it wants more
 waits_want : (phase : Phase) (held : ℕ) (said : Said) (es : List Entry) (out : Said) (end : End) → Goes (waiting phase held) said es out end →
@@ -436,5 +467,6 @@ sessions_agree extra level phase known started bytes (faulty fault) (asks y othe
 sessions_agree extra level phase known started bytes (faulty fault) (partial rest) a b =
     absurd (b.1.no_fault fault (fault_stays started bytes extra fault a))
 sessions_agree extra level phase known started bytes (faulty fault) (faulty other) a b =
+    let same : fault ≡ other = fault_unique started (bytes ++ extra) fault other (fault_stays started bytes extra fault a) b in
     calm_memory (IsSpared extra) phase (ending (owed_by phase) (ends.Protocol fault)) (ending (owed_by phase) (ends.Protocol other))
-    (ending_agrees (IsSpared extra) (owed_by phase) (ends.Protocol fault) (ends.Protocol other))
+    (ending_agrees (IsSpared extra) (owed_by phase) (ends.Protocol fault) (ends.Protocol other) (inl (ap (λ (f : FrameFault). ends.Protocol f) same)))

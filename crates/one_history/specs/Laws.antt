@@ -1,5 +1,5 @@
 -- Bytes and words have one history: what two sessions share that took the same bytes and were given the same choice words.
-use Rattle.std.specs.Prelude.{◌≡◌, ◌≢◌, ◌⊎◌, ℕ, List, [], ◌++◌, Some, false}
+use Rattle.std.specs.Prelude.{◌≡◌, ◌≢◌, ◌⊎◌, ℕ, ◌<◌, List, [], ◌++◌, Some, false}
 use Rattle.cell_base.specs.declared.level.Level.{Level}
 use Rattle.cell_base.specs.declared.sql_state.SqlState.TheVariants as states
 use Rattle.history_core.specs.Chronicle.{Chronicle, IsLegalChronicle}
@@ -14,7 +14,7 @@ use Rattle.session_core.specs.Told.{told}
 use Rattle.session_core.specs.Record.{Lawful, events_of}
 use Rattle.choice_stream.specs.Choices.{DrawsFirst}
 use Rattle.link_traits.specs.Traffic.{Traffic, Sight}
-use Rattle.monkey_server.specs.Program.{ServesAlone}
+use Rattle.monkey_server.specs.Program.{ServesAlone, Hosted, Piped}
 
 -- what a session is told last, by the way it ends
 abbrev pub farewell : End → List ℕ
@@ -63,26 +63,59 @@ WantsMore ends.ReadFault = Unit {0}
 WantsMore ends.Spent = Unit {0}
 WantsMore _ = ⊥
 
+-- a failed read or the limit of bytes made this end; the bytes that were taken don't say so
+abbrev pub ReadsPart : End → Type 0
+ReadsPart end = (end ≡ ends.ReadFault) ⊎ (end ≡ ends.Spent)
+
+-- Two sessions ended for want of bytes, and not alike: a failed read or the limit of bytes ended one of them.
+pub record EndsApart (one other : End) : Type 0 where
+  pub apart : one ≢ other
+  pub first : WantsMore one
+  pub second : WantsMore other
+  pub cause : ReadsPart one ⊎ ReadsPart other
+
+-- Two sessions ended alike and were told the same bytes; or they ended apart, as above, and were told the same bytes but for what the two
+-- ends tell.
+abbrev pub EndsAlike : List ℕ → End → List ℕ → End → Type 0
+EndsAlike sent one told other = ((one ≡ other) × (sent ≡ told)) ⊎ (EndsApart one other × SameBytes sent one told other)
+
 -- Two sessions that took the same bytes and were given the same words have the same history: the same events in the same order, with
--- source, count, word and value of each read, and the same tables. They leave the same words, and were told the same bytes, but for what
--- the ways tell in which they ended. So do two of which one took more bytes, where the other didn't end for want of them.
+-- source, count, word and value of each read, and the same tables. They leave the same words. They end alike and were told the same bytes,
+-- but where both ended for want of bytes and a failed read or the limit of bytes ended one of them: there the ends may differ, and what
+-- was told differs by what the two ends tell alone. The same holds where the second took more bytes and the first didn't end for want of
+-- them; such two always end alike.
 abbrev pub OneHistory : Type 0
 OneHistory =
     (level : Level) (taken more words : List ℕ) (first second : Chronicle) (left right sent told : List ℕ) (one other : End) →
     Served level taken words first left sent one → Served level (taken ++ more) words second right told other →
     (more ≡ []) ⊎ (¬ (WantsMore one)) →
-    (first ≡ second) × (left ≡ right) × SameBytes sent one told other
+    (first ≡ second) × (left ≡ right) × EndsAlike sent one told other
 
--- no read of the link failed, and no more bytes were wanted than may be read
-abbrev pub ReadsAll : End → Type 0
-ReadsAll end = (end ≢ ends.ReadFault) × (end ≢ ends.Spent)
-
--- Two runs of `pipe rc WORDS` over links that hold the same input, however they cut it into pieces. Where in neither memory was wanting,
--- a read or a write failed, or more bytes were wanted than may be read, the two have the same history.
+-- Two runs of `pipe rc WORDS` over links that tell their bytes and hold the same input, however they cut it into pieces. Where in neither
+-- memory was wanting, or a read or a write failed, the two have the same history, leave the same words, end alike, and were told the same
+-- bytes.
 abbrev pub PipeHasOneHistory : Type 0
 PipeHasOneHistory =
     (words : List ℕ) (f g h k : Sight) (t u : Traffic) (one other : End) →
     (a : ServesAlone words f g one false) (b : ServesAlone words h k other false) →
     f.traffic ≡ Some t → h.traffic ≡ Some u → t.left ≡ u.left →
-    one ≢ ends.WriteFault → other ≢ ends.WriteFault → ReadsAll one → ReadsAll other →
-    (a.past.seen ≡ b.past.seen) × (a.rest ≡ b.rest) × SameBytes a.sent one b.sent other
+    one ≢ ends.WriteFault → other ≢ ends.WriteFault → one ≢ ends.ReadFault → other ≢ ends.ReadFault →
+    (a.past.seen ≡ b.past.seen) × (a.rest ≡ b.rest) × (one ≡ other) × (a.sent ≡ b.sent)
+
+-- both links tell their traffic, and the same bytes were written on them
+pub record WroteAlike (f g : Sight) : Type 0 where
+  pub one : Traffic
+  pub other : Traffic
+  pub one_is : f.traffic ≡ Some one
+  pub other_is : g.traffic ≡ Some other
+  pub same : one.written ≡ other.written
+
+-- Two runs of `pipe rc WORDS` in any two hosts, whose links tell that the same bytes are left to be read and the same were written. Where
+-- the codes of both are 0 or 1, the codes are equal, the two have the same history, and the same bytes were written on the links that came
+-- back.
+abbrev pub PipedRunsAreAlike : Type 0
+PipedRunsAreAlike =
+    (words : List ℕ) (before after then later : Hosted) (code status : ℕ) (t u : Traffic) →
+    (a : Piped words before code after) (b : Piped words then status later) →
+    a.given.traffic ≡ Some t → b.given.traffic ≡ Some u → t.left ≡ u.left → t.written ≡ u.written → code < 2 → status < 2 →
+    (code ≡ status) × (a.serves.past.seen ≡ b.serves.past.seen) × WroteAlike a.returned b.returned

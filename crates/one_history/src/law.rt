@@ -1,14 +1,24 @@
 // What bytes and words determine.
-ghost use Rattle.one_history.specs.Laws.{OneHistory, PipeHasOneHistory};
+ghost use Rattle.one_history.specs.Laws.{OneHistory, PipeHasOneHistory, PipedRunsAreAlike};
 
-/// Two sessions that took the same bytes and were given the same choice words, in neither of which memory was wanting or a write
-/// failed, have the same history, leave the same words, and were told the same bytes, but for what the ways tell in which they
-/// ended. So do two of which one took more bytes, where the other didn't end for want of them.
+/// Two sessions at one level that took the same bytes and were given the same list of choice words, each alone with its book from
+/// no event on, in neither of which memory was wanting or a write failed, have the same history and leave the same words. They end
+/// alike and were told the same bytes, but where both ended for want of bytes and a failed read or the limit of bytes ended one of
+/// them: there the ends may differ, and what was told differs by what the two ends tell alone. The same holds where the second took
+/// more bytes and the first didn't end for want of them; such two always end alike.
 pub fn bytes_have_one_history()
     ensures { OneHistory }
 {}
 
-/// The same of two runs of the program over one input, however the links cut it into pieces.
+/// Two runs of the program over links that tell their bytes and hold the same input, however they cut it into pieces, in neither of
+/// which memory was wanting or a read or a write failed, have the same history, leave the same words, end alike and were told the
+/// same bytes.
 pub fn pipe_has_one_history()
     ensures { PipeHasOneHistory }
+{}
+
+/// Two runs of the program over links that tell that the same bytes are left to be read and the same were written: where the
+/// status of each is 0 or 1, the two have the same status and the same history, and wrote the same bytes.
+pub fn piped_runs_are_alike()
+    ensures { PipedRunsAreAlike }
 {}

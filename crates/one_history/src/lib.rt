@@ -1,6 +1,6 @@
-//! What two sessions share that took the same bytes and were given the same choice words: their history, and what they were told.
+//! What two sessions share that took the same bytes and were given the same choice words: their history, their end, and what they were told.
 #![tactic(auto)]
 
 mod law;
 
-pub use law::{bytes_have_one_history, pipe_has_one_history};
+pub use law::{bytes_have_one_history, pipe_has_one_history, piped_runs_are_alike};

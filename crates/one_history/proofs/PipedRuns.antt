@@ -1,0 +1,90 @@
+-- Two runs of the program whose codes are 0 or 1 have one code, one history, and wrote the same bytes.
+use Rattle.std.proofs.Common.{◌≡◌, ◌≢◌, true, false, Bool, ℕ, ◌<◌, List, [], ◌++◌, Some, arith, refl, sym, ◌∙◌, ap, subst}
+use Rattle.std.proofs.lemmas.List.{append-nil}
+use Rattle.cell_base.specs.declared.level.Level.TheVariants.{Rc}
+use Rattle.link_traits.specs.Traffic.{Traffic, Sight}
+use Rattle.block_machine.specs.declared.end.End.{End}
+use Rattle.block_machine.specs.declared.end.End.TheVariants as ends
+use Rattle.session_core.specs.Stands.{LacksBy}
+use Rattle.monkey_server.specs.Program.{ServesAlone, status_of}
+use Rattle.one_history.specs.Laws.{WroteAlike, PipedRunsAreAlike}
+use Rattle.one_history.proofs.Piped.{carried, piped}
+
+-- ---- what a code below 2 says of the end
+
+no_short : (end : End) → status_of end true < 2 → ⊥
+no_short end small = let h : 5 < 2 = small in omega (arith, h)
+
+no_failed_write : (end : End) → status_of end false < 2 → end ≢ ends.WriteFault
+no_failed_write end small is = let h : 4 < 2 = subst (λ (e : End). status_of e false < 2) is small in omega (arith, h)
+
+no_failed_read : (end : End) → status_of end false < 2 → end ≢ ends.ReadFault
+no_failed_read end small is = let h : 3 < 2 = subst (λ (e : End). status_of e false < 2) is small in omega (arith, h)
+
+-- ---- what was written
+
+none_lost : (end : End) (lost : List ℕ) → end ≢ ends.WriteFault → LacksBy end lost → lost ≡ []
+none_lost ends.WriteFault lost never lacks = absurd (never refl)
+none_lost _ lost never lacks = lacks
+
+-- where no write failed, all that was told was written behind what stood there
+record Wrote (f g : Sight) (t : Traffic) (sent : List ℕ) : Type 0 where
+  pub to : Traffic
+  pub is : g.traffic ≡ Some to
+  pub written : to.written ≡ t.written ++ sent
+
+wrote : (words : List ℕ) (f g : Sight) (end : End) (a : ServesAlone words f g end false) (t : Traffic) → f.traffic ≡ Some t →
+    end ≢ ends.WriteFault → Wrote f g t a.sent
+wrote words f g end a t at never =
+    let on = carried Rc a.taken a.es a.sent a.lost f.traffic g.traffic t a.serves.carries at in
+    record {
+      to = on.0;
+      is = on.1;
+      written =
+          sym (append-nil on.0.written) ∙ ap (λ (zs : List ℕ). on.0.written ++ zs) (sym (none_lost end a.lost never a.serves.lacks))
+          ∙ on.2.written_is;
+    }
+
+-- ---- two runs
+
+abbrev pub RunsAlike : (words : List ℕ) (f g h k : Sight) (one other : End) (wants lacks : Bool) → ServesAlone words f g one wants →
+    ServesAlone words h k other lacks → Type 0
+RunsAlike words f g h k one other wants lacks a b =
+    (status_of one wants ≡ status_of other lacks) × (a.past.seen ≡ b.past.seen) × WroteAlike g k
+
+calm_runs : (words : List ℕ) (f g h k : Sight) (one other : End) (a : ServesAlone words f g one false) (b : ServesAlone words h k other false)
+    (t u : Traffic) → f.traffic ≡ Some t → h.traffic ≡ Some u → t.left ≡ u.left → t.written ≡ u.written → status_of one false < 2 →
+    status_of other false < 2 → RunsAlike words f g h k one other false false a b
+calm_runs words f g h k one other a b t u at also input output small smaller =
+    let sent : one ≢ ends.WriteFault = no_failed_write one small in
+    let sent_too : other ≢ ends.WriteFault = no_failed_write other smaller in
+    let is = piped words f g h k t u one other a b at also input sent sent_too (no_failed_read one small) (no_failed_read other smaller) in
+    let left : Wrote f g t a.sent = wrote words f g one a t at sent in
+    let right : Wrote h k u b.sent = wrote words h k other b u also sent_too in (
+      ap (λ (e : End). status_of e false) is.2,
+      is.0,
+      record {
+        one = left.to;
+        other = right.to;
+        one_is = left.is;
+        other_is = right.is;
+        same =
+            left.written ∙ ap (λ (bytes : List ℕ). bytes ++ a.sent) output ∙ ap (λ (bytes : List ℕ). u.written ++ bytes) is.3
+            ∙ sym right.written;
+      },
+    )
+
+runs : (words : List ℕ) (f g h k : Sight) (one other : End) (wants lacks : Bool) (a : ServesAlone words f g one wants)
+    (b : ServesAlone words h k other lacks) (t u : Traffic) → f.traffic ≡ Some t → h.traffic ≡ Some u → t.left ≡ u.left →
+    t.written ≡ u.written → status_of one wants < 2 → status_of other lacks < 2 → RunsAlike words f g h k one other wants lacks a b
+runs words f g h k one other true lacks a b t u at also input output small smaller = absurd (no_short one small)
+runs words f g h k one other false true a b t u at also input output small smaller = absurd (no_short other smaller)
+runs words f g h k one other false false a b t u at also input output small smaller =
+    calm_runs words f g h k one other a b t u at also input output small smaller
+
+pub piped_runs : PipedRunsAreAlike
+piped_runs words before after then later code status t u a b at also input output small smaller =
+    let is =
+    runs words a.given a.returned b.given b.returned a.end b.end a.wanting b.wanting a.serves b.serves t u at also input output
+    (subst (λ (n : ℕ). n < 2) a.code_is small) (subst (λ (n : ℕ). n < 2) b.code_is smaller) in
+    (a.code_is ∙ is.0 ∙ sym b.code_is, is.1, is.2)
