@@ -34,10 +34,10 @@ no_word digits i n lt e great m is =
     omega (arith, p, is.value, is.bounded, value_more digits i n lt e, front_small digits (i + 1))
 
 -- a word holds no comma
-word_has_no_comma : (digits : List ℕ) (n : ℕ) → IsWord digits n → ¬ (Contains digits 44)
+pub word_has_no_comma : (digits : List ℕ) (n : ℕ) → IsWord digits n → ¬ (Contains digits 44)
 word_has_no_comma digits n is h = All-contains (λ c. c ≢ 44) digits 44 (All-weaker IsDigit (λ c. c ≢ 44) (λ c d e. omega arith) digits is.each) h refl
 
-holds_comma : (text front after : List ℕ) → text ≡ front ++ (44 ∷ after) → Contains text 44
+pub holds_comma : (text front after : List ℕ) → text ≡ front ++ (44 ∷ after) → Contains text 44
 holds_comma text front after e =
     let P : List ℕ → Type 0 = λ t. Contains t 44 in
     subst P (sym e) (Contains-append_right front (44 ∷ after) 44 (0, omega arith, refl))

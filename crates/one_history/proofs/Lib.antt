@@ -17,3 +17,5 @@ pub mod Talks
 pub mod OneHistory
 pub mod Piped
 pub mod PipedRuns
+pub mod Commands
+pub mod ProgramRuns

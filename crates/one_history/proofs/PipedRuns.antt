@@ -6,8 +6,7 @@ use Rattle.link_traits.specs.Traffic.{Traffic, Sight}
 use Rattle.block_machine.specs.declared.end.End.{End}
 use Rattle.block_machine.specs.declared.end.End.TheVariants as ends
 use Rattle.session_core.specs.Stands.{LacksBy}
-use Rattle.monkey_server.specs.Program.{ServesAlone, status_of}
-use Rattle.one_history.specs.Laws.{WroteAlike, PipedRunsAreAlike}
+use Rattle.monkey_server.specs.Program.{ServesAlone, Hosted, Piped, status_of}
 use Rattle.one_history.proofs.Piped.{carried, piped}
 
 -- ---- what a code below 2 says of the end
@@ -47,6 +46,14 @@ wrote words f g end a t at never =
 
 -- ---- two runs
 
+-- both links tell their traffic, and the same bytes were written on them
+pub record WroteAlike (f g : Sight) : Type 0 where
+  pub one : Traffic
+  pub other : Traffic
+  pub one_is : f.traffic ≡ Some one
+  pub other_is : g.traffic ≡ Some other
+  pub same : one.written ≡ other.written
+
 abbrev pub RunsAlike : (words : List ℕ) (f g h k : Sight) (one other : End) (wants lacks : Bool) → ServesAlone words f g one wants →
     ServesAlone words h k other lacks → Type 0
 RunsAlike words f g h k one other wants lacks a b =
@@ -82,7 +89,9 @@ runs words f g h k one other false true a b t u at also input output small small
 runs words f g h k one other false false a b t u at also input output small smaller =
     calm_runs words f g h k one other a b t u at also input output small smaller
 
-pub piped_runs : PipedRunsAreAlike
+pub piped_runs : (words : List ℕ) (before after then later : Hosted) (code status : ℕ) (t u : Traffic) (a : Piped words before code after)
+    (b : Piped words then status later) → a.given.traffic ≡ Some t → b.given.traffic ≡ Some u → t.left ≡ u.left → t.written ≡ u.written →
+    code < 2 → status < 2 → (code ≡ status) × (a.serves.past.seen ≡ b.serves.past.seen) × WroteAlike a.returned b.returned
 piped_runs words before after then later code status t u a b at also input output small smaller =
     let is =
     runs words a.given a.returned b.given b.returned a.end b.end a.wanting b.wanting a.serves b.serves t u at also input output

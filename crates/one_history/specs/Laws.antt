@@ -1,5 +1,5 @@
 -- Bytes and words have one history: what two sessions share that took the same bytes and were given the same choice words.
-use Rattle.std.specs.Prelude.{◌≡◌, ◌≢◌, ◌⊎◌, ℕ, ◌<◌, List, [], ◌++◌, Some, false}
+use Rattle.std.specs.Prelude.{◌≡◌, ◌≢◌, ◌⊎◌, ℕ, ◌<◌, List, [], ◌∷◌, ◌++◌, Some, false}
 use Rattle.cell_base.specs.declared.level.Level.{Level}
 use Rattle.cell_base.specs.declared.sql_state.SqlState.TheVariants as states
 use Rattle.history_core.specs.Chronicle.{Chronicle, IsLegalChronicle}
@@ -14,7 +14,7 @@ use Rattle.session_core.specs.Told.{told}
 use Rattle.session_core.specs.Record.{Lawful, events_of}
 use Rattle.choice_stream.specs.Choices.{DrawsFirst}
 use Rattle.link_traits.specs.Traffic.{Traffic, Sight}
-use Rattle.monkey_server.specs.Program.{ServesAlone, Hosted, Piped}
+use Rattle.monkey_server.specs.Program.{ServesAlone, Hosted, Does}
 
 -- what a session is told last, by the way it ends
 abbrev pub farewell : End → List ℕ
@@ -102,20 +102,28 @@ PipeHasOneHistory =
     one ≢ ends.WriteFault → other ≢ ends.WriteFault → one ≢ ends.ReadFault → other ≢ ends.ReadFault →
     (a.past.seen ≡ b.past.seen) × (a.rest ≡ b.rest) × (one ≡ other) × (a.sent ≡ b.sent)
 
--- both links tell their traffic, and the same bytes were written on them
-pub record WroteAlike (f g : Sight) : Type 0 where
-  pub one : Traffic
-  pub other : Traffic
-  pub one_is : f.traffic ≡ Some one
-  pub other_is : g.traffic ≡ Some other
-  pub same : one.written ≡ other.written
+-- The link that a host hands out next is told beforehand, and tells these bytes: those left to be read, and those written.
+pub record Offers (host : Hosted) (input output : List ℕ) : Type 0 where
+  pub next : Sight
+  pub traffic : Traffic
+  pub next_is : host.next_link ≡ Some next
+  pub traffic_is : next.traffic ≡ Some traffic
+  pub left_is : traffic.left ≡ input
+  pub written_is : traffic.written ≡ output
 
--- Two runs of `pipe rc WORDS` in any two hosts, whose links tell that the same bytes are left to be read and the same were written. Where
--- the codes of both are 0 or 1, the codes are equal, the two have the same history, and the same bytes were written on the links that came
--- back.
-abbrev pub PipedRunsAreAlike : Type 0
-PipedRunsAreAlike =
-    (words : List ℕ) (before after then later : Hosted) (code status : ℕ) (t u : Traffic) →
-    (a : Piped words before code after) (b : Piped words then status later) →
-    a.given.traffic ≡ Some t → b.given.traffic ≡ Some u → t.left ≡ u.left → t.written ≡ u.written → code < 2 → status < 2 →
-    (code ≡ status) × (a.serves.past.seen ≡ b.serves.past.seen) × WroteAlike a.returned b.returned
+-- one link came back, and these bytes were written on it
+pub record CameBack (before after : Hosted) (written : List ℕ) : Type 0 where
+  pub link : Sight
+  pub traffic : Traffic
+  pub back : after.back ≡ before.back ++ link ∷ []
+  pub traffic_is : link.traffic ≡ Some traffic
+  pub written_is : traffic.written ≡ written
+
+-- Two runs of the program with the same words of the command line, in any two hosts that tell beforehand links with the same input. Where
+-- the status of each is 0 or 1, the two have the same status, and the same bytes stand on the links that came back.
+abbrev pub ProgramRunsAreAlike : Type 0
+ProgramRunsAreAlike =
+    (args : List (List ℕ)) (before after then later : Hosted) (code status : ℕ) (input output : List ℕ) →
+    Does args before code after → Does args then status later → Offers before input output → Offers then input output →
+    code < 2 → status < 2 →
+    (code ≡ status) × ((written : List ℕ) × CameBack before after written × CameBack then later written)

@@ -1,5 +1,5 @@
 // What bytes and words determine.
-ghost use Rattle.one_history.specs.Laws.{OneHistory, PipeHasOneHistory, PipedRunsAreAlike};
+ghost use Rattle.one_history.specs.Laws.{OneHistory, PipeHasOneHistory, ProgramRunsAreAlike};
 
 /// Two sessions at one level that took the same bytes and were given the same list of choice words, each alone with its book from
 /// no event on, in neither of which memory was wanting or a write failed, have the same history and leave the same words. They end
@@ -17,8 +17,8 @@ pub fn pipe_has_one_history()
     ensures { PipeHasOneHistory }
 {}
 
-/// Two runs of the program over links that tell that the same bytes are left to be read and the same were written: where the
-/// status of each is 0 or 1, the two have the same status and the same history, and wrote the same bytes.
-pub fn piped_runs_are_alike()
-    ensures { PipedRunsAreAlike }
+/// Two runs of the program with the same words of the command line, in any two hosts that tell beforehand links with the same
+/// input: where the status of each is 0 or 1, the two have the same status, and wrote the same bytes.
+pub fn program_runs_are_alike()
+    ensures { ProgramRunsAreAlike }
 {}

@@ -3,4 +3,4 @@
 
 mod law;
 
-pub use law::{bytes_have_one_history, pipe_has_one_history, piped_runs_are_alike};
+pub use law::{bytes_have_one_history, pipe_has_one_history, program_runs_are_alike};

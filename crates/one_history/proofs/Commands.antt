@@ -1,0 +1,26 @@
+-- The words of a command line say one command.
+use Rattle.std.proofs.Common.{◌≡◌, ℕ, List, [], ◌∷◌, ◌++◌, refl, sym, ◌∙◌, ap, subst}
+use Rattle.std.specs.Prelude.{codes}
+use Rattle.monkey_server.specs.Command.{number_of, IsWord, Lists, IsPipe}
+use Rattle.monkey_server.proofs.Commas.{no_comma_from, cut_same}
+use Rattle.monkey_server.proofs.Words.{word_has_no_comma, holds_comma}
+
+-- a text lists one list of numbers
+lists_same : (text words others : List ℕ) → Lists text words → Lists text others → words ≡ others
+lists_same text [] others h k = absurd h
+lists_same text (n ∷ []) [] h k = absurd k
+lists_same text (n ∷ []) (m ∷ []) h k = let same : n ≡ m = h.value ∙ sym k.value in ap (λ (x : ℕ). x ∷ []) same
+lists_same text (n ∷ []) (m ∷ (p ∷ ps)) h (front, rest, e, is, lists) = absurd (word_has_no_comma text n h (holds_comma text front rest e))
+lists_same text (n ∷ (q ∷ qs)) [] h k = absurd k
+lists_same text (n ∷ (q ∷ qs)) (m ∷ []) (front, rest, e, is, lists) k = absurd (word_has_no_comma text m k (holds_comma text front rest e))
+lists_same text (n ∷ (q ∷ qs)) (m ∷ (p ∷ ps)) (a, b, e, is, lists) (c, d, f, it, more) =
+    let r = cut_same a b c d (no_comma_from a (word_has_no_comma a n is)) (no_comma_from c (word_has_no_comma c m it)) (sym e ∙ f) in
+    let head : n ≡ m = is.value ∙ ap number_of r.0 ∙ sym it.value in
+    let tail : q ∷ qs ≡ p ∷ ps = lists_same b (q ∷ qs) (p ∷ ps) lists (subst (λ (t : List ℕ). Lists t (p ∷ ps)) (sym r.1) more) in
+    ap (λ (x : ℕ). x ∷ (q ∷ qs)) head ∙ ap (λ (xs : List ℕ). m ∷ xs) tail
+
+pub pipe_same : (args : List (List ℕ)) (words others : List ℕ) → IsPipe args words → IsPipe args others → words ≡ others
+pipe_same args words others (list, e, lists) (text, f, more) =
+    let both : codes "pipe" ∷ codes "rc" ∷ list ∷ [] ≡ codes "pipe" ∷ codes "rc" ∷ text ∷ [] = sym e ∙ f in
+    let same : list ≡ text = cc in
+    lists_same list words others lists (subst (λ (t : List ℕ). Lists t others) (sym same) more)
