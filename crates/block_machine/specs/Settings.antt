@@ -1,6 +1,6 @@
 -- The settings that SET and SHOW name (PostgreSQL's documentation, "SET", "SHOW"). Those whose names begin `monkey.` are this server's
 -- own.
-use Rattle.std.specs.Prelude.{ℕ, ◌≤◌, length, ◌==◌, List, codes, if◌then◌else◌, Bool, Option, Some, None}
+use Rattle.std.specs.Prelude.{ℕ, ◌≤◌, length, ◌==◌, List, [], ◌∷◌, codes, if◌then◌else◌, Bool, Option, Some, None}
 use Rattle.std.specs.List.{starts_with}
 use Rattle.std.specs.Str.{bytes_eq}
 use Rattle.pg_framing.specs.Spelling.{HasNoZero}
@@ -21,21 +21,27 @@ level_word Rc = codes "rc"
 level_word Ra = codes "ra"
 level_word Cc = codes "cc"
 
--- the settings that are on; none where the name is another
-abbrev pub switch_value : List ℕ → Option (List ℕ)
-switch_value name =
-    if bytes_eq name (codes "integer_datetimes") then Some (codes "on")
-    else (if bytes_eq name (codes "standard_conforming_strings") then Some (codes "on") else None)
+-- The settings that a session is told at its start, by ParameterStatus, each with its name and its value: the same for each session.
+abbrev pub parameters : List (List ℕ × List ℕ)
+parameters =
+    (codes "server_version", codes "14.0")
+    ∷ (codes "server_encoding", codes "UTF8")
+    ∷ (codes "client_encoding", codes "UTF8")
+    ∷ (codes "DateStyle", codes "ISO, MDY")
+    ∷ (codes "integer_datetimes", codes "on")
+    ∷ (codes "standard_conforming_strings", codes "on")
+    ∷ []
 
--- The settings that a session is told at its start, by ParameterStatus, are the same for each session. SHOW takes DateStyle in small
--- letters too, which is how its name is read where it stands without quotes.
+-- the value of the first of these with this name; none where the name is another
+abbrev pub value_among : List (List ℕ × List ℕ) → List ℕ → Option (List ℕ)
+value_among [] name = None
+value_among (p ∷ more) name = if bytes_eq name p.0 then Some p.1 else value_among more name
+
+-- The value of a setting of the start. SHOW takes DateStyle in small letters too, which is how its name is read where it stands without
+-- quotes.
 abbrev pub parameter_value : List ℕ → Option (List ℕ)
 parameter_value name =
-    if bytes_eq name (codes "server_version") then Some (codes "14.0")
-    else (if bytes_eq name (codes "server_encoding") then Some (codes "UTF8")
-    else (if bytes_eq name (codes "client_encoding") then Some (codes "UTF8")
-    else (if bytes_eq name (codes "DateStyle") then Some (codes "ISO, MDY")
-    else (if bytes_eq name (codes "datestyle") then Some (codes "ISO, MDY") else switch_value name))))
+    if bytes_eq name (codes "datestyle") then value_among parameters (codes "DateStyle") else value_among parameters name
 
 -- the value of a setting but for the history's; none where there is no such setting
 abbrev pub value_of : Level → List ℕ → Option (List ℕ)

@@ -304,10 +304,7 @@ pub fn take(
 {
     match block {
         Block::Failed => calm(refuse(&statement)),
-        Block::Implicit(pending) => {
-            perform(alloc, level, statement, Block::Implicit(pending), built)
-        }
-        Block::Regular => perform(alloc, level, statement, Block::Regular, built),
+        Block::Implicit(_) | Block::Regular => perform(alloc, level, statement, block, built),
     }
 }
 

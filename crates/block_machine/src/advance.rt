@@ -11,9 +11,9 @@ use crate::block::{Block, Pending};
 use crate::blocks::started;
 use crate::call::{Answer, Call};
 use crate::courses::refusal;
-use crate::reply::{Fixed, Reply};
+use crate::reply::Fixed;
 use crate::stage::{ErrorState, Stage};
-use crate::step::fail;
+use crate::step::{fail, tell};
 use crate::want::Want;
 use cell_base::SqlState;
 use history_core::DefineAnswer;
@@ -28,13 +28,6 @@ fn failed(pending: Pending) -> ErrorState
         Pending::Implicit => ErrorState::Idle,
         Pending::Regular => ErrorState::Failed,
     }
-}
-
-// The stage in which a statement that succeeded is told this reply.
-fn tell(reply: Fixed, block: Block) -> Stage
-    ensures { result ≡ Stage.Telling (Reply.Fixed reply) block }
-{
-    Stage::Telling(Reply::Fixed(reply), block)
 }
 
 /// The stage behind the answer to a stage's call, where no memory is needed for it.

@@ -14,14 +14,18 @@ pub enum Block {
 /// A block whose transaction is pending.
 #[derive(Clone, Copy, Debug, PartialEq, Eq)]
 pub enum Pending {
+    /// That of the message's own block.
     Implicit,
+    /// That of a regular block.
     Regular,
 }
 
 /// What a session owes its book before it ends.
 #[derive(Clone, Copy, Debug, PartialEq, Eq)]
 pub enum Owed {
+    /// Nothing: no session is open.
     Nothing,
+    /// A close.
     Close,
     /// A rollback, and then a close.
     Rollback,

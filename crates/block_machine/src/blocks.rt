@@ -10,10 +10,10 @@ ghost use Rattle.block_machine.specs.Messages as spec;
 ghost use Rattle.block_machine.specs.Stages.{IsScriptOf, IsQuiet, IsBusy, NoBuilt, owed_at, work_at, goes_on};
 ghost use Rattle.block_machine.specs.Stages as stages_spec;
 
-use crate::block::{Block, Pending};
-use crate::reply::{Fixed, Reply};
+use crate::block::{Block, Owed, Pending};
+use crate::reply::Fixed;
 use crate::stage::Stage;
-use crate::step::fail;
+use crate::step::{fail, tell};
 use cell_base::SqlState;
 use pg_framing::TransactionState;
 use sql_tree::Statement;
@@ -27,6 +27,16 @@ pub fn block_at(state: TransactionState) -> Block
         TransactionState::Idle => Block::Implicit(false),
         TransactionState::Block => Block::Regular,
         TransactionState::Failed => Block::Failed,
+    }
+}
+
+/// What a session owes its book between two messages.
+pub fn owed_between(state: TransactionState) -> Owed
+    ensures { result ≡ owed_between state }
+{
+    match state {
+        TransactionState::Block => Owed::Rollback,
+        TransactionState::Idle | TransactionState::Failed => Owed::Close,
     }
 }
 
@@ -56,13 +66,6 @@ fn started_again(start: bool) -> Fixed
     } else {
         Fixed::BegunAgain
     }
-}
-
-// The stage in which a statement that succeeded is told this reply.
-fn tell(reply: Fixed, block: Block) -> Stage
-    ensures { result ≡ Stage.Telling (Reply.Fixed reply) block }
-{
-    Stage::Telling(Reply::Fixed(reply), block)
 }
 
 /// The stage of BEGIN, or of START TRANSACTION where the flag is true.

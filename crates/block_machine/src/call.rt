@@ -6,12 +6,17 @@ use sql_tree::Table;
 /// A call of a book, but for the definition of a table and the demands of a statement, which the session keeps.
 #[derive(Debug, Drop)]
 pub enum Call {
+    /// An opening of a session.
     Open,
+    /// A close of the session.
     Close,
-    /// The number of tables that the session knows.
+    /// A look at the tables, with the number of those that the session knows.
     Look(u32),
+    /// The begin of a transaction.
     Begin,
+    /// The commit of the pending transaction.
     Commit,
+    /// The rollback of the pending transaction.
     Rollback,
     /// The number that `SHOW monkey.history` tells.
     Show,
@@ -22,9 +27,11 @@ pub enum Call {
 pub enum Answer {
     /// The session's number.
     Opened(u32),
+    /// The session was closed.
     Closed,
     /// The tables that the session didn't know.
     Looked(Items<Table>),
+    /// What became of a table's definition.
     Defined(DefineAnswer),
     /// The transaction's number.
     Begun(u32),
@@ -32,10 +39,14 @@ pub enum Answer {
     Listed(Items<Key>),
     /// The cell's value.
     Found(Value),
+    /// The cell was written.
     Written,
+    /// The transaction was committed.
     Committed,
+    /// The transaction was rolled back.
     RolledBack,
     /// The number of events that the history then has.
     Shown(u32),
+    /// The call was refused, and why.
     Refused(BookFault),
 }

@@ -30,7 +30,10 @@ pub enum End {
 /// Why no more bytes come.
 #[derive(Clone, Copy, Debug, PartialEq, Eq)]
 pub enum Stop {
+    /// The input ended.
     EndOfInput,
+    /// A read of the link failed.
     ReadFault,
+    /// The limit of bytes was reached.
     Spent,
 }

@@ -2,10 +2,10 @@
 // reply that tells it.
 ghost use Rattle.std.specs.Prelude.{◌≡◌, codes, true, false};
 ghost use Rattle.block_machine.specs.Replies.{ready_reply, error_reply, empty_reply, created_reply, set_reply, start_reply, needless_start_reply, commit_reply, needless_commit_reply, rollback_reply, needless_rollback_reply, fixed_reply, bytes_of};
-ghost use Rattle.pg_framing.specs.declared.replies.TransactionState.TheVariants as ready_states;
 
 use crate::errors::Errors;
-use crate::replies::{done, empty, ready, warned};
+use crate::ready::ReadyReplies;
+use crate::replies::{done, empty, warned};
 use crate::reply::{Fixed, Reply};
 use cell_base::{Memory, SqlState};
 use pg_framing::TransactionState;
@@ -14,22 +14,11 @@ use std::alloc::Global;
 /// The replies whose bytes are known beforehand.
 #[derive(Debug, Drop)]
 pub struct Prepared {
-    states: States,
+    states: ReadyReplies,
     plain: Plain,
     starts: Starts,
     stops: Stops,
     errors: Errors,
-}
-
-// ReadyForQuery, by the state of the session.
-#[derive(Debug, Drop)]
-struct States {
-    idle: Vec<u8>,
-    block: Vec<u8>,
-    failed: Vec<u8>,
-    ghost idle_is: { idle.items ≡ ready_reply ready_states.Idle },
-    ghost block_is: { block.items ≡ ready_reply ready_states.Block },
-    ghost failed_is: { failed.items ≡ ready_reply ready_states.Failed },
 }
 
 // EmptyQueryResponse, and the CommandComplete of CREATE TABLE and of SET.
@@ -69,16 +58,6 @@ struct Stops {
     ghost rolled_back_nothing_is: { rolled_back_nothing.items ≡ needless_rollback_reply },
 }
 
-impl States {
-    fn new(alloc: Global) -> Result<States, Memory> {
-        Ok(States {
-            idle: ready(alloc, TransactionState::Idle)?,
-            block: ready(alloc, TransactionState::Block)?,
-            failed: ready(alloc, TransactionState::Failed)?,
-        })
-    }
-}
-
 impl Plain {
     fn new(alloc: Global) -> Result<Plain, Memory> {
         Ok(Plain {
@@ -115,7 +94,7 @@ impl Prepared {
     /// Makes all of them.
     pub fn new(alloc: Global) -> Result<Prepared, Memory> {
         Ok(Prepared {
-            states: States::new(alloc)?,
+            states: ReadyReplies::new(alloc)?,
             plain: Plain::new(alloc)?,
             starts: Starts::new(alloc)?,
             stops: Stops::new(alloc)?,
@@ -163,10 +142,6 @@ impl Prepared {
     pub fn ready(&self, state: TransactionState) -> &[u8]
         ensures { result.now ≡ ready_reply state }
     {
-        match state {
-            TransactionState::Idle => self.states.idle.as_slice(),
-            TransactionState::Block => self.states.block.as_slice(),
-            TransactionState::Failed => self.states.failed.as_slice(),
-        }
+        self.states.bytes(state)
     }
 }

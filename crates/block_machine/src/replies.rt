@@ -4,7 +4,7 @@ ghost use Rattle.pg_framing.specs.Spelling.{HasNoZero};
 ghost use Rattle.block_machine.specs.Settings.{IsShown};
 ghost use Rattle.block_machine.specs.Replies.{ready_reply, error_reply, empty_reply, done_reply, warned_reply, show_reply};
 
-use cell_base::{Memory, SqlState, SqlType, Text, Value};
+use cell_base::{Memory, SqlState, SqlType, Text, TextFault, Value};
 use pg_framing::{
     TransactionState, append_complete, append_empty, append_error, append_fields, append_notice,
     append_ready, append_row,
@@ -67,13 +67,15 @@ pub fn warned(alloc: Global, state: SqlState, tag: &[u8]) -> Result<Vec<u8>, Mem
     Ok(reply)
 }
 
-// A text as its own.
+// The text as a `Text`.
 fn text_of(alloc: Global, text: &str) -> Result<Text, Memory>
     ensures { IfOk result (λ it. it ≡ text.now) }
 {
     match Text::from_bytes(alloc, text.as_bytes()) {
         Ok(text) => Ok(text),
-        Err(_) => Err(Memory),
+        Err(TextFault::Memory) => Err(Memory),
+        // A `&str` is UTF-8.
+        Err(TextFault::NotUtf8) => unreachable!(),
     }
 }
 

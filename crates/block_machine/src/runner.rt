@@ -13,13 +13,13 @@ ghost use Rattle.block_machine.specs.Stages.{FitsWant, IsFrom, IsHolding, IsKnow
 
 use crate::advance::want_of;
 use crate::block::{Block, Owed};
-use crate::blocks::block_at;
+use crate::blocks::{block_at, owed_between};
 use crate::call::Answer;
 use crate::message::Message;
 use crate::prepared::Prepared;
 use crate::stage::Stage;
 use crate::step::fail;
-use crate::turns::{answered, begin_message, block_between, next_step};
+use crate::turns::{answered, begin_message, next_step};
 use crate::want::Want;
 use cell_base::{Level, Memory, SqlState};
 use pg_framing::TransactionState;
@@ -41,16 +41,6 @@ pub struct Runner {
     ghost few: { length known.items < 2 ^ 32 },
 }
 
-// What a session owes its book, given the state in which the last message left it.
-fn owed_in_state(state: TransactionState) -> Owed
-    ensures { result ≡ owed_between state }
-{
-    match state {
-        TransactionState::Block => Owed::Rollback,
-        TransactionState::Idle | TransactionState::Failed => Owed::Close,
-    }
-}
-
 // What a session owes its book in a block.
 fn owed_in_block(block: Block) -> Owed
     ensures { result ≡ owed_in block }
@@ -66,7 +56,7 @@ fn owed_of(stage: &Stage) -> Owed
     ensures { result ≡ owed_at stage.now }
 {
     match stage {
-        Stage::Over(state) | Stage::Readying(state) => owed_in_state(*state),
+        Stage::Over(state) | Stage::Readying(state) => owed_between(*state),
         Stage::Defining(_, block) | Stage::Looking(_, block) => owed_in_block(*block),
         Stage::Showing(block) | Stage::Telling(_, block) => owed_in_block(*block),
         Stage::Beginning(_) | Stage::Starting(_) | Stage::Failing(_, _) => Owed::Close,
@@ -151,17 +141,16 @@ impl Runner {
         }
     }
 
-    /// Begins with a message, where none is under way. Answers whether memory was wanting.
-    pub fn begin(&mut self, message: Message) -> bool
-        requires over { (state : TransactionState) × (self.old.stage ≡ Stage.Over state) }
-        requires sound { IsSoundMessage message }
-        ensures goes { (state : TransactionState) (outside : Outside) (said : Said) (es : List Entry) →
-            self.old.stage ≡ Stage.Over state → outside.level ≡ self.old.level → IsFrom 1 (length said.bytes) es →
+    /// Begins with a message that finds the session in this state. Answers whether memory was wanting.
+    pub fn begin(&mut self, message: Message, state: TransactionState) -> bool
+        requires { IsSoundMessage message }
+        ensures goes { (outside : Outside) (said : Said) (es : List Entry) →
+            outside.level ≡ self.old.level → IsFrom 1 (length said.bytes) es →
             told message state self.old.known.items outside said (with_short result said.bytes es) ≡ follows self.new outside said es }
         ensures level { self.new.level ≡ self.old.level }
         ensures known { self.new.known.items ≡ self.old.known.items }
         ensures rest { All IsSoundStatement (statements_of self.new) }
-        ensures owed { owed_at self.new.stage ≡ owed_at self.old.stage }
+        ensures owed { owed_at self.new.stage ≡ owed_between state }
         ensures work { work_of self.new ≤ 8 + 8 * length_of message }
         ensures knows { KnowsTables self.new.stage self.new.known.items }
         ensures silent { IsRunning self.new.stage → ⊥ }
@@ -169,7 +158,7 @@ impl Runner {
         ensures busy { IsBusy self.new.stage }
         ensures some { HasReply self.new.stage self.new.built.items }
     {
-        let block = block_between(&self.stage);
+        let block = block_at(state);
         let step = begin_message(
             self.alloc,
             self.level,
@@ -204,7 +193,7 @@ impl Runner {
         ensures busy { IsBusy self.new.stage }
         ensures some { HasReply self.new.stage self.new.built.items }
     {
-        let stage = std::mem::replace(&mut self.stage, Stage::Finishing);
+        let stage = std::mem::replace(&mut self.stage, Stage::Over(TransactionState::Idle));
         let step = answered(self.alloc, stage, &mut self.known, &mut self.built, answer);
         self.stage = step.stage;
         step.wanting
@@ -239,15 +228,7 @@ impl Runner {
         step.wanting
     }
 
-    /// Takes it that the session stands in this state between two messages.
-    pub fn stand(&mut self, state: TransactionState)
-        ensures { self.new ≡ record self.old { stage = Stage.Over state } }
-    {
-        let next = Stage::Over(state);
-        self.stage = next;
-    }
-
-    /// Begins with a message that fails before its first statement, with this code.
+    /// Begins with a message that finds the session in this state and fails before its first statement, with this code.
     pub fn refuse(&mut self, code: SqlState, state: TransactionState)
         ensures goes { (outside : Outside) (said : Said) (es : List Entry) →
             told (Message.Unread code) state self.old.known.items outside said es ≡ follows self.new outside said es }

@@ -1,6 +1,6 @@
 // The settings that SET and SHOW name.
 ghost use Rattle.std.specs.Prelude.{◌≡◌, ◌≤◌, length, Some, None, IfSome, IsNone};
-ghost use Rattle.block_machine.specs.Settings.{IsShown, is_own, history_name, level_word, switch_value, parameter_value, value_of};
+ghost use Rattle.block_machine.specs.Settings.{IsShown, is_own, history_name, level_word, parameter_value, value_of};
 
 use cell_base::Level;
 
@@ -26,21 +26,6 @@ fn level_word(level: Level) -> &'static str
     }
 }
 
-// The value of a setting that is on.
-fn switch_value(name: &str) -> Option<&'static str>
-    ensures some { IfSome result (λ value. switch_value name.now ≡ Some value.now) }
-    ensures none { IsNone result → switch_value name.now ≡ None }
-    ensures shown { IfSome result (λ value. IsShown name.now × (length value.now ≤ 64)) }
-{
-    if name == "integer_datetimes" {
-        Some("on")
-    } else if name == "standard_conforming_strings" {
-        Some("on")
-    } else {
-        None
-    }
-}
-
 // The value of a setting that a session is told at its start by ParameterStatus.
 fn parameter_value(name: &str) -> Option<&'static str>
     ensures some { IfSome result (λ value. parameter_value name.now ≡ Some value.now) }
@@ -49,16 +34,14 @@ fn parameter_value(name: &str) -> Option<&'static str>
 {
     if name == "server_version" {
         Some("14.0")
-    } else if name == "server_encoding" {
+    } else if name == "server_encoding" || name == "client_encoding" {
         Some("UTF8")
-    } else if name == "client_encoding" {
-        Some("UTF8")
-    } else if name == "DateStyle" {
+    } else if name == "DateStyle" || name == "datestyle" {
         Some("ISO, MDY")
-    } else if name == "datestyle" {
-        Some("ISO, MDY")
+    } else if name == "integer_datetimes" || name == "standard_conforming_strings" {
+        Some("on")
     } else {
-        switch_value(name)
+        None
     }
 }
 

@@ -15,6 +15,7 @@ use sql_tree::{Statement, Table};
 /// A statement that runs in its transaction, and isn't done.
 #[derive(Debug, Drop)]
 pub struct Run {
+    /// Its plan, which asks for a cell next.
     pub plan: Kept<Plan>,
     ghost asks: { asks_cells (first_demand (rest_of plan)) ≡ true },
 }
@@ -22,7 +23,9 @@ pub struct Run {
 /// The state in which a statement that failed leaves its session: no block is left open in it.
 #[derive(Clone, Copy, Debug, PartialEq, Eq)]
 pub enum ErrorState {
+    /// Outside of a block.
     Idle,
+    /// In a failed block.
     Failed,
 }
 

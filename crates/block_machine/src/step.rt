@@ -6,6 +6,7 @@ ghost use Rattle.block_machine.specs.Statements.{Around, owed_in, fails, unless_
 ghost use Rattle.block_machine.specs.Stages.{IsScriptAt, IsScriptOf, LeadsTo, IsQuiet, IsRunning, IsBusy, IsSoundStage, KnowsTables, NoBuilt, HasReply, owed_at, work_at, running_at, left_at};
 
 use crate::block::{Block, Pending};
+use crate::reply::{Fixed, Reply};
 use crate::stage::{ErrorState, Stage};
 use cell_base::{Memory, SqlState};
 
@@ -24,6 +25,13 @@ pub fn calm(stage: Stage) -> Step
         stage,
         wanting: false,
     }
+}
+
+/// The stage in which a statement that succeeded is told this reply.
+pub fn tell(reply: Fixed, block: Block) -> Stage
+    ensures { result ≡ Stage.Telling (Reply.Fixed reply) block }
+{
+    Stage::Telling(Reply::Fixed(reply), block)
 }
 
 /// The stage of a statement that fails with this code.

@@ -13,7 +13,6 @@ ghost use Rattle.block_machine.specs.Stages.{Advances, FitsWant, IsBusy, IsHoldi
 use crate::actions::{next_statement, show_history, take};
 use crate::advance::advance;
 use crate::block::{Block, Owed};
-use crate::blocks::block_at;
 use crate::call::Answer;
 use crate::courses::{look, pursue, start_course};
 use crate::message::Message;
@@ -25,26 +24,6 @@ use pg_framing::TransactionState;
 use sql_tree::{Statement, Table};
 use std::alloc::Global;
 use std::vec::IntoIter;
-
-// The state in which the last message left the session.
-fn state_at(stage: &Stage) -> TransactionState
-    requires { (state : TransactionState) × (stage.now ≡ Stage.Over state) }
-    ensures { stage.now ≡ Stage.Over result }
-{
-    match stage {
-        Stage::Over(state) => *state,
-        _ => unreachable!(),
-    }
-}
-
-/// The block that the next message finds.
-pub fn block_between(stage: &Stage) -> Block
-    requires { (state : TransactionState) × (stage.now ≡ Stage.Over state) }
-    ensures block { (state : TransactionState) → stage.now ≡ Stage.Over state → result ≡ block_before state }
-    ensures owed { owed_in result ≡ owed_at stage.now }
-{
-    block_at(state_at(stage))
-}
 
 // The step to the first of these statements, or to the reply of none.
 fn open(

@@ -15,6 +15,7 @@ use std::alloc::Global;
 /// How the program ends.
 #[derive(Clone, Copy, Debug, PartialEq, Eq)]
 pub struct Status {
+    /// The exit status, 0 to 6.
     pub code: u8,
 }
 
@@ -45,6 +46,7 @@ fn serve_alone<L: Link>(alloc: Global, link: &mut L, words: Items<u32>) -> Serve
     let mut book = SoloBook::new(alloc);
     let mut words = ListWords::new(words);
     let served = serve_link(alloc, Level::Rc, &mut book, link, &mut words);
+    // Only for its contract: the history is legal.
     let _ = book.history();
     served
 }
