@@ -16,6 +16,8 @@ use Rattle.block_machine.specs.declared.stage.Stage.{Stage as Inner}
 use Rattle.block_machine.specs.declared.stage.Stage.TheVariants as inners
 use Rattle.session_core.specs.declared.phase.Phase.TheVariants as phases
 use Rattle.session_core.specs.declared.stage.Stage.TheVariants as stages
+use Rattle.session_core.specs.declared.turns.Shortage.{Shortage}
+use Rattle.session_core.specs.declared.turns.Shortage.TheVariants as shortages
 use Rattle.session_core.specs.Wants as wishes
 use Rattle.session_core.specs.Wants.{of_message}
 use Rattle.session_core.specs.Told.{outside_of}
@@ -35,8 +37,8 @@ book_message calls.Send c is = cc
 book_message calls.Nothing c is = cc
 
 -- the message goes on behind its reply
-pub sends_on : (old new : Runner) (short : Bool) (w : Option Bool) → level_of new ≡ level_of old → running.IsBusy new.stage →
-    (short ≡ false → w ≡ None) → (short ≡ true → w ≡ Some false) →
+pub sends_on : (old new : Runner) (short : Bool) (w : Option Shortage) → level_of new ≡ level_of old → running.IsBusy new.stage →
+    (short ≡ false → w ≡ None) → (short ≡ true → w ≡ Some shortages.Passing) →
     ((outside : Outside) (said : Said) (es : List Entry) → outside.level ≡ level_of old →
     IsFrom (running.least new.stage) (length said.bytes) es →
     behind old outside said (with_short short said.bytes es) ≡ follows new outside said es) → Sends stages.Running old stages.Running new w
@@ -48,9 +50,9 @@ sends_on old new short w level busy calm shorts goes startup talk said es from =
     ∙ level_same old new talk said es level
 
 -- the message is done
-pub sends_done : (old new : Runner) (state : TransactionState) (short : Bool) (w : Option Bool) → level_of new ≡ level_of old →
+pub sends_done : (old new : Runner) (state : TransactionState) (short : Bool) (w : Option Shortage) → level_of new ≡ level_of old →
     new.stage ≡ inners.Over state →
-    (short ≡ false → w ≡ None) → (short ≡ true → w ≡ Some false) →
+    (short ≡ false → w ≡ None) → (short ≡ true → w ≡ Some shortages.Passing) →
     ((outside : Outside) (said : Said) (es : List Entry) → outside.level ≡ level_of old →
     IsFrom (running.least new.stage) (length said.bytes) es →
     behind old outside said (with_short short said.bytes es) ≡ follows new outside said es) →
@@ -65,8 +67,8 @@ sends_done old new state short w level over calm shorts goes startup talk said e
     (outside_of (level_of new) (on new talk)) said es) over
 
 -- an answer to the call of a message
-pub advances_running : (old new : Runner) (answer : Answer) (short : Bool) (w : Option Bool) (startup : List ℕ) →
-    level_of new ≡ level_of old → (short ≡ false → w ≡ None) → (short ≡ true → w ≡ Some false) →
+pub advances_running : (old new : Runner) (answer : Answer) (short : Bool) (w : Option Shortage) (startup : List ℕ) →
+    level_of new ≡ level_of old → (short ≡ false → w ≡ None) → (short ≡ true → w ≡ Some shortages.Passing) →
     ((c : Call) (outside : Outside) (said : Said) (es : List Entry) (e : Event) → wanted old ≡ calls.Book c →
     IsFrom 1 (length said.bytes) es →
     follows old outside said (entry_for answer e ∷ with_short short said.bytes es) ≡ follows new outside (with_call said c) es) →

@@ -7,6 +7,7 @@ use Rattle.block_machine.specs.declared.call.Answer.{Answer}
 use Rattle.block_machine.specs.declared.call.Answer.TheVariants as answers
 use Rattle.block_machine.specs.Script.{Entry, did, refused, short, unsent, stop, is_short, has_short}
 use Rattle.block_machine.specs.Stages.{entry_for, wants_memory}
+use Rattle.session_core.specs.declared.turns.Shortage.{Shortage}
 use Rattle.session_core.specs.Told.{opened_after, opened_from, opened_in}
 use Rattle.session_core.specs.Steps.{with_wanting}
 
@@ -23,12 +24,12 @@ has_short-append [] ys = refl
 has_short-append (x ∷ xs) ys =
     ap (λ b. is_short x || b) (has_short-append xs ys) ∙ sym (or_assoc (is_short x) (has_short xs) (has_short ys))
 
-has_short-with_wanting : (w : Option Bool) (sent : List ℕ) → has_short (with_wanting w sent []) ≡ is_some w
-has_short-with_wanting (Some final) sent = refl
+has_short-with_wanting : (w : Option Shortage) (sent : List ℕ) → has_short (with_wanting w sent []) ≡ is_some w
+has_short-with_wanting (Some shortage) sent = refl
 has_short-with_wanting None sent = refl
 
 -- a want of memory may stand behind
-pub flag-fed : (flag now : Bool) (w : Option Bool) (es : List Entry) (sent : List ℕ) → flag ≡ has_short es → now ≡ (flag || is_some w) →
+pub flag-fed : (flag now : Bool) (w : Option Shortage) (es : List Entry) (sent : List ℕ) → flag ≡ has_short es → now ≡ (flag || is_some w) →
     now ≡ has_short (es ++ with_wanting w sent [])
 flag-fed flag now w es sent e f =
     f ∙ ap (λ b. b || is_some w) e ∙ ap (λ b. has_short es || b) (sym (has_short-with_wanting w sent))
@@ -61,7 +62,7 @@ is_short-entry answers.RolledBack e = refl
 is_short-entry (answers.Shown n) e = refl
 
 -- an answer, and a want of memory that may stand behind it
-pub flag-answered : (flag now both a_wants : Bool) (w : Option Bool) (es : List Entry) (a : Answer) (e : Event) (sent : List ℕ) →
+pub flag-answered : (flag now both a_wants : Bool) (w : Option Shortage) (es : List Entry) (a : Answer) (e : Event) (sent : List ℕ) →
     flag ≡ has_short es → now ≡ (flag || both) → both ≡ (a_wants || is_some w) →
     a_wants ≡ wants_memory a → now ≡ has_short ((es ++ entry_for a e ∷ []) ++ with_wanting w sent [])
 flag-answered flag now both a_wants w es a e sent f g h k =
@@ -79,9 +80,9 @@ opened-append n (short final k ∷ xs) ys = opened-append n xs ys
 opened-append n (unsent k ∷ xs) ys = opened-append n xs ys
 opened-append n (stop cause ∷ xs) ys = opened-append n xs ys
 
-opened-wanting : (n : Option ℕ) (w : Option Bool) (sent : List ℕ) → opened_from n (with_wanting w sent []) ≡ n
+opened-wanting : (n : Option ℕ) (w : Option Shortage) (sent : List ℕ) → opened_from n (with_wanting w sent []) ≡ n
 opened-wanting n None sent = refl
-opened-wanting n (Some final) sent = refl
+opened-wanting n (Some shortage) sent = refl
 
 opened-entry : (n : Option ℕ) (a : Answer) (e : Event) → opened_from n (entry_for a e ∷ []) ≡ opened_after n a
 opened-entry n (answers.Refused why) e = refl
@@ -97,11 +98,11 @@ opened-entry n answers.Committed e = refl
 opened-entry n answers.RolledBack e = refl
 opened-entry n (answers.Shown k) e = refl
 
-pub number-fed : (number : Option ℕ) (w : Option Bool) (es : List Entry) (sent : List ℕ) → number ≡ opened_in es →
+pub number-fed : (number : Option ℕ) (w : Option Shortage) (es : List Entry) (sent : List ℕ) → number ≡ opened_in es →
     number ≡ opened_in (es ++ with_wanting w sent [])
 number-fed number w es sent e = e ∙ sym (opened-append None es (with_wanting w sent []) ∙ opened-wanting (opened_in es) w sent)
 
-pub number-answered : (number now : Option ℕ) (w : Option Bool) (es : List Entry) (a : Answer) (e : Event) (sent : List ℕ) →
+pub number-answered : (number now : Option ℕ) (w : Option Shortage) (es : List Entry) (a : Answer) (e : Event) (sent : List ℕ) →
     number ≡ opened_in es → now ≡ opened_after number a →
     now ≡ opened_in ((es ++ entry_for a e ∷ []) ++ with_wanting w sent [])
 number-answered number now w es a e sent h k =

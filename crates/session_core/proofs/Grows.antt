@@ -28,6 +28,7 @@ use Rattle.session_core.specs.declared.phase.Phase.{Phase}
 use Rattle.session_core.specs.declared.phase.Phase.TheVariants as phases
 use Rattle.session_core.specs.declared.stage.Stage.{Stage}
 use Rattle.session_core.specs.declared.stage.Stage.TheVariants as stages
+use Rattle.session_core.specs.declared.turns.Shortage.{Shortage}
 use Rattle.session_core.specs.Wants.{Want, of_message}
 use Rattle.session_core.specs.Wants as wishes
 use Rattle.session_core.specs.Talk.{Talk, partial, unread, IsTalk}
@@ -99,7 +100,7 @@ Shows-stands (stages.Ended f) r startup held taken es asked sent asks s = shown 
 -- ---- a message is taken, a piece comes in
 
 pub StandsFor-taken : (phase : Phase) (r next : Runner) (startup : List ℕ) (before after : Held) (taken : List ℕ) (es : List Entry)
-    (asked : List Call) (sent : List ℕ) (stage : Stage) (w : Option Bool) →
+    (asked : List Call) (sent : List ℕ) (stage : Stage) (w : Option Shortage) →
     StandsFor (stages.Taking phase) r startup before taken es asked sent → Steps phase r before stage next w after →
     level_of next ≡ level_of r → HasReply stage next startup →
     StandsFor stage next startup after taken (es ++ with_wanting w sent []) asked sent
@@ -151,20 +152,20 @@ StandsFor-no_memory phase r startup held piece taken es asked sent stage s some 
 
 -- a piece that came in
 pub StandsFor-piece : (phase : Phase) (r : Runner) (startup : List ℕ) (held after : Held) (piece taken : List ℕ) (es : List Entry)
-    (asked : List Call) (sent : List ℕ) (stage : Stage) (w : Option Bool) →
+    (asked : List Call) (sent : List ℕ) (stage : Stage) (w : Option Shortage) →
     Feeds phase piece held stage w after → StandsFor (stages.Waiting phase) r startup held taken es asked sent →
     HasReply stage r startup →
     StandsFor stage r startup after (taken ++ piece) (es ++ with_wanting w sent []) asked sent
 StandsFor-piece phase r startup held after piece taken es asked sent stage w (inl (same, none, taking)) s some =
     subst (λ (x : Held). StandsFor stage r startup x (taken ++ piece) (es ++ with_wanting w sent []) asked sent) (sym same)
-    (subst (λ (v : Option Bool). StandsFor stage r startup (record held { rest = held.rest ++ piece }) (taken ++ piece)
+    (subst (λ (v : Option Shortage). StandsFor stage r startup (record held { rest = held.rest ++ piece }) (taken ++ piece)
     (es ++ with_wanting v sent []) asked sent) (sym none)
     (subst (λ (x : Stage). StandsFor x r startup (record held { rest = held.rest ++ piece }) (taken ++ piece) (es ++ []) asked sent)
     (sym taking)
     (StandsFor-fed phase r startup held piece taken es asked sent s)))
 StandsFor-piece phase r startup held after piece taken es asked sent stage w (inr (same, is, leads)) s some =
     subst (λ (x : Held). StandsFor stage r startup x (taken ++ piece) (es ++ with_wanting w sent []) asked sent) (sym same)
-    (subst (λ (v : Option Bool). StandsFor stage r startup held (taken ++ piece) (es ++ with_wanting v sent []) asked sent) (sym is)
+    (subst (λ (v : Option Shortage). StandsFor stage r startup held (taken ++ piece) (es ++ with_wanting v sent []) asked sent) (sym is)
     (StandsFor-no_memory phase r startup held piece taken es asked sent stage s some leads))
 
 -- ---- an answer
@@ -174,7 +175,7 @@ IsFrom-entry l n (answers.Refused why) e es = tt
 IsFrom-entry l n _ e es = tt
 
 pub StandsFor-answered : (stage next : Stage) (r after : Runner) (startup now_startup : List ℕ) (held : Held) (taken : List ℕ)
-    (es : List Entry) (asked : List Call) (sent : List ℕ) (c : Call) (a : Answer) (e : Event) (w : Option Bool) →
+    (es : List Entry) (asked : List Call) (sent : List ℕ) (c : Call) (a : Answer) (e : Event) (w : Option Shortage) →
     StandsFor stage r startup held taken es asked sent → Advances stage r a next after w now_startup → wants stage r ≡ wishes.Book c →
     level_of after ≡ level_of r → HasReply next after now_startup →
     StandsFor next after now_startup held taken ((es ++ entry_for a e ∷ []) ++ with_wanting w sent []) (asked ++ c ∷ []) sent
@@ -245,7 +246,7 @@ Tells-stands stage r startup held taken es asked sent reply s holds is =
 
 -- a reply that was sent
 pub StandsFor-sent : (stage next : Stage) (r after : Runner) (startup : List ℕ) (held : Held) (taken : List ℕ) (es : List Entry)
-    (asked : List Call) (sent : List ℕ) (w : Option Bool) →
+    (asked : List Call) (sent : List ℕ) (w : Option Shortage) →
     Sends stage r next after w → IsHolding stage r → (IsLast stage → IsLast next) → IsAwake next → level_of after ≡ level_of r →
     HasReply next after startup →
     StandsFor stage r startup held taken es asked sent →

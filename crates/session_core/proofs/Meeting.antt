@@ -3,7 +3,6 @@ use Rattle.std.proofs.Common.{◌≡◌, Bool, true, false, ℕ, List, [], lengt
 use Rattle.cell_base.specs.declared.level.Level.{Level}
 use Rattle.cell_base.specs.declared.sql_state.SqlState.TheVariants as states
 use Rattle.pg_framing.specs.declared.replies.TransactionState.{TransactionState}
-use Rattle.sql_tree.specs.declared.table.Table.{Table}
 use Rattle.client_framing.specs.declared.front.Front.TheVariants as fronts
 use Rattle.client_framing.specs.declared.front.Extended.{Extended}
 use Rattle.client_framing.specs.declared.front.CopyMessage.{CopyMessage}
@@ -22,6 +21,8 @@ use Rattle.session_core.specs.declared.stage.Finish.TheVariants as finishes
 use Rattle.session_core.specs.declared.stage.Reply.TheVariants as replies
 use Rattle.session_core.specs.declared.stage.Stage.{Stage}
 use Rattle.session_core.specs.declared.stage.Stage.TheVariants as stages
+use Rattle.session_core.specs.declared.turns.Shortage.{Shortage}
+use Rattle.session_core.specs.declared.turns.Shortage.TheVariants as shortages
 use Rattle.session_core.specs.Users.{HasUser}
 use Rattle.session_core.specs.Talk.{Talk, encryption, cancel, start, userless, version, query, unread_query, terminate, sync, nothing, extended, function}
 use Rattle.session_core.specs.Told.{ending, outside_of, refuses, session}
@@ -39,28 +40,25 @@ level_same old new talk said es same =
     ap (λ (l : Level). follows new (outside_of l (λ phase known. session l phase known talk)) said es) (sym same)
 
 -- a want of memory that doesn't end the session
-pub with_passing : (short : Bool) (w : Option Bool) (sent : List ℕ) (es : List Entry) → (short ≡ false → w ≡ None) →
-    (short ≡ true → w ≡ Some false) →
+pub with_passing : (short : Bool) (w : Option Shortage) (sent : List ℕ) (es : List Entry) → (short ≡ false → w ≡ None) →
+    (short ≡ true → w ≡ Some shortages.Passing) →
     with_short short sent es ≡ with_wanting w sent es
-with_passing false w sent es calm short = ap (λ (x : Option Bool). with_wanting x sent es) (sym (calm refl))
-with_passing true w sent es calm short = ap (λ (x : Option Bool). with_wanting x sent es) (sym (short refl))
+with_passing false w sent es calm short = ap (λ (x : Option Shortage). with_wanting x sent es) (sym (calm refl))
+with_passing true w sent es calm short = ap (λ (x : Option Shortage). with_wanting x sent es) (sym (short refl))
 
 -- a message begins
-pub message_begins : (asked : Message) (state : TransactionState) (old middle new : Runner) (short : Bool) (w : Option Bool) →
-    level_of middle ≡ level_of old → known_of middle ≡ known_of old → level_of new ≡ level_of middle → (short ≡ false → w ≡ None) →
-    (short ≡ true → w ≡ Some false) →
-    ((outside : Outside) (said : Said) (es : List Entry) → outside.level ≡ level_of middle → IsFrom 1 (length said.bytes) es →
-    message asked state (known_of middle) outside said (with_short short said.bytes es) ≡ follows new outside said es) →
+pub message_begins : (asked : Message) (state : TransactionState) (old new : Runner) (short : Bool) (w : Option Shortage) →
+    level_of new ≡ level_of old → (short ≡ false → w ≡ None) → (short ≡ true → w ≡ Some shortages.Passing) →
+    ((outside : Outside) (said : Said) (es : List Entry) → outside.level ≡ level_of old → IsFrom 1 (length said.bytes) es →
+    message asked state (known_of old) outside said (with_short short said.bytes es) ≡ follows new outside said es) →
     (startup : List ℕ) (talk : Talk) (said : Said) (es : List Entry) → IsFrom 1 (length said.bytes) es →
     message asked state (known_of old) (outside_of (level_of old) (on old talk)) said
     (with_wanting w said.bytes es) ≡ goes_on stages.Running new startup talk said es
-message_begins asked state old middle new short w middle_level middle_known level calm shorts goes startup talk said es from =
+message_begins asked state old new short w level calm shorts goes startup talk said es from =
     ap (λ (x : List Entry). message asked state (known_of old) (outside_of (level_of old) (on old talk)) said x)
     (sym (with_passing short w said.bytes es calm shorts))
-    ∙ ap (λ (k : List Table). message asked state k (outside_of (level_of old) (on old talk)) said (with_short short said.bytes es))
-    (sym middle_known)
-    ∙ goes (outside_of (level_of old) (on old talk)) said es (sym middle_level) from
-    ∙ level_same old new talk said es (level ∙ middle_level)
+    ∙ goes (outside_of (level_of old) (on old talk)) said es refl from
+    ∙ level_same old new talk said es level
 
 -- a message fails before its first statement
 pub message_fails : (asked : Message) (state : TransactionState) (old new : Runner) → level_of new ≡ level_of old →
@@ -144,7 +142,7 @@ pub meets_copy : (part : CopyMessage) (state : TransactionState) (r : Runner) �
     Meets (fronts.Copy part) (phases.Normal state) r (stages.Taking (phases.Normal state)) r None
 meets_copy part state r = inr (record { asked = nothing; says = tt; goes = λ level known rest. refl }, refl, refl, refl)
 
-pub meets_query : (text : List ℕ) (asked : Message) (state : TransactionState) (old new : Runner) (w : Option Bool) → IsMessage text asked →
+pub meets_query : (text : List ℕ) (asked : Message) (state : TransactionState) (old new : Runner) (w : Option Shortage) → IsMessage text asked →
     IsPassing w →
     ((startup : List ℕ) (talk : Talk) (said : Said) (es : List Entry) → IsFrom 1 (length said.bytes) es →
     message asked state (known_of old) (outside_of (level_of old) (on old talk)) said
@@ -158,7 +156,7 @@ pub meets_unread : (text : List ℕ) (state : TransactionState) (old new : Runne
     ((startup : List ℕ) (talk : Talk) (said : Said) (es : List Entry) →
     message (messages.Unread states.S53200) state (known_of old)
     (outside_of (level_of old) (on old talk)) said es ≡ goes_on stages.Running new startup talk said es) →
-    Meets (fronts.Query text) (phases.Normal state) old stages.Running new (Some false)
+    Meets (fronts.Query text) (phases.Normal state) old stages.Running new (Some shortages.Passing)
 meets_unread text state old new goes =
     inl (record {
       asked = unread_query;

@@ -6,6 +6,8 @@ use Rattle.block_machine.specs.Script.{Entry, did, refused, short, unsent, stop,
 use Rattle.block_machine.specs.Stages.{IsFrom}
 use Rattle.session_core.specs.declared.stage.Stage.{Stage}
 use Rattle.session_core.specs.declared.stage.Stage.TheVariants as stages
+use Rattle.session_core.specs.declared.turns.Shortage.{Shortage}
+use Rattle.session_core.specs.declared.turns.Shortage.TheVariants as shortages
 use Rattle.session_core.specs.Stands.{least, IsLast, IsBusy, IsFed}
 use Rattle.session_core.specs.Steps.{with_wanting, IsShort, IsPassing}
 
@@ -39,12 +41,12 @@ unless_short-passes final k rest said (unsent n ∷ es) h = refl
 unless_short-passes final k rest said (stop cause ∷ es) h = refl
 
 -- nor where one stands that doesn't end the session
-pub unless_short-over : (w : Option Bool) (k rest : Script) (said : Said) (es : List Entry) → IsPassing w →
+pub unless_short-over : (w : Option Shortage) (k rest : Script) (said : Said) (es : List Entry) → IsPassing w →
     IsFrom 1 (length said.bytes) es →
     unless_short true k rest said (with_wanting w said.bytes es) ≡ rest said (with_wanting w said.bytes es)
 unless_short-over None k rest said es p h = unless_short-passes true k rest said es h
-unless_short-over (Some false) k rest said es p h = refl
-unless_short-over (Some true) k rest said es p h = absurd p
+unless_short-over (Some shortages.Passing) k rest said es p h = refl
+unless_short-over (Some shortages.Ending) k rest said es p h = absurd p
 
 -- a want of memory stands here
 pub unless_short-takes : (final : Bool) (k rest : Script) (said : Said) (es : List Entry) →
@@ -102,23 +104,23 @@ IsFrom-later l sent reply (short final n ∷ es) some f = omega (arith, f, some,
 IsFrom-later l sent reply (unsent n ∷ es) some f = omega (arith, f, some, length-append sent reply)
 IsFrom-later l sent reply (stop cause ∷ es) some f = f
 
-pub with_wanting-append : (w : Option Bool) (sent : List ℕ) (es : List Entry) → with_wanting w sent [] ++ es ≡ with_wanting w sent es
+pub with_wanting-append : (w : Option Shortage) (sent : List ℕ) (es : List Entry) → with_wanting w sent [] ++ es ≡ with_wanting w sent es
 with_wanting-append None sent es = refl
-with_wanting-append (Some final) sent es = refl
+with_wanting-append (Some shortage) sent es = refl
 
-pub IsFrom-with_wanting : (w : Option Bool) (sent : List ℕ) (l : ℕ) (es : List Entry) → IsFrom l (length sent) es →
+pub IsFrom-with_wanting : (w : Option Shortage) (sent : List ℕ) (l : ℕ) (es : List Entry) → IsFrom l (length sent) es →
     IsFrom 0 (length sent) (with_wanting w sent es)
-IsFrom-with_wanting (Some final) sent l es f = omega arith
+IsFrom-with_wanting (Some shortage) sent l es f = omega arith
 IsFrom-with_wanting None sent l es f = IsFrom-weaker l 0 (length sent) es (omega arith) f
 
-pub IsFrom-read : (w : Option Bool) (sent reply : List ℕ) (l : ℕ) (es : List Entry) → 0 < length reply →
+pub IsFrom-read : (w : Option Shortage) (sent reply : List ℕ) (l : ℕ) (es : List Entry) → 0 < length reply →
     IsFrom l (length (sent ++ reply)) es →
     IsFrom 1 (length sent) (with_wanting w (sent ++ reply) es)
-IsFrom-read (Some final) sent reply l es some f = omega (arith, some, length-append sent reply)
+IsFrom-read (Some shortage) sent reply l es some f = omega (arith, some, length-append sent reply)
 IsFrom-read None sent reply l es some f = IsFrom-later l sent reply es some f
 
-pub IsShort-with_wanting : (w : Option Bool) (sent : List ℕ) → IsShort sent (with_wanting w sent [])
-IsShort-with_wanting (Some final) sent = refl
+pub IsShort-with_wanting : (w : Option Shortage) (sent : List ℕ) → IsShort sent (with_wanting w sent [])
+IsShort-with_wanting (Some shortage) sent = refl
 IsShort-with_wanting None sent = tt
 
 pub IsFed-last : (stage : Stage) (bytes : List ℕ) → IsLast stage → IsFed stage bytes → bytes ≡ []

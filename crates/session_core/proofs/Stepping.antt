@@ -16,6 +16,8 @@ use Rattle.block_machine.specs.declared.runner.Runner.{Runner}
 use Rattle.session_core.specs.declared.phase.Phase.{Phase}
 use Rattle.session_core.specs.declared.stage.Stage.{Stage}
 use Rattle.session_core.specs.declared.stage.Stage.TheVariants as stages
+use Rattle.session_core.specs.declared.turns.Shortage.{Shortage}
+use Rattle.session_core.specs.declared.turns.Shortage.TheVariants as shortages
 use Rattle.session_core.specs.Talk.{Talk, asks, partial, faulty, unread, IsTalk}
 use Rattle.session_core.specs.Told.{ending, owed_by, handled, session, waiting}
 use Rattle.session_core.specs.Stands.{least, IsBusy, on}
@@ -65,7 +67,7 @@ taken_off before after front bytes takes = record {
   whole = ap (λ x. x ++ bytes) takes.whole ∙ append_assoc takes.taken after.rest bytes;
 }
 
-Steps-entered : (phase : Phase) (r : Runner) (before after : Held) (front : Front) (stage : Stage) (next : Runner) (wanting : Option Bool) →
+Steps-entered : (phase : Phase) (r : Runner) (before after : Held) (front : Front) (stage : Stage) (next : Runner) (wanting : Option Shortage) →
     TakesFront before.started before.rest front after.rest →
     after.started ≡ phase_after before.started front → Enters front phase r stage next wanting →
     Steps phase r before stage next wanting after
@@ -106,7 +108,7 @@ Steps-skipped phase r before after front takes started skips = record {
 }
 
 pub Steps-front : (phase : Phase) (r : Runner) (before after : Held) (front : Front) (stage : Stage) (next : Runner)
-    (wanting : Option Bool) → TakesFront before.started before.rest front after.rest →
+    (wanting : Option Shortage) → TakesFront before.started before.rest front after.rest →
     after.started ≡ phase_after before.started front → Meets front phase r stage next wanting →
     Steps phase r before stage next wanting after
 Steps-front phase r before after front stage next wanting takes started (inl enters) =
@@ -114,7 +116,7 @@ Steps-front phase r before after front stage next wanting takes started (inl ent
 Steps-front phase r before after front stage next wanting takes started (inr (skips, stage_is, next_is, wanting_is)) =
     subst (λ (x : Stage). Steps phase r before x next wanting after) (sym stage_is)
     (subst (λ (x : Runner). Steps phase r before (stages.Taking phase) x wanting after) (sym next_is)
-    (subst (λ (x : Option Bool). Steps phase r before (stages.Taking phase) r x after) (sym wanting_is)
+    (subst (λ (x : Option Shortage). Steps phase r before (stages.Taking phase) r x after) (sym wanting_is)
     (Steps-skipped phase r before after front takes started skips)))
 
 pub Steps-faulty : (phase : Phase) (r : Runner) (before after : Held) (fault : FrameFault) (stage : Stage) →
@@ -135,7 +137,7 @@ Steps-faulty phase r before after fault stage same_phase same_rest has leads = r
 }
 
 pub Steps-memory : (phase : Phase) (r : Runner) (before after : Held) (stage : Stage) → after ≡ before →
-    LeadsTo stage (ending (owed_by phase) ends.Memory) → Steps phase r before stage r (Some true) after
+    LeadsTo stage (ending (owed_by phase) ends.Memory) → Steps phase r before stage r (Some shortages.Ending) after
 Steps-memory phase r before after stage is leads = record {
   turns = λ talk. talk;
   heard = λ bytes talk fed h. subst (λ (x : Held). IsTalk x.started (x.rest ++ bytes) talk) is h;
@@ -152,20 +154,20 @@ memory_or frame_faults.NoTerminator = inr (λ e. cc e)
 memory_or frame_faults.Memory = inl refl
 
 -- a fault of the stream, or a want of memory in its reading
-pub Steps-broken : (phase : Phase) (r : Runner) (before after : Held) (fault : FrameFault) (stage : Stage) (w : Option Bool) →
+pub Steps-broken : (phase : Phase) (r : Runner) (before after : Held) (fault : FrameFault) (stage : Stage) (w : Option Shortage) →
     (fault ≡ frame_faults.Memory → after ≡ before) →
     (fault ≢ frame_faults.Memory → (after ≡ record before { fault = Some fault }) × HasFault before.started before.rest fault) →
-    (fault ≡ frame_faults.Memory → (w ≡ Some true) × LeadsTo stage (ending (owed_by phase) ends.Memory)) →
+    (fault ≡ frame_faults.Memory → (w ≡ Some shortages.Ending) × LeadsTo stage (ending (owed_by phase) ends.Memory)) →
     (fault ≢ frame_faults.Memory → (w ≡ None) × LeadsTo stage (ending (owed_by phase) (ends.Protocol fault))) →
     Steps phase r before stage r w after
 Steps-broken phase r before after fault stage w same faulted memory protocol =
     elim (memory_or fault) [
       | inl is ↦
-          subst (λ (x : Option Bool). Steps phase r before stage r x after) (sym (memory is).0)
+          subst (λ (x : Option Shortage). Steps phase r before stage r x after) (sym (memory is).0)
           (Steps-memory phase r before after stage (same is) (memory is).1)
       | inr other ↦
           let (after_is, has) = faulted other in
-          subst (λ (x : Option Bool). Steps phase r before stage r x after) (sym (protocol other).0)
+          subst (λ (x : Option Shortage). Steps phase r before stage r x after) (sym (protocol other).0)
           (Steps-faulty phase r before after fault stage (ap (λ (x : Held). x.started) after_is) (ap (λ (x : Held). x.rest) after_is) has
           (protocol other).1)
     ]

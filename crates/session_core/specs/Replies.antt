@@ -1,10 +1,11 @@
 -- The replies of a session, but for those of the statements of its messages (block_machine).
-use Rattle.std.specs.Prelude.{ℕ, List, ◌++◌, codes, true}
+use Rattle.std.specs.Prelude.{ℕ, List, [], ◌∷◌, ◌++◌, codes, true}
 use Rattle.cell_base.specs.declared.sql_state.SqlState.{SqlState}
 use Rattle.cell_base.specs.declared.sql_state.SqlState.TheVariants as states
 use Rattle.pg_framing.specs.declared.replies.TransactionState.TheVariants as ready_states
 use Rattle.pg_framing.specs.Replies.{auth_ok, parameter, key_data, ready, error_response}
 use Rattle.block_machine.specs.Replies.{ready_reply, error_reply}
+use Rattle.block_machine.specs.Settings.{parameters}
 use Rattle.session_core.specs.declared.phase.Phase.{Phase}
 use Rattle.session_core.specs.declared.phase.Phase.TheVariants as phases
 use Rattle.session_core.specs.declared.stage.Fatal.{Fatal}
@@ -16,13 +17,14 @@ use Rattle.session_core.specs.declared.stage.Reply.TheVariants as replies
 abbrev pub no_encryption : List ℕ
 no_encryption = codes "N"
 
--- AuthenticationOk, six ParameterStatus, BackendKeyData, ReadyForQuery
+-- ParameterStatus of each of these settings, by its name and its value
+abbrev pub statuses : List (List ℕ × List ℕ) → List ℕ
+statuses [] = []
+statuses (p ∷ more) = parameter p.0 p.1 ++ statuses more
+
+-- AuthenticationOk, ParameterStatus of each setting of the start, BackendKeyData, ReadyForQuery
 unfoldable pub startup_reply : ℕ → List ℕ
-startup_reply session =
-    auth_ok ++ (parameter (codes "server_version") (codes "14.0") ++ (parameter (codes "server_encoding") (codes "UTF8")
-    ++ (parameter (codes "client_encoding") (codes "UTF8") ++ (parameter (codes "DateStyle") (codes "ISO, MDY")
-    ++ (parameter (codes "integer_datetimes") (codes "on") ++ (parameter (codes "standard_conforming_strings") (codes "on")
-    ++ (key_data session 0 ++ ready ready_states.Idle)))))))
+startup_reply session = auth_ok ++ (statuses parameters ++ (key_data session 0 ++ ready ready_states.Idle))
 
 unfoldable pub fatal_reply : SqlState → List ℕ
 fatal_reply state = error_response true state

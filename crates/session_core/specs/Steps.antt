@@ -19,6 +19,8 @@ use Rattle.block_machine.specs.declared.runner.Runner.{Runner}
 use Rattle.session_core.specs.declared.phase.Phase.{Phase}
 use Rattle.session_core.specs.declared.stage.Stage.{Stage}
 use Rattle.session_core.specs.declared.stage.Stage.TheVariants as stages
+use Rattle.session_core.specs.declared.turns.Shortage.{Shortage}
+use Rattle.session_core.specs.declared.turns.Shortage.TheVariants as shortages
 use Rattle.session_core.specs.Wants as wishes
 use Rattle.session_core.specs.Talk.{Ask, Says, Talk, IsTalk}
 use Rattle.session_core.specs.Told.{owed_by, ending, handled}
@@ -26,16 +28,21 @@ use Rattle.session_core.specs.Stands.{on, goes_on, wants, owed_at, after_reply, 
 
 -- ---- steps
 
--- a want of memory, where there was one, that doesn't end the session
-abbrev pub IsPassing : Option Bool → Type 0
+-- the session goes on behind a want of memory, where there was one
+abbrev pub IsPassing : Option Shortage → Type 0
 IsPassing None = Unit {0}
-IsPassing (Some false) = Unit {0}
-IsPassing (Some true) = ⊥
+IsPassing (Some shortages.Passing) = Unit {0}
+IsPassing (Some shortages.Ending) = ⊥
+
+-- whether a want of memory ends the session
+abbrev pub is_final : Shortage → Bool
+is_final shortages.Passing = false
+is_final shortages.Ending = true
 
 -- the entries with a want of memory before them, where there was one
-abbrev pub with_wanting : Option Bool → List ℕ → List Entry → List Entry
+abbrev pub with_wanting : Option Shortage → List ℕ → List Entry → List Entry
 with_wanting None sent es = es
-with_wanting (Some final) sent es = short final (length sent) ∷ es
+with_wanting (Some shortage) sent es = short (is_final shortage) (length sent) ∷ es
 
 -- the entries that a call adds by the session's own want of memory, where so many bytes were told
 abbrev pub IsShort : List ℕ → List Entry → Type 0
@@ -77,7 +84,7 @@ abbrev pub IsHeard : Phase → Front → Type 0
 IsHeard phase front = (bytes : List ℕ) × (more : List ℕ) × TakesFront (has_started phase) bytes front more
 
 -- A message of a client leads to a stage, with a want of memory in its reading where there was one.
-pub record Enters (front : Front) (phase : Phase) (r : Runner) (stage : Stage) (next : Runner) (wanting : Option Bool) : Type 0 where
+pub record Enters (front : Front) (phase : Phase) (r : Runner) (stage : Stage) (next : Runner) (wanting : Option Shortage) : Type 0 where
   pub asked : Ask
   pub says : Says front asked
   pub busy : IsBusy stage
@@ -105,13 +112,13 @@ pub record Leads (owed : Owed) (r : Runner) (stage : Stage) (next : Runner) : Ty
   pub some : (startup : List ℕ) → HasReply stage next startup
 
 -- A message leads to a stage, or is passed over.
-abbrev pub Meets : Front → Phase → Runner → Stage → Runner → Option Bool → Type 0
+abbrev pub Meets : Front → Phase → Runner → Stage → Runner → Option Shortage → Type 0
 Meets front phase r stage next wanting =
     Enters front phase r stage next wanting
     ⊎ (Skips front phase × (stage ≡ stages.Taking phase) × (next ≡ r) × (wanting ≡ None))
 
 -- Where a message is wanted, the next one, a fault or a want of memory is looked at, or bytes are wanted.
-pub record Steps (phase : Phase) (r : Runner) (before : Held) (stage : Stage) (next : Runner) (wanting : Option Bool)
+pub record Steps (phase : Phase) (r : Runner) (before : Held) (stage : Stage) (next : Runner) (wanting : Option Shortage)
     (after : Held) : Type 0 where
   pub turns : Talk → Talk
   pub heard : (bytes : List ℕ) (talk : Talk) → IsFed stage bytes → IsTalk after.started (after.rest ++ bytes) talk →
@@ -121,19 +128,19 @@ pub record Steps (phase : Phase) (r : Runner) (before : Held) (stage : Stage) (n
   pub waits : (other : Phase) → stage ≡ stages.Waiting other → IsPartial after.started after.rest
 
 -- A piece that comes in where bytes are wanted is held, or memory for it is wanting and the session ends.
-abbrev pub Feeds : Phase → List ℕ → Held → Stage → Option Bool → Held → Type 0
+abbrev pub Feeds : Phase → List ℕ → Held → Stage → Option Shortage → Held → Type 0
 Feeds phase piece before stage wanting after =
     ((after ≡ record before { rest = before.rest ++ piece }) × (wanting ≡ None) × (stage ≡ stages.Taking phase))
-    ⊎ ((after ≡ before) × (wanting ≡ Some true) × LeadsTo stage (ending (owed_by phase) ends.Memory))
+    ⊎ ((after ≡ before) × (wanting ≡ Some shortages.Ending) × LeadsTo stage (ending (owed_by phase) ends.Memory))
 
 -- A reply that was sent leads on, with a want of memory behind it where there was one.
-abbrev pub Sends : Stage → Runner → Stage → Runner → Option Bool → Type 0
+abbrev pub Sends : Stage → Runner → Stage → Runner → Option Shortage → Type 0
 Sends stage r next after wanting =
     (startup : List ℕ) (talk : Talk) (said : Said) (es : List Entry) → IsFrom (least next) (length said.bytes) es →
     after_reply stage r talk said (with_wanting wanting said.bytes es) ≡ goes_on next after startup talk said es
 
 -- An answer to a stage's call leads on, with a want of memory behind it where there was one.
-pub record Advances (stage : Stage) (r : Runner) (answer : Answer) (next : Stage) (after : Runner) (wanting : Option Bool)
+pub record Advances (stage : Stage) (r : Runner) (answer : Answer) (next : Stage) (after : Runner) (wanting : Option Shortage)
     (startup : List ℕ) : Type 0 where
   pub goes : (c : Call) (before : List ℕ) (talk : Talk) (said : Said) (es : List Entry) (e : Event) → wants stage r ≡ wishes.Book c →
       IsFrom 1 (length said.bytes) es →

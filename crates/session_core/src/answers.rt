@@ -13,7 +13,7 @@ use crate::messages::passing;
 use crate::phase::Phase;
 use crate::replies;
 use crate::stage::{Finish, Reply, Stage};
-use crate::turns::{Step, advance, calm, owed_by, phase_behind};
+use crate::turns::{Shortage, Step, advance, calm, owed_by, phase_behind};
 use block_machine::{Answer, Owed, Runner};
 use cell_base::Memory;
 use history_core::BookFault;
@@ -108,7 +108,7 @@ fn tell_startup(alloc: Global, session: u32, startup: &mut Vec<u8>) -> Step
         }
         Err(Memory) => Step {
             stage: Stage::Closing(Finish::Memory),
-            wanting: Some(true),
+            wanting: Some(Shortage::Ending),
         },
     }
 }

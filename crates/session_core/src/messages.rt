@@ -15,21 +15,25 @@ ghost use Rattle.session_core.specs.Steps.{Feeds, Steps, Meets, Leads, LeadsTo, 
 
 use crate::phase::Phase;
 use crate::stage::{Fatal, Finish, Reply, Stage};
-use crate::turns::{Step, calm, leave, owed_by, owed_in, refuse};
+use crate::turns::{Shortage, Step, calm, leave, owed_by, refuse};
 use crate::user::has_user;
-use block_machine::{End, Message, Owed, Runner, read_message};
+use block_machine::{End, Message, Owed, Runner, owed_between, read_message};
 use cell_base::{Memory, SqlState};
 use client_framing::{FrameFault, Frames, Front};
 use pg_framing::TransactionState;
 use std::alloc::Global;
 
-/// A want of memory that doesn't end the session, where there was one.
-pub fn passing(wanting: bool) -> Option<bool>
+/// A want of memory behind which the session goes on, where there was one.
+pub fn passing(wanting: bool) -> Option<Shortage>
     ensures passing { IsPassing result }
     ensures calm { wanting ≡ false → result ≡ None }
-    ensures short { wanting ≡ true → result ≡ Some false }
+    ensures short { wanting ≡ true → result ≡ Some Shortage.Passing }
 {
-    if wanting { Some(false) } else { None }
+    if wanting {
+        Some(Shortage::Passing)
+    } else {
+        None
+    }
 }
 
 // The step to a message whose statements run.
@@ -43,8 +47,7 @@ fn run(message: Message, state: TransactionState, runner: &mut Runner) -> Step
     ensures passing { IsPassing result.wanting }
     ensures leads { Leads (blocks.owed_between state) runner.old Stage.Running runner.new }
 {
-    runner.stand(state);
-    let wanting = runner.begin(message);
+    let wanting = runner.begin(message, state);
     Step {
         stage: Stage::Running,
         wanting: passing(wanting),
@@ -77,7 +80,7 @@ fn query(alloc: Global, text: &[u8], state: TransactionState, runner: &mut Runne
             fail(SqlState::S53200, state, runner);
             Step {
                 stage: Stage::Running,
-                wanting: Some(false),
+                wanting: Some(Shortage::Passing),
             }
         }
     }
@@ -117,7 +120,7 @@ fn serve_plain(front: &Front, state: TransactionState) -> Stage
     ensures phase { InPhase result true }
 {
     match front {
-        Front::Terminate => leave(owed_in(state), Finish::Terminated),
+        Front::Terminate => leave(owed_between(state), Finish::Terminated),
         Front::Sync => Stage::Telling(Reply::Ready(state)),
         Front::Extended(_) => refuse(state),
         Front::Flush => Stage::Taking(Phase::Normal(state)),
@@ -163,7 +166,7 @@ fn discard(front: &Front, state: TransactionState) -> Stage
     ensures phase { InPhase result true }
 {
     match front {
-        Front::Terminate => leave(owed_in(state), Finish::Terminated),
+        Front::Terminate => leave(owed_between(state), Finish::Terminated),
         Front::Sync => Stage::Telling(Reply::Ready(state)),
         Front::Query(_) => Stage::Taking(Phase::Discarding(state)),
         Front::Flush => Stage::Taking(Phase::Discarding(state)),
@@ -193,7 +196,7 @@ fn enter(alloc: Global, front: &Front, phase: Phase, runner: &mut Runner) -> Ste
 // The step that a fault of the stream leads to.
 fn break_off(fault: FrameFault, phase: Phase) -> Step
     ensures memory { fault ≡ FrameFault.Memory →
-        (result.wanting ≡ Some true) × LeadsTo result.stage (ending (told_spec.owed_by phase) End.Memory) }
+        (result.wanting ≡ Some Shortage.Ending) × LeadsTo result.stage (ending (told_spec.owed_by phase) End.Memory) }
     ensures protocol { fault ≢ FrameFault.Memory →
         (result.wanting ≡ None) × LeadsTo result.stage (ending (told_spec.owed_by phase) (End.Protocol fault)) }
     ensures leads { (r : Machine) → IsFit r → Leads (told_spec.owed_by phase) r result.stage r }
@@ -203,7 +206,7 @@ fn break_off(fault: FrameFault, phase: Phase) -> Step
     match fault {
         FrameFault::Memory => Step {
             stage: leave(owed_by(phase), Finish::Memory),
-            wanting: Some(true),
+            wanting: Some(Shortage::Ending),
         },
         _ => calm(leave(owed_by(phase), Finish::Fatal(Fatal::Protocol(fault)))),
     }
@@ -236,7 +239,7 @@ pub fn feed_piece(frames: &mut Frames, phase: Phase, piece: &[u8]) -> Step
         Ok(()) => calm(Stage::Taking(phase)),
         Err(_) => Step {
             stage: leave(owed_by(phase), Finish::Memory),
-            wanting: Some(true),
+            wanting: Some(Shortage::Ending),
         },
     }
 }

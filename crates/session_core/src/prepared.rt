@@ -1,35 +1,23 @@
 // The replies of a session that are made before it needs them, so that no want of memory stands between a call and the reply that
 // tells it.
 ghost use Rattle.std.specs.Prelude.{◌≡◌};
-ghost use Rattle.block_machine.specs.Replies.{ready_reply, error_reply};
+ghost use Rattle.block_machine.specs.Replies.{error_reply};
 ghost use Rattle.session_core.specs.Replies.{bytes_of, fatal_reply, fatal_state};
 ghost use Rattle.cell_base.specs.declared.sql_state.SqlState.TheVariants as sql_states;
-ghost use Rattle.pg_framing.specs.declared.replies.TransactionState.TheVariants as block_states;
 
-use crate::replies::{error, fatal, ready};
+use crate::replies::fatal;
 use crate::stage::{Fatal, Reply};
+use block_machine::{ReadyReplies, error};
 use cell_base::{Memory, SqlState};
-use pg_framing::TransactionState;
 use std::alloc::Global;
 
 /// The replies whose bytes are known beforehand.
 #[derive(Debug, Drop)]
 pub struct Prepared {
-    states: States,
+    states: ReadyReplies,
     unsupported: Vec<u8>,
     fatals: Fatals,
     ghost unsupported_is: { unsupported.items ≡ error_reply sql_states.S0A000 },
-}
-
-// That the next message may come, by the state of the session.
-#[derive(Debug, Drop)]
-struct States {
-    idle: Vec<u8>,
-    block: Vec<u8>,
-    failed: Vec<u8>,
-    ghost idle_is: { idle.items ≡ ready_reply block_states.Idle },
-    ghost block_is: { block.items ≡ ready_reply block_states.Block },
-    ghost failed_is: { failed.items ≡ ready_reply block_states.Failed },
 }
 
 // The replies that end a session.
@@ -43,26 +31,6 @@ struct Fatals {
     ghost no_user_is: { no_user.items ≡ fatal_reply sql_states.S28000 },
     ghost version_is: { version.items ≡ fatal_reply sql_states.S0A000 },
     ghost full_is: { full.items ≡ fatal_reply sql_states.S54000 },
-}
-
-impl States {
-    fn new(alloc: Global) -> Result<States, Memory> {
-        Ok(States {
-            idle: ready(alloc, TransactionState::Idle)?,
-            block: ready(alloc, TransactionState::Block)?,
-            failed: ready(alloc, TransactionState::Failed)?,
-        })
-    }
-
-    fn bytes(&self, state: TransactionState) -> &[u8]
-        ensures { result.now ≡ ready_reply state }
-    {
-        match state {
-            TransactionState::Idle => self.idle.as_slice(),
-            TransactionState::Block => self.block.as_slice(),
-            TransactionState::Failed => self.failed.as_slice(),
-        }
-    }
 }
 
 impl Fatals {
@@ -80,7 +48,7 @@ impl Prepared {
     /// Makes all of them.
     pub fn new(alloc: Global) -> Result<Prepared, Memory> {
         Ok(Prepared {
-            states: States::new(alloc)?,
+            states: ReadyReplies::new(alloc)?,
             unsupported: error(alloc, SqlState::S0A000)?,
             fatals: Fatals::new(alloc)?,
         })

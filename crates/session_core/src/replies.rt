@@ -1,6 +1,5 @@
 // The replies of a session as bytes.
 ghost use Rattle.std.specs.Prelude.{◌≡◌, IfOk};
-ghost use Rattle.block_machine.specs.Replies.{ready_reply, error_reply};
 ghost use Rattle.session_core.specs.Replies.{startup_reply, fatal_reply};
 
 use cell_base::{Memory, SqlState};
@@ -8,26 +7,6 @@ use pg_framing::{
     TransactionState, append_auth_ok, append_error, append_key, append_parameter, append_ready,
 };
 use std::alloc::Global;
-
-/// That the next message may come.
-#[tactic(auto, unfolding(block_machine::specs::Replies::ready_reply))]
-pub fn ready(alloc: Global, state: TransactionState) -> Result<Vec<u8>, Memory>
-    ensures { IfOk result (λ reply. reply.items ≡ ready_reply state) }
-{
-    let mut reply = Vec::new(alloc);
-    append_ready(alloc, &mut reply, state)?;
-    Ok(reply)
-}
-
-/// The error of a message.
-#[tactic(auto, unfolding(block_machine::specs::Replies::error_reply))]
-pub fn error(alloc: Global, state: SqlState) -> Result<Vec<u8>, Memory>
-    ensures { IfOk result (λ reply. reply.items ≡ error_reply state) }
-{
-    let mut reply = Vec::new(alloc);
-    append_error(alloc, &mut reply, false, state)?;
-    Ok(reply)
-}
 
 /// The error that ends a session.
 #[tactic(auto, unfolding(crate::specs::Replies::fatal_reply))]

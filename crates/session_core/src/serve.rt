@@ -36,6 +36,7 @@ const ROOM: usize = 8192;
 pub struct Served {
     /// The number of the session that was opened, if one was.
     pub session: Option<u32>,
+    /// How it ended.
     pub end: End,
     /// Whether memory was wanting.
     pub short: bool,

@@ -16,16 +16,25 @@ ghost use Rattle.session_core.specs.Steps.{LeadsTo, Advances, IsPlain};
 
 use crate::phase::Phase;
 use crate::stage::{Fatal, Finish, Reply, Stage};
-use block_machine::{Answer, End, Owed, Stop};
+use block_machine::{Answer, End, Owed, Stop, owed_between};
 use cell_base::SqlState;
 use history_core::BookFault;
 use pg_framing::TransactionState;
 
-/// A stage, and a want of memory on the way to it, where there was one, by whether it ends the session.
+/// A want of memory, by whether the session goes on behind it.
+#[derive(Clone, Copy, Debug, PartialEq, Eq)]
+pub enum Shortage {
+    /// It goes on.
+    Passing,
+    /// It ends.
+    Ending,
+}
+
+/// A stage, and the want of memory on the way to it, where there was one.
 #[derive(Clone, Copy, Debug, PartialEq, Eq)]
 pub struct Step {
     pub stage: Stage,
-    pub wanting: Option<bool>,
+    pub wanting: Option<Shortage>,
 }
 
 /// The step to a stage for which memory wasn't wanting.
@@ -113,23 +122,13 @@ pub fn phase_behind(reply: Reply) -> Phase
     }
 }
 
-/// What a session owes in a state of its block between two messages.
-pub fn owed_in(state: TransactionState) -> Owed
-    ensures { result ≡ blocks.owed_between state }
-{
-    match state {
-        TransactionState::Block => Owed::Rollback,
-        TransactionState::Idle | TransactionState::Failed => Owed::Close,
-    }
-}
-
 /// What a session owes between two messages.
 pub fn owed_by(phase: Phase) -> Owed
     ensures { result ≡ told_spec.owed_by phase }
 {
     match phase {
         Phase::Startup => Owed::Nothing,
-        Phase::Normal(state) | Phase::Discarding(state) => owed_in(state),
+        Phase::Normal(state) | Phase::Discarding(state) => owed_between(state),
     }
 }
 

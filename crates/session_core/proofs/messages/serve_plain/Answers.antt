@@ -16,11 +16,11 @@ pub returns-in-Terminate-clause-goes : goal.returns-in-Terminate-clause-goes
 returns-in-Terminate-clause-goes c = λ r.
     subst (λ (x : Front). Meets x (phases.Normal c.args.state) r c.leave.result r None) (sym c.in-Terminate.is)
     (meets_terminate c.args.state c.leave.result r (subst
-    (λ (x : Owed). LeadsTo c.leave.result (ending x ends.Terminated)) c.owed_in.ensures c.leave.ensures.leads))
+    (λ (x : Owed). LeadsTo c.leave.result (ending x ends.Terminated)) c.owed_between.ensures c.leave.ensures.leads))
 
 pub returns-in-Terminate-clause-leads : goal.returns-in-Terminate-clause-leads
 returns-in-Terminate-clause-leads c = λ r fit.
-    leads_own (owed_between c.args.state) c.leave.result r (c.leave.ensures.owed r ∙ c.owed_in.ensures)
+    leads_own (owed_between c.args.state) c.leave.result r (c.leave.ensures.owed r ∙ c.owed_between.ensures)
     (c.leave.ensures.under r) c.leave.ensures.outer
     (c.leave.ensures.lacks [] refl refl) c.leave.ensures.constant fit
 
