@@ -1,5 +1,5 @@
 -- Two runs of the program with the same words and the same input, which end well or by their client's fault, are alike.
-use Rattle.std.proofs.Common.{◌≡◌, inl, inr, ◌⊎◌, ℕ, ◌<◌, List, [], ◌∷◌, ◌++◌, Option, Some, arith, refl, sym, ◌∙◌, ap, subst}
+use Rattle.std.proofs.Common.{◌≡◌, inl, inr, ◌⊎◌, ℕ, ◌<◌, ◌≤◌, List, [], ◌∷◌, ◌++◌, Option, Some, arith, refl, sym, ◌∙◌, ap, subst}
 use Rattle.std.specs.Prelude.{IfSome}
 use Rattle.link_traits.specs.Traffic.{Sight}
 use Rattle.monkey_server.specs.Command.{IsPipe}
@@ -51,7 +51,9 @@ program_runs args before after then later code status input output does also off
     (ap (λ (s : Sight). s.traffic) (given_is then.next_link b.given offer.next offer.next_is b.told) ∙ offer.traffic_is)
     (offers.left_is ∙ sym offer.left_is) (offers.written_is ∙ sym offer.written_is) small smaller in (
       is.0,
-      is.2.one.written,
-      record { link = a.returned; traffic = is.2.one; back = a.back; traffic_is = is.2.one_is; written_is = refl },
-      record { link = b.returned; traffic = is.2.other; back = b.back; traffic_is = is.2.other_is; written_is = sym is.2.same },
+      (
+        is.2.one.written,
+        record { link = a.returned; traffic = is.2.one; back = a.back; traffic_is = is.2.one_is; written_is = refl },
+        record { link = b.returned; traffic = is.2.other; back = b.back; traffic_is = is.2.other_is; written_is = sym is.2.same },
+      ),
     )
