@@ -8,6 +8,7 @@ use Rattle.graph_base.specs.Walk.{IsInRange, HasCycle, Reaches}
 use Rattle.graph_base.specs.Closure.{SameClosure}
 use Rattle.graph_base.proofs.Walks.{reaches_on, leads_from_reaches, cycle_from_reaches}
 use Rattle.graph_base.proofs.Closures.{reaches_in_range}
+use Rattle.bit_rows.specs.declared.TheConstants.{ROW_BITS}
 use Rattle.reach_rows.specs.Reached.{Reached}
 use Rattle.reach_rows.specs.Rows.{row_at, edge_of, pairs_of, IsClosed}
 use Rattle.reach_rows.proofs.Pairs.{member_from_reaches, reaches_from_member, row_push_same, pair_from_member, pairs_of-push}
@@ -20,7 +21,7 @@ pub closed_rows_of : (rows : List (List ℕ)) → IsClosed rows → AreRowsOf (p
 closed_rows_of rows closed a b = (reaches_from_member rows a b, member_from_reaches rows closed a b)
 
 pub closed_from :
-    (edges : List Edge) (rows : List (List ℕ)) → 0 < length rows → length rows ≤ 16384 → IsInRange (length rows) edges →
+    (edges : List Edge) (rows : List (List ℕ)) → 0 < length rows → length rows ≤ ROW_BITS → IsInRange (length rows) edges →
     (HasCycle edges → ⊥) → AreRowsOf edges rows → IsClosed rows
 closed_from edges rows some few in_range acyclic are = record {
   some = some;
@@ -38,7 +39,7 @@ same_closure_from edges rows closed are a b =
 -- ---- an empty row more, and one less
 
 pub closed_push :
-    (rows : List (List ℕ)) (row : List ℕ) → row ≡ [] → length rows < 16384 → IsClosed rows → IsClosed (rows ++ row ∷ [])
+    (rows : List (List ℕ)) (row : List ℕ) → row ≡ [] → length rows < ROW_BITS → IsClosed rows → IsClosed (rows ++ row ∷ [])
 closed_push rows row none room closed =
     let long : length (rows ++ row ∷ []) ≡ length rows + 1 = length_push rows row in
     let some = closed.some in

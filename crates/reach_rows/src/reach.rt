@@ -36,7 +36,7 @@ impl Model for Reach {
 }
 
 impl Reach {
-    /// Number 0 alone, without edges. An error is want of memory.
+    /// Number 0 alone, without edges. An error is out of memory.
     pub fn new(alloc: Global) -> Result<Reach, AllocError>
         ensures { IfOk result (λ reach. reach ≡ record { size = 1; pairs = [] }) }
     {
@@ -50,7 +50,7 @@ impl Reach {
         })
     }
 
-    /// Adds one number, without edges. An error is want of memory, and then nothing has changed.
+    /// Adds one number, without edges. An error is out of memory, and then nothing has changed.
     pub fn grow(&mut self) -> Result<(), AllocError>
         requires { self.old.size < ROW_BITS }
         ensures ok { OnOk result (self.new ≡ record self.old { size = self.old.size + 1 }) }
@@ -105,8 +105,8 @@ impl Reach {
     }
 
     /// Whether the edges that were added and the edges of the trial together have a cycle, for a
-    /// trial of any shape. Takes the memory of a row for each edge of the trial; an error is want
-    /// of it.
+    /// trial of any shape. Takes the memory of a row for each edge of the trial; an error is out
+    /// of memory.
     pub fn closes_cycle(&self, trial: &[Edge]) -> Result<bool, AllocError>
         requires { IsInRange self.now.size trial.now }
         ensures { IfOk result (λ closes. IsTrue closes ↔ HasCycle (self.now.pairs ++ trial.now)) }

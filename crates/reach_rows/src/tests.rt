@@ -3,6 +3,7 @@
 
 ghost use Rattle.std.specs.Prelude.{◌≡◌, ◌<◌, ◌≤◌, ◌↔◌, IfOk, IsTrue};
 ghost use Rattle.graph_base.specs.Walk.{IsInRange};
+ghost use Rattle.bit_rows.specs.declared.TheConstants.{ROW_BITS};
 
 use crate::Reach;
 use crate::trial::all_touch;
@@ -20,7 +21,7 @@ const GRAPHS: u32 = 120;
 /// A Reach of so many numbers, without edges.
 fn grown(alloc: Global, size: u32) -> Result<Reach, AllocError>
     requires some { 1 ≤ size }
-    requires few { size ≤ 16384 }
+    requires few { size ≤ ROW_BITS }
     ensures { IfOk result (λ reach. reach.size ≡ size) }
 {
     let mut reach = Reach::new(alloc)?;

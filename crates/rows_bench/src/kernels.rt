@@ -7,7 +7,7 @@ use std::alloc::{AllocError, Global};
 use std::time::CpuClock;
 
 /// How many rows the pools have: 16 KiB of words, which the nearest cache holds, and 128 KiB.
-const POOLS: [u32; 2] = [8, 64];
+const POOLS: [u32; 2] = [2, 16];
 
 /// Rows that have each third number, so that no two rows of different rests meet.
 #[derive(Drop)]

@@ -121,7 +121,7 @@ fn closes(reach: &Reach, trial: &[Edge]) -> Result<bool, AllocError> {
 /// Times both tests of a trial whose edges all touch one number: eight that end there, and one
 /// that begins there.
 fn measure_trials(rt: &(impl CpuClock + Print + AllocGlobal), reach: &Reach, hub: u32) -> Result<()>
-    requires { hub < 16384 }
+    requires { hub < ROW_BITS }
 {
     let mut trial = Vec::new(rt.alloc());
     for before in 0..8u32 {
