@@ -43,7 +43,7 @@ impl Turn<Tally> for Tick {
 }
 
 fn in_one<R: Wait>(rt: &R, lock: &TurnLock<Tally>, mut pass: Pass<Tally>, turns: u32) -> Pass<Tally>
-    requires { pass.lock ≡ lock.now.table }
+    requires { pass.lock ≡ lock.now }
     ensures { (result.lock ≡ pass.lock) × (result.parts ≡ pass.parts) }
 {
     for _ in 0..turns {
@@ -58,7 +58,7 @@ fn in_two<R: Threads + Wait + Sync>(
     mut pass: Pass<Tally>,
     turns: u32,
 ) -> Pass<Tally>
-    requires { (pass.lock ≡ lock.now.table) × (2 ≤ pass.parts) }
+    requires { (pass.lock ≡ lock.now) × (2 ≤ pass.parts) }
     ensures { (result.lock ≡ pass.lock) × (result.parts ≡ pass.parts) }
 {
     let other = lock.split(&mut pass);
@@ -77,7 +77,7 @@ fn in_four<R: Threads + Wait + Sync>(
     mut pass: Pass<Tally>,
     turns: u32,
 ) -> Pass<Tally>
-    requires { (pass.lock ≡ lock.now.table) × (4 ≤ pass.parts) }
+    requires { (pass.lock ≡ lock.now) × (4 ≤ pass.parts) }
     ensures { (result.lock ≡ pass.lock) × (result.parts ≡ pass.parts) }
 {
     let mut other = lock.split(&mut pass);
@@ -87,17 +87,17 @@ fn in_four<R: Threads + Wait + Sync>(
     let (mut pass, other) = join(
         rt,
         ||
-            requires { (pass.lock ≡ lock.now.table) × (2 ≤ pass.parts) }
+            requires { (pass.lock ≡ lock.now) × (2 ≤ pass.parts) }
         { in_two(rt, lock, pass, turns) },
         ||
-            requires { (other.lock ≡ lock.now.table) × (2 ≤ other.parts) }
+            requires { (other.lock ≡ lock.now) × (2 ≤ other.parts) }
         { in_two(rt, lock, other, turns) },
     );
     lock.join(&mut pass, other);
     pass
 }
 
-/// Each thread takes that many turns, and the answer is how many were counted. `None` where memory is wanting.
+/// Each thread takes that many turns, and the answer is how many were counted. `None` when out of memory.
 pub fn count_turns<R: Threads + Wait + Sync>(
     rt: &R,
     alloc: Global,

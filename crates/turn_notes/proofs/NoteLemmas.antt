@@ -1,8 +1,10 @@
 -- Notes and their writers.
 use Rattle.std.proofs.Common.{◌≡◌, ℕ, zero, suc, ◌<◌, ◌≢◌, ◌==◌, ◌||◌, eq-eqb, ne_eqb, Bool, true, false, cond, List, [], ◌∷◌, ◌++◌, length, drop, refl, ap, sym, ◌∙◌, subst, arith, inl, inr, Option, Some, None, MatchOption, IfSome}
-use Rattle.std.specs.List.{filter, All}
+use Rattle.std.specs.List.{filter, All, slice_get}
+use Rattle.std.proofs.lemmas.List.{append-nil}
 use Rattle.std.proofs.lemmas.List.Elements.{All-head, All-tail, All-push, filter-append}
 use Rattle.turn_lock.proofs.Holders.{Any-head}
+use mathlib.Core.List.{IsPrefix}
 use mathlib.Core.Logic.{dite}
 use native.Mathlib.Decide.{ℕ_discrete}
 use Rattle.turn_lock.specs.Passes.{LockValue, PassValue, Joined, Closed}
@@ -104,6 +106,22 @@ started own own' xs ys added (Some k) next does grown is = is ∙ ap (λ l. own 
 pub added_one : (own own' xs ys added : List Note) (done : Option (Unit {0})) (n : Note) → MatchOption done (ys ≡ xs) (λ _. ys ≡ xs ++ n ∷ []) → ys ≡ xs ++ added → own' ≡ own ++ added → IfSome done (λ _. own' ≡ own ++ n ∷ [])
 added_one own own' xs ys added None n does grown is = tt
 added_one own own' xs ys added (Some u) n does grown is = is ∙ ap (λ l. own ++ l) (same_added xs ys added n grown does)
+
+-- nothing was added
+pub none_added : (own own' xs ys added : List Note) → ys ≡ xs → ys ≡ xs ++ added → own' ≡ own ++ added → own' ≡ own
+none_added own own' xs ys added same grown is = is ∙ (ap (λ l. own ++ l) (no_more xs added (sym grown ∙ same)) ∙ append-nil own)
+
+pub adds_none : (xs own ys : List Note) (e : Note) → ys ≡ xs → ys ≡ xs ++ e ∷ [] → IsNewOrOwn writer xs own e
+adds_none xs own ys e same grown = absurd (let z : e ∷ [] ≡ [] = no_more xs (e ∷ []) (sym grown ∙ same) in cc z)
+
+-- a list that begins with another has a first note where that has one, and the same
+pub begun_some : (start xs : List Note) → 0 < length start → IsPrefix start xs → 0 < length xs
+begun_some [] xs some begins = absurd (omega arith)
+begun_some (n ∷ ns) xs some begins = subst (λ (l : List Note). 0 < length l) begins.1 (omega arith)
+
+pub begun_first : (start xs : List Note) (n : Note) → 0 < length start → IsPrefix start xs → slice_get xs 0 ≡ Some n → slice_get start 0 ≡ Some n
+begun_first [] xs n some begins is = absurd (omega arith)
+begun_first (m ∷ ms) xs n some begins is = ap (λ l. slice_get l 0) begins.1 ∙ is
 
 pub some_is : (o : Option ℕ) (P : ℕ → Type 0) (x : ℕ) → o ≡ Some x → IfSome o P → P x
 some_is o P x is h = let Q : Option ℕ → Type 0 = λ p. IfSome p P in subst Q is h

@@ -1,4 +1,4 @@
-//! The state, a list of notes, and the two calls on it that a writer makes in its turns.
+//! The state, a list of notes, and the calls on it that a writer makes in its turns.
 ghost use Rattle.std.specs.Prelude.{◌≡◌, ◌<◌, [], All, IfOk, MatchOption};
 
 use std::alloc::Global;
@@ -47,7 +47,7 @@ impl Logged for Notes {
     ghost key = { λ n. n.by };
 }
 
-/// Adds the first note of a new writer, and answers its number. `None` where memory or a number is wanting.
+/// Adds the first note of a new writer, and answers its number. `None` when out of memory or of numbers.
 pub struct Start;
 
 impl Turn<Notes> for Start {
@@ -66,7 +66,7 @@ impl Turn<Notes> for Start {
     }
 }
 
-/// Adds one more note of a writer that has one. `None` where memory is wanting.
+/// Adds one more note of a writer that has one. `None` when out of memory.
 pub struct Add {
     pub note: Note,
 }
@@ -87,13 +87,31 @@ impl Turn<Notes> for Add {
     }
 }
 
+/// Answers the first note. There has to be one.
+pub struct First;
+
+impl Turn<Notes> for First {
+    type Answer = Note;
+
+    ghost use Rattle.std.specs.Prelude.{◌≡◌, ◌<◌, length, slice_get, Some};
+
+    ghost needs = { λ _ notes. 0 < length notes };
+
+    ghost does = { λ _ x note y. (slice_get x.notes.items 0 ≡ Some note) × (y.notes.items ≡ x.notes.items) };
+
+    fn run(self, state: &mut Notes) -> Note {
+        let First = self;
+        state.notes[0]
+    }
+}
+
 impl Notes {
     ghost use Rattle.std.specs.Prelude.{◌≡◌, ◌∷◌, ◌++◌, [], MatchOption};
     ghost use Rattle.turn_lock.specs.Entries.{HasKey};
     ghost use Rattle.turn_notes.specs.Numbered.{note};
 
-    // The first note of a new writer.
-    fn start(&mut self) -> Option<u64>
+    /// Adds the first note of a new writer, and answers its number. `None` when out of memory or of numbers.
+    pub fn start(&mut self) -> Option<u64>
         ensures { MatchOption result (self.new.notes.items ≡ self.old.notes.items) (λ k. (k ≡ self.old.next) × (self.new.notes.items ≡ self.old.notes.items ++ note k 0 ∷ [])) }
     {
         let by = self.next;

@@ -28,16 +28,21 @@ fn check_notes<R: Abort>(rt: &R, notes: &[Note], numbers: &[u64], count: u64) {
 
 #[test]
 fn two_threads_add_a_hundred_each(rt: HostRuntime) -> Result<(), Fail> {
-    let (notes, a, b) = two_writers(&rt, rt.alloc(), 100).ok_or("memory")?;
-    assert_eq!(rt; notes.as_slice().len(), 200);
-    check_notes(&rt, notes.as_slice(), &[a, b], 100);
+    let mut notes = Notes::new(rt.alloc());
+    let before = notes.start().ok_or("memory")?;
+    let (notes, a, b) = two_writers(&rt, rt.alloc(), notes, 100).ok_or("memory")?;
+    let (first, added) = notes.as_slice().split_first().ok_or("no notes")?;
+    assert_eq!(rt; first.by, before);
+    assert_eq!(rt; added.len(), 200);
+    check_notes(&rt, added, &[a, b], 100);
     Ok(())
 }
 
 // So many that the threads meet, and one has to wake the other.
 #[test]
 fn a_waiting_thread_is_woken(rt: HostRuntime) -> Result<(), Fail> {
-    let (notes, a, b) = two_writers(&rt, rt.alloc(), 20_000).ok_or("memory")?;
+    let none = Notes::new(rt.alloc());
+    let (notes, a, b) = two_writers(&rt, rt.alloc(), none, 20_000).ok_or("memory")?;
     assert_eq!(rt; notes.as_slice().len(), 40_000);
     check_notes(&rt, notes.as_slice(), &[a, b], 20_000);
     Ok(())
@@ -51,9 +56,9 @@ fn write_in_two<R: Threads + Wait + Sync>(
     second: Pass<Notes>,
     count: u64,
 ) -> (Pass<Notes>, Option<(u64, u64)>)
-    requires lock { (first.lock ≡ lock.now.table) × (second.lock ≡ lock.now.table) }
+    requires lock { (first.lock ≡ lock.now) × (second.lock ≡ lock.now) }
     requires fresh { (first.own ≡ []) × (second.own ≡ []) × (0 < count) }
-    ensures lock { result.0.lock ≡ lock.now.table }
+    ensures lock { result.0.lock ≡ lock.now }
     ensures parts { result.0.parts ≡ first.parts + second.parts }
 {
     let ((first, a), (mut second, b)) = join(
@@ -72,10 +77,10 @@ fn write_in_three<R: Threads + Wait + Sync>(
     mut first: Pass<Notes>,
     count: u64,
 ) -> (Pass<Notes>, Option<(u64, (u64, u64))>)
-    requires lock { first.lock ≡ lock.now.table }
+    requires lock { first.lock ≡ lock.now }
     requires parts { 3 ≤ first.parts }
     requires fresh { (first.own ≡ []) × (0 < count) }
-    ensures lock { result.0.lock ≡ lock.now.table }
+    ensures lock { result.0.lock ≡ lock.now }
     ensures parts { result.0.parts ≡ first.parts }
 {
     let second = lock.split(&mut first);
@@ -84,7 +89,7 @@ fn write_in_three<R: Threads + Wait + Sync>(
         rt,
         || write(rt, lock, first, count),
         ||
-            requires { (second.lock ≡ lock.now.table) × (third.lock ≡ lock.now.table)
+            requires { (second.lock ≡ lock.now) × (third.lock ≡ lock.now)
                 × (second.own ≡ []) × (third.own ≡ []) × (0 < count) }
         { write_in_two(rt, lock, second, third, count) },
     );
@@ -105,7 +110,7 @@ fn four_writers<R: Threads + Wait + Sync>(
     let ((first, three), (mut second, last)) = join(
         rt,
         ||
-            requires { (first.lock ≡ lock.table) × (3 ≤ first.parts) × (first.own ≡ []) × (0 < count) }
+            requires { (first.lock ≡ lock) × (3 ≤ first.parts) × (first.own ≡ []) × (0 < count) }
         { write_in_three(rt, &lock, first, count) },
         || write(rt, &lock, second, count),
     );
@@ -120,5 +125,24 @@ fn four_threads_split_inside_and_join_in_another_order(rt: HostRuntime) -> Resul
     let (notes, numbers) = four_writers(&rt, rt.alloc(), 5_000).ok_or("memory")?;
     assert_eq!(rt; notes.as_slice().len(), 20_000);
     check_notes(&rt, notes.as_slice(), &numbers, 5_000);
+    Ok(())
+}
+
+// The first note of a list with one note, and that of all that a writer has added behind it.
+fn show_first<R: Wait>(rt: &R, alloc: Global) -> Option<(Note, Note)> {
+    let mut notes = Notes::new(alloc);
+    notes.start()?;
+    let (lock, mut pass) = TurnLock::new(alloc, notes).ok()?;
+    let one = first_note(rt, &lock, &mut pass);
+    start_writing(rt, &lock, &mut pass)?;
+    let two = first_note(rt, &lock, &mut pass);
+    Some((one, two))
+}
+
+#[test]
+fn the_first_note_stays(rt: HostRuntime) -> Result<(), Fail> {
+    let (one, two) = show_first(&rt, rt.alloc()).ok_or("memory")?;
+    assert_eq!(rt; one.by, 0);
+    assert_eq!(rt; two.by, 0);
     Ok(())
 }
