@@ -1,6 +1,8 @@
 pub mod Events
+pub mod Initial
 pub mod Transactions
 pub mod Relations
+pub mod Forced
 pub mod Legal
 pub mod Chronicle
 pub mod Book
