@@ -4,7 +4,7 @@ use Rattle.cell_base.specs.declared.memory.Memory.{Memory}
 use Rattle.history_core.specs.declared.fault.BookFault.{BookFault}
 use Rattle.sql_tree.specs.declared.statement.Statement.{Statement}
 use Rattle.sql_tree.specs.declared.table.Table.{Table}
-use Rattle.sql_typing.specs.Typed.{typed}
+use Rattle.typing_rules.specs.Typed.{typed}
 use Rattle.statement_course.specs.declared.demand.Outcome.{Outcome}
 use Rattle.statement_course.specs.declared.demand.PlanAnswer.{PlanAnswer}
 use Rattle.statement_course.specs.Course.{Course, first_demand, behind, FitsDemand}

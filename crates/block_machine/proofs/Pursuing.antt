@@ -7,7 +7,7 @@ use Rattle.cell_base.specs.declared.sql_state.SqlState.{SqlState}
 use Rattle.history_core.specs.declared.fault.BookFault.{BookFault}
 use Rattle.sql_tree.specs.declared.statement.Statement.{Statement}
 use Rattle.sql_tree.specs.declared.table.Table.{Table}
-use Rattle.sql_typing.specs.Typed.{typed}
+use Rattle.typing_rules.specs.Typed.{typed}
 use Rattle.statement_course.specs.declared.demand.PlanAnswer.{PlanAnswer}
 use Rattle.statement_course.specs.Course.{first_demand, behind, FitsDemand}
 use Rattle.cell_compile.specs.declared.plan.Plan.{Plan}

@@ -4,7 +4,7 @@ use Rattle.std.specs.Prelude.{slice_index_or}
 use Rattle.sql_tree.specs.declared.table.Table.{Table}
 use Rattle.sound_table.specs.Sound.{IsSound}
 use Rattle.sound_table.proofs.WellFormed.{sound_well}
-use Rattle.typed_parts.specs.Narrow.{AreNarrow}
+use Rattle.typing_parts.specs.Narrow.{AreNarrow}
 use Rattle.cell_compile.specs.Narrow.{AreNarrow as AreNarrowTables}
 
 pub narrow_sound : (tables : List Table) → length tables < 4294967296 → All IsSound tables → AreNarrow tables

@@ -8,7 +8,7 @@ use Rattle.pg_framing.specs.declared.replies.TransactionState.TheVariants as rea
 use Rattle.sql_tree.specs.declared.statement.Statement.{Statement}
 use Rattle.sql_tree.specs.declared.statement.Statement.TheVariants as tree
 use Rattle.sql_tree.specs.declared.table.Table.{Table}
-use Rattle.sql_typing.specs.Building.{built}
+use Rattle.typing_rules.specs.Building.{built}
 use Rattle.sound_table.specs.Sound.{IsSound}
 use Rattle.described_columns.specs.Described.{HasPlainNames}
 use Rattle.outcome_replies.specs.Replies.{CanBeTold}

@@ -4,8 +4,8 @@ ghost use Rattle.std.specs.Fmt.{decimal};
 ghost use Rattle.std.specs.Vec.Iter.{into_iter_items};
 ghost use Rattle.sql_tree.specs.declared.statement.Statement.{Statement as Tree};
 ghost use Rattle.sql_tree.specs.declared.table.Table.{Table as Defined};
-ghost use Rattle.sql_typing.specs.Building.{built as table_built};
-ghost use Rattle.sql_typing.specs.Typed.{typed};
+ghost use Rattle.typing_rules.specs.Building.{built as table_built};
+ghost use Rattle.typing_rules.specs.Typed.{typed};
 ghost use Rattle.sound_table.specs.Sound.{IsSound};
 ghost use Rattle.described_columns.specs.Described.{HasPlainNames};
 ghost use Rattle.outcome_replies.specs.Replies.{CanBeTold};
@@ -28,15 +28,15 @@ use crate::reply::{Fixed, Reply};
 use crate::settings::{HISTORY, is_own, value_of};
 use crate::stage::Stage;
 use crate::step::{Step, calm, fail, or_short};
-use cell_base::{Level, Memory, SqlState, Text};
+use cell_base::{Level, Memory, SqlFault, SqlState, Text};
 use cell_compile::Plan;
 use itoa::Buffer;
 use sql_tree::{CreateTable, Statement, Typed};
-use sql_types::{TypeFault, typed};
+use sql_types::typed;
 use statement_course::Demand;
 use std::alloc::Global;
 use std::vec::IntoIter;
-use table_schema::{SchemaFault, build};
+use table_schema::build;
 
 // The stage of a CREATE TABLE.
 fn define(alloc: Global, create: &CreateTable, block: Block) -> Result<Stage, Memory>
@@ -52,8 +52,8 @@ fn define(alloc: Global, create: &CreateTable, block: Block) -> Result<Stage, Me
 {
     match build(alloc, create) {
         Ok(table) => Ok(Stage::Defining(Kept::new(alloc, table)?, block)),
-        Err(SchemaFault::State(code)) => Ok(fail(code, block)),
-        Err(SchemaFault::Memory) => Err(Memory),
+        Err(SqlFault::State(code)) => Ok(fail(code, block)),
+        Err(SqlFault::Memory) => Err(Memory),
     }
 }
 
@@ -115,8 +115,8 @@ fn answer_alone(
 {
     match typed(alloc, statement, &[]) {
         Ok(alone) => answer_typed(alloc, alone, block, built),
-        Err(TypeFault::State(code)) => Ok(fail(code, block)),
-        Err(TypeFault::Memory) => Err(Memory),
+        Err(SqlFault::State(code)) => Ok(fail(code, block)),
+        Err(SqlFault::Memory) => Err(Memory),
     }
 }
 

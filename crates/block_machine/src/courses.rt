@@ -1,7 +1,7 @@
 // A statement that reads or writes rows: its look, its typing, and its course behind each answer.
 ghost use Rattle.std.specs.Prelude.{◌≡◌, ℕ, ◌+◌, ◌<◌, ◌≤◌, ◌^◌, List, length, All, true, false, IfOk, IfErr};
 ghost use Rattle.sql_tree.specs.declared.table.Table.{Table as Defined};
-ghost use Rattle.sql_typing.specs.Typed.{typed};
+ghost use Rattle.typing_rules.specs.Typed.{typed};
 ghost use Rattle.sound_table.specs.Sound.{IsSound};
 ghost use Rattle.described_columns.specs.Described.{HasPlainNames};
 ghost use Rattle.outcome_replies.specs.Replies.{CanBeTold};
@@ -25,12 +25,12 @@ use crate::kept::Kept;
 use crate::reply::Reply;
 use crate::stage::{Run, Stage};
 use crate::step::{Step, calm, fail, or_short, short};
-use cell_base::{Items, Memory, SqlState};
+use cell_base::{Items, Memory, SqlFault, SqlState};
 use cell_compile::Plan;
 use history_core::BookFault;
 use outcome_replies::reply_of;
 use sql_tree::{Statement, Table, Typed};
-use sql_types::{TypeFault, typed};
+use sql_types::typed;
 use statement_course::{Demand, Outcome, PlanAnswer};
 use std::alloc::Global;
 
@@ -242,8 +242,8 @@ fn judge(
             let plan = planned(alloc, t, known)?;
             begin_course(alloc, plan, block, built)
         }
-        Err(TypeFault::State(code)) => Ok(fail(code, block)),
-        Err(TypeFault::Memory) => Err(Memory),
+        Err(SqlFault::State(code)) => Ok(fail(code, block)),
+        Err(SqlFault::Memory) => Err(Memory),
     }
 }
 

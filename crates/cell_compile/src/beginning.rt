@@ -11,8 +11,7 @@ use crate::ending::{after_step, counted, reply};
 use crate::inserting::next_presence;
 use crate::next::{Insertion, Purpose};
 use crate::parts::{part_of, parts_of_select};
-use cell_base::{Items, Key, Memory, SqlState, Value};
-use expr_eval::EvalFault;
+use cell_base::{Items, Key, Memory, SqlFault, SqlState, Value};
 use row_writes::{insert_writes, rows_to_insert};
 use sql_tree::{Table, TypedChange, TypedInsert, TypedSelect};
 use statement_course::Outcome;
@@ -63,8 +62,8 @@ fn insert_into(alloc: Global, insert: &TypedInsert, table: &Table) -> Result<Pla
 {
     match rows_to_insert(alloc, table, insert.rows.as_slice()) {
         Ok(rows) => with_rows(alloc, insert.table, table, rows),
-        Err(EvalFault::State(code)) => Ok(reply(alloc, Outcome::Failed(code))),
-        Err(EvalFault::Memory) => Err(Memory),
+        Err(SqlFault::State(code)) => Ok(reply(alloc, Outcome::Failed(code))),
+        Err(SqlFault::Memory) => Err(Memory),
     }
 }
 

@@ -12,8 +12,7 @@ ghost use Rattle.cell_compile.specs.Plans.{demanded, ending, left_of, rest_of};
 
 use crate::Plan;
 use crate::next::{Next, Purpose};
-use cell_base::{Cell, Items, Key, Memory, Value};
-use expr_eval::EvalFault;
+use cell_base::{Cell, Items, Key, Memory, SqlFault, Value};
 use row_assembly::rows_of;
 use row_meaning::TableRows;
 use row_writes::{RowChange, changes_of, delete_writes, update_writes};
@@ -72,8 +71,8 @@ fn selection(
 {
     match rows_of(alloc, &select, picture.as_slice()) {
         Ok(rows) => Ok(Outcome::Rows(select.fields, rows)),
-        Err(EvalFault::State(code)) => Ok(Outcome::Failed(code)),
-        Err(EvalFault::Memory) => Err(Memory),
+        Err(SqlFault::State(code)) => Ok(Outcome::Failed(code)),
+        Err(SqlFault::Memory) => Err(Memory),
     }
 }
 
@@ -93,8 +92,8 @@ fn changed(
         shown(picture.as_slice(), change.table),
     ) {
         Ok(made) => changes_made(alloc, &change, made),
-        Err(EvalFault::State(code)) => Ok(reply(alloc, Outcome::Failed(code))),
-        Err(EvalFault::Memory) => Err(Memory),
+        Err(SqlFault::State(code)) => Ok(reply(alloc, Outcome::Failed(code))),
+        Err(SqlFault::Memory) => Err(Memory),
     }
 }
 

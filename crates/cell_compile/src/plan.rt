@@ -44,7 +44,7 @@ impl Plan {
         &self.demand
     }
 
-    /// Goes on with the answer to the demand. After want of memory the plan is spent.
+    /// Goes on with the answer to the demand. Out of memory, the plan is spent.
     pub fn answer(&mut self, answer: PlanAnswer) -> Result<(), Memory>
         requires { FitsDemand (rest_of self.old) answer }
         ensures course { OnOk result (rest_of self.new ≡ behind (rest_of self.old) answer) }

@@ -11,10 +11,10 @@ use Rattle.sql_tree.specs.declared.table.Column.{Column}
 use Rattle.sql_tree.specs.declared.table.Table.{Table}
 use Rattle.sql_tree.specs.declared.typed.TypedChange.{TypedChange}
 use Rattle.sql_tree.specs.declared.typed_expr.TypedExpr.{TypedExpr}
-use Rattle.sql_typing.specs.Assignment.{assigned}
-use Rattle.sql_typing.specs.Outcome.{and_then}
-use Rattle.sql_typing.specs.Sound.{Holds}
-use Rattle.sql_typing.proofs.Numbers.{then_holds}
+use Rattle.typing_rules.specs.Assignment.{assigned}
+use Rattle.typing_rules.specs.Outcome.{and_then}
+use Rattle.typing_rules.specs.Sound.{Holds}
+use Rattle.typing_rules.proofs.Numbers.{then_holds}
 use Rattle.expr_eval.specs.Values.{value_of}
 use Rattle.row_meaning.specs.Pictures.{TableRow, with_values}
 use Rattle.row_meaning.specs.Storing.{checked}

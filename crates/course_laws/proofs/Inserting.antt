@@ -12,11 +12,11 @@ use Rattle.cell_base.specs.declared.value.Value.TheVariants as value
 use Rattle.sql_tree.specs.declared.table.Column.{Column}
 use Rattle.sql_tree.specs.declared.table.Table.{Table}
 use Rattle.sql_tree.specs.declared.typed_expr.TypedExpr.{TypedExpr}
-use Rattle.sql_typing.specs.Assignment.{stored_text, are_spaces, limited_text, assigned}
-use Rattle.sql_typing.specs.Kinds.{fits}
-use Rattle.sql_typing.specs.Outcome.{Outcome, and_then, all_of}
-use Rattle.sql_typing.specs.Sound.{Holds}
-use Rattle.sql_typing.proofs.Numbers.{then_holds}
+use Rattle.typing_rules.specs.Assignment.{stored_text, are_spaces, limited_text, assigned}
+use Rattle.typing_rules.specs.Kinds.{fits}
+use Rattle.typing_rules.specs.Outcome.{Outcome, and_then, all_of}
+use Rattle.typing_rules.specs.Sound.{Holds}
+use Rattle.typing_rules.proofs.Numbers.{then_holds}
 use Rattle.expr_eval.specs.Values.{value_of}
 use Rattle.row_meaning.specs.Pictures.{TableRow}
 use Rattle.row_meaning.specs.Storing.{is_false, has_no_missing, checked, stored}

@@ -15,14 +15,14 @@ use Rattle.sql_tree.specs.declared.typed.TypedChange.{TypedChange}
 use Rattle.sql_tree.specs.declared.typed.TypedInsert.{TypedInsert}
 use Rattle.sql_tree.specs.declared.typed.TypedSelect.{TypedSelect}
 use Rattle.sql_tree.specs.declared.typed_expr.TypedExpr.{TypedExpr}
-use Rattle.sql_typing.specs.Changes.{own_source, filter_of, assigned_from, set_values, update_reads, typed_update, typed_delete}
-use Rattle.sql_typing.specs.Insert.{typed_insert}
-use Rattle.sql_typing.specs.Mentions.{numbers_from, kept, columns_where, in_filter}
-use Rattle.sql_typing.specs.Select as typing
-use Rattle.sql_typing.specs.Sound.{Holds}
-use Rattle.sql_typing.specs.Tables.{Numbered, Target, table_named}
-use Rattle.sql_typing.specs.Typed.{typed}
-use Rattle.sql_typing.proofs.Numbers.{then_holds}
+use Rattle.typing_rules.specs.Changes.{own_source, filter_of, assigned_from, set_values, update_reads, typed_update, typed_delete}
+use Rattle.typing_rules.specs.Insert.{typed_insert}
+use Rattle.typing_rules.specs.Mentions.{numbers_from, kept, columns_where, in_filter}
+use Rattle.typing_rules.specs.Select as typing
+use Rattle.typing_rules.specs.Sound.{Holds}
+use Rattle.typing_rules.specs.Tables.{Numbered, Target, table_named}
+use Rattle.typing_rules.specs.Typed.{typed}
+use Rattle.typing_rules.proofs.Numbers.{then_holds}
 use Rattle.course_laws.proofs.Inserting.{anything}
 
 -- no number stands twice

@@ -8,8 +8,8 @@ use Rattle.sql_tree.specs.declared.typed.Typed.TheVariants.{Select, Insert, Chan
 use Rattle.sql_tree.specs.declared.typed.TypedChange.{TypedChange}
 use Rattle.sql_tree.specs.declared.typed.TypedInsert.{TypedInsert}
 use Rattle.sql_tree.specs.declared.typed.TypedSelect.{TypedSelect}
-use Rattle.sql_typing.specs.Outcome.{Outcome as Result}
-use Rattle.sql_typing.specs.Sound.{Holds}
+use Rattle.typing_rules.specs.Outcome.{Outcome as Result}
+use Rattle.typing_rules.specs.Sound.{Holds}
 use Rattle.row_meaning.specs.Pictures.{TableRow, shown_of}
 use Rattle.row_meaning.specs.Insertion.{rows_to_insert}
 use Rattle.row_meaning.specs.Changes.{changes_of}

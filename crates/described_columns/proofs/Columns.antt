@@ -8,11 +8,11 @@ use Rattle.cell_base.specs.declared.sql_type.SqlType.TheVariants as type
 use Rattle.sql_tree.specs.declared.table.Column.{Column}
 use Rattle.sql_tree.specs.declared.table.Table.{Table}
 use Rattle.sql_grammar.specs.Limited.{IsPlainName}
-use Rattle.sql_typing.specs.Building.{has_length}
-use Rattle.sql_typing.specs.Names.{Source, Found, resolved}
-use Rattle.sql_typing.specs.Sound.{Holds, column_types}
-use Rattle.sql_typing.specs.WellTyped.{ColumnTypes, column_type}
-use Rattle.sql_typing.proofs.Columns.{IsIn, resolved_in}
+use Rattle.typing_rules.specs.Building.{has_length}
+use Rattle.typing_rules.specs.Names.{Source, Found, resolved}
+use Rattle.typing_rules.specs.Sound.{Holds, column_types}
+use Rattle.typing_rules.specs.WellTyped.{ColumnTypes, column_type}
+use Rattle.typing_rules.proofs.Columns.{IsIn, resolved_in}
 use Rattle.sound_table.specs.WellFormed.{IsWellFormed}
 use Rattle.sound_table.proofs.Defaults.{holds_more}
 use Rattle.pg_framing.specs.Replies.{IsShortType}

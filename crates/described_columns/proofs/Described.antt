@@ -8,12 +8,12 @@ use Rattle.sql_tree.specs.declared.table.Table.{Table}
 use Rattle.sql_tree.specs.declared.typed.Typed.{Typed}
 use Rattle.sql_tree.specs.declared.typed.Typed.TheVariants as typed_tree
 use Rattle.sql_tree.specs.declared.typed.TypedSelect.{TypedSelect}
-use Rattle.sql_typing.specs.Changes.{filter_of, typed_update, typed_delete}
-use Rattle.sql_typing.specs.Insert.{typed_insert}
-use Rattle.sql_typing.specs.Select.{entry_sources, entries_of, ons_of, items_from, order_of, place_of, has_aggregate, typed_select}
-use Rattle.sql_typing.specs.Sound.{Holds}
-use Rattle.sql_typing.specs.Typed.{typed}
-use Rattle.sql_typing.proofs.Numbers.{then_holds}
+use Rattle.typing_rules.specs.Changes.{filter_of, typed_update, typed_delete}
+use Rattle.typing_rules.specs.Insert.{typed_insert}
+use Rattle.typing_rules.specs.Select.{entry_sources, entries_of, ons_of, items_from, order_of, place_of, has_aggregate, typed_select}
+use Rattle.typing_rules.specs.Sound.{Holds}
+use Rattle.typing_rules.specs.Typed.{typed}
+use Rattle.typing_rules.proofs.Numbers.{then_holds}
 use Rattle.sound_table.specs.Sound.{IsSound}
 use Rattle.sound_table.specs.WellFormed.{IsWellFormed}
 use Rattle.sound_table.proofs.WellFormed.{sound_well}

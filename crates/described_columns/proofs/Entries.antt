@@ -8,10 +8,10 @@ use Rattle.std.proofs.lemmas.List.Elements.{All-nil, All-cons, All-head, All-tai
 use Rattle.cell_base.specs.declared.sql_state.SqlState.TheVariants.{S42712, S54000}
 use Rattle.sql_tree.specs.declared.statement.TableRef.{TableRef}
 use Rattle.sql_tree.specs.declared.table.Table.{Table}
-use Rattle.sql_typing.specs.Select.{Entry, name_or, entries_from, entries_of, entry_source, entry_sources}
-use Rattle.sql_typing.specs.Sound.{Holds}
-use Rattle.sql_typing.specs.Tables.{Numbered, table_from, table_named}
-use Rattle.sql_typing.proofs.Numbers.{then_holds}
+use Rattle.typing_rules.specs.Select.{Entry, name_or, entries_from, entries_of, entry_source, entry_sources}
+use Rattle.typing_rules.specs.Sound.{Holds}
+use Rattle.typing_rules.specs.Tables.{Numbered, table_from, table_named}
+use Rattle.typing_rules.proofs.Numbers.{then_holds}
 use Rattle.sound_table.specs.WellFormed.{IsWellFormed}
 use Rattle.described_columns.proofs.Columns.{AreShown, columns_shown}
 

@@ -14,7 +14,7 @@ use Rattle.sql_grammar.specs.declared.mark.Mark.{Mark}
 use Rattle.sql_grammar.specs.declared.mark.Mark.TheVariants as m
 use Rattle.sql_grammar.specs.Grammar.{Level, Spells, name_of, within}
 use Rattle.sql_grammar.specs.Limited.{HasNoZero, IsPlainName}
-use Rattle.sql_typing.specs.Select.{plain_name}
+use Rattle.typing_rules.specs.Select.{plain_name}
 use Rattle.sound_table.proofs.Yields.{IsPlainMark, ArePlain}
 
 -- ---- marks

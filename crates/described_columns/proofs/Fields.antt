@@ -3,7 +3,7 @@ use Rattle.std.proofs.Common.{◌≡◌, ℕ, ◌*◌, ◌≤◌, List, [], ◌�
 use Rattle.std.specs.Prelude.{flat_map}
 use Rattle.std.proofs.lemmas.List.{length-map}
 use Rattle.std.proofs.lemmas.List.Elements.{All-head, All-tail, All-map}
-use Rattle.sql_typing.specs.Select.{Output, field_of}
+use Rattle.typing_rules.specs.Select.{Output, field_of}
 use Rattle.pg_framing.specs.Replies.{two_bytes, field_bytes, IsField, IsShortBody}
 use Rattle.pg_framing.proofs.Lengths.{length-two_bytes, length-field_bytes}
 use Rattle.described_columns.specs.Described.{AreDescribed}

@@ -9,14 +9,14 @@ use Rattle.sql_tree.specs.declared.statement.Item.{Item}
 use Rattle.sql_tree.specs.declared.statement.Item.TheVariants as item
 use Rattle.sql_tree.specs.declared.table.Column.{Column}
 use Rattle.sql_grammar.specs.Limited.{IsPlainName}
-use Rattle.sql_typing.specs.declared.place.Place.{Place}
-use Rattle.sql_typing.specs.declared.place.Place.TheVariants.{Row, Group}
-use Rattle.sql_typing.specs.Expressions as forms
-use Rattle.sql_typing.specs.Expressions.{typing}
-use Rattle.sql_typing.specs.Names.{Source}
-use Rattle.sql_typing.specs.Select.{Output, column_outputs, star_outputs, star_of, width, outputs_of, items_from, name_or, plain_name}
-use Rattle.sql_typing.specs.Sound.{Holds}
-use Rattle.sql_typing.proofs.Numbers.{then_holds}
+use Rattle.typing_rules.specs.declared.place.Place.{Place}
+use Rattle.typing_rules.specs.declared.place.Place.TheVariants.{Row, Group}
+use Rattle.typing_rules.specs.Expressions as forms
+use Rattle.typing_rules.specs.Expressions.{typing}
+use Rattle.typing_rules.specs.Names.{Source}
+use Rattle.typing_rules.specs.Select.{Output, column_outputs, star_outputs, star_of, width, outputs_of, items_from, name_or, plain_name}
+use Rattle.typing_rules.specs.Sound.{Holds}
+use Rattle.typing_rules.proofs.Numbers.{then_holds}
 use Rattle.pg_framing.specs.Replies.{IsShortType}
 use Rattle.described_columns.specs.Described.{NamesPlainly}
 use Rattle.described_columns.proofs.Columns.{IsShown, AreShown}

@@ -10,7 +10,7 @@ use Rattle.sql_grammar.specs.Statements as grammar
 use Rattle.sql_grammar.specs.Statements.{as_list}
 use Rattle.sql_grammar.specs.Syntax.{Syntax, expression, map}
 use Rattle.sql_grammar.specs.Words.{marks}
-use Rattle.sql_typing.specs.Select.{name_or}
+use Rattle.typing_rules.specs.Select.{name_or}
 use Rattle.sound_table.proofs.Yields.{Yields, Any, whatever, a_name, both, made, given, passed, one_of, repeated, second, in_list}
 use Rattle.described_columns.specs.Described.{NamesPlainly, HasPlainNames}
 use Rattle.described_columns.proofs.Expressions.{HasPlainName, expression_named}

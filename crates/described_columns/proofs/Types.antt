@@ -12,19 +12,19 @@ use Rattle.sql_tree.specs.declared.op.Aggregate.{Aggregate}
 use Rattle.sql_tree.specs.declared.op.Aggregate.TheVariants.{Count, Sum, Min, Max}
 use Rattle.sql_tree.specs.declared.typed_expr.TypedExpr.{TypedExpr}
 use Rattle.sql_tree.specs.declared.typed_expr.TypedNode.TheVariants as node
-use Rattle.sql_typing.specs.declared.form.Form.{Form}
-use Rattle.sql_typing.specs.declared.form.Form.TheVariants.{Typed, Quoted, Null}
-use Rattle.sql_typing.specs.declared.place.Place.{Place}
-use Rattle.sql_typing.specs.declared.place.Place.TheVariants.{Row, Group}
-use Rattle.sql_typing.specs.Outcome.{Outcome, and_then, all_of}
-use Rattle.sql_typing.specs.Kinds.{is_number, is_numeric, are_comparable, wider, is_within}
-use Rattle.sql_typing.specs.WellTyped.{is_arithmetic, is_connective, aggregate_type}
-use Rattle.sql_typing.specs.Operators.{aggregate_named}
-use Rattle.sql_typing.specs.Names.{Source, Found, resolved}
-use Rattle.sql_typing.specs.Expressions as forms
-use Rattle.sql_typing.specs.Expressions.{settled, condition, compared_to, compared, calculated_with, calculated, joined, combined, negated_form, inverted, null_test, kind_or, kind_of, first_kind, member, typed_form, among, aggregate_of, aggregate, aggregated, starred, inside, column_at, column, typing, typing_step}
-use Rattle.sql_typing.specs.Sound.{Holds}
-use Rattle.sql_typing.proofs.Numbers.{then_holds}
+use Rattle.typing_rules.specs.declared.form.Form.{Form}
+use Rattle.typing_rules.specs.declared.form.Form.TheVariants.{Typed, Quoted, Null}
+use Rattle.typing_rules.specs.declared.place.Place.{Place}
+use Rattle.typing_rules.specs.declared.place.Place.TheVariants.{Row, Group}
+use Rattle.typing_rules.specs.Outcome.{Outcome, and_then, all_of}
+use Rattle.typing_rules.specs.Kinds.{is_number, is_numeric, are_comparable, wider, is_within}
+use Rattle.typing_rules.specs.WellTyped.{is_arithmetic, is_connective, aggregate_type}
+use Rattle.typing_rules.specs.Operators.{aggregate_named}
+use Rattle.typing_rules.specs.Names.{Source, Found, resolved}
+use Rattle.typing_rules.specs.Expressions as forms
+use Rattle.typing_rules.specs.Expressions.{settled, condition, compared_to, compared, calculated_with, calculated, joined, combined, negated_form, inverted, null_test, kind_or, kind_of, first_kind, member, typed_form, among, aggregate_of, aggregate, aggregated, starred, inside, column_at, column, typing, typing_step}
+use Rattle.typing_rules.specs.Sound.{Holds}
+use Rattle.typing_rules.proofs.Numbers.{then_holds}
 use Rattle.pg_framing.specs.Replies.{IsShortType}
 use Rattle.described_columns.proofs.Columns.{AreShown, found_short}
 

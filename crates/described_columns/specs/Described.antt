@@ -9,7 +9,7 @@ use Rattle.sql_tree.specs.declared.statement.Statement.{Statement}
 use Rattle.sql_tree.specs.declared.statement.Statement.TheVariants as tree
 use Rattle.sql_tree.specs.declared.table.OutField.{OutField}
 use Rattle.sql_grammar.specs.Limited.{IsPlainName}
-use Rattle.sql_typing.specs.Select.{name_or, plain_name}
+use Rattle.typing_rules.specs.Select.{name_or, plain_name}
 use Rattle.pg_framing.specs.Replies.{two_bytes, field_bytes, IsField, IsShortBody}
 
 -- The columns fit one message: at most 1,664 of them, each with a name and a type that can be told, and a body that isn't too long.

@@ -9,8 +9,8 @@ use Rattle.sql_tree.specs.declared.typed.Typed.TheVariants as typed_tree
 use Rattle.sql_tree.specs.declared.typed.TypedSelect.{TypedSelect}
 use Rattle.sql_grammar.specs.Limited.{HasNoZero}
 use Rattle.sql_statements.specs.Faults.{AreStatementsOf}
-use Rattle.sql_typing.specs.Select.{typed_select}
-use Rattle.sql_typing.specs.Typed.{typed}
+use Rattle.typing_rules.specs.Select.{typed_select}
+use Rattle.typing_rules.specs.Typed.{typed}
 use Rattle.sound_table.specs.Sound.{IsSound}
 use Rattle.sound_table.specs.WellFormed.{IsWellFormed}
 use Rattle.described_columns.specs.Described.{AreDescribed, HasPlainNames}

@@ -6,10 +6,10 @@ use Rattle.std.proofs.lemmas.Str.{encodes-append, encodes-chars, scalars-chars, 
 use Rattle.std.proofs.Math.Seq.{take-append_seam}
 use Rattle.std.proofs.Math.Utf8.{encode, encodes, scalar, scalars}
 use Rattle.std.specs.Str.{IsUtf8}
+use Rattle.cell_base.specs.declared.sql_fault.SqlFault.{SqlFault}
 use Rattle.cell_base.specs.declared.sql_state.SqlState.TheVariants.{S22001}
 use Rattle.cell_base.specs.declared.value.Value.{Value}
-use Rattle.sql_typing.specs.Assignment.{are_spaces, stored_text, limited_text}
-use Rattle.expr_eval.specs.declared.fault.EvalFault.{EvalFault}
+use Rattle.typing_rules.specs.Assignment.{are_spaces, stored_text, limited_text}
 use Rattle.expr_eval.specs.Answers.{Answers}
 
 parts : (a b : Bool) → (a && b) ≡ true → (a ≡ true) × (b ≡ true)
@@ -66,7 +66,7 @@ right_false false b h = h
 pub too_many : (limit count : ℕ) → (limit == 0 || nat_le count limit) ≡ false → limit ≤ count
 too_many limit count h = let over : limit < count = leb-false count limit (right_false (limit == 0) (nat_le count limit) h) in omega arith
 
-pub limited_is : (r : Result Value EvalFault) (limit count : ℕ) (text : List ℕ) → IsUtf8 text → count ≡ length (chars text) → (limit == 0 || nat_le count limit) ≡ false
+pub limited_is : (r : Result Value SqlFault) (limit count : ℕ) (text : List ℕ) → IsUtf8 text → count ≡ length (chars text) → (limit == 0 || nat_le count limit) ≡ false
     → are_spaces (drop limit (chars text)) ≡ true → Answers r (stored_text (take (length text - (count - limit)) text)) → Answers r (limited_text limit text)
 limited_is r limit count text utf8 counted over spaces given =
     let full : (limit == 0 || nat_le (length (chars text)) limit) ≡ false = ap (λ n. limit == 0 || nat_le n limit) (sym counted) ∙ over in

@@ -12,9 +12,9 @@ use Rattle.sql_tree.specs.declared.op.Aggregate.TheVariants as aggregate
 use Rattle.sql_tree.specs.declared.typed_expr.TypedExpr.{TypedExpr}
 use Rattle.sql_tree.specs.declared.typed_expr.TypedNode.{TypedNode}
 use Rattle.sql_tree.specs.declared.typed_expr.TypedNode.TheVariants.{Constant, Column, Aggregate, Neg, Not, IsNull, Binary, In}
-use Rattle.sql_typing.specs.Kinds.{fits, is_of, is_null, is_null_or_of, wider}
-use Rattle.sql_typing.specs.WellTyped.{ColumnTypes, IsWellTyped, is_arithmetic, is_comparison, is_connective}
-use Rattle.sql_typing.specs.WellTyped.IsWellTyped.{constant, column, count_rows, aggregate_of, negated, denied, tested, computed, compared, connected, among}
+use Rattle.typing_rules.specs.Kinds.{fits, is_of, is_null, is_null_or_of, wider}
+use Rattle.typing_rules.specs.WellTyped.{ColumnTypes, IsWellTyped, is_arithmetic, is_comparison, is_connective}
+use Rattle.typing_rules.specs.WellTyped.IsWellTyped.{constant, column, count_rows, aggregate_of, negated, denied, tested, computed, compared, connected, among}
 use Rattle.expr_eval.specs.Operators as operators
 use Rattle.expr_eval.specs.Operators.{Outcome, is_zero, in_range, flag_or_null, order_of, holds}
 use Rattle.expr_eval.specs.Values as values

@@ -1,7 +1,7 @@
 -- A result is null or of the expression's type.
 use Rattle.std.specs.Prelude.{◌≡◌, true, Ok, Err, ⊤}
 use Rattle.cell_base.specs.declared.sql_type.SqlType.{SqlType}
-use Rattle.sql_typing.specs.Kinds.{is_null_or_of}
+use Rattle.typing_rules.specs.Kinds.{is_null_or_of}
 use Rattle.expr_eval.specs.Operators.{Outcome}
 
 -- a code, or null, or a value of the type

@@ -11,7 +11,7 @@ use Rattle.cell_base.specs.declared.value.Value.{Value}
 use Rattle.cell_base.specs.declared.value.Value.TheVariants.{Null, Flag, Int, Text}
 use Rattle.sql_tree.specs.declared.op.Op.{Op}
 use Rattle.sql_tree.specs.declared.op.Op.TheVariants.{Add, Sub, Mul, Div, Rem, Eq, Ne, Lt, Le, Gt, Ge, And, Or}
-use Rattle.sql_typing.specs.Kinds.{fits}
+use Rattle.typing_rules.specs.Kinds.{fits}
 
 -- a value or a code
 abbrev pub Outcome : Type 0

@@ -7,7 +7,7 @@ use Rattle.sql_tree.specs.declared.op.Op.TheVariants.{Eq}
 use Rattle.sql_tree.specs.declared.typed_expr.TypedExpr.{TypedExpr}
 use Rattle.sql_tree.specs.declared.typed_expr.TypedNode.TheOpen.{TypedNode-F, TypedExpr-F}
 use Rattle.sql_tree.specs.declared.typed_expr.TypedNode.TheFolds.{fold-TypedExpr}
-use Rattle.sql_typing.specs.Kinds.{is_null, is_of}
+use Rattle.typing_rules.specs.Kinds.{is_null, is_of}
 use Rattle.expr_eval.specs.Operators.{Outcome, negated, compared, either, denied, binary}
 
 -- one list of column values for each entry of FROM

@@ -1,11 +1,10 @@
 // The conversion of a value to a column's type.
 ghost use Rattle.std.specs.Prelude.{◌≡◌, ◌≤◌, ◌-◌, ◌==◌, ◌||◌, nat_le, length, take, drop, chars, IfOk};
 ghost use Rattle.std.specs.Str.{IsUtf8};
-ghost use Rattle.sql_typing.specs.Assignment.{assigned, are_spaces, stored_text, limited_text};
+ghost use Rattle.typing_rules.specs.Assignment.{assigned, are_spaces, stored_text, limited_text};
 ghost use Rattle.expr_eval.specs.Answers.{Answers};
 
-use crate::EvalFault;
-use cell_base::{Memory, SqlState, SqlType, Text, TextFault, Value};
+use cell_base::{Memory, SqlFault, SqlState, SqlType, Text, TextFault, Value};
 use std::alloc::Global;
 
 /// The most bytes of a text in a cell.
@@ -15,7 +14,7 @@ const MAX_BYTES: usize = 65_536;
 ///
 /// `S22003`: an integer that the type doesn't have. `S22001`: more characters than a varchar's limit, and not all of what is
 /// too much is spaces. `S54000`: a text of more than 65,536 bytes. `S42804`: the value doesn't go to the type.
-pub fn assign(alloc: Global, value: Value, kind: SqlType) -> Result<Value, EvalFault>
+pub fn assign(alloc: Global, value: Value, kind: SqlType) -> Result<Value, SqlFault>
     ensures { Answers result (assigned kind value) }
 {
     match (kind, value) {
@@ -25,30 +24,30 @@ pub fn assign(alloc: Global, value: Value, kind: SqlType) -> Result<Value, EvalF
         (SqlType::Bigint, Value::Int(n)) => Ok(Value::Int(n)),
         (SqlType::Text, Value::Text(text)) => stored(text),
         (SqlType::Varchar(limit), Value::Text(text)) => limited(alloc, limit, text),
-        _ => Err(EvalFault::State(SqlState::S42804)),
+        _ => Err(SqlFault::State(SqlState::S42804)),
     }
 }
 
-fn integer(n: i64) -> Result<Value, EvalFault>
+fn integer(n: i64) -> Result<Value, SqlFault>
     ensures { Answers result (assigned SqlType.Integer (Value.Int n)) }
 {
     match i32::try_from(n) {
         Ok(_) => Ok(Value::Int(n)),
-        Err(_) => Err(EvalFault::State(SqlState::S22003)),
+        Err(_) => Err(SqlFault::State(SqlState::S22003)),
     }
 }
 
-fn stored(text: Text) -> Result<Value, EvalFault>
+fn stored(text: Text) -> Result<Value, SqlFault>
     ensures { Answers result (stored_text text) }
 {
     if text.bytes().len() > MAX_BYTES {
-        Err(EvalFault::State(SqlState::S54000))
+        Err(SqlFault::State(SqlState::S54000))
     } else {
         Ok(Value::Text(text))
     }
 }
 
-fn limited(alloc: Global, limit: u32, text: Text) -> Result<Value, EvalFault>
+fn limited(alloc: Global, limit: u32, text: Text) -> Result<Value, SqlFault>
     ensures { Answers result (limited_text limit text) }
 {
     let count = character_count(&text);
@@ -58,7 +57,7 @@ fn limited(alloc: Global, limit: u32, text: Text) -> Result<Value, EvalFault>
     } else if has_spaces_from(&text, limit) {
         shortened(alloc, &text, count - limit)
     } else {
-        Err(EvalFault::State(SqlState::S22001))
+        Err(SqlFault::State(SqlState::S22001))
     }
 }
 
@@ -84,14 +83,14 @@ fn has_spaces_from(text: &Text, place: usize) -> bool
 }
 
 /// The text without so many spaces at its end.
-fn shortened(alloc: Global, text: &Text, spaces: usize) -> Result<Value, EvalFault>
+fn shortened(alloc: Global, text: &Text, spaces: usize) -> Result<Value, SqlFault>
     requires fits { spaces ≤ length text.now }
     requires utf8 { IsUtf8 (take (length text.now - spaces) text.now) }
     ensures { Answers result (stored_text (take (length text.now - spaces) text.now)) }
 {
     let end = text.bytes().len() - spaces;
     if end > MAX_BYTES {
-        Err(EvalFault::State(SqlState::S54000))
+        Err(SqlFault::State(SqlState::S54000))
     } else {
         Ok(Value::Text(prefix(alloc, text, end)?))
     }

@@ -2,7 +2,7 @@
 ghost use Rattle.std.specs.Prelude.{◌≡◌, Ok, IfOk, OnErr};
 ghost use Rattle.expr_eval.specs.Answers.{IsTextOutcome};
 ghost use Rattle.expr_eval.specs.Lent.{owned};
-ghost use Rattle.sql_typing.specs.Kinds as kinds;
+ghost use Rattle.typing_rules.specs.Kinds as kinds;
 
 use cell_base::{Memory, Text, Value};
 use std::alloc::Global;

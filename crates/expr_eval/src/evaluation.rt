@@ -1,24 +1,23 @@
 // The value of an expression.
 ghost use Rattle.std.specs.Prelude.{◌≡◌, true, Ok, IfOk};
-ghost use Rattle.sql_typing.specs.Kinds.{is_null_or_of};
-ghost use Rattle.sql_typing.specs.WellTyped.{ColumnTypes, IsWellTyped};
+ghost use Rattle.typing_rules.specs.Kinds.{is_null_or_of};
+ghost use Rattle.typing_rules.specs.WellTyped.{ColumnTypes, IsWellTyped};
 ghost use Rattle.expr_eval.specs.Operators as operators;
 ghost use Rattle.expr_eval.specs.Answers.{Answers};
 ghost use Rattle.expr_eval.specs.Lent.{owned, seen, Lends};
 ghost use Rattle.expr_eval.specs.Values.{value_of, values_of, among};
 
-use crate::EvalFault;
 use crate::compare::compared;
 use crate::compute::{arithmetic, negated};
 use crate::datum::{Datum, to_value};
 use crate::logic::{both, denied, either, null_test};
 use crate::lookup::{column, of_kind};
-use cell_base::{SqlState, SqlType, Value};
+use cell_base::{SqlFault, SqlState, SqlType, Value};
 use sql_tree::{Op, TypedExpr, TypedNode};
 use std::alloc::Global;
 
 /// The value of an expression over a row, which has one list of column values for each entry of FROM.
-pub fn eval(alloc: Global, expr: &TypedExpr, row: &[&[Value]]) -> Result<Value, EvalFault>
+pub fn eval(alloc: Global, expr: &TypedExpr, row: &[&[Value]]) -> Result<Value, SqlFault>
     ensures exact { Answers result (value_of expr.now (seen row.now)) }
     ensures typed { (types : ColumnTypes) → IsWellTyped types expr.now
         → IfOk result (λ value. is_null_or_of (expr.now).kind value ≡ true) }

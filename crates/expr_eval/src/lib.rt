@@ -9,7 +9,6 @@ mod compare;
 mod compute;
 mod datum;
 mod evaluation;
-mod fault;
 mod logic;
 mod lookup;
 
@@ -18,6 +17,5 @@ pub use compare::{compared, order_of};
 pub use compute::negated;
 pub use datum::{Datum, is_null, to_value};
 pub use evaluation::{binary, datum_of, eval};
-pub use fault::EvalFault;
 pub use logic::{denied, either, null_test};
 pub use lookup::of_kind;

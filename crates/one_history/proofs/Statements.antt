@@ -13,9 +13,9 @@ use Rattle.sql_tree.specs.declared.statement.Statement.TheVariants as tree
 use Rattle.sql_tree.specs.declared.statement.TableRef.{TableRef}
 use Rattle.sql_tree.specs.declared.table.Table.{Table}
 use Rattle.sql_tree.specs.declared.typed.Typed.{Typed}
-use Rattle.sql_typing.specs.Outcome.{Outcome as Result}
-use Rattle.sql_typing.specs.Building.{built}
-use Rattle.sql_typing.specs.Typed.{typed}
+use Rattle.typing_rules.specs.Outcome.{Outcome as Result}
+use Rattle.typing_rules.specs.Building.{built}
+use Rattle.typing_rules.specs.Typed.{typed}
 use Rattle.statement_course.specs.declared.demand.Outcome.{Outcome}
 use Rattle.statement_course.specs.declared.demand.Outcome.TheVariants as outcomes
 use Rattle.statement_course.specs.Course.{Course, scan, touch, write, done}

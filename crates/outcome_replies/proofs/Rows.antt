@@ -14,9 +14,9 @@ use Rattle.pg_framing.specs.Replies.{two_bytes, value_bytes, framed, data_row}
 use Rattle.pg_framing.proofs.Numbers.{length-four_bytes}
 use Rattle.sql_tree.specs.declared.typed.TypedSelect.{TypedSelect}
 use Rattle.sql_tree.specs.declared.typed_expr.TypedExpr.{TypedExpr}
-use Rattle.sql_typing.specs.Outcome.{Outcome, all_of}
-use Rattle.sql_typing.specs.Sound.{Holds}
-use Rattle.sql_typing.proofs.Numbers.{then_holds}
+use Rattle.typing_rules.specs.Outcome.{Outcome, all_of}
+use Rattle.typing_rules.specs.Sound.{Holds}
+use Rattle.typing_rules.proofs.Numbers.{then_holds}
 use Rattle.expr_eval.specs.Values.{Row, value_of}
 use Rattle.row_meaning.specs.declared.picture.TableRows.{TableRows}
 use Rattle.row_meaning.specs.Pictures.{values_shown}

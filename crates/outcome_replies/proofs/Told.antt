@@ -14,14 +14,14 @@ use Rattle.sql_tree.specs.declared.typed.TypedChange.{TypedChange}
 use Rattle.sql_tree.specs.declared.typed.TypedInsert.{TypedInsert}
 use Rattle.sql_tree.specs.declared.typed.TypedSelect.{TypedSelect}
 use Rattle.sql_tree.specs.declared.typed_expr.TypedExpr.{TypedExpr}
-use Rattle.sql_typing.specs.Outcome.{Outcome as Result}
-use Rattle.sql_typing.specs.Sound.{Holds}
-use Rattle.sql_typing.specs.Select as typing
-use Rattle.sql_typing.specs.Changes.{filter_of}
-use Rattle.sql_typing.specs.Insert.{typed_insert}
-use Rattle.sql_typing.specs.Changes.{typed_update, typed_delete}
-use Rattle.sql_typing.specs.Typed.{typed}
-use Rattle.sql_typing.proofs.Numbers.{then_holds}
+use Rattle.typing_rules.specs.Outcome.{Outcome as Result}
+use Rattle.typing_rules.specs.Sound.{Holds}
+use Rattle.typing_rules.specs.Select as typing
+use Rattle.typing_rules.specs.Changes.{filter_of}
+use Rattle.typing_rules.specs.Insert.{typed_insert}
+use Rattle.typing_rules.specs.Changes.{typed_update, typed_delete}
+use Rattle.typing_rules.specs.Typed.{typed}
+use Rattle.typing_rules.proofs.Numbers.{then_holds}
 use Rattle.described_columns.specs.Described.{AreDescribed}
 use Rattle.described_columns.proofs.Described.{statement_described}
 use Rattle.row_meaning.specs.Pictures.{TableRow, shown_of}

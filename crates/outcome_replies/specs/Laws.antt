@@ -3,7 +3,7 @@ use Rattle.std.specs.Prelude.{◌≡◌, List, All, Ok}
 use Rattle.sql_tree.specs.declared.statement.Statement.{Statement}
 use Rattle.sql_tree.specs.declared.table.Table.{Table}
 use Rattle.sql_tree.specs.declared.typed.Typed.{Typed}
-use Rattle.sql_typing.specs.Typed.{typed}
+use Rattle.typing_rules.specs.Typed.{typed}
 use Rattle.sound_table.specs.Sound.{IsSound}
 use Rattle.described_columns.specs.Described.{HasPlainNames}
 use Rattle.statement_course.specs.Statements.{course_of}

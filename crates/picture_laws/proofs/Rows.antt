@@ -9,7 +9,7 @@ use Rattle.cell_base.specs.declared.cell.Cell.TheVariants.{Field}
 use Rattle.cell_base.specs.declared.key.Key.{Key}
 use Rattle.cell_base.specs.declared.value.Value.{Value}
 use Rattle.cell_base.specs.declared.value.Value.TheVariants.{Null}
-use Rattle.sql_typing.specs.Mentions.{numbers_from}
+use Rattle.typing_rules.specs.Mentions.{numbers_from}
 use Rattle.row_meaning.specs.Pictures.{key_value, with_values, row_values}
 use Rattle.statement_course.specs.Reading.{Part}
 use Rattle.picture_laws.specs.Shown.{shown_at}

@@ -11,8 +11,8 @@ use Rattle.cell_base.specs.declared.value.Value.{Value}
 use Rattle.cell_base.specs.declared.value.Value.TheVariants.{Flag, Null}
 use Rattle.sql_tree.specs.declared.table.Table.{Table}
 use Rattle.sql_tree.specs.declared.typed.TypedChange.{TypedChange}
-use Rattle.sql_typing.specs.Mentions.{numbers_from}
-use Rattle.sql_typing.specs.Outcome.{Outcome as Result}
+use Rattle.typing_rules.specs.Mentions.{numbers_from}
+use Rattle.typing_rules.specs.Outcome.{Outcome as Result}
 use Rattle.row_meaning.specs.Pictures.{TableRow}
 use Rattle.row_meaning.specs.Changes as changes
 use Rattle.statement_course.specs.declared.demand.Demand.{Demand}

@@ -8,7 +8,7 @@ use Rattle.cell_base.specs.declared.value.Value.{Value}
 use Rattle.cell_base.specs.declared.value.Value.TheVariants.{Null}
 use Rattle.sql_tree.specs.declared.table.Table.{Table}
 use Rattle.sql_tree.specs.declared.typed.TypedSelect.{TypedSelect}
-use Rattle.sql_typing.specs.Mentions.{numbers_from}
+use Rattle.typing_rules.specs.Mentions.{numbers_from}
 use Rattle.row_meaning.specs.declared.picture.TableRows.{TableRows}
 use Rattle.row_meaning.specs.Combinations.{is_true}
 use Rattle.row_meaning.specs.Pictures.{TableRow, key_value}

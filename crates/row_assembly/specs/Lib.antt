@@ -1,3 +1,3 @@
-pub mod Gives
+pub mod GivesBy
 pub mod Seen
 pub mod Gathering

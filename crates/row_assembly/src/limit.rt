@@ -2,10 +2,9 @@
 ghost use Rattle.std.specs.Prelude.{◌≡◌, ◌^◌, ◌-◌, length, min, nat_le, sum_by};
 ghost use Rattle.pg_framing.specs.Replies.{value_bytes, data_row};
 ghost use Rattle.row_meaning.specs.Selection as meaning;
-ghost use Rattle.row_assembly.specs.Gives.{Gives};
+ghost use Rattle.row_meaning.specs.Gives.{Gives};
 
-use cell_base::{Items, SqlState, Value};
-use expr_eval::EvalFault;
+use cell_base::{Items, SqlFault, SqlState, Value};
 use itoa::Buffer;
 
 /// The most bytes of a result's rows, as messages.
@@ -48,12 +47,12 @@ fn is_within(rows: &[Items<Value>]) -> bool
 }
 
 /// The rows, where they aren't too many bytes.
-pub fn limited(rows: Vec<Items<Value>>) -> Result<Items<Items<Value>>, EvalFault>
+pub fn limited(rows: Vec<Items<Value>>) -> Result<Items<Items<Value>>, SqlFault>
     ensures { Gives result (meaning.limited rows.items) }
 {
     if is_within(&rows) {
         Ok(Items::from_vec(rows))
     } else {
-        Err(EvalFault::State(SqlState::S54000))
+        Err(SqlFault::State(SqlState::S54000))
     }
 }

@@ -1,16 +1,15 @@
 // What a statement comes to over rows, as text: the values of a row stand between commas, the rows between semicolons.
 ghost use Rattle.std.specs.Prelude.{◌≡◌, true};
-ghost use Rattle.typed_parts.specs.Narrow.{AreNarrow};
+ghost use Rattle.typing_parts.specs.Narrow.{AreNarrow};
 
 use crate::slow;
 use crate::world::MAX_TEXT;
-use cell_base::{Items, Text, Value};
-use expr_eval::EvalFault;
+use cell_base::{Items, SqlFault, Text, Value};
 use row_assembly::rows_of;
 use row_meaning::TableRows;
 use sql_statements::statements;
 use sql_tree::{Statement, Table, Typed, TypedSelect};
-use sql_types::{TypeFault, typed};
+use sql_types::typed;
 use std::alloc::{AllocError, Global};
 
 // ---- rows as text
@@ -53,12 +52,12 @@ fn rows_text(alloc: Global, rows: &[Items<Value>]) -> Result<String, AllocError>
 
 fn shown(
     alloc: Global,
-    answer: Result<Items<Items<Value>>, EvalFault>,
+    answer: Result<Items<Items<Value>>, SqlFault>,
 ) -> Result<String, AllocError> {
     match answer {
         Ok(rows) => rows_text(alloc, rows.as_slice()),
-        Err(EvalFault::State(code)) => format!(in alloc; "{code:?}"),
-        Err(EvalFault::Memory) => String::from_str(alloc, "memory"),
+        Err(SqlFault::State(code)) => format!(in alloc; "{code:?}"),
+        Err(SqlFault::Memory) => String::from_str(alloc, "memory"),
     }
 }
 
@@ -75,7 +74,7 @@ pub enum Ask {
 
 fn counted(
     alloc: Global,
-    answer: Result<Items<Items<Value>>, EvalFault>,
+    answer: Result<Items<Items<Value>>, SqlFault>,
 ) -> Result<String, AllocError> {
     match answer {
         Ok(rows) => {
@@ -145,8 +144,8 @@ fn typed_answer(
     match typed(alloc, found, tables) {
         Ok(Typed::Select(select)) => answered(alloc, &select, picture, ask),
         Ok(_) => String::from_str(alloc, "no query"),
-        Err(TypeFault::State(code)) => format!(in alloc; "untyped {code:?}"),
-        Err(TypeFault::Memory) => String::from_str(alloc, "memory"),
+        Err(SqlFault::State(code)) => format!(in alloc; "untyped {code:?}"),
+        Err(SqlFault::Memory) => String::from_str(alloc, "memory"),
     }
 }
 

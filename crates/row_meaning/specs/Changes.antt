@@ -10,9 +10,9 @@ use Rattle.sql_tree.specs.declared.table.Column.{Column}
 use Rattle.sql_tree.specs.declared.table.Table.{Table}
 use Rattle.sql_tree.specs.declared.typed.TypedChange.{TypedChange}
 use Rattle.sql_tree.specs.declared.typed_expr.TypedExpr.{TypedExpr}
-use Rattle.sql_typing.specs.Outcome.{Outcome, and_then, all_of}
-use Rattle.sql_typing.specs.Assignment.{assigned}
-use Rattle.sql_typing.specs.Mentions.{mentions}
+use Rattle.typing_rules.specs.Outcome.{Outcome, and_then, all_of}
+use Rattle.typing_rules.specs.Assignment.{assigned}
+use Rattle.typing_rules.specs.Mentions.{mentions}
 use Rattle.expr_eval.specs.Values.{value_of}
 use Rattle.row_meaning.specs.Pictures.{TableRow, with_values}
 use Rattle.row_meaning.specs.Combinations.{is_true}

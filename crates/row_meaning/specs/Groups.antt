@@ -12,8 +12,8 @@ use Rattle.sql_tree.specs.declared.op.Aggregate.TheVariants.{Count, Sum, Min, Ma
 use Rattle.sql_tree.specs.declared.typed_expr.TypedExpr.{TypedExpr}
 use Rattle.sql_tree.specs.declared.typed_expr.TypedNode.TheOpen.{TypedNode-F, TypedExpr-F}
 use Rattle.sql_tree.specs.declared.typed_expr.TypedNode.TheFolds.{fold-TypedExpr}
-use Rattle.sql_typing.specs.Outcome.{Outcome, and_then, all_of}
-use Rattle.sql_typing.specs.Kinds.{is_null, fits, is_within}
+use Rattle.typing_rules.specs.Outcome.{Outcome, and_then, all_of}
+use Rattle.typing_rules.specs.Kinds.{is_null, fits, is_within}
 use Rattle.expr_eval.specs.Operators.{negated, denied, binary, order_of}
 use Rattle.expr_eval.specs.Values.{Row, of_kind, of_one, of_both, among, denied_if, null_test, node_value}
 

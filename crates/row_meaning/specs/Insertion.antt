@@ -12,8 +12,8 @@ use Rattle.cell_base.specs.declared.value.Value.TheVariants as value
 use Rattle.sql_tree.specs.declared.table.Column.{Column}
 use Rattle.sql_tree.specs.declared.table.Table.{Table}
 use Rattle.sql_tree.specs.declared.typed_expr.TypedExpr.{TypedExpr}
-use Rattle.sql_typing.specs.Outcome.{Outcome, and_then, all_of}
-use Rattle.sql_typing.specs.Assignment.{assigned}
+use Rattle.typing_rules.specs.Outcome.{Outcome, and_then, all_of}
+use Rattle.typing_rules.specs.Assignment.{assigned}
 use Rattle.expr_eval.specs.Values.{value_of}
 use Rattle.row_meaning.specs.Pictures.{TableRow}
 use Rattle.row_meaning.specs.Storing.{stored}

@@ -5,8 +5,8 @@ use Rattle.cell_base.specs.declared.value.Value.{Value}
 use Rattle.cell_base.specs.declared.value.Value.TheVariants.{Flag}
 use Rattle.sql_tree.specs.declared.table.Column.{Column}
 use Rattle.sql_tree.specs.declared.typed_expr.TypedExpr.{TypedExpr}
-use Rattle.sql_typing.specs.Outcome.{Outcome, and_then}
-use Rattle.sql_typing.specs.Kinds.{is_null}
+use Rattle.typing_rules.specs.Outcome.{Outcome, and_then}
+use Rattle.typing_rules.specs.Kinds.{is_null}
 use Rattle.expr_eval.specs.Values.{value_of}
 
 -- whether a column that is never null has a null

@@ -11,7 +11,7 @@ use Rattle.sql_tree.specs.declared.typed_expr.TypedNode.{TypedNode}
 use Rattle.sql_tree.specs.declared.typed_expr.TypedNode.TheVariants.{Aggregate, Binary, In, rolls-Aggregate, rolls-Binary, rolls-In}
 use Rattle.sql_tree.specs.declared.typed_expr.TypedNode.TheOpen.{TypedNode-F}
 use Rattle.sql_tree.specs.declared.typed_expr.TypedNode.TheFolds.{fold-roll-TypedNode, fold_out-TypedExpr}
-use Rattle.sql_typing.specs.Outcome.{Outcome}
+use Rattle.typing_rules.specs.Outcome.{Outcome}
 use Rattle.expr_eval.specs.Values.{Row}
 use Rattle.row_meaning.specs.Groups as groups
 use Rattle.row_meaning.specs.Groups.{Meaning, meaning, node_meaning, expr_meaning, call_of, calls_of, operand_of}

@@ -9,7 +9,7 @@ use Rattle.sql_tree.specs.declared.typed_expr.TypedExpr.{TypedExpr, roll-TypedEx
 use Rattle.sql_tree.specs.declared.typed_expr.TypedNode.{TypedNode, map-TypedNode}
 use Rattle.sql_tree.specs.declared.typed_expr.TypedNode.TheOpen.{TypedNode-F}
 use Rattle.sql_tree.specs.declared.typed_expr.TypedNode.TheFolds.{fold-TypedNode, fold-roll-TypedNode, fold-roll-TypedExpr, ind-TypedExpr}
-use Rattle.sql_typing.specs.Outcome.{Outcome, and_then, all_of}
+use Rattle.typing_rules.specs.Outcome.{Outcome, and_then, all_of}
 use Rattle.expr_eval.specs.Operators.{negated, compared, either, denied, binary}
 use Rattle.expr_eval.specs.Values.{Row, of_kind, of_one, of_both, among, denied_if, null_test}
 use Rattle.expr_eval.proofs.Members.{go_on, go_on_failed, among_failed, among_from_false}

@@ -6,7 +6,7 @@ use Rattle.sql_tree.specs.declared.typed_expr.TypedExpr.{TypedExpr}
 use Rattle.sql_tree.specs.declared.typed_expr.TypedNode.{TypedNode, map-TypedNode}
 use Rattle.sql_tree.specs.declared.typed_expr.TypedNode.TheOpen.{TypedNode-F}
 use Rattle.sql_tree.specs.declared.typed_expr.TypedNode.TheFolds.{fold-TypedNode, fold-roll-TypedNode, fold-roll-TypedExpr, ind-TypedExpr}
-use Rattle.sql_typing.specs.Outcome.{Outcome}
+use Rattle.typing_rules.specs.Outcome.{Outcome}
 use Rattle.expr_eval.specs.Values.{Row, value_of, node_value, expr_value}
 use Rattle.expr_eval.proofs.Nodes.{node_of}
 use Rattle.row_meaning.specs.Groups.{Meaning, meaning, node_in_row, node_meaning, expr_meaning}

@@ -1,12 +1,12 @@
 -- What the totals stand for, row by row.
 use Rattle.std.proofs.Common.{◌≡◌, List, [], ◌∷◌, ◌++◌, map, fold, Ok, Err, Result, refl, sym, ap, ◌∙◌, subst}
 use Rattle.std.proofs.lemmas.List.Sums.{fold-append}
+use Rattle.cell_base.specs.declared.sql_fault.SqlFault.{SqlFault}
+use Rattle.cell_base.specs.declared.sql_fault.SqlFault.TheVariants.{State, Memory}
 use Rattle.cell_base.specs.declared.sql_state.SqlState.{SqlState}
 use Rattle.cell_base.specs.declared.value.Value.{Value}
 use Rattle.sql_tree.specs.declared.typed_expr.TypedExpr.{TypedExpr}
-use Rattle.sql_typing.specs.Outcome.{Outcome, and_then, all_of}
-use Rattle.expr_eval.specs.declared.fault.EvalFault.{EvalFault}
-use Rattle.expr_eval.specs.declared.fault.EvalFault.TheVariants.{State, Memory}
+use Rattle.typing_rules.specs.Outcome.{Outcome, and_then, all_of}
 use Rattle.expr_eval.specs.Values.{Row}
 use Rattle.row_meaning.specs.Groups as groups
 use Rattle.row_meaning.specs.Groups.{calls_of, call_value, group_value, operand_values, group_values, total, not_null}
@@ -90,7 +90,7 @@ evaluated_fault exprs rows more row values code h e =
     and_then (all_of (map (λ call. call_value call (rows ++ row ∷ more)) (calls_of exprs))) (λ totals. all_of (map (λ e. group_value e (rows ++ row ∷ more)) exprs))))
     (all_fault (operand_values (calls_of exprs)) rows row more values code h e)
 
-pub adds : (r : Result (Unit {0}) EvalFault) (old new : Totals) (exprs : List TypedExpr) (rows : List Row) (row : Row) → Stands old exprs rows → Leaves r new.calls.items (all_of (map (added_to row) old.calls.items)) → Adds r new exprs rows row
+pub adds : (r : Result (Unit {0}) SqlFault) (old new : Totals) (exprs : List TypedExpr) (rows : List Row) (row : Row) → Stands old exprs rows → Leaves r new.calls.items (all_of (map (added_to row) old.calls.items)) → Adds r new exprs rows row
 adds (Ok u) old new exprs rows row s h =
     let all = (one_more rows row old.calls.items (calls_of exprs) s.tallied).ok new.calls.items h in
     record {

@@ -9,8 +9,8 @@ use Rattle.cell_base.specs.declared.value.Value.{Value}
 use Rattle.cell_base.specs.declared.value.Value.TheVariants.{Int, Wide}
 use Rattle.sql_tree.specs.declared.op.Aggregate.{Aggregate}
 use Rattle.sql_tree.specs.declared.op.Aggregate.TheVariants as aggregate
-use Rattle.sql_typing.specs.Outcome.{Outcome, and_then}
-use Rattle.sql_typing.specs.Kinds.{is_null, fits, is_within}
+use Rattle.typing_rules.specs.Outcome.{Outcome, and_then}
+use Rattle.typing_rules.specs.Kinds.{is_null, fits, is_within}
 use Rattle.row_meaning.specs.Groups.{number_in, integer, sum_from, sum_of, better, best, total, not_null}
 use Rattle.row_totals.specs.declared.tally.Partial.TheVariants.{Nothing, Number, Outside}
 use Rattle.row_totals.specs.declared.tally.Tally.{Tally}

@@ -9,7 +9,7 @@ use Rattle.sql_tree.specs.declared.op.Op.TheVariants.{Eq}
 use Rattle.sql_tree.specs.declared.typed_expr.TypedExpr.{TypedExpr}
 use Rattle.sql_tree.specs.declared.typed_expr.TypedNode.TheOpen.{TypedNode-F, TypedExpr-F}
 use Rattle.sql_tree.specs.declared.typed_expr.TypedNode.TheFolds.{fold-TypedExpr}
-use Rattle.sql_typing.specs.Outcome.{Outcome, and_then}
+use Rattle.typing_rules.specs.Outcome.{Outcome, and_then}
 use Rattle.expr_eval.specs.declared.datum.Datum.{Datum}
 use Rattle.expr_eval.specs.Lent.{owned}
 use Rattle.expr_eval.specs.Operators.{negated, compared, either, denied, binary}

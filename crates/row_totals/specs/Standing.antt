@@ -1,10 +1,10 @@
 -- What the totals stand for: the rows that were added so far.
 use Rattle.std.specs.Prelude.{◌≡◌, List, [], ◌∷◌, ◌++◌, map, fold, Result, Ok, Err, ⊤}
+use Rattle.cell_base.specs.declared.sql_fault.SqlFault.{SqlFault}
+use Rattle.cell_base.specs.declared.sql_fault.SqlFault.TheVariants.{State, Memory}
 use Rattle.cell_base.specs.declared.value.Value.{Value}
 use Rattle.sql_tree.specs.declared.typed_expr.TypedExpr.{TypedExpr}
-use Rattle.sql_typing.specs.Outcome.{Outcome, and_then, all_of}
-use Rattle.expr_eval.specs.declared.fault.EvalFault.{EvalFault}
-use Rattle.expr_eval.specs.declared.fault.EvalFault.TheVariants.{State, Memory}
+use Rattle.typing_rules.specs.Outcome.{Outcome, and_then, all_of}
 use Rattle.expr_eval.specs.Values.{Row}
 use Rattle.row_meaning.specs.Groups as groups
 use Rattle.row_meaning.specs.Groups.{calls_of, operand_values, group_values}
@@ -30,7 +30,7 @@ pub record Stands (totals : Totals) (exprs : List TypedExpr) (rows : List Row) :
   pub tallied : AreTallied rows totals.calls.items (calls_of exprs)
 
 -- After one row more the totals stand for the rows with it. A code is that of the whole, whichever rows would follow.
-abbrev pub Adds : Result (Unit {0}) EvalFault → Totals → List TypedExpr → List Row → Row → Type 0
+abbrev pub Adds : Result (Unit {0}) SqlFault → Totals → List TypedExpr → List Row → Row → Type 0
 Adds (Ok u) new exprs rows row = Stands new exprs (rows ++ row ∷ [])
 Adds (Err (State code)) new exprs rows row = (more : List Row) → group_values exprs (rows ++ row ∷ more) ≡ Err code
 Adds (Err Memory) new exprs rows row = ⊤

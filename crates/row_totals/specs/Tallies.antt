@@ -9,8 +9,8 @@ use Rattle.cell_base.specs.declared.value.Value.{Value}
 use Rattle.cell_base.specs.declared.value.Value.TheVariants.{Null}
 use Rattle.sql_tree.specs.declared.op.Aggregate.{Aggregate}
 use Rattle.sql_tree.specs.declared.op.Aggregate.TheVariants as aggregate
-use Rattle.sql_typing.specs.Outcome.{Outcome}
-use Rattle.sql_typing.specs.Kinds.{is_null}
+use Rattle.typing_rules.specs.Outcome.{Outcome}
+use Rattle.typing_rules.specs.Kinds.{is_null}
 use Rattle.row_meaning.specs.Groups.{number_in, integer, better}
 use Rattle.row_totals.specs.declared.tally.Partial.{Partial}
 use Rattle.row_totals.specs.declared.tally.Partial.TheVariants.{Nothing, Number, Outside}

@@ -1,14 +1,15 @@
 // The calls of aggregates in expressions, in text order, each with what it keeps.
 ghost use Rattle.std.specs.Prelude.{◌≡◌, ◌++◌, [], map, flat_map, IfOk, OnOk};
-ghost use Rattle.sql_typing.specs.Outcome.{all_of};
+ghost use Rattle.typing_rules.specs.Outcome.{all_of};
 ghost use Rattle.expr_eval.specs.Lent.{seen};
 ghost use Rattle.row_meaning.specs.Groups.{meaning, calls_of};
-ghost use Rattle.row_totals.specs.Calls.{operand_value, meant, at_start, added_to, Tells, Leaves, NextTally};
+ghost use Rattle.row_meaning.specs.Gives.{Gives};
+ghost use Rattle.row_totals.specs.Calls.{operand_value, meant, at_start, added_to, Leaves, NextTally};
 ghost use Rattle.row_totals.specs.Tallies as tallies;
 
 use crate::tally::{Tally, changed, started, told};
-use cell_base::{Boxed, Items, Memory, Value};
-use expr_eval::{Datum, EvalFault, datum_of};
+use cell_base::{Boxed, Items, Memory, SqlFault, Value};
+use expr_eval::{Datum, datum_of};
 use sql_tree::{TypedExpr, TypedNode};
 use std::alloc::Global;
 
@@ -67,7 +68,7 @@ pub fn collect_each(alloc: Global, exprs: &[TypedExpr], calls: &mut Vec<Call>) -
 }
 
 /// Evaluates the operands over one more row, in order. After a fault the calls aren't used any more.
-pub fn add_row(alloc: Global, calls: &mut Vec<Call>, row: &[&[Value]]) -> Result<(), EvalFault>
+pub fn add_row(alloc: Global, calls: &mut Vec<Call>, row: &[&[Value]]) -> Result<(), SqlFault>
     ensures { Leaves result calls.new.items (all_of (map (added_to (seen row.now)) calls.old.items)) }
 {
     for call in calls.iter_mut() {
@@ -76,7 +77,7 @@ pub fn add_row(alloc: Global, calls: &mut Vec<Call>, row: &[&[Value]]) -> Result
     Ok(())
 }
 
-fn add_to(alloc: Global, call: &mut Call, row: &[&[Value]]) -> Result<(), EvalFault>
+fn add_to(alloc: Global, call: &mut Call, row: &[&[Value]]) -> Result<(), SqlFault>
     ensures { Leaves result call.new (added_to (seen row.now) call.old) }
 {
     if let Some(tally) = next_tally(alloc, call, row)? {
@@ -86,7 +87,7 @@ fn add_to(alloc: Global, call: &mut Call, row: &[&[Value]]) -> Result<(), EvalFa
 }
 
 /// What a call keeps with one row more, or none where it stays as it is.
-fn next_tally(alloc: Global, call: &Call, row: &[&[Value]]) -> Result<Option<Tally>, EvalFault>
+fn next_tally(alloc: Global, call: &Call, row: &[&[Value]]) -> Result<Option<Tally>, SqlFault>
     ensures { NextTally result call.now (seen row.now) }
 {
     let value = match &call.operand {
@@ -97,8 +98,8 @@ fn next_tally(alloc: Global, call: &Call, row: &[&[Value]]) -> Result<Option<Tal
 }
 
 /// The values of the aggregates, in order, or the first code.
-pub fn totals(alloc: Global, calls: Vec<Call>) -> Result<Items<Value>, EvalFault>
-    ensures { Tells result (all_of (map (λ call. tallies.told call.tally) calls.items)) }
+pub fn totals(alloc: Global, calls: Vec<Call>) -> Result<Items<Value>, SqlFault>
+    ensures { Gives result (all_of (map (λ call. tallies.told call.tally) calls.items)) }
 {
     let mut values = Items::new(alloc);
     for call in calls {

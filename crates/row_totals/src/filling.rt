@@ -2,14 +2,12 @@
 ghost use Rattle.std.specs.Prelude.{map, Ok, false};
 ghost use Rattle.cell_base.specs.declared.value.Value.TheVariants.{Flag};
 ghost use Rattle.expr_eval.specs.Lent.{owned};
-ghost use Rattle.row_totals.specs.Calls.{Tells};
+ghost use Rattle.row_meaning.specs.Gives.{Gives};
 ghost use Rattle.row_totals.specs.Filling as filling;
 ghost use Rattle.row_totals.specs.Filling.{Fills};
 
-use cell_base::{Items, SqlState, Value};
-use expr_eval::{
-    Datum, EvalFault, binary, compared, denied, either, negated, null_test, of_kind, to_value,
-};
+use cell_base::{Items, SqlFault, SqlState, Value};
+use expr_eval::{Datum, binary, compared, denied, either, negated, null_test, of_kind, to_value};
 use sql_tree::{Op, TypedExpr, TypedNode};
 use std::alloc::Global;
 
@@ -18,8 +16,8 @@ pub fn fill_all(
     alloc: Global,
     exprs: &[TypedExpr],
     totals: &[Value],
-) -> Result<Items<Value>, EvalFault>
-    ensures { Tells result (filling.all_filled exprs.now (map Ok totals.now)) }
+) -> Result<Items<Value>, SqlFault>
+    ensures { Gives result (filling.all_filled exprs.now (map Ok totals.now)) }
 {
     let mut values = Items::new(alloc);
     let mut left = totals;

@@ -4,16 +4,15 @@ ghost use Rattle.sql_tree.specs.declared.typed_expr.TypedExpr as tree;
 ghost use Rattle.expr_eval.specs.Lent.{seen};
 ghost use Rattle.expr_eval.specs.Values.{Row};
 ghost use Rattle.row_meaning.specs.Groups.{group_values};
-ghost use Rattle.row_totals.specs.Calls.{Tells};
-ghost use Rattle.sql_typing.specs.Outcome.{and_then, all_of};
+ghost use Rattle.row_meaning.specs.Gives.{Gives};
+ghost use Rattle.typing_rules.specs.Outcome.{and_then, all_of};
 ghost use Rattle.row_totals.specs.Tallies.{told};
 ghost use Rattle.row_totals.specs.Filling.{all_filled};
 ghost use Rattle.row_totals.specs.Standing.{Stands, Adds};
 
 use crate::calls::{Call, add_row, collect_each, totals};
 use crate::filling::fill_all;
-use cell_base::{Items, Memory, Value};
-use expr_eval::EvalFault;
+use cell_base::{Items, Memory, SqlFault, Value};
 use sql_tree::TypedExpr;
 use std::alloc::Global;
 
@@ -36,27 +35,23 @@ impl Totals {
 
     /// Evaluates the operands of all aggregates over one more row, in text order. After a fault the totals aren't used any
     /// more.
-    pub fn add(&mut self, row: &[&[Value]]) -> Result<(), EvalFault>
+    pub fn add(&mut self, row: &[&[Value]]) -> Result<(), SqlFault>
         ensures { (exprs : List tree.TypedExpr) (rows : List Row) → Stands self.old exprs rows → Adds result self.new exprs rows (seen row.now) }
     {
         add_row(self.alloc, &mut self.calls, row)
     }
 
     /// The values of the expressions over the rows that were added. The expressions are those of `new`.
-    pub fn finish(self, exprs: &[TypedExpr]) -> Result<Items<Value>, EvalFault>
-        ensures { (rows : List Row) → Stands self exprs.now rows → Tells result (group_values exprs.now rows) }
+    pub fn finish(self, exprs: &[TypedExpr]) -> Result<Items<Value>, SqlFault>
+        ensures { (rows : List Row) → Stands self exprs.now rows → Gives result (group_values exprs.now rows) }
     {
         let Totals { alloc, calls } = self;
         values_of(alloc, calls, exprs)
     }
 }
 
-fn values_of(
-    alloc: Global,
-    calls: Vec<Call>,
-    exprs: &[TypedExpr],
-) -> Result<Items<Value>, EvalFault>
-    ensures { Tells result (and_then (all_of (map (λ call. told call.tally) calls.items)) (λ values. all_filled exprs.now (map Ok values))) }
+fn values_of(alloc: Global, calls: Vec<Call>, exprs: &[TypedExpr]) -> Result<Items<Value>, SqlFault>
+    ensures { Gives result (and_then (all_of (map (λ call. told call.tally) calls.items)) (λ values. all_filled exprs.now (map Ok values))) }
 {
     let values = totals(alloc, calls)?;
     fill_all(alloc, exprs, values.as_slice())

@@ -5,8 +5,8 @@ use Rattle.cell_base.specs.declared.sql_state.SqlState.{SqlState}
 use Rattle.cell_base.specs.declared.sql_state.SqlState.TheVariants.{S23514}
 use Rattle.cell_base.specs.declared.value.Value.{Value}
 use Rattle.sql_tree.specs.declared.typed_expr.TypedExpr.{TypedExpr}
-use Rattle.sql_typing.specs.Mentions.{mentions}
-use Rattle.sql_typing.specs.Outcome.{Outcome, and_then}
+use Rattle.typing_rules.specs.Mentions.{mentions}
+use Rattle.typing_rules.specs.Outcome.{Outcome, and_then}
 use Rattle.expr_eval.specs.Values.{value_of}
 use Rattle.row_meaning.specs.Changes.{checks_on}
 use Rattle.row_meaning.specs.Storing.{is_false, checked}

@@ -4,7 +4,7 @@ use Rattle.std.proofs.lemmas.List.{append-nil}
 use Rattle.cell_base.specs.declared.value.Value.{Value}
 use Rattle.sql_tree.specs.declared.table.Column.{Column}
 use Rattle.sql_tree.specs.declared.typed_expr.TypedExpr.{TypedExpr}
-use Rattle.sql_typing.specs.Outcome.{Outcome, and_then}
+use Rattle.typing_rules.specs.Outcome.{Outcome, and_then}
 use Rattle.row_meaning.specs.Insertion.{row_of}
 use Rattle.row_meaning.specs.Storing.{has_no_missing}
 

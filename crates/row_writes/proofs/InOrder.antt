@@ -12,7 +12,7 @@ use Rattle.cell_base.specs.contracts.key.KeyOrd.TheImpl.Laws as key_laws
 use Rattle.row_meaning.specs.Insertion.{same_key, is_key_below, has_twice, placed, by_keys}
 use Rattle.row_meaning.specs.Pictures.{TableRow}
 use Rattle.row_meaning.proofs.Sorting.{placed_by, sorted_by, NoneBelow, Rises, sorted_rises}
-use Rattle.sql_typing.specs.Outcome.{Outcome, and_then}
+use Rattle.typing_rules.specs.Outcome.{Outcome, and_then}
 use Rattle.cell_base.specs.declared.sql_state.SqlState.TheVariants.{S23505}
 use Rattle.row_writes.specs.Twins.{has_twins_behind, has_twins}
 

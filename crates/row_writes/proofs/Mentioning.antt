@@ -6,7 +6,7 @@ use Rattle.sql_tree.specs.declared.typed_expr.TypedNode.{TypedNode}
 use Rattle.sql_tree.specs.declared.typed_expr.TypedNode.TheVariants.{In, rolls-In}
 use Rattle.sql_tree.specs.declared.typed_expr.TypedNode.TheOpen.{TypedNode-F, TypedExpr-F}
 use Rattle.sql_tree.specs.declared.typed_expr.TypedNode.TheFolds.{fold-TypedNode, fold-roll-TypedNode, fold_out-TypedExpr}
-use Rattle.sql_typing.specs.Mentions.{mentions, node_mentions}
+use Rattle.typing_rules.specs.Mentions.{mentions, node_mentions}
 
 abbrev pub node_mention : ℕ → ℕ → TypedNode → Bool
 node_mention e c = fold-TypedNode Bool Bool (node_mentions e c) (λ (x : TypedExpr-F Bool Bool). x.node)

@@ -8,8 +8,8 @@ use Rattle.std.specs.Prelude.{slice_get, unwrap_or}
 use Rattle.sql_tree.specs.declared.table.Column.{Column}
 use Rattle.sql_tree.specs.declared.table.Table.{Table}
 use Rattle.sql_tree.specs.declared.typed_expr.TypedExpr.{TypedExpr}
-use Rattle.sql_typing.specs.Assignment.{assigned}
-use Rattle.sql_typing.specs.Outcome.{Outcome, and_then, all_of}
+use Rattle.typing_rules.specs.Assignment.{assigned}
+use Rattle.typing_rules.specs.Outcome.{Outcome, and_then, all_of}
 use Rattle.expr_eval.specs.Values.{value_of}
 use Rattle.row_meaning.specs.Pictures.{TableRow}
 use Rattle.row_meaning.specs.Storing.{has_no_missing, is_false, checked, stored}

@@ -3,8 +3,8 @@ use Rattle.std.specs.Prelude.{ℕ, Bool, false, if◌then◌else◌, List, [], �
 use Rattle.cell_base.specs.declared.value.Value.{Value}
 use Rattle.sql_tree.specs.declared.table.Column.{Column}
 use Rattle.sql_tree.specs.declared.typed_expr.TypedExpr.{TypedExpr}
-use Rattle.sql_typing.specs.Assignment.{assigned}
-use Rattle.sql_typing.specs.Outcome.{Outcome, and_then}
+use Rattle.typing_rules.specs.Assignment.{assigned}
+use Rattle.typing_rules.specs.Outcome.{Outcome, and_then}
 use Rattle.expr_eval.specs.Values.{value_of}
 use Rattle.row_meaning.specs.Changes.{kind_at, is_assigned}
 use Rattle.row_meaning.specs.Storing.{is_missing}

@@ -8,8 +8,7 @@ ghost use Rattle.row_writes.specs.Places as places;
 
 use crate::evaluation::{converted, value_over};
 use crate::storing::is_missing;
-use cell_base::{Items, Memory, SqlType, Value};
-use expr_eval::EvalFault;
+use cell_base::{Items, Memory, SqlFault, SqlType, Value};
 use sql_tree::{Column, TypedExpr};
 use std::alloc::Global;
 
@@ -29,7 +28,7 @@ fn assigned_value(
     columns: &[Column],
     assignment: &(u32, TypedExpr),
     row: &[Value],
-) -> Result<(u32, Value), EvalFault>
+) -> Result<(u32, Value), SqlFault>
     ensures { Gives result (places.assigning columns.now row.now assignment.now) }
 {
     let (column, expr) = assignment;
@@ -44,7 +43,7 @@ pub fn assignments(
     columns: &[Column],
     set: &[(u32, TypedExpr)],
     row: &[Value],
-) -> Result<Items<(u32, Value)>, EvalFault>
+) -> Result<Items<(u32, Value)>, SqlFault>
     ensures { Gives result (changes.assignments columns.now set.now row.now) }
 {
     let mut values = Items::new(alloc);

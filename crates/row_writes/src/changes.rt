@@ -6,8 +6,7 @@ ghost use Rattle.row_writes.specs.Seen.{GivesChange, GivesChanges};
 use crate::kept::kept_rows;
 use crate::mentions::checks_on;
 use crate::update::updated;
-use cell_base::{Items, Key, Value};
-use expr_eval::EvalFault;
+use cell_base::{Items, Key, SqlFault, Value};
 use sql_tree::{Table, TypedChange, TypedExpr};
 use std::alloc::Global;
 
@@ -24,7 +23,7 @@ fn change_of(
     change: &TypedChange,
     checks: &[&TypedExpr],
     row: &(Key, Items<Value>),
-) -> Result<RowChange, EvalFault>
+) -> Result<RowChange, SqlFault>
     requires { map (λ c. c.now) checks.now ≡ spec.checks_on (change.now).set (table.now).checks }
     ensures { GivesChange result (spec.change_of table.now change.now row.now) }
 {
@@ -49,7 +48,7 @@ pub fn changes_of(
     table: &Table,
     change: &TypedChange,
     rows: &[(Key, Items<Value>)],
-) -> Result<Items<RowChange>, EvalFault>
+) -> Result<Items<RowChange>, SqlFault>
     ensures { GivesChanges result (spec.changes_of table.now change.now rows.now) }
 {
     let kept = kept_rows(alloc, change.filter.as_ref(), rows)?;

@@ -1,26 +1,26 @@
 // The values of expressions over one row.
 ghost use Rattle.std.specs.Prelude.{◌≡◌, [], ◌∷◌, Ok};
-ghost use Rattle.sql_typing.specs.Assignment.{assigned};
-ghost use Rattle.sql_typing.specs.Outcome.{and_then};
+ghost use Rattle.typing_rules.specs.Assignment.{assigned};
+ghost use Rattle.typing_rules.specs.Outcome.{and_then};
 ghost use Rattle.expr_eval.specs.Values.{value_of};
 ghost use Rattle.row_meaning.specs.Combinations as combinations;
 ghost use Rattle.row_meaning.specs.Gives.{Gives};
 ghost use Rattle.row_meaning.specs.Storing as storing;
 
-use cell_base::{SqlState, SqlType, Value};
-use expr_eval::{Datum, EvalFault, assign, datum_of, eval};
+use cell_base::{SqlFault, SqlState, SqlType, Value};
+use expr_eval::{Datum, assign, datum_of, eval};
 use sql_tree::TypedExpr;
 use std::alloc::Global;
 
 /// The value of an expression that sees no row.
-pub fn value_alone(alloc: Global, expr: &TypedExpr) -> Result<Value, EvalFault>
+pub fn value_alone(alloc: Global, expr: &TypedExpr) -> Result<Value, SqlFault>
     ensures { Gives result (value_of expr.now []) }
 {
     eval(alloc, expr, &[])
 }
 
 /// The value of an expression over a row.
-pub fn value_over(alloc: Global, expr: &TypedExpr, row: &[Value]) -> Result<Value, EvalFault>
+pub fn value_over(alloc: Global, expr: &TypedExpr, row: &[Value]) -> Result<Value, SqlFault>
     ensures { Gives result (value_of expr.now (row.now ∷ [])) }
 {
     eval(alloc, expr, &[row])
@@ -41,7 +41,7 @@ pub fn is_false(condition: &TypedExpr, row: &[Value]) -> Result<bool, SqlState>
 }
 
 /// The value as one of a column's type.
-pub fn converted(alloc: Global, value: Value, kind: SqlType) -> Result<Value, EvalFault>
+pub fn converted(alloc: Global, value: Value, kind: SqlType) -> Result<Value, SqlFault>
     ensures { Gives result (assigned kind value) }
 {
     assign(alloc, value, kind)

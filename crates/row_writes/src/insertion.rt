@@ -1,7 +1,7 @@
 // The rows that an INSERT makes.
 ghost use Rattle.std.specs.Prelude.{[], length, map, slice_get, unwrap_or, IfOk};
-ghost use Rattle.sql_typing.specs.Assignment.{assigned};
-ghost use Rattle.sql_typing.specs.Outcome.{and_then, all_of};
+ghost use Rattle.typing_rules.specs.Assignment.{assigned};
+ghost use Rattle.typing_rules.specs.Outcome.{and_then, all_of};
 ghost use Rattle.expr_eval.specs.Values.{value_of};
 ghost use Rattle.row_meaning.specs.Gives.{Gives};
 ghost use Rattle.row_meaning.specs.Insertion as spec;
@@ -10,12 +10,11 @@ ghost use Rattle.row_writes.specs.Widths.{AreWithin};
 use crate::evaluation::{converted, value_alone};
 use crate::keys::{has_twins, sorted_by_keys};
 use crate::storing::stored;
-use cell_base::{Items, Key, SqlState, Value};
-use expr_eval::EvalFault;
+use cell_base::{Items, Key, SqlFault, SqlState, Value};
 use sql_tree::{Column, Table, TypedExpr};
 use std::alloc::Global;
 
-fn value_for(alloc: Global, column: &Column, expr: &TypedExpr) -> Result<Value, EvalFault>
+fn value_for(alloc: Global, column: &Column, expr: &TypedExpr) -> Result<Value, SqlFault>
     ensures { Gives result (and_then (value_of expr.now []) (assigned (column.now).kind)) }
 {
     let value = value_alone(alloc, expr)?;
@@ -23,7 +22,7 @@ fn value_for(alloc: Global, column: &Column, expr: &TypedExpr) -> Result<Value, 
 }
 
 /// The values of a row, each as one of its column's type.
-fn row_of(alloc: Global, columns: &[Column], exprs: &[TypedExpr]) -> Result<Items<Value>, EvalFault>
+fn row_of(alloc: Global, columns: &[Column], exprs: &[TypedExpr]) -> Result<Items<Value>, SqlFault>
     ensures { Gives result (spec.row_of columns.now exprs.now) }
 {
     let mut row = Items::new(alloc);
@@ -34,13 +33,13 @@ fn row_of(alloc: Global, columns: &[Column], exprs: &[TypedExpr]) -> Result<Item
 }
 
 /// The key that the value of the key's column is.
-fn key_of(alloc: Global, row: &[Value], key: u32) -> Result<Key, EvalFault>
+fn key_of(alloc: Global, row: &[Value], key: u32) -> Result<Key, SqlFault>
     ensures { Gives result (spec.key_of (unwrap_or (slice_get row.now key) Value.Null)) }
 {
     match row.get(key as usize) {
         Some(Value::Int(n)) => Ok(Key::Int(*n)),
         Some(Value::Text(text)) => Ok(Key::Text(text.copy(alloc)?)),
-        _ => Err(EvalFault::State(SqlState::S23502)),
+        _ => Err(SqlFault::State(SqlState::S23502)),
     }
 }
 
@@ -49,7 +48,7 @@ fn keyed_row(
     alloc: Global,
     table: &Table,
     exprs: &[TypedExpr],
-) -> Result<(Key, Items<Value>), EvalFault>
+) -> Result<(Key, Items<Value>), SqlFault>
     ensures { Gives result (spec.keyed_row table.now exprs.now) }
 {
     let row = row_of(alloc, table.columns.as_slice(), exprs)?;
@@ -63,7 +62,7 @@ fn keyed_rows(
     alloc: Global,
     table: &Table,
     rows: &[Items<TypedExpr>],
-) -> Result<Items<(Key, Items<Value>)>, EvalFault>
+) -> Result<Items<(Key, Items<Value>)>, SqlFault>
     ensures { Gives result (all_of (map (spec.keyed_row table.now) rows.now)) }
 {
     let mut made = Items::new(alloc);
@@ -85,14 +84,14 @@ pub fn rows_to_insert(
     alloc: Global,
     table: &Table,
     rows: &[Items<TypedExpr>],
-) -> Result<Items<(Key, Items<Value>)>, EvalFault>
+) -> Result<Items<(Key, Items<Value>)>, SqlFault>
     ensures exact { Gives result (spec.rows_to_insert table.now rows.now) }
     ensures within { IfOk result (λ made. AreWithin (length (table.now).columns) made) }
 {
     let made = keyed_rows(alloc, table, rows)?;
     let sorted = sorted_by_keys(made)?;
     if has_twins(sorted.as_slice()) {
-        return Err(EvalFault::State(SqlState::S23505));
+        return Err(SqlFault::State(SqlState::S23505));
     }
     Ok(sorted)
 }

@@ -5,8 +5,7 @@ ghost use Rattle.row_meaning.specs.Changes as changes;
 ghost use Rattle.row_writes.specs.Seen.{GivesRows};
 
 use crate::evaluation::is_true;
-use cell_base::{Items, Key, SqlState, Value};
-use expr_eval::EvalFault;
+use cell_base::{Items, Key, SqlFault, SqlState, Value};
 use sql_tree::TypedExpr;
 use std::alloc::Global;
 
@@ -24,7 +23,7 @@ pub fn kept_rows<'a>(
     alloc: Global,
     filter: Option<&TypedExpr>,
     rows: &'a [(Key, Items<Value>)],
-) -> Result<Items<&'a (Key, Items<Value>)>, EvalFault>
+) -> Result<Items<&'a (Key, Items<Value>)>, SqlFault>
     ensures { GivesRows result (changes.kept_rows (option_map (λ f. f.now) filter.entry) rows.now) }
 {
     let mut kept = Items::new(alloc);

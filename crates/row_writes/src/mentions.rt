@@ -1,7 +1,7 @@
 // The CHECKs that mention an assigned column.
 ghost use Rattle.std.specs.Prelude.{◌≡◌, map, IfOk};
 ghost use Rattle.std.specs.List.{list_any};
-ghost use Rattle.sql_typing.specs.Mentions as spec;
+ghost use Rattle.typing_rules.specs.Mentions as spec;
 ghost use Rattle.row_meaning.specs.Changes as changes;
 
 use cell_base::Memory;

@@ -1,6 +1,6 @@
 // What holds of a row that is stored.
 ghost use Rattle.std.specs.Prelude.{◌≡◌, map, Ok};
-ghost use Rattle.sql_typing.specs.Outcome.{and_then};
+ghost use Rattle.typing_rules.specs.Outcome.{and_then};
 ghost use Rattle.row_meaning.specs.Storing as spec;
 
 use crate::evaluation::is_false;

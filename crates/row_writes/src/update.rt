@@ -6,8 +6,7 @@ ghost use Rattle.row_writes.specs.Seen.{GivesChange};
 use crate::RowChange;
 use crate::assigned::{assignments, copy_row, fields_of, has_missing, with_values};
 use crate::storing::checked_some;
-use cell_base::{Items, Key, SqlState, Value};
-use expr_eval::EvalFault;
+use cell_base::{Items, Key, SqlFault, SqlState, Value};
 use sql_tree::{Table, TypedExpr};
 use std::alloc::Global;
 
@@ -18,7 +17,7 @@ pub fn updated(
     set: &[(u32, TypedExpr)],
     checks: &[&TypedExpr],
     row: &(Key, Items<Value>),
-) -> Result<RowChange, EvalFault>
+) -> Result<RowChange, SqlFault>
     requires { map (λ c. c.now) checks.now ≡ changes.checks_on set.now (table.now).checks }
     ensures { GivesChange result (changes.updated table.now set.now row.now) }
 {
@@ -27,7 +26,7 @@ pub fn updated(
     let values = assignments(alloc, columns, set, old.as_slice())?;
     let new = with_values(copy_row(alloc, old.as_slice())?, values);
     if has_missing(columns, set, new.as_slice()) {
-        return Err(EvalFault::State(SqlState::S23502));
+        return Err(SqlFault::State(SqlState::S23502));
     }
     checked_some(checks, new.as_slice())?;
     Ok(RowChange {

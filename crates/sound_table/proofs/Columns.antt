@@ -10,10 +10,10 @@ use Rattle.std.proofs.lemmas.Slice.Eq.{bytes_eq-Decides}
 use Rattle.cell_base.specs.declared.sql_state.SqlState.TheVariants.{S42701, S54000}
 use Rattle.sql_tree.specs.declared.statement.ColumnDef.{ColumnDef}
 use Rattle.sql_tree.specs.declared.table.Column.{Column}
-use Rattle.sql_typing.specs.Building.{has_length, default_of, column_of, columns_from, keyed_from}
-use Rattle.sql_typing.specs.Outcome.{Outcome}
-use Rattle.sql_typing.specs.Sound.{Holds}
-use Rattle.sql_typing.proofs.Numbers.{then_holds}
+use Rattle.typing_rules.specs.Building.{has_length, default_of, column_of, columns_from, keyed_from}
+use Rattle.typing_rules.specs.Outcome.{Outcome}
+use Rattle.typing_rules.specs.Sound.{Holds}
+use Rattle.typing_rules.proofs.Numbers.{then_holds}
 use Rattle.sound_table.specs.WellFormed.{IsDefault, IsColumn, AreApart}
 use Rattle.sound_table.proofs.Defaults.{default_is}
 

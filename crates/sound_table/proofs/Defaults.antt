@@ -11,14 +11,14 @@ use Rattle.cell_base.specs.declared.value.Value.{Value}
 use Rattle.cell_base.specs.declared.value.Value.TheVariants as value
 use Rattle.sql_tree.specs.declared.expr.Expr.{Expr, out-Expr}
 use Rattle.sql_tree.specs.declared.expr.Expr.TheOpen.{Expr-F}
-use Rattle.sql_typing.specs.Assignment.{stored_text, are_spaces, limited_text, assigned}
-use Rattle.sql_typing.specs.Building.{default_of}
-use Rattle.sql_typing.specs.Constants.{text_as, negative_as, negative_at, constant_at}
-use Rattle.sql_typing.specs.Kinds.{fits, is_null_or_of}
-use Rattle.sql_typing.specs.Literals.{quoted}
-use Rattle.sql_typing.specs.Outcome.{Outcome}
-use Rattle.sql_typing.specs.Sound.{Holds}
-use Rattle.sql_typing.proofs.Numbers.{IsConstant, quoted_is}
+use Rattle.typing_rules.specs.Assignment.{stored_text, are_spaces, limited_text, assigned}
+use Rattle.typing_rules.specs.Building.{default_of}
+use Rattle.typing_rules.specs.Constants.{text_as, negative_as, negative_at, constant_at}
+use Rattle.typing_rules.specs.Kinds.{fits, is_null_or_of}
+use Rattle.typing_rules.specs.Literals.{quoted}
+use Rattle.typing_rules.specs.Outcome.{Outcome}
+use Rattle.typing_rules.specs.Sound.{Holds}
+use Rattle.typing_rules.proofs.Numbers.{IsConstant, quoted_is}
 use Rattle.sound_table.specs.WellFormed.{IsWithin, IsShort, IsSmall, IsDefault}
 
 pub holds_more : {A : Type 0} (P Q : A → Type 0) (o : Outcome A) → ((a : A) → P a → Q a) → Holds P o → Holds Q o

@@ -18,7 +18,7 @@ use Rattle.sql_grammar.specs.Steps.{reading, repeat_from}
 use Rattle.sql_grammar.specs.Reading as reader
 use Rattle.sql_grammar.specs.Words.{class, marks}
 use Rattle.sql_grammar.proofs.Messages.{message_sound}
-use Rattle.sql_typing.specs.Building.{built, column_of, key_of, checks_of}
+use Rattle.typing_rules.specs.Building.{built, column_of, key_of, checks_of}
 use Rattle.sound_table.specs.Sound.{IsSound}
 use Rattle.sound_table.specs.Example.{two_columns, TwoColumnsAreSound}
 

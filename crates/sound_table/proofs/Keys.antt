@@ -5,10 +5,10 @@ use Rattle.std.specs.Str.{bytes_eq}
 use Rattle.std.proofs.lemmas.Bool.{cond_both}
 use Rattle.cell_base.specs.declared.sql_state.SqlState.TheVariants.{S0A000}
 use Rattle.sql_tree.specs.declared.table.Column.{Column}
-use Rattle.sql_typing.specs.Building.{key_from, key_of}
-use Rattle.sql_typing.specs.Kinds.{is_boolean}
-use Rattle.sql_typing.specs.Outcome.{Outcome}
-use Rattle.sql_typing.specs.Sound.{Holds}
+use Rattle.typing_rules.specs.Building.{key_from, key_of}
+use Rattle.typing_rules.specs.Kinds.{is_boolean}
+use Rattle.typing_rules.specs.Outcome.{Outcome}
+use Rattle.typing_rules.specs.Sound.{Holds}
 use Rattle.sound_table.proofs.Defaults.{holds_more}
 
 -- the number of a column that isn't boolean, where the columns are numbered from this one on

@@ -10,13 +10,13 @@ use Rattle.sql_tree.specs.declared.table.Column.{Column}
 use Rattle.sql_tree.specs.declared.table.Table.{Table}
 use Rattle.sql_tree.specs.declared.typed_expr.TypedExpr.{TypedExpr}
 use Rattle.sql_grammar.specs.Limited.{IsPlainName}
-use Rattle.sql_typing.specs.Building.{built, columns_from, key_of, marked, checks_of, keyed}
-use Rattle.sql_typing.specs.Expressions.{flag}
-use Rattle.sql_typing.specs.Names.{Source}
-use Rattle.sql_typing.specs.Outcome.{Outcome, all_of}
-use Rattle.sql_typing.specs.Sound.{Holds, IsCondition, column_types}
-use Rattle.sql_typing.proofs.Numbers.{then_holds}
-use Rattle.sql_typing.proofs.Sound.{flag_sound}
+use Rattle.typing_rules.specs.Building.{built, columns_from, key_of, marked, checks_of, keyed}
+use Rattle.typing_rules.specs.Expressions.{flag}
+use Rattle.typing_rules.specs.Names.{Source}
+use Rattle.typing_rules.specs.Outcome.{Outcome, all_of}
+use Rattle.typing_rules.specs.Sound.{Holds, IsCondition, column_types}
+use Rattle.typing_rules.proofs.Numbers.{then_holds}
+use Rattle.typing_rules.proofs.Sound.{flag_sound}
 use Rattle.sound_table.specs.WellFormed.{HasPlainName, IsColumn, IsWellFormed, SoundIsWellFormed}
 use Rattle.sound_table.proofs.Columns.{AreAdded, columns_are, apart, keyed_new, keyed_all, keyed_long, keyed_kinds, keyed_at}
 use Rattle.sound_table.proofs.Names.{IsNamed, HasPlainNames, create_named}

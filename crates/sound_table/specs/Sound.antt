@@ -8,7 +8,7 @@ use Rattle.sql_tree.specs.declared.table.Table.{Table}
 use Rattle.sql_tree.specs.declared.token.Token.{Token}
 use Rattle.sql_grammar.specs.Limited.{IsLimited, IsPlain}
 use Rattle.sql_grammar.specs.Words.{marks}
-use Rattle.sql_typing.specs.Building.{built}
+use Rattle.typing_rules.specs.Building.{built}
 
 -- A table is sound where it is built from a CREATE TABLE that the grammar gives for a plain list of tokens.
 pub record IsSound (table : Table) : Type 0 where

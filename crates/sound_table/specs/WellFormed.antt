@@ -10,10 +10,10 @@ use Rattle.cell_base.specs.declared.value.Value.TheVariants as value
 use Rattle.sql_tree.specs.declared.table.Column.{Column}
 use Rattle.sql_tree.specs.declared.table.Table.{Table}
 use Rattle.sql_grammar.specs.Limited.{IsPlainName}
-use Rattle.sql_typing.specs.Building.{has_length}
-use Rattle.sql_typing.specs.Changes.{own_source}
-use Rattle.sql_typing.specs.Kinds.{is_boolean, is_null_or_of}
-use Rattle.sql_typing.specs.Sound.{IsCondition, column_types}
+use Rattle.typing_rules.specs.Building.{has_length}
+use Rattle.typing_rules.specs.Changes.{own_source}
+use Rattle.typing_rules.specs.Kinds.{is_boolean, is_null_or_of}
+use Rattle.typing_rules.specs.Sound.{IsCondition, column_types}
 use Rattle.sound_table.specs.Sound.{IsSound}
 
 -- A text has at most so many characters, where 0 stands for no limit. Characters are counted in UTF-8 alone.

@@ -9,7 +9,7 @@ use Rattle.sql_tree.specs.declared.token.Token.{Token}
 use Rattle.sql_lexer.specs.Tokens.{AreTokensOf}
 use Rattle.sql_grammar.specs.Limited.{HasNoZero, IsPlain}
 use Rattle.sql_statements.specs.Faults.{AreStatementsOf}
-use Rattle.sql_typing.specs.Building.{built}
+use Rattle.typing_rules.specs.Building.{built}
 use Rattle.sound_table.specs.Sound.{IsSound}
 
 -- the tokens of a text without a zero byte are plain

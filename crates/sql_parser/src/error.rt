@@ -1,12 +1,15 @@
 // Why marks weren't read.
 use cell_base::Memory;
+use thiserror::Error;
 
 /// Why marks weren't read.
-#[derive(Clone, Copy, Debug, PartialEq, Eq)]
+#[derive(Clone, Copy, Debug, PartialEq, Eq, Error)]
 pub enum Refusal {
-    /// Want of memory.
+    /// Out of memory.
+    #[error("out of memory")]
     Memory,
     /// The grammar doesn't spell them.
+    #[error("the grammar does not spell the marks")]
     NotInGrammar,
 }
 

@@ -36,7 +36,7 @@ fn refusal(tokens: &[Token], marks: &[Mark]) -> ParseFault
     }
 }
 
-/// The cause of a list that the limited grammar doesn't hold, or want of memory for its marks.
+/// The cause of a list that the limited grammar doesn't hold, or that memory for its marks ran out.
 fn refused(alloc: Global, tokens: &[Token]) -> ParseFault
     ensures { UnlessMemory (HasCause tokens.now) result }
 {

@@ -8,7 +8,7 @@ use Rattle.sql_tree.specs.declared.typed.Typed.TheVariants.{Select, Insert, Chan
 use Rattle.sql_tree.specs.declared.typed.TypedChange.{TypedChange}
 use Rattle.sql_tree.specs.declared.typed.TypedInsert.{TypedInsert}
 use Rattle.sql_tree.specs.declared.typed.TypedSelect.{TypedSelect}
-use Rattle.sql_typing.specs.Outcome.{Outcome as Result}
+use Rattle.typing_rules.specs.Outcome.{Outcome as Result}
 use Rattle.row_meaning.specs.Pictures.{TableRow, shown_of}
 use Rattle.row_meaning.specs.Selection.{selected}
 use Rattle.row_meaning.specs.Insertion.{rows_to_insert}

@@ -4,8 +4,8 @@ use Rattle.std.proofs.Math.Seq.{take-suc}
 use Rattle.cell_base.specs.declared.sql_state.SqlState.{SqlState}
 use Rattle.sql_tree.specs.declared.statement.ColumnDef.{ColumnDef}
 use Rattle.sql_tree.specs.declared.table.Column.{Column}
-use Rattle.sql_typing.specs.Outcome.{Outcome, and_then}
-use Rattle.sql_typing.specs.Building.{column_of, columns_from}
+use Rattle.typing_rules.specs.Outcome.{Outcome, and_then}
+use Rattle.typing_rules.specs.Building.{column_of, columns_from}
 use Rattle.table_schema.specs.Columns.{names}
 
 -- what is built, and then what is left

@@ -3,9 +3,9 @@ use Rattle.std.proofs.Common.{◌≡◌, ℕ, ◌+◌, ◌<◌, ◌≤◌, List,
 use Rattle.std.specs.Str.{bytes_eq}
 use Rattle.cell_base.specs.declared.sql_state.SqlState.TheVariants.{S0A000}
 use Rattle.sql_tree.specs.declared.table.Column.{Column}
-use Rattle.sql_typing.specs.Kinds.{is_boolean}
-use Rattle.sql_typing.specs.Outcome.{Outcome}
-use Rattle.sql_typing.specs.Building.{key_of, key_from}
+use Rattle.typing_rules.specs.Kinds.{is_boolean}
+use Rattle.typing_rules.specs.Outcome.{Outcome}
+use Rattle.typing_rules.specs.Building.{key_of, key_from}
 
 pub many_marked : (columns : List Column) (marked listed : List (List ℕ)) → 2 ≤ length marked → key_of columns (marked ++ listed) ≡ Err S0A000
 unfolding key_of

@@ -2,7 +2,7 @@
 use Rattle.std.proofs.Common.{◌≡◌, ℕ, zero, suc, ◌+◌, ◌<◌, ◌==◌, true, false, cond, List, [], ◌∷◌, length, get_or, set, refl, ap, sym, ◌∙◌, arith}
 use Rattle.std.proofs.lemmas.Bool.{eq-eqb, ne_eqb}
 use Rattle.sql_tree.specs.declared.table.Column.{Column}
-use Rattle.sql_typing.specs.Building.{keyed_from, keyed}
+use Rattle.typing_rules.specs.Building.{keyed_from, keyed}
 
 abbrev pub never_null : Column → Column
 never_null c = record c { not_null = true }

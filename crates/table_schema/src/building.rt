@@ -1,15 +1,14 @@
 // The table that a CREATE TABLE makes.
 ghost use Rattle.std.specs.Prelude.{◌≡◌, ◌<◌, ◌^◌, ◌∷◌, [], length, map};
-ghost use Rattle.sql_typing.specs.Expressions.{flag};
-ghost use Rattle.sql_typing.specs.Outcome.{all_of};
-ghost use Rattle.sql_typing.specs.Building as spec;
-ghost use Rattle.table_schema.specs.Builds.{Builds};
+ghost use Rattle.typing_rules.specs.Expressions.{flag};
+ghost use Rattle.typing_rules.specs.Outcome.{all_of};
+ghost use Rattle.typing_rules.specs.Building as spec;
+ghost use Rattle.expr_typing.specs.Gives.{Gives};
 
-use crate::SchemaFault;
 use crate::columns::columns_of;
 use crate::keys::key_of;
-use cell_base::{Items, SqlState};
-use expr_types::{Entry, typed_flag};
+use cell_base::{Items, SqlFault, SqlState};
+use expr_typing::{Entry, typed_flag};
 use sql_tree::{Column, CreateTable, Expr, Table, TypedExpr};
 use std::alloc::Global;
 
@@ -22,12 +21,12 @@ const MAX_COLUMNS: usize = 32;
 /// (`S42701`), a varchar's length outside 1 to 65,536 (`S54000`), and what its default's conversion gives; then no key or
 /// more than one (`S0A000`), a key that is no column (`S42703`), a boolean key (`S0A000`); then what typing gives to each
 /// CHECK as a condition over the table's columns.
-#[tactic(auto, unfolding(sql_typing::specs::Building::built))]
-pub fn build(alloc: Global, create: &CreateTable) -> Result<Table, SchemaFault>
-    ensures { Builds (spec.built create.now) result }
+#[tactic(auto, unfolding(typing_rules::specs::Building::built))]
+pub fn build(alloc: Global, create: &CreateTable) -> Result<Table, SqlFault>
+    ensures { Gives (spec.built create.now) result }
 {
     if create.columns.len() > MAX_COLUMNS {
-        return Err(SchemaFault::State(SqlState::S54000));
+        return Err(SqlFault::State(SqlState::S54000));
     }
     let columns = columns_of(alloc, create.columns.as_slice())?;
     let key = key_of(create, columns.as_slice())?;
@@ -42,22 +41,22 @@ pub fn build(alloc: Global, create: &CreateTable) -> Result<Table, SchemaFault>
 }
 
 /// The CHECKs, as conditions over the table's columns.
-#[tactic(auto, unfolding(sql_typing::specs::Building::checks_of))]
+#[tactic(auto, unfolding(typing_rules::specs::Building::checks_of))]
 fn checks_of(
     alloc: Global,
     create: &CreateTable,
     table: &Table,
-) -> Result<Items<TypedExpr>, SchemaFault>
+) -> Result<Items<TypedExpr>, SqlFault>
     requires named { table.now.name ≡ create.now.name }
     requires narrow { length table.now.columns < 2 ^ 32 }
-    ensures { Builds (spec.checks_of create.now table.now.columns) result }
+    ensures { Gives (spec.checks_of create.now table.now.columns) result }
 {
     conditions(alloc, create.checks.as_slice(), table)
 }
 
-fn conditions(alloc: Global, exprs: &[Expr], table: &Table) -> Result<Items<TypedExpr>, SchemaFault>
+fn conditions(alloc: Global, exprs: &[Expr], table: &Table) -> Result<Items<TypedExpr>, SqlFault>
     requires { length table.now.columns < 2 ^ 32 }
-    ensures { Builds (all_of (map (flag (record { name = table.now.name; columns = table.now.columns } ∷ [])) exprs.now)) result }
+    ensures { Gives (all_of (map (flag (record { name = table.now.name; columns = table.now.columns } ∷ [])) exprs.now)) result }
 {
     let mut typed = Items::new(alloc);
     for expr in exprs {
@@ -66,15 +65,15 @@ fn conditions(alloc: Global, exprs: &[Expr], table: &Table) -> Result<Items<Type
     Ok(typed)
 }
 
-fn condition(alloc: Global, expr: &Expr, table: &Table) -> Result<TypedExpr, SchemaFault>
+fn condition(alloc: Global, expr: &Expr, table: &Table) -> Result<TypedExpr, SqlFault>
     requires { length table.now.columns < 2 ^ 32 }
-    ensures { Builds (flag (record { name = table.now.name; columns = table.now.columns } ∷ []) expr.now) result }
+    ensures { Gives (flag (record { name = table.now.name; columns = table.now.columns } ∷ []) expr.now) result }
 {
     let entry = Entry {
         name: &table.name,
         table,
     };
-    Ok(typed_flag(alloc, expr, &[entry])?)
+    typed_flag(alloc, expr, &[entry])
 }
 
 /// The table with its CHECKs, its key marked as never null.

@@ -2,13 +2,12 @@
 ghost use Rattle.std.specs.Prelude.{◌≡◌, []};
 ghost use Rattle.std.specs.List.{list_any};
 ghost use Rattle.std.specs.Str.{bytes_eq};
-ghost use Rattle.sql_typing.specs.Building as spec;
-ghost use Rattle.table_schema.specs.Builds.{Builds};
+ghost use Rattle.typing_rules.specs.Building as spec;
+ghost use Rattle.expr_typing.specs.Gives.{Gives};
 ghost use Rattle.table_schema.specs.Columns.{names};
 
-use crate::SchemaFault;
-use cell_base::{Items, SqlState, SqlType, Text, Value};
-use expr_types::typed_constant;
+use cell_base::{Items, SqlFault, SqlState, SqlType, Text, Value};
+use expr_typing::typed_constant;
 use sql_tree::{Column, ColumnDef, Expr};
 use std::alloc::Global;
 
@@ -16,8 +15,8 @@ use std::alloc::Global;
 const MAX_LENGTH: u32 = 65_536;
 
 /// The columns, from left to right.
-pub fn columns_of(alloc: Global, columns: &[ColumnDef]) -> Result<Items<Column>, SchemaFault>
-    ensures { Builds (spec.columns_from [] columns.now) result }
+pub fn columns_of(alloc: Global, columns: &[ColumnDef]) -> Result<Items<Column>, SqlFault>
+    ensures { Gives (spec.columns_from [] columns.now) result }
 {
     let mut built = Items::new(alloc);
     for (i, column) in columns.iter().enumerate() {
@@ -26,15 +25,15 @@ pub fn columns_of(alloc: Global, columns: &[ColumnDef]) -> Result<Items<Column>,
     Ok(built)
 }
 
-#[tactic(auto, unfolding(sql_typing::specs::Building::column_of))]
-fn column_of(alloc: Global, before: &[ColumnDef], column: &ColumnDef) -> Result<Column, SchemaFault>
-    ensures { Builds (spec.column_of (names before.now) column.now) result }
+#[tactic(auto, unfolding(typing_rules::specs::Building::column_of))]
+fn column_of(alloc: Global, before: &[ColumnDef], column: &ColumnDef) -> Result<Column, SqlFault>
+    ensures { Gives (spec.column_of (names before.now) column.now) result }
 {
     if is_among(before, &column.name) {
-        return Err(SchemaFault::State(SqlState::S42701));
+        return Err(SqlFault::State(SqlState::S42701));
     }
     if !has_length(column.kind) {
-        return Err(SchemaFault::State(SqlState::S54000));
+        return Err(SqlFault::State(SqlState::S54000));
     }
     let default = default_of(alloc, column.kind, &column.default)?;
     Ok(Column {
@@ -66,11 +65,11 @@ fn has_length(kind: SqlType) -> bool
     }
 }
 
-fn default_of(alloc: Global, kind: SqlType, default: &Option<Expr>) -> Result<Value, SchemaFault>
-    ensures { Builds (spec.default_of kind default.now) result }
+fn default_of(alloc: Global, kind: SqlType, default: &Option<Expr>) -> Result<Value, SqlFault>
+    ensures { Gives (spec.default_of kind default.now) result }
 {
     match default {
-        Some(expr) => Ok(typed_constant(alloc, expr, kind)?),
+        Some(expr) => typed_constant(alloc, expr, kind),
         None => Ok(Value::Null),
     }
 }

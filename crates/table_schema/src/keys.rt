@@ -1,13 +1,13 @@
 // The key of a table that is built.
 ghost use Rattle.std.specs.Prelude.{◌≡◌, ℕ, List, [], ◌∷◌, ◌++◌, ◌<◌, ◌≤◌, ◌^◌, Ok, Err, length, IfErr, IfOk, MatchResult};
 ghost use Rattle.std.specs.Option.{option_to_list, option_map};
-ghost use Rattle.sql_typing.specs.Building as spec;
+ghost use Rattle.typing_rules.specs.Building as spec;
 
 use cell_base::{SqlState, SqlType, Text};
 use sql_tree::{Column, ColumnDef, CreateTable};
 
 /// The number of the key's column.
-#[tactic(auto, unfolding(sql_typing::specs::Building::key_of))]
+#[tactic(auto, unfolding(typing_rules::specs::Building::key_of))]
 pub fn key_of(create: &CreateTable, columns: &[Column]) -> Result<u32, SqlState>
     requires { length columns.now < 2 ^ 32 }
     ensures { result ≡ spec.key_of columns.now (spec.marked create.now.columns ++ create.now.keys) }

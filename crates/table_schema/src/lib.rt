@@ -4,9 +4,7 @@
 mod building;
 mod catalogue;
 mod columns;
-mod fault;
 mod keys;
 
 pub use building::build;
 pub use catalogue::Catalogue;
-pub use fault::SchemaFault;

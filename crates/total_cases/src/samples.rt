@@ -1,6 +1,5 @@
 // Values of constants, and how values are shown.
-use cell_base::{Items, Text, TextFault, Value};
-use expr_eval::EvalFault;
+use cell_base::{Items, SqlFault, Text, TextFault, Value};
 use std::alloc::Global;
 use std::test::Fail;
 
@@ -49,10 +48,7 @@ pub fn shown(alloc: Global, values: &[Value]) -> Result<String, Fail> {
 }
 
 /// The values, or the code's name.
-pub fn shown_answer(
-    alloc: Global,
-    answer: Result<Items<Value>, EvalFault>,
-) -> Result<String, Fail> {
+pub fn shown_answer(alloc: Global, answer: Result<Items<Value>, SqlFault>) -> Result<String, Fail> {
     match answer {
         Ok(values) => shown(alloc, values.as_slice()),
         Err(fault) => shown_fault(alloc, fault),
@@ -60,9 +56,9 @@ pub fn shown_answer(
 }
 
 /// The code's name.
-pub fn shown_fault(alloc: Global, fault: EvalFault) -> Result<String, Fail> {
+pub fn shown_fault(alloc: Global, fault: SqlFault) -> Result<String, Fail> {
     match fault {
-        EvalFault::State(code) => Ok(format!(in alloc; "{code:?}")?),
-        EvalFault::Memory => Ok(String::from_str(alloc, "memory")?),
+        SqlFault::State(code) => Ok(format!(in alloc; "{code:?}")?),
+        SqlFault::Memory => Ok(String::from_str(alloc, "memory")?),
     }
 }

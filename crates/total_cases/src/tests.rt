@@ -3,15 +3,14 @@ use crate::cases::{Case, OF_EXPRESSIONS, OF_FAULTS, OF_NUMBERS, OF_OTHERS};
 use crate::exprs::exprs_of;
 use crate::orders::{CUTS, ORDERS, Order};
 use crate::samples::{Lit, shown, shown_answer, shown_fault, value_of};
-use cell_base::{Items, Value};
-use expr_eval::EvalFault;
+use cell_base::{Items, SqlFault, Value};
 use row_order::{SortedRow, cut_rows, sort_rows};
 use row_totals::Totals;
 use sql_tree::TypedExpr;
 use std::alloc::Global;
 use std::test::Fail;
 
-fn add(alloc: Global, totals: &mut Totals, lit: Lit) -> Result<Result<(), EvalFault>, Fail> {
+fn add(alloc: Global, totals: &mut Totals, lit: Lit) -> Result<Result<(), SqlFault>, Fail> {
     let values = [value_of(alloc, lit)?];
     Ok(totals.add(&[values.as_slice()]))
 }

@@ -46,7 +46,7 @@ impl TxnBuffer {
         }
     }
 
-    /// Takes the room for `more` cells. On want of memory nothing changes.
+    /// Takes the room for `more` cells. Out of memory, nothing changes.
     pub fn reserve(&mut self, more: usize) -> Result<(), Memory>
         ensures writes { self.new.writes ≡ self.old.writes }
         ensures ok { OnOk result (more ≤ self.new.spare) }

@@ -2,7 +2,7 @@
 //! typed statement or its code.
 //!
 //! The typed statements are shown as text, so that text is compared with text. The contracts of `sql_types` and `table_schema` say
-//! that they give what the rules of `sql_typing` give; this table shows by cases typed by hand that the rules are SQL's. The crate
+//! that they give what the rules of `typing_rules` give; this table shows by cases typed by hand that the rules are SQL's. The crate
 //! has nothing but tests.
 #![tactic(auto)]
 

@@ -1,20 +1,20 @@
 // What no clause says: that the rules of typing are SQL's, by statements typed by hand.
 ghost use Rattle.std.specs.Prelude.{◌≡◌, true};
-ghost use Rattle.typed_parts.specs.Narrow.{AreNarrow};
+ghost use Rattle.typing_parts.specs.Narrow.{AreNarrow};
 
 use crate::cases::{
     CHANGES, CONDITIONS, DEFINITIONS, INSERTS, LONG, NAMES, OPERATORS, ORDERS, POINTS, QUERIES,
     TABLES,
 };
 use crate::{statement, table};
-use cell_base::{Items, Memory, SqlState, Text};
+use cell_base::{Items, Memory, SqlFault, SqlState, Text};
 use sql_statements::statements;
 use sql_tree::{CreateTable, Statement, Table, Typed};
-use sql_types::{TypeFault, typed};
+use sql_types::typed;
 use std::alloc::{AllocError, Global};
 use std::process::Abort;
 use std::test::Fail;
-use table_schema::{SchemaFault, build};
+use table_schema::build;
 
 /// The longest text of a case.
 const MAX_TEXT: usize = 100_000;
@@ -84,8 +84,8 @@ fn shown_table(alloc: Global, built: &Table) -> Result<String, AllocError> {
 fn created(alloc: Global, create: &CreateTable) -> Result<String, AllocError> {
     match build(alloc, create) {
         Ok(table) => shown_table(alloc, &table),
-        Err(SchemaFault::State(state)) => code(alloc, state),
-        Err(SchemaFault::Memory) => String::from_str(alloc, "memory"),
+        Err(SqlFault::State(state)) => code(alloc, state),
+        Err(SqlFault::Memory) => String::from_str(alloc, "memory"),
     }
 }
 
@@ -101,8 +101,8 @@ fn typed_as(alloc: Global, found: &Statement, tables: &[Table]) -> Result<String
     }
     match typed(alloc, found, tables) {
         Ok(typed) => shown(alloc, &typed),
-        Err(TypeFault::State(state)) => code(alloc, state),
-        Err(TypeFault::Memory) => String::from_str(alloc, "memory"),
+        Err(SqlFault::State(state)) => code(alloc, state),
+        Err(SqlFault::Memory) => String::from_str(alloc, "memory"),
     }
 }
 

@@ -1,7 +1,6 @@
 // Values of constants, and how an answer is shown.
 use crate::cases::Lit;
-use cell_base::{Text, TextFault, Value};
-use expr_eval::EvalFault;
+use cell_base::{SqlFault, Text, TextFault, Value};
 use std::alloc::{AllocError, Global};
 
 /// The value of a constant.
@@ -15,14 +14,14 @@ pub fn value_of(alloc: Global, lit: Lit) -> Result<Value, TextFault> {
 }
 
 /// The value, or the code's name.
-pub fn shown(alloc: Global, answer: Result<Value, EvalFault>) -> Result<String, AllocError> {
+pub fn shown(alloc: Global, answer: Result<Value, SqlFault>) -> Result<String, AllocError> {
     match answer {
         Ok(Value::Null) => String::from_str(alloc, "null"),
         Ok(Value::Flag(true)) => String::from_str(alloc, "t"),
         Ok(Value::Flag(false)) => String::from_str(alloc, "f"),
         Ok(Value::Int(n)) => format!(in alloc; "{n}"),
         Ok(Value::Text(text)) => String::from_str(alloc, text.as_str()),
-        Err(EvalFault::State(code)) => format!(in alloc; "{code:?}"),
+        Err(SqlFault::State(code)) => format!(in alloc; "{code:?}"),
         _ => String::from_str(alloc, "other"),
     }
 }

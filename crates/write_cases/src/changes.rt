@@ -2,8 +2,7 @@
 use crate::shown;
 use crate::trees::Lit::{Int, Null, Str};
 use crate::trees::{Lit, column, compared, constant, divides_ten, shown_to, sum, table};
-use cell_base::{Items, Key, Value};
-use expr_eval::EvalFault;
+use cell_base::{Items, Key, SqlFault, Value};
 use row_writes::changes_of;
 use sql_tree::{Op, Table, TypedChange, TypedExpr};
 use std::alloc::{AllocError, Global};
@@ -25,8 +24,8 @@ fn answer(
 ) -> Result<String, AllocError> {
     match changes_of(alloc, table, change, rows) {
         Ok(made) => shown::changes(alloc, made.as_slice()),
-        Err(EvalFault::State(code)) => format!(in alloc; "{code:?}"),
-        Err(EvalFault::Memory) => String::from_str(alloc, "memory"),
+        Err(SqlFault::State(code)) => format!(in alloc; "{code:?}"),
+        Err(SqlFault::Memory) => String::from_str(alloc, "memory"),
     }
 }
 

@@ -2,8 +2,7 @@
 use crate::shown;
 use crate::trees::Lit::{Int, Null, Str};
 use crate::trees::{Lit, constants, rows_of, table};
-use cell_base::{Items, SqlType, Text, Value};
-use expr_eval::EvalFault;
+use cell_base::{Items, SqlFault, SqlType, Text, Value};
 use row_writes::rows_to_insert;
 use sql_tree::{Table, TypedExpr, TypedNode};
 use std::alloc::{AllocError, Global};
@@ -13,8 +12,8 @@ use std::test::Fail;
 fn answer(alloc: Global, table: &Table, rows: &[Items<TypedExpr>]) -> Result<String, AllocError> {
     match rows_to_insert(alloc, table, rows) {
         Ok(made) => shown::rows(alloc, made.as_slice()),
-        Err(EvalFault::State(code)) => format!(in alloc; "{code:?}"),
-        Err(EvalFault::Memory) => String::from_str(alloc, "memory"),
+        Err(SqlFault::State(code)) => format!(in alloc; "{code:?}"),
+        Err(SqlFault::Memory) => String::from_str(alloc, "memory"),
     }
 }
 

@@ -1,6 +1,6 @@
 use Rattle.std.proofs.Common.{◌≡◌, ◌-◌, true, false, ◌||◌, ◌==◌, nat_le, length, take, drop, chars, sym, ◌∙◌, ap, subst, arith}
 use Rattle.std.specs.Str.{IsUtf8}
-use Rattle.sql_typing.specs.Assignment.{are_spaces}
+use Rattle.typing_rules.specs.Assignment.{are_spaces}
 use Rattle.expr_eval.proofs.Characters.{shortened_utf8, fewer_characters, too_many, limited_is}
 use Rattle.expr_eval.proofs.assignment.limited.Goals as goal
 

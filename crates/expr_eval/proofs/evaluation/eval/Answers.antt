@@ -1,5 +1,5 @@
 use Rattle.std.proofs.Common.{◌≡◌, true, Ok, ap, ◌∙◌, subst}
-use Rattle.sql_typing.specs.Kinds.{is_null_or_of}
+use Rattle.typing_rules.specs.Kinds.{is_null_or_of}
 use Rattle.expr_eval.specs.Kinds.{IsTyped}
 use Rattle.expr_eval.specs.Lent.{owned, seen}
 use Rattle.expr_eval.specs.Values.{value_of}

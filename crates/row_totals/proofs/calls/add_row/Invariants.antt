@@ -1,5 +1,5 @@
 use Rattle.std.proofs.Common.{◌≡◌, map, take, drop}
-use Rattle.sql_typing.specs.Outcome.{all_of}
+use Rattle.typing_rules.specs.Outcome.{all_of}
 use Rattle.expr_eval.specs.Lent.{seen}
 use Rattle.row_totals.specs.Calls.{added_to}
 use Rattle.row_totals.proofs.Rest.{with_rest}

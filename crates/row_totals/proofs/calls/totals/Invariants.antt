@@ -1,6 +1,6 @@
 use Rattle.std.proofs.Common.{◌≡◌, map}
 use Rattle.std.specs.Vec.Iter.{into_iter_items}
-use Rattle.sql_typing.specs.Outcome.{all_of}
+use Rattle.typing_rules.specs.Outcome.{all_of}
 use Rattle.row_totals.specs.declared.calls.Call.{Call}
 use Rattle.row_totals.specs.Tallies as tallies
 use Rattle.row_totals.proofs.Rest.{with_rest}

@@ -1,5 +1,5 @@
 use Rattle.std.proofs.Common.{◌≡◌, ◌++◌, map, drop, Ok}
-use Rattle.sql_typing.specs.Outcome.{and_then}
+use Rattle.typing_rules.specs.Outcome.{and_then}
 use Rattle.row_totals.specs.Filling as filling
 use Rattle.row_totals.proofs.filling.fill_all.Given as goal
 

@@ -1,6 +1,6 @@
 -- The changes so far, and those of the rows that are left.
 use Rattle.std.proofs.Common.{◌≡◌, ◌++◌, Ok, drop, map}
-use Rattle.sql_typing.specs.Outcome.{and_then, all_of}
+use Rattle.typing_rules.specs.Outcome.{and_then, all_of}
 use Rattle.row_meaning.specs.Changes as spec
 use Rattle.row_writes.specs.Seen.{rows_seen, changes_seen}
 use Rattle.row_writes.proofs.changes.changes_of.Given as goal

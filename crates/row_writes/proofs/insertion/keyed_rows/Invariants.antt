@@ -1,6 +1,6 @@
 -- The rows so far, and what is left.
 use Rattle.std.proofs.Common.{◌≡◌, map, drop}
-use Rattle.sql_typing.specs.Outcome.{all_of}
+use Rattle.typing_rules.specs.Outcome.{all_of}
 use Rattle.row_meaning.specs.Insertion as spec
 use Rattle.row_meaning.proofs.Lists.{with_rest}
 use Rattle.row_writes.proofs.insertion.keyed_rows.Given as goal

@@ -1,6 +1,6 @@
 -- The values so far, and what is left.
 use Rattle.std.proofs.Common.{◌≡◌, ◌++◌, Ok, drop, length}
-use Rattle.sql_typing.specs.Outcome.{and_then}
+use Rattle.typing_rules.specs.Outcome.{and_then}
 use Rattle.row_meaning.specs.Insertion as spec
 use Rattle.row_writes.proofs.insertion.row_of.Given as goal
 

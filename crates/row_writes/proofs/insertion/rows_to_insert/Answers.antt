@@ -1,6 +1,6 @@
 -- A key stands twice where the sorted rows have twins.
 use Rattle.std.proofs.Common.{length, map, Ok, sym, ap, ◌∙◌}
-use Rattle.sql_typing.specs.Outcome.{all_of}
+use Rattle.typing_rules.specs.Outcome.{all_of}
 use Rattle.row_meaning.specs.Insertion as spec
 use Rattle.row_meaning.specs.Insertion.{rows_to_insert}
 use Rattle.row_writes.specs.Twins as twins

@@ -1,7 +1,7 @@
 -- The rows that were kept, and those to keep of what is left.
 use Rattle.std.proofs.Common.{◌≡◌, ◌++◌, Ok, drop}
 use Rattle.std.specs.Option.{option_map}
-use Rattle.sql_typing.specs.Outcome.{and_then}
+use Rattle.typing_rules.specs.Outcome.{and_then}
 use Rattle.row_meaning.specs.Changes as changes
 use Rattle.row_writes.specs.Seen.{rows_seen}
 use Rattle.row_writes.proofs.kept.kept_rows.Given as goal

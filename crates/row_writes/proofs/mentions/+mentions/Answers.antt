@@ -1,7 +1,7 @@
 -- An IN mentions what its left operand and its members mention.
 use Rattle.std.proofs.Common.{◌||◌, sym, ap, ◌∙◌}
 use Rattle.std.specs.List.{list_any}
-use Rattle.sql_typing.specs.Mentions as spec
+use Rattle.typing_rules.specs.Mentions as spec
 use Rattle.row_writes.proofs.Mentioning.{mentions-in}
 use Rattle.row_writes.proofs.mentions.+mentions.Goals as goal
 

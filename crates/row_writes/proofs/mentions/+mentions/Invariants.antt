@@ -1,7 +1,7 @@
 -- The expressions that are left decide.
 use Rattle.std.proofs.Common.{◌≡◌, drop}
 use Rattle.std.specs.List.{list_any}
-use Rattle.sql_typing.specs.Mentions as spec
+use Rattle.typing_rules.specs.Mentions as spec
 use Rattle.row_writes.proofs.mentions.+mentions.Given as goal
 
 abbrev pub invariant-any_mentions-loop-expr : goal.invariant-any_mentions-loop-expr

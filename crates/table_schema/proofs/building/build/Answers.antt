@@ -1,5 +1,5 @@
 use Rattle.std.proofs.Common.{◌≡◌, [], ◌++◌, length, Ok, sym, ap, arith}
-use Rattle.sql_typing.specs.Building.{key_of, marked}
+use Rattle.typing_rules.specs.Building.{key_of, marked}
 use Rattle.table_schema.proofs.ColumnLists.{as_many}
 use Rattle.table_schema.proofs.KeyNames.{key_within}
 use Rattle.table_schema.proofs.building.build.Goals as goal

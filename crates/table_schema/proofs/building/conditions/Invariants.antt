@@ -1,7 +1,7 @@
 use Rattle.std.proofs.Common.{◌≡◌, [], ◌∷◌, map, drop}
-use Rattle.expr_types.proofs.Lists.{with_rest}
-use Rattle.sql_typing.specs.Expressions.{flag}
-use Rattle.sql_typing.specs.Outcome.{all_of}
+use Rattle.expr_typing.proofs.Lists.{with_rest}
+use Rattle.typing_rules.specs.Expressions.{flag}
+use Rattle.typing_rules.specs.Outcome.{all_of}
 use Rattle.table_schema.proofs.building.conditions.Given as goal
 
 abbrev pub invariant-loop-expr : goal.invariant-loop-expr

@@ -1,5 +1,5 @@
 use Rattle.std.proofs.Common.{◌≡◌, [], take, drop}
-use Rattle.sql_typing.specs.Building.{columns_from}
+use Rattle.typing_rules.specs.Building.{columns_from}
 use Rattle.table_schema.specs.Columns.{names}
 use Rattle.table_schema.proofs.ColumnLists.{left_over}
 use Rattle.table_schema.proofs.columns.columns_of.Given as goal

@@ -1,6 +1,6 @@
 use Rattle.std.proofs.Common.{◌≡◌, ◌≤◌, ◌++◌, length, Err, rules}
 use Rattle.cell_base.specs.declared.sql_state.SqlState.TheVariants.{S0A000}
-use Rattle.sql_typing.specs.Building.{key_of, marked}
+use Rattle.typing_rules.specs.Building.{key_of, marked}
 use Rattle.table_schema.proofs.KeyNames.{many_marked}
 use Rattle.table_schema.proofs.keys.key_of.Goals as goal
 

@@ -1,6 +1,6 @@
 use Rattle.std.proofs.Common.{◌≡◌, ◌++◌, drop}
 use Rattle.std.specs.Option.{option_map, option_to_list}
-use Rattle.sql_typing.specs.Building.{marked}
+use Rattle.typing_rules.specs.Building.{marked}
 use Rattle.table_schema.proofs.keys.marked_name.Given as goal
 
 abbrev pub invariant-loop-column : goal.invariant-loop-column

@@ -1,5 +1,5 @@
 use Rattle.std.proofs.Common.{◌≡◌, drop}
-use Rattle.sql_typing.specs.Building.{key_from}
+use Rattle.typing_rules.specs.Building.{key_from}
 use Rattle.table_schema.proofs.keys.place_of.Given as goal
 
 abbrev pub invariant-loop-i : goal.invariant-loop-i

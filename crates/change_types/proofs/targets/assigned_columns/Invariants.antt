@@ -1,8 +1,0 @@
--- The assignments that are left, behind the columns so far.
-use Rattle.std.proofs.Common.{◌≡◌, [], drop}
-use Rattle.sql_typing.specs.Changes.{assigned_from}
-use Rattle.change_types.specs.Targets.{targets}
-use Rattle.change_types.proofs.targets.assigned_columns.Given as goal
-
-abbrev pub invariant-loop-name : goal.invariant-loop-name
-invariant-loop-name l = assigned_from l.table (targets l.assigned) (drop l.name-index l.set) ≡ assigned_from l.table [] l.set

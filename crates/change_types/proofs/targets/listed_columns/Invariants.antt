@@ -1,8 +1,0 @@
--- The names that are left, behind the columns so far.
-use Rattle.std.proofs.Common.{◌≡◌, [], drop}
-use Rattle.sql_typing.specs.Insert.{listed_from}
-use Rattle.change_types.specs.Targets.{targets}
-use Rattle.change_types.proofs.targets.listed_columns.Given as goal
-
-abbrev pub invariant-loop-name : goal.invariant-loop-name
-invariant-loop-name l = listed_from l.columns (targets l.listed) (drop l.name-index l.names) ≡ listed_from l.columns [] l.names

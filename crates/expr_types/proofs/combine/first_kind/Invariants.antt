@@ -1,6 +1,0 @@
-use Rattle.std.proofs.Common.{◌≡◌, drop}
-use Rattle.sql_typing.specs.Expressions.{first_kind}
-use Rattle.expr_types.proofs.combine.first_kind.Given as goal
-
-abbrev pub invariant-loop-member : goal.invariant-loop-member
-invariant-loop-member l = first_kind (drop l.member-index l.members) ≡ first_kind l.members

@@ -1,9 +1,0 @@
-use Rattle.std.proofs.Common.{◌≡◌, length, reverse}
-use Rattle.sql_typing.specs.Literals as spec
-use Rattle.expr_types.proofs.literal.before_blanks.Given as goal
-
-abbrev pub invariant-loop-bytes : goal.invariant-loop-bytes
-invariant-loop-bytes l = spec.behind_blanks (reverse l.bytes) ≡ spec.behind_blanks (reverse l.fn.bytes)
-
-abbrev pub decreases-loop-bytes : goal.decreases-loop-bytes
-decreases-loop-bytes l = length l.bytes

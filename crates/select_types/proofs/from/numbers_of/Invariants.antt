@@ -1,8 +1,0 @@
--- The numbers of the entries so far.
-use Rattle.std.proofs.Common.{◌≡◌, take, map}
-use Rattle.sql_typing.specs.Select.{Entry}
-use Rattle.select_types.specs.Entries.{entries}
-use Rattle.select_types.proofs.from.numbers_of.Given as goal
-
-abbrev pub invariant-loop-entry : goal.invariant-loop-entry
-invariant-loop-entry l = l.numbers ≡ map (λ (e : Entry). e.found.number) (entries (take l.entry-index l.entries))

@@ -1,9 +1,0 @@
--- What the expression mentions of the entries so far is marked.
-use Rattle.std.proofs.Common.{take}
-use Rattle.sql_typing.specs.Select.{mentions_table}
-use Rattle.typed_parts.specs.Marked.{IsMarked}
-use Rattle.select_types.specs.Entries.{entries}
-use Rattle.select_types.proofs.reads.mark_expr.Given as goal
-
-abbrev pub invariant-loop-at : goal.invariant-loop-at
-invariant-loop-at l = IsMarked l.initial.marks l.marks (λ c. mentions_table l.number c 0 (entries (take l.at l.entries)) l.expr)

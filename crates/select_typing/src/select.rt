@@ -1,0 +1,147 @@
+// The types of SELECT, part by part.
+ghost use Rattle.std.specs.Prelude.{◌≡◌, ◌++◌, IfOk, length, map};
+ghost use Rattle.typing_rules.specs.Select as spec;
+ghost use Rattle.expr_typing.specs.Gives.{Gives};
+ghost use Rattle.expr_typing.specs.Scope.{IsNarrow, sources};
+ghost use Rattle.typing_parts.specs.Narrow.{AreNarrow};
+ghost use Rattle.select_typing.specs.Entries as shown;
+ghost use Rattle.select_typing.specs.GivesBy.{GivesBy};
+ghost use Rattle.select_typing.specs.Parts.{select_parts, parts_of, whole};
+
+use crate::aggregates::has_aggregate;
+use crate::from::{FromEntry, entries_of, numbers_of, scope_of};
+use crate::items::outputs_of;
+use crate::joins::ons_of;
+use crate::order::order_of;
+use crate::output::{Columns, Output, columns_of};
+use crate::points::points_of;
+use crate::reads::{Read, mentioned};
+use cell_base::{Items, Memory, SqlFault};
+use expr_typing::Entry;
+use sql_tree::{Select, Table, TypedExpr, TypedSelect};
+use std::alloc::Global;
+use typing_parts::typed_filter;
+use typing_rules::Place;
+
+/// What a SELECT is typed to, part by part.
+#[derive(Debug, Drop)]
+pub struct Parts {
+    pub ons: Items<TypedExpr>,
+    pub filter: Option<TypedExpr>,
+    pub outputs: Items<Output>,
+    pub order: Items<(TypedExpr, bool)>,
+}
+
+/// Where the items stand: over groups of rows where an aggregate is called.
+fn place_of(grouped: bool) -> Place
+    ensures { result ≡ spec.place_of grouped }
+{
+    if grouped { Place::Group } else { Place::Row }
+}
+
+/// The parts behind FROM, in the order in which they are typed.
+fn parts_of(
+    alloc: Global,
+    select: &Select,
+    scope: &[Entry<'_>],
+    grouped: bool,
+) -> Result<Parts, SqlFault>
+    requires as_many { length scope.now ≡ length select.now.from }
+    requires narrow { IsNarrow scope.now }
+    ensures { GivesBy select_parts (parts_of (sources scope.now) select.now grouped) result }
+{
+    let ons = ons_of(alloc, select.from.as_slice(), scope)?;
+    let filter = typed_filter(alloc, select.filter.as_ref(), scope)?;
+    let outputs = outputs_of(alloc, select.items.as_slice(), scope, place_of(grouped))?;
+    let order = order_of(
+        alloc,
+        select.order.as_slice(),
+        scope,
+        outputs.as_slice(),
+        grouped,
+    )?;
+    Ok(Parts {
+        ons,
+        filter,
+        outputs,
+        order,
+    })
+}
+
+/// The conditions of JOIN, and then WHERE.
+fn conditions_of(
+    ons: Items<TypedExpr>,
+    filter: Option<TypedExpr>,
+) -> Result<Items<TypedExpr>, Memory>
+    ensures { IfOk result (λ all. all ≡ ons ++ spec.option_list filter) }
+{
+    let mut all = ons;
+    if let Some(filter) = filter {
+        all.push(filter)?;
+    }
+    Ok(all)
+}
+
+/// The typed SELECT of its parts.
+fn whole(
+    alloc: Global,
+    select: &Select,
+    entries: &[FromEntry<'_>],
+    parts: Parts,
+    grouped: bool,
+) -> Result<TypedSelect, Memory>
+    requires { IsNarrow (map shown.seen entries.now) }
+    ensures { IfOk result (λ typed. typed ≡ whole (shown.entries entries.now) select.now grouped (select_parts parts)) }
+{
+    let Parts {
+        ons,
+        filter,
+        outputs,
+        order,
+    } = parts;
+    let points = points_of(alloc, entries, filter.as_ref())?;
+    let conditions = conditions_of(ons, filter)?;
+    let Columns { fields, items } = columns_of(alloc, outputs)?;
+    let read = Read {
+        conditions: conditions.as_slice(),
+        items: items.as_slice(),
+        order: order.as_slice(),
+    };
+    let mentioned = mentioned(alloc, entries, &read)?;
+    Ok(TypedSelect {
+        fields,
+        tables: numbers_of(alloc, entries)?,
+        mentioned,
+        points,
+        conditions,
+        items,
+        order,
+        aggregate: grouped,
+        limit: select.limit,
+        offset: select.offset.unwrap_or(0),
+    })
+}
+
+/// The typed tree of a SELECT over these tables, which are numbered from 0, or the code that comes first (PostgreSQL's
+/// documentation, "SELECT").
+///
+/// FROM comes first: more than four entries are `S54000`, an unknown table `S42P01`, a name that stands twice `S42712`. Then
+/// the conditions of JOIN, of which each sees the entries up to its own, and WHERE, with the codes of `typed_flag`. Then the
+/// items: more than 1,664 columns are `S54000`, `*` without FROM `S42601` and beside an aggregate `S42803`, and a column
+/// outside an aggregate beside one `S42803`. Then ORDER BY: a position that no column has is `S42601`, and a term beside an
+/// aggregate `S0A000`.
+#[tactic(auto, unfolding(typing_rules::specs::Select::typed_select))]
+pub fn typed_select(
+    alloc: Global,
+    select: &Select,
+    tables: &[Table],
+) -> Result<TypedSelect, SqlFault>
+    requires { AreNarrow tables.now }
+    ensures { Gives (spec.typed_select tables.now select.now) result }
+{
+    let entries = entries_of(alloc, tables, select.from.as_slice())?;
+    let scope = scope_of(alloc, entries.as_slice())?;
+    let grouped = has_aggregate(select);
+    let parts = parts_of(alloc, select, scope.as_slice(), grouped)?;
+    Ok(whole(alloc, select, entries.as_slice(), parts, grouped)?)
+}

@@ -1,0 +1,21 @@
+//! Tests of typing over trees: a few statements, conditions and definitions, each built as a tree, with what it comes to.
+//!
+//! The contracts of the crates under test say that they give what the rules of `typing_rules` give. No clause says that a call with
+//! ample memory succeeds: these tests run each public call, and compare its answer with one typed by hand. The crate has nothing
+//! but tests.
+#![tactic(auto)]
+
+#[cfg(test)]
+mod changes;
+#[cfg(test)]
+mod definitions;
+#[cfg(test)]
+mod expressions;
+#[cfg(test)]
+mod lookups;
+#[cfg(test)]
+mod samples;
+#[cfg(test)]
+mod selects;
+#[cfg(test)]
+mod statements;
