@@ -1,5 +1,5 @@
 -- The rows of a table, as the part of the cells between two cuts.
-use Rattle.std.proofs.Common.{◌≡◌, ℕ, ◌+◌, ◌-◌, ◌<◌, ◌≤◌, zero, suc, List, [], ◌∷◌, Some, true, false, length, take, drop, arith, refl, ap, sym, ◌∙◌, subst, nat_lt}
+use Rattle.std.proofs.Common.{◌≡◌, ℕ, ◌+◌, ◌-◌, ◌<◌, ◌≤◌, zero, suc, List, [], ◌∷◌, Some, true, false, length, take, drop, arith, refl, ap, sym, ◌∙◌, subst, nat_lt, inl, inr}
 use Rattle.std.specs.List.{slice_get, Contains}
 use Rattle.std.proofs.lemmas.Bool.{cases_lt, false≢true}
 use Rattle.std.proofs.lemmas.Bool.Decides.{nat_tests}
@@ -21,9 +21,10 @@ some_at (x ∷ xs) zero h = (x, refl)
 some_at (x ∷ xs) (suc n) h = some_at xs n (omega arith)
 
 pub slice_get-drop : {X : Type 0} (xs : List X) (n k : ℕ) → slice_get (drop n xs) k ≡ slice_get xs (n + k)
-slice_get-drop xs zero k = refl
+slice_get-drop xs zero k = let same : k ≡ 0 + k = omega arith in ap (λ (m : ℕ). slice_get xs m) same
 slice_get-drop [] (suc n) k = refl
-slice_get-drop (x ∷ xs) (suc n) k = slice_get-drop xs n k
+slice_get-drop (x ∷ xs) (suc n) k =
+    let same : suc (n + k) ≡ suc n + k = omega arith in slice_get-drop xs n k ∙ ap (λ (m : ℕ). slice_get (x ∷ xs) m) same
 
 -- the one cut is not after the other
 pub cuts_rise : (cells : List (Cell × Value)) (table from to : ℕ) → IsCut cells table from → IsCut cells (table + 1) to → from ≤ to

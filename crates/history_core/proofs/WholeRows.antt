@@ -1,5 +1,5 @@
 -- When cells are an initial state of whole rows: each cell is right.
-use Rattle.std.proofs.Common.{◌≡◌, ◌≢◌, ℕ, ◌+◌, ◌<◌, ◌≤◌, zero, suc, List, [], ◌∷◌, Some, None, true, length, get_or, arith, refl, ap, sym, ◌∙◌, subst, ◌↔◌}
+use Rattle.std.proofs.Common.{◌≡◌, ◌≢◌, ℕ, ◌+◌, ◌<◌, ◌≤◌, zero, suc, List, [], ◌∷◌, Some, None, true, length, get_or, arith, refl, ap, sym, ◌∙◌, subst, ◌↔◌, inl, inr}
 use Rattle.std.specs.List.{slice_get, Contains}
 use Rattle.std.proofs.lemmas.Bool.{cases_lt}
 use Rattle.std.proofs.lemmas.Option.{slice_get_within, slice_get-get_or}
@@ -14,7 +14,7 @@ use Rattle.sql_tree.specs.declared.table.Table.{Table}
 use Rattle.txn_buffer.specs.Buffer.{IsAbsent, StandsAt}
 use Rattle.txn_buffer.proofs.Lists.{at_contains, contains_at}
 use Rattle.history_core.specs.Initial.{IsAscending, IsInitialState, FitsCell, HoldsWholeRows, IsThereInitially}
-use Rattle.history_core.specs.Judged.{IsAboveLast, IsWholeRow, HasColumn, HasFields, IsRightCell, IsRightAt}
+use Rattle.history_core.specs.Judged.{IsAboveLast, HasField, IsWholeRow, HasColumn, HasFields, IsRightCell, IsRightAt}
 use Rattle.history_core.proofs.Searches.{cell_cmp, cell_total}
 
 -- ---- ascending, by neighbours
@@ -96,7 +96,8 @@ whole_from tables cells ascending right = (
     whole = λ table key of_table column there is within apart.
         let row = (is_right (Presence table key) (Flag true) there).1 in
         let same : row.of_table ≡ of_table = same_table tables table row.of_table of_table row.is is in
-        subst (λ (t : Table). HasFields cells table key t) same row.whole column within apart;
+        let has : HasFields cells table key of_table = subst (λ (t : Table). HasFields cells table key t) same row.whole in
+        (has column within).has apart;
     fields = λ table key of_table column value member is.
         let has = (is_right (Field table key column) value member).2 in
         let same : has.of_table ≡ of_table = same_table tables table has.of_table of_table has.is is in
@@ -134,10 +135,62 @@ whole_each tables cells is whole k within e at = right e.0 e.1 (contains_at cell
         (true_is, record {
           of_table = row.0;
           is = row.1;
-          whole = λ column under apart. whole.whole table key row.0 column there row.1 under apart;
+          whole = λ column under. record { has = λ apart. whole.whole table key row.0 column there row.1 under apart };
         })
     right (Field table key column) value member =
         let fits = is.fits (Field table key column) value member in
         let row = there_row tables cells whole table key fits.0 in
         let has = whole.fields table key row.0 column value member row.1 in
         (fits.0, fits.1, record { of_table = row.0; is = row.1; within = has.0; apart = has.1 })
+
+-- ---- one cell
+
+-- the cell above the last one, by the two entries
+pub above_last :
+    (cells : List (Cell × Value)) (i at : ℕ) (a b : Cell × Value) → i + 1 ≡ at → slice_get cells i ≡ Some a → slice_get cells at ≡ Some b →
+    (cell_cmp a.0 b.0 ≡ Less) ↔ IsAboveLast cells at
+above_last cells i at a b next at_i at_at = (
+  λ less k x y after at_k at_y.
+      let same : k ≡ i = omega arith in
+      let first : a ≡ x = entry cells i k a x (sym same) at_i at_k in
+      let second : b ≡ y = entry cells at at b y refl at_at at_y in
+      subst (λ (e : Cell × Value). cell_cmp e.0 y.0 ≡ Less) first (subst (λ (e : Cell × Value). cell_cmp a.0 e.0 ≡ Less) second less),
+  λ above. above i a b next at_i at_at,
+)
+  where
+    entry : (xs : List (Cell × Value)) (m n : ℕ) (p q : Cell × Value) → m ≡ n → slice_get xs m ≡ Some p → slice_get xs n ≡ Some q → p ≡ q
+    entry xs m n p q same first second =
+        let both : Some p ≡ Some q = sym first ∙ ap (λ (l : ℕ). slice_get xs l) same ∙ second in cc
+
+-- the entry at the place is right where its cell and its value are
+pub right_at :
+    (tables : List Table) (cells : List (Cell × Value)) (at : ℕ) (e : Cell × Value) → slice_get cells at ≡ Some e →
+    IsRightCell tables cells e.0 e.1 ↔ IsRightAt tables cells at
+right_at tables cells at e is = (
+  λ right x at_x.
+      let both : Some e ≡ Some x = sym is ∙ at_x in
+      let same : e ≡ x = cc in
+      subst (λ (y : Cell × Value). IsRightCell tables cells y.0 y.1) same right,
+  λ right. right e is,
+)
+
+pub field_of_key : (cells : List (Cell × Value)) (table : ℕ) (key : Key) (of_key column : ℕ) → column ≡ of_key → HasField cells table key of_key column
+field_of_key cells table key of_key column same = record { has = λ apart. absurd (apart same) }
+
+pub field_found :
+    (cells : List (Cell × Value)) (table : ℕ) (key : Key) (of_key column at : ℕ) → StandsAt cells (Field table key column) at → HasField cells table key of_key column
+field_found cells table key of_key column at stands =
+    record { has = λ apart. (stands.value, contains_at cells at (Field table key column, stands.value) stands.is) }
+
+pub field_absent :
+    (cells : List (Cell × Value)) (table : ℕ) (key : Key) (of_key column : ℕ) → column ≢ of_key → IsAbsent cells (Field table key column) →
+    HasField cells table key of_key column → ⊥
+field_absent cells table key of_key column apart absent field = let found = field.has apart in absent found.0 found.1
+
+-- a property of each number below one, and of that one
+pub each_next : (P : ℕ → Type 0) (n : ℕ) → ((k : ℕ) → k < n → P k) → P n → (k : ℕ) → k < n + 1 → P k
+each_next P n before at k under =
+    elim (cases_lt k n) [
+      | inl less ↦ before k less
+      | inr here ↦ subst P (let same : n ≡ k = omega arith in same) at
+    ]

@@ -31,10 +31,13 @@ abbrev pub IsAboveLast : List (Cell × Value) → ℕ → Type 0
 IsAboveLast cells place =
     (k : ℕ) (a b : Cell × Value) → k + 1 ≡ place → slice_get cells k ≡ Some a → slice_get cells place ≡ Some b → (cell_order.ghosts).cmp a.0 b.0 ≡ Less
 
+-- the row has the field of the column, or the column is the key's
+pub record HasField (cells : List (Cell × Value)) (table : ℕ) (key : Key) (of_key column : ℕ) : Type 0 where
+  pub has : column ≢ of_key → (value : Value) × Contains cells (Field table key column, value)
+
 -- the row has each field of its table's columns but the key's
 abbrev pub HasFields : List (Cell × Value) → ℕ → Key → Table → Type 0
-HasFields cells table key of_table =
-    (column : ℕ) → column < length of_table.columns → column ≢ of_table.key → (value : Value) × Contains cells (Field table key column, value)
+HasFields cells table key of_table = (column : ℕ) → column < length of_table.columns → HasField cells table key of_table.key column
 
 -- the table is there, and the row is whole
 pub record IsWholeRow (tables : List Table) (cells : List (Cell × Value)) (table : ℕ) (key : Key) : Type 0 where

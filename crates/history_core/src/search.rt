@@ -1,5 +1,5 @@
 // Searches in cells that ascend: where a cell stands, and where the rows of a table begin.
-ghost use Rattle.std.specs.Prelude.{◌≡◌, ◌<◌, length, IfSome, IfNone};
+ghost use Rattle.std.specs.Prelude.{◌≡◌, ◌≤◌, ◌-◌, length, take, drop, IfSome, IfNone};
 ghost use Rattle.txn_buffer.specs.Buffer.{StandsAt, IsAbsent};
 ghost use Rattle.cell_base.specs.contracts.cell.CellOrd.TheImpl as cell_order;
 ghost use Rattle.history_core.specs.Initial.{IsAscending, AreRowsOf, IsInitialState};
@@ -65,6 +65,15 @@ pub fn rows_of(cells: &[(Cell, Value)], table: u32) -> &[(Cell, Value)]
 {
     let from = rows_below(cells, u64::from(table));
     let to = rows_below(cells, u64::from(table) + 1);
+    part(cells, from, to)
+}
+
+/// The cells from the one place to the other.
+fn part(cells: &[(Cell, Value)], from: usize, to: usize) -> &[(Cell, Value)]
+    requires order { from ≤ to }
+    requires within { to ≤ length cells.now }
+    ensures { result.now ≡ take (to - from) (drop from cells.now) }
+{
     &cells[from..to]
 }
 

@@ -1,8 +1,10 @@
 // Whether cells are an initial state of whole rows.
 ghost use Rattle.std.specs.Prelude.{◌≡◌, ◌≤◌, ◌<◌, ◌↔◌, ℕ, true, length, IsTrue, IfSome, IfNone};
+ghost use Rattle.cell_base.specs.contracts.cell.CellOrd.TheImpl as cell_order;
+ghost use Rattle.std.specs.declared.cmp.Ordering.TheVariants.{Less};
 ghost use Rattle.cell_base.specs.declared.value.Value.{Value};
 ghost use Rattle.history_core.specs.Initial.{IsAscending, IsInitialState, IsStorable, IsThereInitially, HoldsWholeRows, initial_load};
-ghost use Rattle.history_core.specs.Judged.{IsAboveLast, HasFields, IsWholeRow, HasColumn, IsRightAt};
+ghost use Rattle.history_core.specs.Judged.{IsAboveLast, HasField, HasFields, IsWholeRow, HasColumn, IsRightCell, IsRightAt};
 
 use crate::search::place_of;
 use crate::weight::text_weight;
@@ -56,7 +58,14 @@ fn is_above_last(cells: &[(Cell, Value)], at: usize) -> bool
     if at == 0 {
         return true;
     }
-    cells[at - 1].0.cmp(&cells[at].0) == Ordering::Less
+    is_below(&cells[at - 1].0, &cells[at].0)
+}
+
+/// Whether the one cell is below the other.
+fn is_below(first: &Cell, second: &Cell) -> bool
+    ensures { IsTrue result ↔ ((cell_order.ghosts).cmp first.now second.now ≡ Less) }
+{
+    first.cmp(second) == Ordering::Less
 }
 
 /// Whether each cell, of those that ascend, is one of an initial state of whole rows.
@@ -78,15 +87,43 @@ fn is_right(tables: &[Table], cells: &[(Cell, Value)], at: usize) -> bool
     requires within { at < length cells.now }
     ensures { IsTrue result ↔ IsRightAt tables.now cells.now at }
 {
-    let value = &cells[at].1;
-    match &cells[at].0 {
-        Cell::Presence(table, key) => is_true(value) && is_whole(tables, cells, *table, key),
+    is_right_cell(tables, cells, &cells[at].0, &cells[at].1)
+}
+
+/// Whether the cell with its value is one of an initial state of whole rows.
+fn is_right_cell(tables: &[Table], cells: &[(Cell, Value)], cell: &Cell, value: &Value) -> bool
+    requires { IsAscending cells.now }
+    ensures { IsTrue result ↔ IsRightCell tables.now cells.now cell.now value.now }
+{
+    match cell {
+        Cell::Presence(table, key) => is_right_presence(tables, cells, *table, key, value),
         Cell::Field(table, key, column) => {
-            is_there(cells, *table, key)
-                && is_storable(value)
-                && has_column(tables, *table, *column)
+            is_right_field(tables, cells, *table, key, *column, value)
         }
     }
+}
+
+/// Whether a presence is true, and of a whole row.
+fn is_right_presence(tables: &[Table], cells: &[(Cell, Value)], table: u32, key: &Key, value: &Value) -> bool
+    requires { IsAscending cells.now }
+    ensures { IsTrue result ↔ ((value.now ≡ Value.Flag true) × IsWholeRow tables.now cells.now table key.now) }
+{
+    is_true(value) && is_whole(tables, cells, table, key)
+}
+
+/// Whether a field is of a row that is there and of a column of its table, and its value can be written.
+fn is_right_field(
+    tables: &[Table],
+    cells: &[(Cell, Value)],
+    table: u32,
+    key: &Key,
+    column: u32,
+    value: &Value,
+) -> bool
+    requires { IsAscending cells.now }
+    ensures { IsTrue result ↔ (IsThereInitially cells.now table key.now × IsStorable value.now × HasColumn tables.now table column) }
+{
+    is_there(cells, table, key) && is_storable(value) && has_column(tables, table, column)
 }
 
 /// Whether the value says that a row is there.
@@ -153,7 +190,13 @@ fn has_fields(cells: &[(Cell, Value)], table: u32, key: &Key, of_table: &Table) 
 /// Whether the row has the field of the column, or the column is the key's.
 fn has_field(cells: &[(Cell, Value)], table: u32, key: &Key, column: usize, of_key: u32) -> bool
     requires { IsAscending cells.now }
-    ensures { IsTrue result ↔ (column ≢ of_key → (value : Value) × Contains cells.now (Cell.Field table key.now column, value)) }
+    ensures { IsTrue result ↔ HasField cells.now table key.now of_key column }
 {
-    column == of_key as usize || place_of(cells, table, key, Some(column)).is_some()
+    if column == of_key as usize {
+        return true;
+    }
+    match place_of(cells, table, key, Some(column)) {
+        Some(_) => true,
+        None => false,
+    }
 }
