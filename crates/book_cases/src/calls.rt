@@ -2,7 +2,7 @@
 ghost use Rattle.std.specs.Prelude.{◌≡◌, OnOk};
 ghost use Rattle.history_core.specs.Events.{table_of};
 ghost use Rattle.history_core.specs.Book.{IsStorable};
-ghost use Rattle.book_cases.specs.Seats.{IsReady, IsFresh, IsBusy};
+ghost use Rattle.book_cases.specs.SessionStates.{IsReady, IsFresh, IsBusy};
 
 use cell_base::{Cell, Items, Key, Value};
 use history_core::{Book, BookFault};

@@ -1,6 +1,6 @@
 // Own reads: which cells a transaction has written and what it reads of them, and the numbers of events, found by hand.
 ghost use Rattle.std.specs.Prelude.{OnOk};
-ghost use Rattle.book_cases.specs.Seats.{IsReady};
+ghost use Rattle.book_cases.specs.SessionStates.{IsReady};
 
 use crate::calls::{
     begin, commit, field_of, presence_of, read, roll_back, see, show, write, write_row, wrote,

@@ -1,6 +1,6 @@
 // Reads: source, count, word and value of each, found by hand.
 ghost use Rattle.std.specs.Prelude.{OnOk};
-ghost use Rattle.book_cases.specs.Seats.{IsReady, IsBusy};
+ghost use Rattle.book_cases.specs.SessionStates.{IsReady, IsBusy};
 
 use crate::calls::{begin, commit, field_of, presence_of, read, roll_back, write_row};
 use crate::start::{reopen, start};

@@ -2,7 +2,7 @@
 ghost use Rattle.std.specs.Prelude.{◌≡◌, OnOk};
 ghost use Rattle.history_core.specs.Events.{table_of};
 ghost use Rattle.history_core.specs.Book.{IsStorable};
-ghost use Rattle.book_cases.specs.Seats.{IsReady, IsBusy};
+ghost use Rattle.book_cases.specs.SessionStates.{IsReady, IsBusy};
 
 use crate::calls::{
     begin, commit, field_of, first_scan, presence_of, read, roll_back, scan, write, write_row,
@@ -104,7 +104,7 @@ fn lists_in_a_second_session(rt: HostRuntime) -> Result<(), BookFault> {
     Ok(())
 }
 
-/// A scan takes no offer away: behind it a listed row may be missed, in the same session and in another.
+/// A scan takes no offer no_session: behind it a listed row may be missed, in the same session and in another.
 #[test]
 fn reads_behind_a_scan(rt: HostRuntime) -> Result<(), BookFault> {
     let told = reads_of_scans(rt.alloc())?;

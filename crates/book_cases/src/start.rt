@@ -2,7 +2,7 @@
 ghost use Rattle.std.specs.Prelude.{◌≡◌, IfOk, OnOk};
 ghost use Rattle.sound_table.specs.Sound.{IsSound};
 ghost use Rattle.history_core.specs.Book.{IsIdle};
-ghost use Rattle.book_cases.specs.Seats.{IsReady};
+ghost use Rattle.book_cases.specs.SessionStates.{IsReady};
 
 use cell_base::{Items, Memory, SqlType, Text, Value};
 use history_core::{Book, BookFault};
@@ -21,7 +21,7 @@ pub fn start(alloc: Global) -> Result<SoloBook, BookFault>
 }
 
 fn define(book: &mut SoloBook, table: &Table) -> Result<(), BookFault>
-    requires idle { IsIdle book.old.seat }
+    requires idle { IsIdle book.old.state }
     requires sound { IsSound table.now }
     ensures { OnOk result (IsReady book.new) }
 {

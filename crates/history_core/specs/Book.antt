@@ -1,9 +1,8 @@
 -- A book: one session's way to a history that others may add to as well.
-use Rattle.std.specs.Prelude.{◌≡◌, ◌≢◌, ◌<◌, ℕ, ℤ, Some, List, [], ◌∷◌, ◌++◌, length, slice_get, All, Any, Contains}
+use Rattle.std.specs.Prelude.{◌≡◌, ◌≢◌, ◌<◌, ℕ, Some, List, [], ◌∷◌, ◌++◌, length, slice_get, All, Any, Contains}
 use Rattle.cell_base.specs.declared.cell.Cell.{Cell}
 use Rattle.cell_base.specs.declared.key.Key.{Key}
 use Rattle.cell_base.specs.declared.value.Value.{Value}
-use Rattle.cell_base.specs.declared.value.Value.TheVariants.{Unset, Wide}
 use Rattle.sql_tree.specs.declared.table.Table.{Table}
 use Rattle.history_core.specs.declared.event.Event.{Event}
 use Rattle.history_core.specs.declared.event.Event.TheVariants.{Define, Look, Read}
@@ -14,51 +13,51 @@ use Rattle.history_core.specs.Legal.{IsKeyBelow}
 use Rattle.history_core.specs.Chronicle.{Chronicle}
 
 -- where the session of a book stands: none is open; one is open with nothing pending; its transaction is pending, with these writes so far
-pub data Seat : Type 0 where
-  away : Seat
-  seated : ℕ → Seat
-  pending : ℕ → List (Cell × Value) → Seat
+pub data SessionState : Type 0 where
+  no_session : SessionState
+  in_session : ℕ → SessionState
+  pending : ℕ → List (Cell × Value) → SessionState
 
 -- the history that a book has seen, the events that it made itself, and where its session stands
 pub record Past : Type 0 where
   pub seen : Chronicle
   pub own : List Event
-  pub seat : Seat
+  pub state : SessionState
 
-abbrev pub IsSeated : Seat → Type 0
-IsSeated away = ⊥
-IsSeated (seated s) = Unit {0}
-IsSeated (pending s writes) = Unit {0}
+abbrev pub HasSession : SessionState → Type 0
+HasSession no_session = ⊥
+HasSession (in_session s) = Unit {0}
+HasSession (pending s writes) = Unit {0}
 
-abbrev pub IsIdle : Seat → Type 0
-IsIdle away = ⊥
-IsIdle (seated s) = Unit {0}
+abbrev pub IsIdle : SessionState → Type 0
+IsIdle no_session = ⊥
+IsIdle (in_session s) = Unit {0}
 IsIdle (pending s writes) = ⊥
 
-abbrev pub IsInTransaction : Seat → Type 0
-IsInTransaction away = ⊥
-IsInTransaction (seated s) = ⊥
+abbrev pub IsInTransaction : SessionState → Type 0
+IsInTransaction no_session = ⊥
+IsInTransaction (in_session s) = ⊥
 IsInTransaction (pending s writes) = Unit {0}
 
 -- the number of the session, where one is open
-abbrev pub session_of : Seat → ℕ
-session_of away = 0
-session_of (seated s) = s
+abbrev pub session_of : SessionState → ℕ
+session_of no_session = 0
+session_of (in_session s) = s
 session_of (pending s writes) = s
 
 -- what the pending transaction wrote, in order
-abbrev pub writes_of : Seat → List (Cell × Value)
-writes_of away = []
-writes_of (seated s) = []
+abbrev pub writes_of : SessionState → List (Cell × Value)
+writes_of no_session = []
+writes_of (in_session s) = []
 writes_of (pending s writes) = writes
 
 -- the pending transaction has not written the cell
-abbrev pub IsUnwritten : Cell → Seat → Type 0
-IsUnwritten cell seat = All (λ write. write.0 ≢ cell) (writes_of seat)
+abbrev pub IsUnwritten : Cell → SessionState → Type 0
+IsUnwritten cell state = All (λ write. write.0 ≢ cell) (writes_of state)
 
 -- the pending transaction has written the cell
-abbrev pub HasWrite : Cell → Seat → Type 0
-HasWrite cell seat = Any (λ write. write.0 ≡ cell) (writes_of seat)
+abbrev pub HasWrite : Cell → SessionState → Type 0
+HasWrite cell state = Any (λ write. write.0 ≡ cell) (writes_of state)
 
 -- the last of these writes to the cell writes the value
 pub record WritesLast (writes : List (Cell × Value)) (cell : Cell) (value : Value) : Type 0 where
@@ -68,18 +67,14 @@ pub record WritesLast (writes : List (Cell × Value)) (cell : Cell) (value : Val
   pub last : All (λ write. write.0 ≢ cell) after
 
 -- the value is what the pending transaction wrote last to the cell
-abbrev pub LastWrite : Cell → Value → Seat → Type 0
-LastWrite cell value seat = WritesLast (writes_of seat) cell value
+abbrev pub LastWrite : Cell → Value → SessionState → Type 0
+LastWrite cell value state = WritesLast (writes_of state) cell value
 
 -- the table of the cell is defined, as the book has seen it
 abbrev pub HasTable : Past → ℕ → Type 0
 HasTable past table = table < length past.seen.tables
 
--- neither unset nor wide
-abbrev pub IsStorable : Value → Type 0
-IsStorable value = (value ≢ Unset) × ((wide : ℤ) → value ≢ Wide wide)
-
--- each key is below those behind it, none stands twice, and there are fewer than 2 ^ 32
+-- each key is below those after it, none stands twice, and there are fewer than 2 ^ 32
 pub record IsKeyList (keys : List Key) : Type 0 where
   pub ascending : (i j : ℕ) (a b : Key) → i < j → slice_get keys i ≡ Some a → slice_get keys j ≡ Some b → IsKeyBelow a b
   pub once : (i j : ℕ) (key : Key) → slice_get keys i ≡ Some key → slice_get keys j ≡ Some key → i ≡ j
@@ -88,17 +83,19 @@ pub record IsKeyList (keys : List Key) : Type 0 where
 -- the history goes on with the events of others
 pub record GoesOn (old new : Past) : Type 0 where
   pub level : new.seen.level ≡ old.seen.level
+  pub initial : new.seen.initial ≡ old.seen.initial
   pub others : List Event
   pub seen : new.seen.events ≡ old.seen.events ++ others
-  pub foreign : All (λ e. session_in e ≢ session_of old.seat) others
+  pub foreign : All (λ e. session_in e ≢ session_of old.state) others
   pub more : List Table
   pub tables : new.seen.tables ≡ old.seen.tables ++ more
   pub own : new.own ≡ old.own
-  pub seat : new.seat ≡ old.seat
+  pub state : new.state ≡ old.state
 
 -- others may go on, and then just this event is added
 pub record Adds (old : Past) (event : Event) (new : Past) : Type 0 where
   pub level : new.seen.level ≡ old.seen.level
+  pub initial : new.seen.initial ≡ old.seen.initial
   pub others : List Event
   pub seen : new.seen.events ≡ old.seen.events ++ others ++ event ∷ []
   pub foreign : All (λ e. session_in e ≢ session_in event) others
@@ -106,22 +103,22 @@ pub record Adds (old : Past) (event : Event) (new : Past) : Type 0 where
   pub tables : new.seen.tables ≡ old.seen.tables ++ more
   pub own : new.own ≡ old.own ++ event ∷ []
 
--- a read of the cell is added, with some source and count, which hold what the history's level permits
+-- a read of the cell is added, with some source and count, which hold what the level of its transaction permits
 pub record AddsRead (old : Past) (cell : Cell) (word : ℕ) (value : Value) (new : Past) : Type 0 where
   pub source : ℕ
   pub count : ℕ
-  pub adds : Adds old (Read (session_of old.seat) cell source count word value) new
+  pub adds : Adds old (Read (session_of old.state) cell source count word value) new
 
 -- the tables from a number on, as they are then, and their number
 pub record AnswersTables (old : Past) (known : ℕ) (tables : List Table) (new : Past) : Type 0 where
   pub before : List Table
   pub whole : new.seen.tables ≡ before ++ tables
   pub known_is : length before ≡ known
-  pub adds : Adds old (Look (session_of old.seat) (length new.seen.tables)) new
+  pub adds : Adds old (Look (session_of old.state) (length new.seen.tables)) new
 
 -- a definition, or a look where the name is taken
 abbrev pub AnswersDefine : Past → Table → DefineAnswer → Past → Type 0
 AnswersDefine old table (Defined n) new =
-    (before : List Table) × (new.seen.tables ≡ before ++ table ∷ []) × (length before ≡ n) × Adds old (Define (session_of old.seat) table.name) new
+    (before : List Table) × (new.seen.tables ≡ before ++ table ∷ []) × (length before ≡ n) × Adds old (Define (session_of old.state) table.name) new
 AnswersDefine old table (Taken n) new =
-    (n ≡ length new.seen.tables) × Contains (names new.seen.events) table.name × Adds old (Look (session_of old.seat) n) new
+    (n ≡ length new.seen.tables) × Contains (names new.seen.events) table.name × Adds old (Look (session_of old.state) n) new

@@ -1,15 +1,19 @@
--- A history as its readers see it: the level, the events, and one table for each definition.
+-- A history as its readers see it: the served level, the initial state, the events, and one table for each definition.
 use Rattle.std.specs.Prelude.{◌≡◌, ◌==◌, ℕ, List, [], ◌∷◌, ◌++◌, map, filter, All}
 use Rattle.cell_base.specs.declared.level.Level.{Level}
+use Rattle.cell_base.specs.declared.cell.Cell.{Cell}
+use Rattle.cell_base.specs.declared.value.Value.{Value}
 use Rattle.sql_tree.specs.declared.table.Table.{Table}
 use Rattle.sound_table.specs.Sound.{IsSound}
 use Rattle.history_core.specs.declared.event.Event.{Event}
 use Rattle.history_core.specs.declared.event.Event.TheVariants.{Define}
 use Rattle.history_core.specs.Events.{names, session_in}
+use Rattle.history_core.specs.Initial.{IsInitialState}
 use Rattle.history_core.specs.Legal.{IsFormed, IsLegal}
 
 pub record Chronicle : Type 0 where
   pub level : Level
+  pub initial : List (Cell × Value)
   pub events : List Event
   pub tables : List Table
 
@@ -20,12 +24,14 @@ pub record KeepsTables (history : Chronicle) : Type 0 where
 
 -- a history in which each event fits what came before
 pub record IsFormedChronicle (history : Chronicle) : Type 0 where
-  pub formed : IsFormed history.events
+  pub initial : IsInitialState history.initial
+  pub formed : IsFormed history.initial history.events
   pub tables : KeepsTables history
 
--- a history whose reads were also offered exactly what the level permits
+-- a history whose reads were also offered exactly what the levels of their transactions permit
 pub record IsLegalChronicle (history : Chronicle) : Type 0 where
-  pub legal : IsLegal history.level history.events
+  pub initial : IsInitialState history.initial
+  pub legal : IsLegal history.initial history.events
   pub tables : KeepsTables history
 
 -- the history followed by the event

@@ -4,7 +4,7 @@ use Rattle.std.specs.List.{filter_map}
 use Rattle.cell_base.specs.declared.cell.Cell.{Cell}
 use Rattle.cell_base.specs.declared.cell.Cell.TheVariants.{Presence, Field}
 use Rattle.cell_base.specs.declared.value.Value.{Value}
-use Rattle.cell_base.specs.declared.value.Value.TheVariants.{Unset, Flag, Text as ValueText}
+use Rattle.cell_base.specs.declared.value.Value.TheVariants.{Text as ValueText}
 use Rattle.cell_base.specs.declared.key.Key.{Key}
 use Rattle.cell_base.specs.declared.key.Key.TheVariants.{Int, Text}
 use Rattle.history_core.specs.declared.event.Event.{Event}
@@ -15,7 +15,7 @@ session_in (Open s) = s
 session_in (Close s) = s
 session_in (Define s name) = s
 session_in (Look s count) = s
-session_in (Begin s) = s
+session_in (Begin s level) = s
 session_in (Scan s table keys) = s
 session_in (Read s cell source count word value) = s
 session_in (Own s cell value) = s
@@ -29,7 +29,7 @@ is_open_event (Open s) = true
 is_open_event _ = false
 
 abbrev pub is_begin : Event → Bool
-is_begin (Begin s) = true
+is_begin (Begin s level) = true
 is_begin _ = false
 
 -- the end of a transaction
@@ -75,14 +75,9 @@ weight_of (Own s cell value) = 1 + (cell_bytes cell + value_bytes value) / 256
 weight_of (Write s cell value) = 1 + (cell_bytes cell + value_bytes value) / 256
 weight_of _ = 1
 
-abbrev pub load_of : List Event → ℕ
-load_of events = sum_by weight_of events
+abbrev pub weights_of : List Event → ℕ
+weights_of events = sum_by weight_of events
 
 abbrev pub table_of : Cell → ℕ
 table_of (Presence table key) = table
 table_of (Field table key column) = table
-
--- what the initial transaction wrote
-abbrev pub initial_value : Cell → Value
-initial_value (Presence table key) = Flag false
-initial_value (Field table key column) = Unset

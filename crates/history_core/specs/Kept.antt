@@ -12,7 +12,8 @@ use Rattle.history_core.specs.declared.txn.Seen.{Seen}
 use Rattle.history_core.specs.declared.txn.Txn.{Txn}
 use Rattle.history_core.specs.declared.kept.SessionRecord.{SessionRecord}
 use Rattle.history_core.specs.declared.kept.Kept.{Kept}
-use Rattle.history_core.specs.Events.{opened, begun, load_of}
+use Rattle.history_core.specs.Events.{opened, begun}
+use Rattle.history_core.specs.Initial.{load_of}
 use Rattle.history_core.specs.Transactions.{IsPending}
 use Rattle.history_core.specs.Legal.{IsOpen}
 use Rattle.history_core.specs.Chronicle.{Chronicle, IsFormedChronicle}
@@ -40,42 +41,45 @@ abbrev pub ended : List Event → ℕ
 ended events = count_by is_any_end events
 
 -- no number grows out of its type
-pub record IsSmall (events : List Event) (owed : ℕ) : Type 0 where
+pub record IsSmall (initial : List (Cell × Value)) (events : List Event) (owed : ℕ) : Type 0 where
   pub ends : ended events + owed ≡ begun events + opened events
-  pub begins : begun events ≤ 16383
+  pub begins : begun events ≤ 65535
   pub opens : opened events ≤ 4096
   pub count : length events ≤ 1048576 + ended events
-  pub load : load_of events ≤ 4611686018428436480 + ended events
+  pub load : load_of initial events ≤ 4611686018428436480 + ended events
 
 -- what a caller sees
 abbrev pub seen_as : Kept → Chronicle
-seen_as kept = record { level = kept.level; events = kept.events.items; tables = kept.tables.items }
+seen_as kept = record { level = kept.level; initial = kept.initial; events = kept.events.items; tables = kept.tables.items }
 
 -- the parts stand for the events, and there is room for each end that is owed
 pub record IsKept (kept : Kept) : Type 0 where
   pub formed : IsFormedChronicle (seen_as kept)
   pub txns : StandsForTxns kept.events.items kept.txns.items
   pub sessions : StandsForSessions kept.events.items kept.sessions.items
-  pub load : kept.load ≡ load_of kept.events.items
+  pub load : kept.load ≡ load_of kept.initial kept.events.items
   pub owed : kept.owed ≡ sum_by owed_by kept.sessions.items
-  pub small : IsSmall kept.events.items kept.owed
+  pub small : IsSmall kept.initial kept.events.items kept.owed
   pub room : length kept.events.items + kept.owed ≤ vec_capacity kept.events
 
 -- the same level and tables, and the events with one more
 pub record Grows (old new : Kept) (event : Event) : Type 0 where
   pub level : new.level ≡ old.level
+  pub initial : new.initial ≡ old.initial
   pub tables : new.tables.items ≡ old.tables.items
   pub events : new.events.items ≡ old.events.items ++ event ∷ []
 
 -- the table is defined under its name
 pub record Defines (old new : Kept) (session : ℕ) (table : Table) : Type 0 where
   pub level : new.level ≡ old.level
+  pub initial : new.initial ≡ old.initial
   pub tables : new.tables.items ≡ old.tables.items ++ table ∷ []
   pub events : new.events.items ≡ old.events.items ++ Define session table.name ∷ []
 
 -- what a caller sees stays
 pub record Stays (old new : Kept) : Type 0 where
   pub level : new.level ≡ old.level
+  pub initial : new.initial ≡ old.initial
   pub tables : new.tables.items ≡ old.tables.items
   pub events : new.events.items ≡ old.events.items
 
@@ -92,6 +96,7 @@ AddsSeen seen before after = after ≡ record before { seen = before.seen ++ see
 
 pub record AddsWrite (cell : Cell) (value : Value) (before after : Txn) : Type 0 where
   pub session : after.session ≡ before.session
+  pub level : after.level ≡ before.level
   pub state : after.state ≡ before.state
   pub seen : after.seen ≡ before.seen
   pub puts : Puts before.buffer.writes after.buffer.writes cell value

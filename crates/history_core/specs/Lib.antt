@@ -1,6 +1,9 @@
 pub mod Events
+pub mod Initial
+pub mod Judged
 pub mod Transactions
 pub mod Relations
+pub mod Forced
 pub mod Legal
 pub mod Chronicle
 pub mod Book

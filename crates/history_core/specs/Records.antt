@@ -8,7 +8,7 @@ use Rattle.history_core.specs.declared.txn.TxnState.TheVariants.{Pending, Commit
 use Rattle.history_core.specs.declared.txn.Seen.{Seen}
 use Rattle.history_core.specs.declared.txn.Seen.TheVariants.{Read as SeenRead, Scan as SeenScan}
 use Rattle.history_core.specs.declared.txn.Txn.{Txn}
-use Rattle.history_core.specs.Transactions.{IsStart, IsOf, IsPending, IsCommitted}
+use Rattle.history_core.specs.Transactions.{IsStart, IsOf, IsPending, IsCommitted, RunsAt}
 use Rattle.history_core.specs.Relations.{LastWrites}
 
 -- what an event with the number lets its transaction see
@@ -28,6 +28,7 @@ pub record Saw (events : List Event) (number : ℕ) (seen : Seen) : Type 0 where
 pub record IsRecordOf (events : List Event) (number : ℕ) (txn : Txn) : Type 0 where
   pub place : ℕ
   pub started : IsStart events number txn.session place
+  pub level : RunsAt events number txn.level
   pub pending : (txn.state ≡ Pending) ↔ IsPending events number txn.session
   pub committed : (txn.state ≡ Committed) ↔ IsCommitted events number
   pub seen : (seen : Seen) → Contains txn.seen seen ↔ Saw events number seen

@@ -1,6 +1,7 @@
 -- What transactions write and read, what comes before what, and the commit orders that a level allows.
 use Rattle.std.specs.Prelude.{◌≡◌, ◌≢◌, ◌<◌, ◌≤◌, ◌+◌, ◌⊎◌, ℕ, Some, List, [], ◌∷◌, Contains, slice_get}
 use Rattle.graph_base.specs.Order.{HoldsEachOnce, place_of}
+use Rattle.graph_base.specs.Closure.{Chained}
 use Rattle.cell_base.specs.declared.level.Level.{Level}
 use Rattle.cell_base.specs.declared.level.Level.TheVariants.{Rc, Ra, Cc}
 use Rattle.cell_base.specs.declared.cell.Cell.{Cell}
@@ -8,8 +9,9 @@ use Rattle.cell_base.specs.declared.cell.Cell.TheVariants.{Presence}
 use Rattle.cell_base.specs.declared.value.Value.{Value}
 use Rattle.history_core.specs.declared.event.Event.{Event}
 use Rattle.history_core.specs.declared.event.Event.TheVariants.{Scan, Read, Write}
-use Rattle.history_core.specs.Events.{begun, initial_value}
-use Rattle.history_core.specs.Transactions.{IsStart, IsOf, IsCommitted}
+use Rattle.history_core.specs.Events.{begun}
+use Rattle.history_core.specs.Initial.{WritesInitially}
+use Rattle.history_core.specs.Transactions.{IsStart, IsOf, IsCommitted, RunsAt}
 
 -- the transaction has a write of the cell, committed or not
 pub record HasWritten (events : List Event) (number : ℕ) (cell : Cell) : Type 0 where
@@ -29,9 +31,9 @@ pub record LastWrites (events : List Event) (number : ℕ) (cell : Cell) (value 
 abbrev pub Writes : List Event → ℕ → Cell → Type 0
 Writes events number cell = (number ≡ 0) ⊎ (IsCommitted events number × HasWritten events number cell)
 
-abbrev pub WritesValue : List Event → ℕ → Cell → Value → Type 0
-WritesValue events number cell value =
-    ((number ≡ 0) × (value ≡ initial_value cell)) ⊎ (IsCommitted events number × LastWrites events number cell value)
+abbrev pub WritesValue : List (Cell × Value) → List Event → ℕ → Cell → Value → Type 0
+WritesValue initial events number cell value =
+    ((number ≡ 0) × WritesInitially initial cell value) ⊎ (IsCommitted events number × LastWrites events number cell value)
 
 -- a scan reads the presence of each key that it doesn't list, from the initial transaction
 abbrev pub Gives : Event → Cell → ℕ → Type 0
@@ -62,10 +64,9 @@ pub record ReadsFrom (events : List Event) (source reader : ℕ) : Type 0 where
 abbrev pub Precedes : List Event → ℕ → ℕ → Type 0
 Precedes events first second = IsSessionOrdered events first second ⊎ ReadsFrom events first second
 
--- each transaction on the way precedes the next
-abbrev pub IsChain : List Event → ℕ → List ℕ → ℕ → Type 0
-IsChain events first [] last = Precedes events first last
-IsChain events first (next ∷ rest) last = Precedes events first next × IsChain events next rest last
+-- the causal past: a chain of transactions of which each precedes the next
+abbrev pub PrecedesCausally : List Event → ℕ → ℕ → Type 0
+PrecedesCausally events first second = Chained (Precedes events) first second
 
 pub record ReadsBefore (events : List Event) (reader place source : ℕ) : Type 0 where
   pub earlier : ℕ
@@ -73,28 +74,34 @@ pub record ReadsBefore (events : List Event) (reader place source : ℕ) : Type 
   pub below : earlier < place
   pub reads : Reads events reader earlier cell source
 
--- what the level lets a read at the place see
-abbrev pub IsVisible : Level → List Event → ℕ → ℕ → ℕ → Type 0
-IsVisible Rc events reader place writer = ReadsBefore events reader place writer
-IsVisible Ra events reader place writer = Precedes events writer reader
-IsVisible Cc events reader place writer = (between : List ℕ) × IsChain events writer between reader
+-- what a level lets a read at the place see
+abbrev pub IsVisibleAt : Level → List Event → ℕ → ℕ → ℕ → Type 0
+IsVisibleAt Rc events reader place writer = ReadsBefore events reader place writer
+IsVisibleAt Ra events reader place writer = Precedes events writer reader
+IsVisibleAt Cc events reader place writer = PrecedesCausally events writer reader
+
+-- what the level of its transaction lets a read at the place see
+pub record IsVisible (events : List Event) (reader place writer : ℕ) : Type 0 where
+  pub level : Level
+  pub runs : RunsAt events reader level
+  pub sees : IsVisibleAt level events reader place writer
 
 -- a read from the second sees the first, which writes the cell too
-pub record Demands (level : Level) (events : List Event) (first second : ℕ) : Type 0 where
+pub record Demands (events : List Event) (first second : ℕ) : Type 0 where
   pub reader : ℕ
   pub place : ℕ
   pub cell : Cell
   pub reads : Reads events reader place cell second
   pub other : first ≢ second
   pub writes : Writes events first cell
-  pub visible : IsVisible level events reader place first
+  pub visible : IsVisible events reader place first
 
 -- the commit order holds each transaction once, the initial one first, and keeps what comes before what
-pub record Meets (level : Level) (events : List Event) (order : List ℕ) : Type 0 where
+pub record Meets (events : List Event) (order : List ℕ) : Type 0 where
   pub holds : HoldsEachOnce (begun events + 1) order
   pub first : slice_get order 0 ≡ Some 0
   pub precedes : (a b : ℕ) → Precedes events a b → place_of order a < place_of order b
-  pub demands : (a b : ℕ) → Demands level events a b → place_of order a < place_of order b
+  pub demands : (a b : ℕ) → Demands events a b → place_of order a < place_of order b
 
-abbrev pub IsConsistent : Level → List Event → Type 0
-IsConsistent level events = (order : List ℕ) × Meets level events order
+abbrev pub IsConsistent : List Event → Type 0
+IsConsistent events = (order : List ℕ) × Meets events order

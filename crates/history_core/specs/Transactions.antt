@@ -1,12 +1,21 @@
 -- The transactions of a history, which is a list of events. The k-th Begin starts transaction k; 0 is the initial one.
 use Rattle.std.specs.Prelude.{◌≡◌, ◌<◌, ◌+◌, ℕ, false, Some, List, length, slice_get, take}
+use Rattle.cell_base.specs.declared.level.Level.{Level}
 use Rattle.history_core.specs.declared.event.Event.{Event}
 use Rattle.history_core.specs.declared.event.Event.TheVariants.{Begin, Commit}
 use Rattle.history_core.specs.Events.{session_in, is_end, begun}
 
 -- transaction k starts at the place
 pub record IsStart (events : List Event) (number session place : ℕ) : Type 0 where
-  pub is : slice_get events place ≡ Some (Begin session)
+  pub level : Level
+  pub is : slice_get events place ≡ Some (Begin session level)
+  pub counts : number ≡ begun (take place events) + 1
+
+-- transaction k runs at the level, which its Begin says
+pub record RunsAt (events : List Event) (number : ℕ) (level : Level) : Type 0 where
+  pub session : ℕ
+  pub place : ℕ
+  pub is : slice_get events place ≡ Some (Begin session level)
   pub counts : number ≡ begun (take place events) + 1
 
 -- the session ends no transaction strictly between the places

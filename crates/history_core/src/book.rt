@@ -1,12 +1,12 @@
 // A book: one session's way to a history.
 use crate::{BookFault, DefineAnswer};
-use cell_base::{Cell, Items, Key, Value};
+use cell_base::{Cell, Items, Key, Level, Value};
 use sql_tree::Table;
 
-/// One session's way to a history, which others may add to as well. Each call but `wrote` adds just the event of its name behind
+/// One session's way to a history, which others may add to as well. Each call but `wrote` adds just the event of its name after
 /// what others added, and a call that is refused adds none; a definition of a name that is taken adds a look.
-/// A call answers `Full` exactly where the history is full for it, tested in the order load, name, count, memory. The history
-/// seen after a call is legal: each read in it was offered exactly what the level permits.
+/// A call answers `Full` only where the history is full for it, tested in the order load, name, count, memory. The history
+/// seen after a call is legal: each read in it was offered exactly what the level of its transaction permits.
 pub trait Book {
     ghost use Rattle.std.specs.Prelude.{◌≡◌, ◌≢◌, ◌≤◌, ◌<◌, ◌↔◌, [], ◌∷◌, ◌++◌, ℕ, false, length, Some, IsTrue, IfOk, OnOk, OnErr, Contains};
     ghost use Rattle.sound_table.specs.Sound.{IsSound};
@@ -14,9 +14,10 @@ pub trait Book {
     ghost use Rattle.history_core.specs.declared.fault.Limit.{Limit};
     ghost use Rattle.history_core.specs.declared.fault.Limit.TheVariants as limits;
     ghost use Rattle.history_core.specs.Events.{table_of, begun, names};
+    ghost use Rattle.history_core.specs.Initial.{IsStorable};
     ghost use Rattle.history_core.specs.Legal.{full_for, full_load};
     ghost use Rattle.history_core.specs.Chronicle.{IsLegalChronicle};
-    ghost use Rattle.history_core.specs.Book.{Past, Seat, away, seated, pending, IsSeated, IsIdle, IsInTransaction, IsUnwritten, HasWrite, LastWrite, IsStorable, HasTable, IsKeyList, session_of, writes_of, GoesOn, Adds, AddsRead, AnswersTables, AnswersDefine};
+    ghost use Rattle.history_core.specs.Book.{Past, SessionState, no_session, in_session, pending, HasSession, IsIdle, IsInTransaction, IsUnwritten, HasWrite, LastWrite, HasTable, IsKeyList, session_of, writes_of, GoesOn, Adds, AddsRead, AnswersTables, AnswersDefine};
 
     /// The history seen, the own events, and where the session stands.
     ghost past: { Self → Past };
@@ -26,138 +27,138 @@ pub trait Book {
 
     /// Starts a session and answers its number.
     fn open(&mut self) -> Result<u32, BookFault>
-        requires { (past self.old).seat ≡ away }
+        requires { (past self.old).state ≡ no_session }
         ensures ok { IfOk result (λ s. Adds (past self.old) (events.Open s) (past self.new)) }
-        ensures seat { IfOk result (λ s. (past self.new).seat ≡ seated s) }
+        ensures state { IfOk result (λ s. (past self.new).state ≡ in_session s) }
         ensures err { OnErr result (GoesOn (past self.old) (past self.new)) }
-        ensures full { (limit : Limit) → result ≡ Err (BookFault.Full limit) → full_for (past self.new).seen.events (events.Open 0) ≡ Some limit }
+        ensures full { (limit : Limit) → result ≡ Err (BookFault.Full limit) → full_for (past self.new).seen.initial (past self.new).seen.events (events.Open 0) ≡ Some limit }
         ensures legal { IsLegalChronicle (past self.new).seen }
         ensures stays { stays self.old self.new };
 
     /// Ends the session. Takes no memory.
     fn close(&mut self)
-        requires { IsIdle (past self.old).seat }
-        ensures adds { Adds (past self.old) (events.Close (session_of (past self.old).seat)) (past self.new) }
-        ensures seat { (past self.new).seat ≡ away }
+        requires { IsIdle (past self.old).state }
+        ensures adds { Adds (past self.old) (events.Close (session_of (past self.old).state)) (past self.new) }
+        ensures state { (past self.new).state ≡ no_session }
         ensures legal { IsLegalChronicle (past self.new).seen }
         ensures stays { stays self.old self.new };
 
     /// Looks at the tables, and answers those from the number `known` on.
     fn look(&mut self, known: u32) -> Result<Items<Table>, BookFault>
-        requires open { IsSeated (past self.old).seat }
+        requires open { HasSession (past self.old).state }
         requires known { known ≤ length (past self.old).seen.tables }
         ensures ok { IfOk result (λ tables. AnswersTables (past self.old) known tables (past self.new)) }
-        ensures seat { (past self.new).seat ≡ (past self.old).seat }
+        ensures state { (past self.new).state ≡ (past self.old).state }
         ensures err { OnErr result (GoesOn (past self.old) (past self.new)) }
-        ensures full { (limit : Limit) → result ≡ Err (BookFault.Full limit) → full_load (past self.new).seen.events ≡ Some limit }
+        ensures full { (limit : Limit) → result ≡ Err (BookFault.Full limit) → full_load (past self.new).seen.initial (past self.new).seen.events ≡ Some limit }
         ensures legal { IsLegalChronicle (past self.new).seen }
         ensures stays { stays self.old self.new };
 
     /// Defines a table, or looks where its name is taken.
     fn define(&mut self, table: &Table) -> Result<DefineAnswer, BookFault>
-        requires open { IsSeated (past self.old).seat }
+        requires open { HasSession (past self.old).state }
         requires sound { IsSound table.now }
         ensures ok { IfOk result (λ answer. AnswersDefine (past self.old) table.now answer (past self.new)) }
-        ensures seat { (past self.new).seat ≡ (past self.old).seat }
+        ensures state { (past self.new).state ≡ (past self.old).state }
         ensures err { OnErr result (GoesOn (past self.old) (past self.new)) }
-        ensures full { (limit : Limit) → result ≡ Err (BookFault.Full limit) → full_for (past self.new).seen.events (events.Define 0 table.now.name) ≡ Some limit }
+        ensures full { (limit : Limit) → result ≡ Err (BookFault.Full limit) → full_for (past self.new).seen.initial (past self.new).seen.events (events.Define 0 table.now.name) ≡ Some limit }
         ensures load_first { (limit : Limit) → limit ≢ limits.Load → result ≡ Err (BookFault.Full limit) → ¬ (Contains (names (past self.new).seen.events) table.now.name) }
         ensures legal { IsLegalChronicle (past self.new).seen }
         ensures stays { stays self.old self.new };
 
-    /// Starts a transaction and answers its number.
-    fn begin(&mut self) -> Result<u32, BookFault>
-        requires { IsIdle (past self.old).seat }
-        ensures ok { IfOk result (λ n. Adds (past self.old) (events.Begin (session_of (past self.old).seat)) (past self.new)) }
+    /// Starts a transaction at the level and answers its number.
+    fn begin(&mut self, level: Level) -> Result<u32, BookFault>
+        requires { IsIdle (past self.old).state }
+        ensures ok { IfOk result (λ n. Adds (past self.old) (events.Begin (session_of (past self.old).state) level) (past self.new)) }
         ensures number { IfOk result (λ n. n ≡ begun (past self.new).seen.events) }
-        ensures seat { OnOk result ((past self.new).seat ≡ pending (session_of (past self.old).seat) []) }
+        ensures state { OnOk result ((past self.new).state ≡ pending (session_of (past self.old).state) []) }
         ensures err { OnErr result (GoesOn (past self.old) (past self.new)) }
-        ensures full { (limit : Limit) → result ≡ Err (BookFault.Full limit) → full_for (past self.new).seen.events (events.Begin 0) ≡ Some limit }
+        ensures full { (limit : Limit) → result ≡ Err (BookFault.Full limit) → full_for (past self.new).seen.initial (past self.new).seen.events (events.Begin 0 level) ≡ Some limit }
         ensures legal { IsLegalChronicle (past self.new).seen }
         ensures stays { stays self.old self.new };
 
     /// Lists the keys of a table that a committed transaction or the pending one has made or removed, ascending.
     fn scan(&mut self, table: u32) -> Result<Items<Key>, BookFault>
-        requires pending { IsInTransaction (past self.old).seat }
+        requires pending { IsInTransaction (past self.old).state }
         requires defined { HasTable (past self.old) table }
-        ensures ok { IfOk result (λ keys. Adds (past self.old) (events.Scan (session_of (past self.old).seat) table keys) (past self.new)) }
+        ensures ok { IfOk result (λ keys. Adds (past self.old) (events.Scan (session_of (past self.old).state) table keys) (past self.new)) }
         ensures listed { IfOk result IsKeyList }
-        ensures seat { (past self.new).seat ≡ (past self.old).seat }
+        ensures state { (past self.new).state ≡ (past self.old).state }
         ensures err { OnErr result (GoesOn (past self.old) (past self.new)) }
-        ensures full { (limit : Limit) → result ≡ Err (BookFault.Full limit) → full_load (past self.new).seen.events ≡ Some limit }
+        ensures full { (limit : Limit) → result ≡ Err (BookFault.Full limit) → full_load (past self.new).seen.initial (past self.new).seen.events ≡ Some limit }
         ensures legal { IsLegalChronicle (past self.new).seen }
         ensures stays { stays self.old self.new };
 
     /// Whether the pending transaction has written the cell. Adds no event and takes no memory.
     fn wrote(&mut self, cell: &Cell) -> bool
-        requires { IsInTransaction (past self.old).seat }
-        ensures answer { IsTrue result ↔ HasWrite cell.now (past self.old).seat }
-        ensures unwritten { result ≡ false → IsUnwritten cell.now (past self.old).seat }
+        requires { IsInTransaction (past self.old).state }
+        ensures answer { IsTrue result ↔ HasWrite cell.now (past self.old).state }
+        ensures unwritten { result ≡ false → IsUnwritten cell.now (past self.old).state }
         ensures goes_on { GoesOn (past self.old) (past self.new) }
         ensures legal { IsLegalChronicle (past self.new).seen }
         ensures stays { stays self.old self.new };
 
     /// Reads a cell that the pending transaction has written: what it wrote last.
     fn own(&mut self, cell: &Cell) -> Result<Value, BookFault>
-        requires pending { IsInTransaction (past self.old).seat }
-        requires written { HasWrite cell.now (past self.old).seat }
-        ensures ok { IfOk result (λ value. Adds (past self.old) (events.Own (session_of (past self.old).seat) cell.now value) (past self.new)) }
-        ensures last { IfOk result (λ value. LastWrite cell.now value (past self.old).seat) }
-        ensures seat { (past self.new).seat ≡ (past self.old).seat }
+        requires pending { IsInTransaction (past self.old).state }
+        requires written { HasWrite cell.now (past self.old).state }
+        ensures ok { IfOk result (λ value. Adds (past self.old) (events.Own (session_of (past self.old).state) cell.now value) (past self.new)) }
+        ensures last { IfOk result (λ value. LastWrite cell.now value (past self.old).state) }
+        ensures state { (past self.new).state ≡ (past self.old).state }
         ensures err { OnErr result (GoesOn (past self.old) (past self.new)) }
-        ensures full { (limit : Limit) → result ≡ Err (BookFault.Full limit) → full_load (past self.new).seen.events ≡ Some limit }
+        ensures full { (limit : Limit) → result ≡ Err (BookFault.Full limit) → full_load (past self.new).seen.initial (past self.new).seen.events ≡ Some limit }
         ensures legal { IsLegalChronicle (past self.new).seen }
         ensures stays { stays self.old self.new };
 
     /// Reads a cell that the pending transaction hasn't written: the committed write that the word picks of those that the
-    /// level permits.
+    /// level of the transaction permits.
     fn read(&mut self, cell: &Cell, word: u32) -> Result<Value, BookFault>
-        requires pending { IsInTransaction (past self.old).seat }
-        requires unwritten { IsUnwritten cell.now (past self.old).seat }
+        requires pending { IsInTransaction (past self.old).state }
+        requires unwritten { IsUnwritten cell.now (past self.old).state }
         requires defined { HasTable (past self.old) (table_of cell.now) }
         ensures ok { IfOk result (λ value. AddsRead (past self.old) cell.now word value (past self.new)) }
-        ensures seat { (past self.new).seat ≡ (past self.old).seat }
+        ensures state { (past self.new).state ≡ (past self.old).state }
         ensures err { OnErr result (GoesOn (past self.old) (past self.new)) }
-        ensures full { (limit : Limit) → result ≡ Err (BookFault.Full limit) → full_load (past self.new).seen.events ≡ Some limit }
+        ensures full { (limit : Limit) → result ≡ Err (BookFault.Full limit) → full_load (past self.new).seen.initial (past self.new).seen.events ≡ Some limit }
         ensures legal { IsLegalChronicle (past self.new).seen }
         ensures stays { stays self.old self.new };
 
     /// Writes a cell. The write is seen by others once the transaction has committed.
     fn write(&mut self, cell: Cell, value: Value) -> Result<(), BookFault>
-        requires pending { IsInTransaction (past self.old).seat }
+        requires pending { IsInTransaction (past self.old).state }
         requires storable { IsStorable value }
         requires defined { HasTable (past self.old) (table_of cell) }
-        ensures ok { OnOk result (Adds (past self.old) (events.Write (session_of (past self.old).seat) cell value) (past self.new)) }
-        ensures seat { OnOk result ((past self.new).seat ≡ pending (session_of (past self.old).seat) (writes_of (past self.old).seat ++ (cell, value) ∷ [])) }
+        ensures ok { OnOk result (Adds (past self.old) (events.Write (session_of (past self.old).state) cell value) (past self.new)) }
+        ensures state { OnOk result ((past self.new).state ≡ pending (session_of (past self.old).state) (writes_of (past self.old).state ++ (cell, value) ∷ [])) }
         ensures err { OnErr result (GoesOn (past self.old) (past self.new)) }
-        ensures full { (limit : Limit) → result ≡ Err (BookFault.Full limit) → full_load (past self.new).seen.events ≡ Some limit }
+        ensures full { (limit : Limit) → result ≡ Err (BookFault.Full limit) → full_load (past self.new).seen.initial (past self.new).seen.events ≡ Some limit }
         ensures legal { IsLegalChronicle (past self.new).seen }
         ensures stays { stays self.old self.new };
 
     /// Commits the pending transaction. Takes no memory and always succeeds.
     fn commit(&mut self)
-        requires { IsInTransaction (past self.old).seat }
-        ensures adds { Adds (past self.old) (events.Commit (session_of (past self.old).seat)) (past self.new) }
-        ensures seat { (past self.new).seat ≡ seated (session_of (past self.old).seat) }
+        requires { IsInTransaction (past self.old).state }
+        ensures adds { Adds (past self.old) (events.Commit (session_of (past self.old).state)) (past self.new) }
+        ensures state { (past self.new).state ≡ in_session (session_of (past self.old).state) }
         ensures legal { IsLegalChronicle (past self.new).seen }
         ensures stays { stays self.old self.new };
 
     /// Rolls the pending transaction back. Takes no memory and always succeeds.
     fn rollback(&mut self)
-        requires { IsInTransaction (past self.old).seat }
-        ensures adds { Adds (past self.old) (events.Rollback (session_of (past self.old).seat)) (past self.new) }
-        ensures seat { (past self.new).seat ≡ seated (session_of (past self.old).seat) }
+        requires { IsInTransaction (past self.old).state }
+        ensures adds { Adds (past self.old) (events.Rollback (session_of (past self.old).state)) (past self.new) }
+        ensures state { (past self.new).state ≡ in_session (session_of (past self.old).state) }
         ensures legal { IsLegalChronicle (past self.new).seen }
         ensures stays { stays self.old self.new };
 
     /// Tells the number of the event that tells it. Events are numbered from 1.
     fn show(&mut self) -> Result<u32, BookFault>
-        requires { IsSeated (past self.old).seat }
-        ensures ok { IfOk result (λ number. Adds (past self.old) (events.Show (session_of (past self.old).seat) number) (past self.new)) }
+        requires { HasSession (past self.old).state }
+        ensures ok { IfOk result (λ number. Adds (past self.old) (events.Show (session_of (past self.old).state) number) (past self.new)) }
         ensures number { IfOk result (λ number. number ≡ length (past self.new).seen.events) }
-        ensures seat { (past self.new).seat ≡ (past self.old).seat }
+        ensures state { (past self.new).state ≡ (past self.old).state }
         ensures err { OnErr result (GoesOn (past self.old) (past self.new)) }
-        ensures full { (limit : Limit) → result ≡ Err (BookFault.Full limit) → full_load (past self.new).seen.events ≡ Some limit }
+        ensures full { (limit : Limit) → result ≡ Err (BookFault.Full limit) → full_load (past self.new).seen.initial (past self.new).seen.events ≡ Some limit }
         ensures legal { IsLegalChronicle (past self.new).seen }
         ensures stays { stays self.old self.new };
 

@@ -1,31 +1,71 @@
 // The events of a history.
-use cell_base::{Cell, Items, Key, Text, Value};
+use cell_base::{Cell, Items, Key, Level, Text, Value};
 
-/// One event, which is one hold of the history's turn. Its first number is the session's.
+/// One event, which is one hold of the history's turn, made by a session.
 #[derive(Debug, Drop)]
 pub enum Event {
     /// The session starts; sessions are numbered 1, 2, 3 in order of opening.
-    Open(u32),
+    Open {
+        session: u32,
+    },
     /// The session ends.
-    Close(u32),
+    Close {
+        session: u32,
+    },
     /// The next table, numbered from 0, has this name.
-    Define(u32, Text),
+    Define {
+        session: u32,
+        name: Text,
+    },
     /// The session saw that so many tables are defined.
-    Look(u32, u32),
-    /// The next transaction, numbered from 1, starts in the session.
-    Begin(u32),
+    Look {
+        session: u32,
+        tables: u32,
+    },
+    /// The next transaction, numbered from 1, starts in the session at this level.
+    Begin {
+        session: u32,
+        level: Level,
+    },
     /// The keys of the table that the scan listed, ascending.
-    Scan(u32, u32, Items<Key>),
-    /// An external read: cell, chosen source, length of the offered list, choice word, value.
-    Read(u32, Cell, u32, u32, u32, Value),
+    Scan {
+        session: u32,
+        table: u32,
+        keys: Items<Key>,
+    },
+    /// An external read: of the cell, from the source that the word picks of the offered list, whose length is the count, with
+    /// the value that the source wrote last.
+    Read {
+        session: u32,
+        cell: Cell,
+        source: u32,
+        count: u32,
+        word: u32,
+        value: Value,
+    },
     /// An internal read, of a cell that the own transaction has written.
-    Own(u32, Cell, Value),
+    Own {
+        session: u32,
+        cell: Cell,
+        value: Value,
+    },
     /// A buffered write.
-    Write(u32, Cell, Value),
+    Write {
+        session: u32,
+        cell: Cell,
+        value: Value,
+    },
     /// The pending transaction of the session commits.
-    Commit(u32),
+    Commit {
+        session: u32,
+    },
     /// The pending transaction of the session rolls back.
-    Rollback(u32),
+    Rollback {
+        session: u32,
+    },
     /// The session was told that this event has this number.
-    Show(u32, u32),
+    Show {
+        session: u32,
+        number: u32,
+    },
 }

@@ -1,5 +1,5 @@
 // What a history keeps of each transaction.
-use cell_base::{Cell, Items, Key};
+use cell_base::{Cell, Items, Key, Level};
 use txn_buffer::TxnBuffer;
 
 /// How far a transaction has come.
@@ -13,13 +13,21 @@ pub enum TxnState {
     RolledBack,
 }
 
-/// What a transaction saw, with the number of the event first; events are numbered from 1.
+/// What a transaction saw, with the number of the event; events are numbered from 1.
 #[derive(Debug, Drop)]
 pub enum Seen {
-    /// An external read: the event's number, the cell, and the transaction whose write it gave.
-    Read(u32, Cell, u32),
-    /// A scan: the event's number, the table, and the keys that it listed.
-    Scan(u32, u32, Items<Key>),
+    /// An external read: the cell, and the transaction whose write it gave.
+    Read {
+        number: u32,
+        cell: Cell,
+        source: u32,
+    },
+    /// A scan: the table, and the keys that it listed.
+    Scan {
+        number: u32,
+        table: u32,
+        keys: Items<Key>,
+    },
 }
 
 /// The record of a transaction.
@@ -27,6 +35,8 @@ pub enum Seen {
 pub struct Txn {
     /// The session that it runs in.
     pub session: u32,
+    /// Its isolation level.
+    pub level: Level,
     /// How far it has come.
     pub state: TxnState,
     /// Its external reads and its scans, in order.

@@ -5,7 +5,7 @@ use Rattle.link_traits.specs.Faults.{Rose}
 use Rattle.link_traits.specs.Traffic.{Both, Wrote, WrotePart, Sight}
 use Rattle.link_traits.specs.Host.{HostCall, standard_link_called}
 use Rattle.history_core.specs.Chronicle.{IsLegalChronicle}
-use Rattle.history_core.specs.Book.{Past, away}
+use Rattle.history_core.specs.Book.{Past, no_session}
 use Rattle.block_machine.specs.Calls.{Call}
 use Rattle.block_machine.specs.Script.{Entry}
 use Rattle.block_machine.specs.declared.end.End.{End}
@@ -41,7 +41,7 @@ usage_line = codes "usage: monkeydb pipe LEVEL WORDS | serve [OPTIONS] | check P
 
 -- the past of a book at Read Committed that has no event
 abbrev pub no_past : Past
-no_past = record { seen = record { level = Rc; events = []; tables = [] }; own = []; seat = away }
+no_past = record { seen = record { level = Rc; events = []; tables = [] }; own = []; state = no_session }
 
 -- A session was served over a link, from no history at Read Committed to a legal one whose events are the session's alone. Its reads drew
 -- these words in order, and then 0.
@@ -59,7 +59,7 @@ pub record ServesAlone (words : List ℕ) (f g : Sight) (end : End) (wanting : B
   pub level : past.seen.level ≡ Rc
   pub legal : IsLegalChronicle past.seen
   pub events : past.seen.events ≡ events_of es
-  pub closed : past.seat ≡ away
+  pub closed : past.state ≡ no_session
 
 -- the status of an end. A want of memory stands before it.
 abbrev pub status_of : End → Bool → ℕ

@@ -12,7 +12,7 @@ use Rattle.block_machine.specs.Script.{Entry, did, refused, short, unsent, stop,
 use Rattle.block_machine.specs.declared.call.Answer.{Answer}
 use Rattle.block_machine.specs.declared.call.Answer.TheVariants as answers
 use Rattle.block_machine.specs.declared.end.End.{End}
-use Rattle.session_core.specs.Record.{Lawful, Happens, Declines, Draws, SeatAfter}
+use Rattle.session_core.specs.Record.{Lawful, Happens, Declines, Draws, StateAfter}
 use Rattle.choice_stream.specs.Choices.{DrawsFirst}
 use Rattle.one_history.proofs.Leads.{Leads, lawful_leads, leads_adds, leads_goes, happens_adds, declines_goes, alone_between}
 use Rattle.one_history.proofs.Rides.{Goes, Grows, IsLast, Rides, astray_ended}
@@ -36,7 +36,7 @@ pub record Answered (p : Past) (v : List ℕ) (c : Call) (a : Answer) (m : Past)
   pub event : Event
   pub happens : Happens p c a event m
   pub draws : Draws DrawsFirst p v c (did a event) u
-  pub seat : SeatAfter c a p.seat m.seat
+  pub state : StateAfter c a p.state m.state
 
 -- the call was refused, since the history is full
 pub record Stopped (p : Past) (v : List ℕ) (c : Call) (a : Answer) (m : Past) (u : List ℕ) : Type 0 where
@@ -82,7 +82,7 @@ turned_did c rest said a e es p v out end q w (d ∷ cs) grows goes asked lawful
         event = e;
         happens = happens;
         draws = subst (λ (x : Call). Draws DrawsFirst p v x (did a e) lawful.1) split.0 lawful.3;
-        seat = subst (λ (x : Call). SeatAfter x a p.seat lawful.0.seat) split.0 lawful.5;
+        state = subst (λ (x : Call). StateAfter x a p.state lawful.0.state) split.0 lawful.5;
       };
       rides = record {
         goes = goes;

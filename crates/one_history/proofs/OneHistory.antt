@@ -48,7 +48,7 @@ pub one_history : OneHistory
 one_history level taken more words first second left right sent told one other a b either =
     let agree : Agree (IsSpared more) (session level phases.Startup [] a.talk) (session level phases.Startup [] b.talk) =
     sessions_agree more level phases.Startup [] false taken a.talk b.talk a.talk_is b.talk_is in
-    let near : IsNear (no_past level) (no_past level) a.past b.past = record { level = refl; events = refl; seat = refl; tables = refl } in
+    let near : IsNear (no_past level) (no_past level) a.past b.past = record { level = refl; events = refl; state = refl; tables = refl } in
     let rode = agree.same nothing_said a.es b.es (no_past level) (no_past level) words (record { bytes = sent; calls = a.asked })
     (record { bytes = told; calls = b.asked }) one other a.past b.past left right
     (rides_of level taken words first left sent one a) (rides_of level (taken ++ more) words second right told other b) near in

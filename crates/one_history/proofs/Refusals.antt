@@ -11,7 +11,7 @@ use Rattle.history_core.specs.declared.fault.Limit.TheVariants as limits
 use Rattle.history_core.specs.declared.fault.BookFault.TheVariants as faults
 use Rattle.history_core.specs.Events.{names, defined, load_of}
 use Rattle.history_core.specs.Legal.{full_for, full_load, full_count}
-use Rattle.history_core.specs.Book.{Past, Seat}
+use Rattle.history_core.specs.Book.{Past, SessionState}
 use Rattle.cell_base.specs.declared.level.Level.{Level}
 use Rattle.block_machine.specs.Calls.{Call}
 use Rattle.block_machine.specs.Calls as calls
@@ -38,42 +38,42 @@ tables_limit true limit some same =
     let two : limits.Tables ≡ limits.Load = (let h : limits.Tables ≡ limit = cc in h) ∙ same in cc
 tables_limit false limit some same = let both : None ≡ Some limit = some in cc
 
-refused_define : (n : Past) (events : List Event) (seat : Seat) (table : Table) (a : Answer) (e : Event) (limit : Limit) → n.seen.events ≡ events →
+refused_define : (n : Past) (events : List Event) (state : SessionState) (table : Table) (a : Answer) (e : Event) (limit : Limit) → n.seen.events ≡ events →
     full_for events (Define 0 table.name) ≡ Some limit → (limit ≢ limits.Load → ¬ (Contains (names n.seen.events) table.name)) →
-    full_for events e ≡ None → News events seat table a e ⊎ Olds events seat table a e → ⊥
-refused_define n events seat table a e limit same full new fits (inl one) = fits_as events e _ (full_for events (Define 0 table.name)) limit one.event refl fits full
-refused_define n events seat table a e limit same full new fits (inr two) =
+    full_for events e ≡ None → News events state table a e ⊎ Olds events state table a e → ⊥
+refused_define n events state table a e limit same full new fits (inl one) = fits_as events e _ (full_for events (Define 0 table.name)) limit one.event refl fits full
+refused_define n events state table a e limit same full new fits (inr two) =
     let look : full_load events ≡ None = ap (λ (x : Event). full_for events x) (sym two.event) ∙ fits in
     let count : full_count events (Define 0 table.name) ≡ Some limit = other_limit (nat_le 1048576 (load_of events)) (full_count events (Define 0 table.name)) limit look full in
     new (tables_limit (nat_le 64 (defined events)) limit count) (subst (λ (es : List Event). Contains (names es) table.name) (sym same) two.old)
 
-touched_fits : (events : List Event) (level : Level) (seat : Seat) (v : List ℕ) (cell : Cell) (value : Value) (e : Event) (u : List ℕ) →
-    Back seat v cell value e u ⊎ From events level seat v cell value e u → full_for events e ≡ None → full_load events ≡ None
-touched_fits events level seat v cell value e u (inl back) fits = ap (λ (x : Event). full_for events x) (sym back.event) ∙ fits
-touched_fits events level seat v cell value e u (inr from) fits = ap (λ (x : Event). full_for events x) (sym from.event) ∙ fits
+touched_fits : (events : List Event) (level : Level) (state : SessionState) (v : List ℕ) (cell : Cell) (value : Value) (e : Event) (u : List ℕ) →
+    Back state v cell value e u ⊎ From events level state v cell value e u → full_for events e ≡ None → full_load events ≡ None
+touched_fits events level state v cell value e u (inl back) fits = ap (λ (x : Event). full_for events x) (sym back.event) ∙ fits
+touched_fits events level state v cell value e u (inr from) fits = ap (λ (x : Event). full_for events x) (sym from.event) ∙ fits
 
 -- the same events leave room for the event and are full for the call
-pub not_refused : (events : List Event) (level : Level) (seat : Seat) (tables : List Table) (v u : List ℕ) (c : Call) (a : Answer) (e : Event) →
-    Known events level seat tables v c a e u → full_for events e ≡ None → (p n : Past) (limit : Limit) → n.seen.events ≡ events →
+pub not_refused : (events : List Event) (level : Level) (state : SessionState) (tables : List Table) (v u : List ℕ) (c : Call) (a : Answer) (e : Event) →
+    Known events level state tables v c a e u → full_for events e ≡ None → (p n : Past) (limit : Limit) → n.seen.events ≡ events →
     Declines p c (faults.Full limit) n → ⊥
-not_refused events level seat tables v u calls.Open a e is fits p n limit same d =
+not_refused events level state tables v u calls.Open a e is fits p n limit same d =
     fits_as events e _ (full_for events (Open 0)) limit is.1 refl fits (subst (λ (es : List Event). full_for es (Open 0) ≡ Some limit) same d.2)
-not_refused events level seat tables v u calls.Close a e is fits p n limit same d = d.0
-not_refused events level seat tables v u (calls.Look known) a e is fits p n limit same d =
+not_refused events level state tables v u calls.Close a e is fits p n limit same d = d.0
+not_refused events level state tables v u (calls.Look known) a e is fits p n limit same d =
     fits_as events e _ (full_load events) limit is.1 refl fits (subst (λ (es : List Event). full_load es ≡ Some limit) same d.2)
-not_refused events level seat tables v u (calls.Define t) a e is fits p n limit same d =
-    refused_define n events seat t a e limit same (subst (λ (es : List Event). full_for es (Define 0 t.name) ≡ Some limit) same d.2) d.3 fits is.0
-not_refused events level seat tables v u calls.Begin a e is fits p n limit same d =
+not_refused events level state tables v u (calls.Define t) a e is fits p n limit same d =
+    refused_define n events state t a e limit same (subst (λ (es : List Event). full_for es (Define 0 t.name) ≡ Some limit) same d.2) d.3 fits is.0
+not_refused events level state tables v u calls.Begin a e is fits p n limit same d =
     fits_as events e _ (full_for events (Begin 0)) limit is.1 refl fits (subst (λ (es : List Event). full_for es (Begin 0) ≡ Some limit) same d.2)
-not_refused events level seat tables v u (calls.Scan t) a e is fits p n limit same d =
+not_refused events level state tables v u (calls.Scan t) a e is fits p n limit same d =
     fits_as events e _ (full_load events) limit is.3 refl fits (subst (λ (es : List Event). full_load es ≡ Some limit) same d.2)
-not_refused events level seat tables v u (calls.Touch cell) a e is fits p n limit same d =
-    none_some limit (full_load events) (touched_fits events level seat v cell is.0 e u is.2 fits) (subst (λ (es : List Event). full_load es ≡ Some limit) same d.2)
-not_refused events level seat tables v u (calls.Write cell value) a e is fits p n limit same d =
+not_refused events level state tables v u (calls.Touch cell) a e is fits p n limit same d =
+    none_some limit (full_load events) (touched_fits events level state v cell is.0 e u is.2 fits) (subst (λ (es : List Event). full_load es ≡ Some limit) same d.2)
+not_refused events level state tables v u (calls.Write cell value) a e is fits p n limit same d =
     fits_as events e _ (full_load events) limit is.1 refl fits (subst (λ (es : List Event). full_load es ≡ Some limit) same d.2)
-not_refused events level seat tables v u calls.Commit a e is fits p n limit same d = d.0
-not_refused events level seat tables v u calls.Rollback a e is fits p n limit same d = d.0
-not_refused events level seat tables v u calls.Show a e is fits p n limit same d =
+not_refused events level state tables v u calls.Commit a e is fits p n limit same d = d.0
+not_refused events level state tables v u calls.Rollback a e is fits p n limit same d = d.0
+not_refused events level state tables v u calls.Show a e is fits p n limit same d =
     fits_as events e _ (full_load events) limit is.1 refl fits (subst (λ (es : List Event). full_load es ≡ Some limit) same d.2)
 
 -- two refusals of one call name one limit

@@ -41,7 +41,7 @@ pub record Rides (s : Script) (said : Said) (es : List Entry) (p : Past) (v : Li
 pub record IsNear (a b q r : Past) : Type 0 where
   pub level : a.seen.level ≡ b.seen.level
   pub events : a.seen.events ≡ b.seen.events
-  pub seat : a.seat ≡ b.seat
+  pub state : a.state ≡ b.state
   pub tables : take (defined a.seen.events) q.seen.tables ≡ take (defined a.seen.events) r.seen.tables
 
 -- what two rides leave

@@ -10,14 +10,14 @@ use Rattle.history_core.specs.declared.fault.BookFault.{BookFault}
 use Rattle.history_core.specs.declared.fault.BookFault.TheVariants as faults
 use Rattle.history_core.specs.declared.fault.DefineAnswer.TheVariants as defines
 use Rattle.history_core.specs.Events.{names, defined, defined_name}
-use Rattle.history_core.specs.Book.{Past, Seat, session_of, IsUnwritten}
+use Rattle.history_core.specs.Book.{Past, SessionState, session_of, IsUnwritten}
 use Rattle.block_machine.specs.Calls.{Call}
 use Rattle.block_machine.specs.Calls as calls
 use Rattle.block_machine.specs.Script.{Entry, refused, Said, with_call, Script, ask}
 use Rattle.block_machine.specs.declared.call.Answer.{Answer}
 use Rattle.block_machine.specs.declared.call.Answer.TheVariants as answers
 use Rattle.block_machine.specs.declared.end.End.{End}
-use Rattle.session_core.specs.Record.{Happens, Draws, SeatAfter}
+use Rattle.session_core.specs.Record.{Happens, Draws, StateAfter}
 use Rattle.choice_stream.specs.Choices.{DrawsFirst}
 use Rattle.one_history.proofs.Leads.{Leads, made_of, lawful_leads, happens_adds, goes_alone}
 use Rattle.one_history.proofs.Names.{names-more, placed}
@@ -28,16 +28,16 @@ use Rattle.one_history.proofs.Refusals.{not_refused, one_refusal}
 use Rattle.one_history.proofs.Rides.{IsLast, Rides, IsNear, Agree}
 use Rattle.one_history.proofs.Asking.{Answered, Stopped, turned, ask_grows}
 
--- ---- the seat
+-- ---- the state
 
-seat_same : (c : Call) (a : Answer) (old x y : Seat) → SeatAfter c a old x → SeatAfter c a old y → x ≡ y
-seat_same calls.Open (answers.Opened s) old x y one two = one ∙ sym two
-seat_same calls.Close answers.Closed old x y one two = one ∙ sym two
-seat_same calls.Begin (answers.Begun n) old x y one two = one ∙ sym two
-seat_same (calls.Write cell value) answers.Written old x y one two = one ∙ sym two
-seat_same calls.Commit answers.Committed old x y one two = one ∙ sym two
-seat_same calls.Rollback answers.RolledBack old x y one two = one ∙ sym two
-seat_same _ _ old x y one two = one ∙ sym two
+state_same : (c : Call) (a : Answer) (old x y : SessionState) → StateAfter c a old x → StateAfter c a old y → x ≡ y
+state_same calls.Open (answers.Opened s) old x y one two = one ∙ sym two
+state_same calls.Close answers.Closed old x y one two = one ∙ sym two
+state_same calls.Begin (answers.Begun n) old x y one two = one ∙ sym two
+state_same (calls.Write cell value) answers.Written old x y one two = one ∙ sym two
+state_same calls.Commit answers.Committed old x y one two = one ∙ sym two
+state_same calls.Rollback answers.RolledBack old x y one two = one ∙ sym two
+state_same _ _ old x y one two = one ∙ sym two
 
 -- ---- the tables
 
@@ -54,16 +54,16 @@ NextTables p m q c = (defined m.seen.events ≡ defined p.seen.events) ⊎ Grown
 still : (p m : Past) (e f : Event) → m.seen.events ≡ p.seen.events ++ e ∷ [] → e ≡ f → defined_name f ≡ None → defined m.seen.events ≡ defined p.seen.events
 still p m e f seen is none = ap defined (seen ∙ ap (λ (x : Event). p.seen.events ++ x ∷ []) is) ∙ ap length (same_names p.seen.events f none)
 
-grown : (p m q : Past) (t : Table) (before : List Table) (e : Event) → Way p m q e → e ≡ Define (session_of p.seat) t.name →
+grown : (p m q : Past) (t : Table) (before : List Table) (e : Event) → Way p m q e → e ≡ Define (session_of p.state) t.name →
     m.seen.tables ≡ before ++ t ∷ [] → Grown p m q (calls.Define t)
 grown p m q t before e way is tables =
-    let seen : m.seen.events ≡ p.seen.events ++ Define (session_of p.seat) t.name ∷ [] =
+    let seen : m.seen.events ≡ p.seen.events ++ Define (session_of p.state) t.name ∷ [] =
     way.made.seen ∙ ap (λ (x : Event). p.seen.events ++ x ∷ []) is in
-    let at = placed p m q (session_of p.seat) t before way.legal way.leads seen tables in
+    let at = placed p m q (session_of p.state) t before way.legal way.leads seen tables in
     record {
       table = t;
       call = refl;
-      count = ap defined seen ∙ ap length (names-more p.seen.events (Define (session_of p.seat) t.name ∷ [])) ∙ length_push (names p.seen.events) t.name;
+      count = ap defined seen ∙ ap length (names-more p.seen.events (Define (session_of p.state) t.name ∷ [])) ∙ length_push (names p.seen.events) t.name;
       tables = at.next ∙ ap (λ (ts : List Table). ts ++ t ∷ []) (sym at.there);
     }
 
@@ -121,16 +121,16 @@ way_of p m q v c a u alone last leads took =
     }
 
 known_near : (a b q r : Past) (v : List ℕ) (c : Call) (x : Answer) (f : Event) (w : List ℕ) → IsNear a b q r →
-    Known b.seen.events b.seen.level b.seat (take (defined b.seen.events) r.seen.tables) v c x f w →
-    Known a.seen.events a.seen.level a.seat (take (defined a.seen.events) q.seen.tables) v c x f w
+    Known b.seen.events b.seen.level b.state (take (defined b.seen.events) r.seen.tables) v c x f w →
+    Known a.seen.events a.seen.level a.state (take (defined a.seen.events) q.seen.tables) v c x f w
 known_near a b q r v c x f w near is =
-    let one : Known a.seen.events b.seen.level b.seat (take (defined a.seen.events) r.seen.tables) v c x f w =
-    subst (λ (es : List Event). Known es b.seen.level b.seat (take (defined es) r.seen.tables) v c x f w) (sym near.events) is in
-    let two : Known a.seen.events a.seen.level b.seat (take (defined a.seen.events) r.seen.tables) v c x f w =
-    subst (λ (l : Level). Known a.seen.events l b.seat (take (defined a.seen.events) r.seen.tables) v c x f w) (sym near.level) one in
-    let three : Known a.seen.events a.seen.level a.seat (take (defined a.seen.events) r.seen.tables) v c x f w =
-    subst (λ (s : Seat). Known a.seen.events a.seen.level s (take (defined a.seen.events) r.seen.tables) v c x f w) (sym near.seat) two in
-    subst (λ (ts : List Table). Known a.seen.events a.seen.level a.seat ts v c x f w) (sym near.tables) three
+    let one : Known a.seen.events b.seen.level b.state (take (defined a.seen.events) r.seen.tables) v c x f w =
+    subst (λ (es : List Event). Known es b.seen.level b.state (take (defined es) r.seen.tables) v c x f w) (sym near.events) is in
+    let two : Known a.seen.events a.seen.level b.state (take (defined a.seen.events) r.seen.tables) v c x f w =
+    subst (λ (l : Level). Known a.seen.events l b.state (take (defined a.seen.events) r.seen.tables) v c x f w) (sym near.level) one in
+    let three : Known a.seen.events a.seen.level a.state (take (defined a.seen.events) r.seen.tables) v c x f w =
+    subst (λ (s : SessionState). Known a.seen.events a.seen.level s (take (defined a.seen.events) r.seen.tables) v c x f w) (sym near.state) two in
+    subst (λ (ts : List Table). Known a.seen.events a.seen.level a.state ts v c x f w) (sym near.tables) three
 
 -- the same answer, the same words, and pasts that are near again
 pub record Steps (x y : Answer) (u w : List ℕ) (m n q r : Past) : Type 0 where
@@ -147,7 +147,7 @@ both_answered a b m n q r v u w c x y near alone lone last end to on one two =
     let is = known a m q v u c x one.event left one.happens one.draws in
     let also = known_near a b q r v c y two.event w near (known b n r v w c y two.event right two.happens two.draws) in
     let same : IsOne x y one.event two.event u w =
-    known_one a.seen.events a.seen.level a.seat (take (defined a.seen.events) q.seen.tables) v c x y one.event two.event u w is also in
+    known_one a.seen.events a.seen.level a.state (take (defined a.seen.events) q.seen.tables) v c x y one.event two.event u w is also in
     let events : m.seen.events ≡ n.seen.events =
     left.made.seen ∙ ap (λ (es : List Event). es ++ one.event ∷ []) near.events
     ∙ ap (λ (e : Event). b.seen.events ++ e ∷ []) same.events ∙ sym right.made.seen in
@@ -157,19 +157,19 @@ both_answered a b m n q r v u w c x y near alone lone last end to on one two =
       near = record {
         level = left.level ∙ near.level ∙ sym right.level;
         events = events;
-        seat = seat_same c x a.seat m.seat n.seat one.seat
-            (subst (λ (s : Seat). SeatAfter c x s n.seat) (sym near.seat) (subst (λ (z : Answer). SeatAfter c z b.seat n.seat) (sym same.answers) two.seat));
+        state = state_same c x a.state m.state n.state one.state
+            (subst (λ (s : SessionState). StateAfter c x s n.state) (sym near.state) (subst (λ (z : Answer). StateAfter c z b.state n.state) (sym same.answers) two.state));
         tables = tables_near a b m n q r c near events (next_tables a m q c x one.event left one.happens) (next_tables b n r c y two.event right two.happens);
       };
     }
 
-refused_words : (a b : Past) (v u w : List ℕ) (c : Call) (x y : BookFault) → a.seat ≡ b.seat → Draws DrawsFirst a v c (refused x) u →
+refused_words : (a b : Past) (v u w : List ℕ) (c : Call) (x y : BookFault) → a.state ≡ b.state → Draws DrawsFirst a v c (refused x) u →
     Draws DrawsFirst b v c (refused y) w → u ≡ w
 refused_words a b v u w (calls.Touch cell) x y same (inl one) (inl two) = one.1 ∙ sym two.1
 refused_words a b v u w (calls.Touch cell) x y same (inl one) (inr two) =
-    absurd (not_both cell a.seat one.0 (subst (λ (s : Seat). IsUnwritten cell s) (sym same) two.0))
+    absurd (not_both cell a.state one.0 (subst (λ (s : SessionState). IsUnwritten cell s) (sym same) two.0))
 refused_words a b v u w (calls.Touch cell) x y same (inr one) (inl two) =
-    absurd (not_both cell b.seat two.0 (subst (λ (s : Seat). IsUnwritten cell s) same one.0))
+    absurd (not_both cell b.state two.0 (subst (λ (s : SessionState). IsUnwritten cell s) same one.0))
 refused_words a b v u w (calls.Touch cell) x y same (inr one) (inr two) = one.1.1.1 ∙ sym two.1.1.1
 refused_words a b v u w _ x y same one two = one ∙ sym two
 
@@ -182,11 +182,11 @@ both_stopped a b m n q r v u w c x y near alone lone after behind one two =
     let limits : one.limit ≡ two.limit = one_refusal a.seen.events a b m n c one.limit two.limit left right one.declines.2 two.declines.2 in
     record {
       answers = one.is ∙ ap (λ (l : Limit). answers.Refused (faults.Full l)) limits ∙ sym two.is;
-      words = refused_words a b v u w c (faults.Full one.limit) (faults.Full two.limit) near.seat one.draws two.draws;
+      words = refused_words a b v u w c (faults.Full one.limit) (faults.Full two.limit) near.state one.draws two.draws;
       near = record {
         level = one.declines.1.level ∙ near.level ∙ sym two.declines.1.level;
         events = left ∙ sym right;
-        seat = one.declines.1.seat ∙ near.seat ∙ sym two.declines.1.seat;
+        state = one.declines.1.state ∙ near.state ∙ sym two.declines.1.state;
         tables = ap (λ (es : List Event). take (defined es) q.seen.tables) left ∙ near.tables
             ∙ sym (ap (λ (es : List Event). take (defined es) r.seen.tables) left);
       };
@@ -197,7 +197,7 @@ never_apart : (a b m n q r : Past) (v u w : List ℕ) (c : Call) (x y : Answer) 
     Answered a v c x m u → Stopped b v c y n w → ⊥
 never_apart a b m n q r v u w c x y same alone lone behind last to one two =
     let left : Way a m q one.event = way_of a m q v c x u alone last to one in
-    not_refused a.seen.events a.seen.level a.seat (take (defined a.seen.events) q.seen.tables) v u c x one.event
+    not_refused a.seen.events a.seen.level a.state (take (defined a.seen.events) q.seen.tables) v u c x one.event
     (known a m q v u c x one.event left one.happens one.draws) left.made.may.fits b n two.limit
     (goes_alone b n lone behind two.declines.1 ∙ sym same) two.declines
 

@@ -11,7 +11,7 @@ use Rattle.history_core.specs.declared.event.Event.TheVariants.{Read, Write}
 use Rattle.history_core.specs.Transactions.{IsCommitted}
 use Rattle.history_core.specs.Relations.{LastWrites, WritesValue}
 use Rattle.history_core.specs.Legal.{IsOffered, IsOffer, ListsKeys}
-use Rattle.history_core.specs.Book.{Seat, IsUnwritten, HasWrite, LastWrite, writes_of}
+use Rattle.history_core.specs.Book.{SessionState, IsUnwritten, HasWrite, LastWrite, writes_of}
 use Rattle.history_core.proofs.Prefixes.{start_positive}
 use Rattle.one_history.proofs.Lists.{one_rising, one_key_list}
 
@@ -76,10 +76,10 @@ pub one_listing : (events : List Event) (s table : ℕ) (xs ys : List Key) → L
 one_listing events s table xs ys a b =
     one_key_list xs ys a.ascending b.ascending (λ z there. (b.listed z).1 ((a.listed z).0 there)) (λ z there. (a.listed z).1 ((b.listed z).0 there))
 
--- ---- what the seat says
+-- ---- what the state says
 
-pub not_both : (cell : Cell) (seat : Seat) → HasWrite cell seat → IsUnwritten cell seat → ⊥
-not_both cell seat (k, x, within, at, is) unwritten = All-contains (λ (write : Cell × Value). write.0 ≢ cell) (writes_of seat) x unwritten (k, within, at) is
+pub not_both : (cell : Cell) (state : SessionState) → HasWrite cell state → IsUnwritten cell state → ⊥
+not_both cell state (k, x, within, at, is) unwritten = All-contains (λ (write : Cell × Value). write.0 ≢ cell) (writes_of state) x unwritten (k, within, at) is
 
 none_here : (cell : Cell) (value : Value) (front back : List (Cell × Value)) → All (λ write. write.0 ≢ cell) (front ++ (cell, value) ∷ back) → ⊥
 none_here cell value [] back all = all 0 (cell, value) (omega arith) refl
@@ -103,6 +103,6 @@ last_one (x ∷ front) (y ∷ others) cell v w back rest same a b =
     let tail : front ++ (cell, v) ∷ back ≡ others ++ (cell, w) ∷ rest = cc in
     last_one front others cell v w back rest tail a b
 
-pub one_last_write : (cell : Cell) (v w : Value) (seat : Seat) → LastWrite cell v seat → LastWrite cell w seat → v ≡ w
-one_last_write cell v w seat a b =
+pub one_last_write : (cell : Cell) (v w : Value) (state : SessionState) → LastWrite cell v state → LastWrite cell w state → v ≡ w
+one_last_write cell v w state a b =
     last_one a.before b.before cell v w a.after b.after (sym a.split ∙ b.split) a.last b.last

@@ -3,7 +3,7 @@ use Rattle.std.specs.Prelude.{◌≡◌, ◌≢◌, ◌⊎◌, ℕ, ◌<◌, Lis
 use Rattle.cell_base.specs.declared.level.Level.{Level}
 use Rattle.cell_base.specs.declared.sql_state.SqlState.TheVariants as states
 use Rattle.history_core.specs.Chronicle.{Chronicle, IsLegalChronicle}
-use Rattle.history_core.specs.Book.{Past, away}
+use Rattle.history_core.specs.Book.{Past, no_session}
 use Rattle.block_machine.specs.Calls.{Call}
 use Rattle.block_machine.specs.Script.{Entry, ended, has_short}
 use Rattle.block_machine.specs.declared.end.End.{End}
@@ -31,7 +31,7 @@ farewell ends.Memory = []
 
 -- the past of a book of that level that has no event
 abbrev pub no_past : Level → Past
-no_past level = record { seen = record { level = level; events = []; tables = [] }; own = []; seat = away }
+no_past level = record { seen = record { level = level; events = []; tables = [] }; own = []; state = no_session }
 
 -- A session at that level took these bytes and was given these words. It was served to this end, alone with its book from no event on;
 -- memory was not wanting, and no write failed. It left this history and these words, and was told these bytes.

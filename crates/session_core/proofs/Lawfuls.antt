@@ -12,7 +12,7 @@ use Rattle.block_machine.specs.declared.call.Answer.{Answer}
 use Rattle.block_machine.specs.declared.call.Answer.TheVariants as answers
 use Rattle.block_machine.specs.Script.{Entry, did, refused, short, unsent, stop}
 use Rattle.block_machine.specs.Stages.{entry_for}
-use Rattle.session_core.specs.Record.{Happens, Declines, Draws, SeatAfter, Lawful, events_of}
+use Rattle.session_core.specs.Record.{Happens, Declines, Draws, StateAfter, Lawful, events_of}
 use Rattle.session_core.specs.Plays.{Plays}
 use Rattle.session_core.specs.Steps.{IsShort}
 
@@ -20,7 +20,7 @@ use Rattle.session_core.specs.Steps.{IsShort}
 pub Lawful-did : {W : Type 0} (gives : W → ℕ → W → Type 0) (p : Past) (v : W) (cs : List Call) (es : List Entry) (q : Past) (w : W)
     (c : Call) (a : Answer) (e : Event) (r : Past)
     (u : W) →
-    Lawful gives p v cs es q w → Happens q c a e r → Draws gives q w c (did a e) u → SeatAfter c a q.seat r.seat →
+    Lawful gives p v cs es q w → Happens q c a e r → Draws gives q w c (did a e) u → StateAfter c a q.state r.state →
     Lawful gives p v (cs ++ c ∷ []) (es ++ did a e ∷ []) r u
 Lawful-did {W} gives p v [] [] q w c a e r u l h d k = (
   r,
@@ -29,7 +29,7 @@ Lawful-did {W} gives p v [] [] q w c a e r u l h d k = (
   subst (λ (x : W). Draws gives p x c (did a e) u) l.1
       (subst (λ (x : Past). Draws gives x w c (did a e) u) l.0 d),
   (refl, refl),
-  subst (λ (x : Past). SeatAfter c a x.seat r.seat) l.0 k,
+  subst (λ (x : Past). StateAfter c a x.state r.state) l.0 k,
 )
 Lawful-did gives p v [] (did b y ∷ es) q w c a e r u l h d k = absurd l
 Lawful-did gives p v [] (refused why ∷ es) q w c a e r u l h d k = absurd l
@@ -121,7 +121,7 @@ Lawful-short gives p v cs es q w sent (stop cause ∷ xs) i l = absurd i
 pub Lawful-plays : {W : Type 0} (gives : W → ℕ → W → Type 0) (p : Past) (v : W) (cs : List Call) (es : List Entry) (q : Past) (w : W)
     (c : Call) (a : Answer) (e : Event) (r : Past)
     (u : W) →
-    Lawful gives p v cs es q w → Plays gives q w c a e r u → SeatAfter c a q.seat r.seat →
+    Lawful gives p v cs es q w → Plays gives q w c a e r u → StateAfter c a q.state r.state →
     Lawful gives p v (cs ++ c ∷ []) (es ++ entry_for a e ∷ []) r u
 Lawful-plays gives p v cs es q w c (answers.Refused why) e r u l h k = Lawful-refused gives p v cs es q w c why r u l h.0 h.1
 Lawful-plays gives p v cs es q w c (answers.Opened n) e r u l h k = Lawful-did gives p v cs es q w c (answers.Opened n) e r u l h.0 h.1 k

@@ -17,7 +17,7 @@ use Rattle.history_core.specs.declared.fault.BookFault.TheVariants as faults
 use Rattle.history_core.specs.declared.fault.DefineAnswer.{DefineAnswer}
 use Rattle.history_core.specs.declared.fault.DefineAnswer.TheVariants as defines
 use Rattle.history_core.specs.Chronicle.{IsLegalChronicle}
-use Rattle.history_core.specs.Book.{AnswersTables, AnswersDefine, Past, Seat, away, seated, pending, Adds, GoesOn, IsIdle, IsSeated, IsInTransaction, IsUnwritten, HasWrite, LastWrite, session_of}
+use Rattle.history_core.specs.Book.{AnswersTables, AnswersDefine, Past, SessionState, no_session, in_session, pending, Adds, GoesOn, IsIdle, HasSession, IsInTransaction, IsUnwritten, HasWrite, LastWrite, session_of}
 use Rattle.session_core.proofs.TablesFew.{tables_few}
 use Rattle.statement_course.specs.Course.{Course, scan, touch, write, done, first_demand}
 use Rattle.statement_course.specs.Laws.{ReadsFirst, table_number}
@@ -43,7 +43,7 @@ use Rattle.session_core.specs.declared.stage.Stage.{Stage}
 use Rattle.session_core.specs.declared.stage.Stage.TheVariants as stages
 use Rattle.session_core.specs.Wants.{Want, of_message}
 use Rattle.session_core.specs.Wants as wishes
-use Rattle.session_core.specs.Record.{SeatAfter, Draws, Happens, ReadsBack, ReadsFrom, may_be_refused, limit_for, HasNewName}
+use Rattle.session_core.specs.Record.{StateAfter, Draws, Happens, ReadsBack, ReadsFrom, may_be_refused, limit_for, HasNewName}
 use Rattle.session_core.specs.Plays.{Plays, MayAsk, owed_of}
 use Rattle.session_core.specs.Stands.{IsFit, owed_at, wants}
 use Rattle.session_core.specs.Serve.{Sits}
@@ -76,11 +76,11 @@ goes_same p = record {
   level = refl;
   others = [];
   seen = sym (append-nil p.seen.events);
-  foreign = All-nil (λ (e : Event). session_in e ≢ session_of p.seat);
+  foreign = All-nil (λ (e : Event). session_in e ≢ session_of p.state);
   more = [];
   tables = sym (append-nil p.seen.tables);
   own = refl;
-  seat = refl;
+  state = refl;
 }
 
 -- a call that the session itself had no memory for
@@ -92,8 +92,8 @@ wanting gives p v c may draws = declined gives p v c c faults.Memory p v refl ma
 pub defined_plays : {W : Type 0} (gives : W → ℕ → W → Type 0) (p : Past) (v : W) (table : Table) (answer : DefineAnswer) (q : Past) →
     AnswersDefine p table answer q →
     (x : Event) × Plays gives p v (calls.Define table) (answers.Defined answer) x q v
-defined_plays gives p v table (defines.Defined n) q h = (Define (session_of p.seat) table.name, ((refl, h), refl))
-defined_plays gives p v table (defines.Taken n) q h = (Look (session_of p.seat) n, ((refl, h), refl))
+defined_plays gives p v table (defines.Defined n) q h = (Define (session_of p.state) table.name, ((refl, h), refl))
+defined_plays gives p v table (defines.Taken n) q h = (Look (session_of p.state) n, ((refl, h), refl))
 
 -- what a look brings, with what was known, is all tables
 known_all : (p q : Past) (known : ℕ) (tables : List Table) → AnswersTables p known tables q → known + length tables ≡ length q.seen.tables
@@ -121,15 +121,15 @@ goes_on_later p m q g h = record {
   level = h.level ∙ g.level;
   others = g.others ++ h.others;
   seen = h.seen ∙ ap (λ (x : List Event). x ++ h.others) g.seen ∙ append_assoc p.seen.events g.others h.others;
-  foreign = All-both (λ (x : Event). session_in x ≢ session_of p.seat) g.others h.others g.foreign
-      (subst (λ (s : Seat). All (λ (x : Event). session_in x ≢ session_of s) h.others) g.seat h.foreign);
+  foreign = All-both (λ (x : Event). session_in x ≢ session_of p.state) g.others h.others g.foreign
+      (subst (λ (s : SessionState). All (λ (x : Event). session_in x ≢ session_of s) h.others) g.state h.foreign);
   more = g.more ++ h.more;
   tables = h.tables ∙ ap (λ (x : List Table). x ++ h.more) g.tables ∙ append_assoc p.seen.tables g.more h.more;
   own = h.own ∙ g.own;
-  seat = h.seat ∙ g.seat;
+  state = h.state ∙ g.state;
 }
 
-adds_later : (p m q : Past) (e : Event) → GoesOn p m → session_in e ≡ session_of p.seat → Adds m e q → Adds p e q
+adds_later : (p m q : Past) (e : Event) → GoesOn p m → session_in e ≡ session_of p.state → Adds m e q → Adds p e q
 adds_later p m q e g same h = record {
   level = h.level ∙ g.level;
   others = g.others ++ h.others;
@@ -142,63 +142,63 @@ adds_later p m q e g same h = record {
   own = h.own ∙ ap (λ (x : List Event). x ++ e ∷ []) g.own;
 }
 
-reads_later : (p m : Past) (cell : Cell) (value : Value) (e : Event) → m.seat ≡ p.seat → ReadsBack m cell value e
+reads_later : (p m : Past) (cell : Cell) (value : Value) (e : Event) → m.state ≡ p.state → ReadsBack m cell value e
     ⊎ ReadsFrom m cell value e → ReadsBack p cell value e ⊎ ReadsFrom p cell value e
 reads_later p m cell value e same (inl h) = inl (record {
-  written = subst (λ (s : Seat). HasWrite cell s) same h.written;
-  last = subst (λ (s : Seat). LastWrite cell value s) same h.last;
-  event_is = h.event_is ∙ ap (λ (s : Seat). Own (session_of s) cell value) same;
+  written = subst (λ (s : SessionState). HasWrite cell s) same h.written;
+  last = subst (λ (s : SessionState). LastWrite cell value s) same h.last;
+  event_is = h.event_is ∙ ap (λ (s : SessionState). Own (session_of s) cell value) same;
 })
 reads_later p m cell value e same (inr h) = inr (record {
-  unwritten = subst (λ (s : Seat). IsUnwritten cell s) same h.unwritten;
+  unwritten = subst (λ (s : SessionState). IsUnwritten cell s) same h.unwritten;
   source = h.source;
   count = h.count;
   word = h.word;
-  event_is = h.event_is ∙ ap (λ (s : Seat). Read (session_of s) cell h.source h.count h.word value) same;
+  event_is = h.event_is ∙ ap (λ (s : SessionState). Read (session_of s) cell h.source h.count h.word value) same;
 })
 
 reads_session : (p : Past) (cell : Cell) (value : Value) (e : Event) → ReadsBack p cell value e ⊎ ReadsFrom p cell value e →
-    session_in e ≡ session_of p.seat
+    session_in e ≡ session_of p.state
 reads_session p cell value e (inl h) = ap session_in h.event_is
 reads_session p cell value e (inr h) = ap session_in h.event_is
 
-draws_later : {W : Type 0} (gives : W → ℕ → W → Type 0) (p m : Past) (v : W) (cell : Cell) (x : Entry) (w : W) → m.seat ≡ p.seat →
+draws_later : {W : Type 0} (gives : W → ℕ → W → Type 0) (p m : Past) (v : W) (cell : Cell) (x : Entry) (w : W) → m.state ≡ p.state →
     Draws gives m v (calls.Touch cell) x w → Draws gives p v (calls.Touch cell) x w
-draws_later gives p m v cell x w same (inl (h, k)) = inl (subst (λ (s : Seat). HasWrite cell s) same h, k)
-draws_later gives p m v cell x w same (inr (h, k)) = inr (subst (λ (s : Seat). IsUnwritten cell s) same h, k)
+draws_later gives p m v cell x w same (inl (h, k)) = inl (subst (λ (s : SessionState). HasWrite cell s) same h, k)
+draws_later gives p m v cell x w same (inr (h, k)) = inr (subst (λ (s : SessionState). IsUnwritten cell s) same h, k)
 
 -- a read of a cell, where others may have gone on before it
 pub touch_later : {W : Type 0} (gives : W → ℕ → W → Type 0) (p m : Past) (v : W) (cell : Cell) (a : Answer) (e : Event) (q : Past) (w : W) →
     GoesOn p m → Plays gives m v (calls.Touch cell) a e q w → Plays gives p v (calls.Touch cell) a e q w
 touch_later gives p m v cell (answers.Refused (faults.Full limit)) e q w g ((may, goes, full, fresh), draws) =
-    ((may, goes_on_later p m q g goes, full, fresh), draws_later gives p m v cell (refused (faults.Full limit)) w g.seat draws)
+    ((may, goes_on_later p m q g goes, full, fresh), draws_later gives p m v cell (refused (faults.Full limit)) w g.state draws)
 touch_later gives p m v cell (answers.Refused faults.Memory) e q w g ((may, goes), draws) =
-    ((may, goes_on_later p m q g goes), draws_later gives p m v cell (refused faults.Memory) w g.seat draws)
+    ((may, goes_on_later p m q g goes), draws_later gives p m v cell (refused faults.Memory) w g.state draws)
 touch_later gives p m v cell (answers.Found value) e q w g ((reads, adds), draws) = (
   (
-    reads_later p m cell value e g.seat reads,
+    reads_later p m cell value e g.state reads,
     adds_later p m q e g
-        (reads_session p cell value e (reads_later p m cell value e g.seat reads)) adds,
+        (reads_session p cell value e (reads_later p m cell value e g.state reads)) adds,
   ),
-  draws_later gives p m v cell (did (answers.Found value) e) w g.seat draws,
+  draws_later gives p m v cell (did (answers.Found value) e) w g.state draws,
 )
 touch_later gives p m v cell _ e q w g h = absurd h.0
 
 -- ---- what may be asked
 
-in_transaction : (seat : Seat) → owed_of seat ≡ owed_kinds.Rollback → IsInTransaction seat
-in_transaction away h = absurd (cc h)
-in_transaction (seated s) h = absurd (cc h)
+in_transaction : (state : SessionState) → owed_of state ≡ owed_kinds.Rollback → IsInTransaction state
+in_transaction no_session h = absurd (cc h)
+in_transaction (in_session s) h = absurd (cc h)
 in_transaction (pending s ws) h = tt
 
-idle : (seat : Seat) → owed_of seat ≡ owed_kinds.Close → IsIdle seat
-idle away h = absurd (cc h)
-idle (seated s) h = tt
+idle : (state : SessionState) → owed_of state ≡ owed_kinds.Close → IsIdle state
+idle no_session h = absurd (cc h)
+idle (in_session s) h = tt
 idle (pending s ws) h = absurd (cc h)
 
-none_away : (seat : Seat) → owed_of seat ≡ owed_kinds.Nothing → seat ≡ away
-none_away away h = refl
-none_away (seated s) h = absurd (cc h)
+none_away : (state : SessionState) → owed_of state ≡ owed_kinds.Nothing → state ≡ no_session
+none_away no_session h = refl
+none_away (in_session s) h = absurd (cc h)
 none_away (pending s ws) h = absurd (cc h)
 
 -- both words for the number of a cell's table
@@ -206,13 +206,13 @@ same_table : (cell : Cell) → table_of cell ≡ table_number cell
 same_table (Presence table key) = refl
 same_table (Field table key column) = refl
 
-rollback_of : (seat : Seat) → IsInTransaction seat → owed_of seat ≡ owed_kinds.Rollback
-rollback_of away h = absurd h
-rollback_of (seated s) h = absurd h
+rollback_of : (state : SessionState) → IsInTransaction state → owed_of state ≡ owed_kinds.Rollback
+rollback_of no_session h = absurd h
+rollback_of (in_session s) h = absurd h
 rollback_of (pending s ws) h = refl
 
 -- the cells of a running statement may be asked for
-may_ask_cells : (c : Course) (n : ℕ) (past : Past) → IsInTransaction past.seat → ReadsFirst n c → n ≤ length past.seen.tables →
+may_ask_cells : (c : Course) (n : ℕ) (past : Past) → IsInTransaction past.state → ReadsFirst n c → n ≤ length past.seen.tables →
     asks_cells (first_demand c) ≡ true → MayAsk (call_for (first_demand c)) past
 may_ask_cells (scan table next) n past t r le a = (t, omega (arith, r.0, le))
 may_ask_cells (touch cell next) n past t r le a = (t, omega (arith, same_table cell, r.0, le))
@@ -222,43 +222,43 @@ may_ask_cells (done outcome) n past t r le a = absurd (cc a)
 book_of : (d c : Call) → calls.Book d ≡ calls.Book c → d ≡ c
 book_of d c h = cc h
 
--- a seat with a session
-seated_in : (block : Block) (seat : Seat) → owed_of seat ≡ message_stages.owed_at (message_stage.Showing block) → IsSeated seat
-seated_in (Implicit false) away h = absurd (cc h)
-seated_in (Implicit true) away h = absurd (cc h)
-seated_in Regular away h = absurd (cc h)
-seated_in Failed away h = absurd (cc h)
-seated_in block (seated s) h = tt
-seated_in block (pending s ws) h = tt
+-- a state with a session
+in_session_of : (block : Block) (state : SessionState) → owed_of state ≡ message_stages.owed_at (message_stage.Showing block) → HasSession state
+in_session_of (Implicit false) no_session h = absurd (cc h)
+in_session_of (Implicit true) no_session h = absurd (cc h)
+in_session_of Regular no_session h = absurd (cc h)
+in_session_of Failed no_session h = absurd (cc h)
+in_session_of block (in_session s) h = tt
+in_session_of block (pending s ws) h = tt
 
 -- what a message asks may be asked where the book sits
-may_ask_message : (stage : MessageStage) (known : List Table) (past : Past) (c : Call) → owed_of past.seat ≡ message_stages.owed_at stage →
+may_ask_message : (stage : MessageStage) (known : List Table) (past : Past) (c : Call) → owed_of past.state ≡ message_stages.owed_at stage →
     length known ≤ length past.seen.tables → KnowsTables stage known → IsSoundStage stage →
     message_stages.wants stage known ≡ calls.Book c → MayAsk c past
 may_ask_message (message_stage.Over state) known past c o k t s w = absurd (cc w)
 may_ask_message (message_stage.Defining table block) known past c o k t s w = subst (λ (x : Call). MayAsk x past)
-    (book_of (calls.Define table) c w) (seated_in block past.seat o, s)
+    (book_of (calls.Define table) c w) (in_session_of block past.state o, s)
 may_ask_message (message_stage.Looking statement block) known past c o k t s w = subst (λ (x : Call). MayAsk x past)
-    (book_of (calls.Look (length known)) c w) (seated_in block past.seat o, k)
+    (book_of (calls.Look (length known)) c w) (in_session_of block past.state o, k)
 may_ask_message (message_stage.Beginning plan) known past c o k t s w = subst (λ (x : Call). MayAsk x past) (book_of calls.Begin c w)
-    (idle past.seat o)
+    (idle past.state o)
 may_ask_message (message_stage.Running run p) known past c o k t s w =
     subst (λ (x : Call). MayAsk x past) (book_of (call_for (first_demand (rest_of run.plan))) c w)
-    (may_ask_cells (rest_of run.plan) (length known) past (in_transaction past.seat o) t k run.asks)
+    (may_ask_cells (rest_of run.plan) (length known) past (in_transaction past.state o) t k run.asks)
 may_ask_message (message_stage.Starting start) known past c o k t s w = subst (λ (x : Call). MayAsk x past) (book_of calls.Begin c w)
-    (idle past.seat o)
+    (idle past.state o)
 may_ask_message (message_stage.Showing block) known past c o k t s w = subst (λ (x : Call). MayAsk x past) (book_of calls.Show c w)
-    (seated_in block past.seat o)
+    (in_session_of block past.state o)
 may_ask_message (message_stage.Committing reply) known past c o k t s w = subst (λ (x : Call). MayAsk x past) (book_of calls.Commit c w)
-    (in_transaction past.seat o)
+    (in_transaction past.state o)
 may_ask_message (message_stage.RollingBack reply) known past c o k t s w = subst (λ (x : Call). MayAsk x past) (book_of calls.Rollback c w)
-    (in_transaction past.seat o)
+    (in_transaction past.state o)
 may_ask_message (message_stage.Telling reply block) known past c o k t s w = absurd (cc w)
 may_ask_message (message_stage.Undoing code p) known past c o k t s w = subst (λ (x : Call). MayAsk x past) (book_of calls.Rollback c w)
-    (in_transaction past.seat o)
+    (in_transaction past.state o)
 may_ask_message (message_stage.Failing code state) known past c o k t s w = absurd (cc w)
 may_ask_message message_stage.Finishing known past c o k t s w = subst (λ (x : Call). MayAsk x past) (book_of calls.Commit c w)
-    (in_transaction past.seat o)
+    (in_transaction past.state o)
 may_ask_message (message_stage.Readying state) known past c o k t s w = absurd (cc w)
 
 wish_of : (d c : Call) → wishes.Book d ≡ wishes.Book c → d ≡ c
@@ -269,19 +269,19 @@ message_wish (calls.Book d) c h = ap calls.Book (wish_of d c h)
 message_wish calls.Send c h = absurd (cc h)
 message_wish calls.Nothing c h = absurd (cc h)
 
-may_ask_stage : (stage : Stage) (r : Runner) (past : Past) (c : Call) → owed_of past.seat ≡ owed_at stage r →
+may_ask_stage : (stage : Stage) (r : Runner) (past : Past) (c : Call) → owed_of past.state ≡ owed_at stage r →
     length (known_of r) ≤ length past.seen.tables → IsFit r → wants stage r ≡ wishes.Book c → MayAsk c past
 may_ask_stage (stages.Waiting phase) r past c o k f w = absurd (cc w)
 may_ask_stage (stages.Taking phase) r past c o k f w = absurd (cc w)
-may_ask_stage stages.Opening r past c o k f w = subst (λ (x : Call). MayAsk x past) (wish_of calls.Open c w) (none_away past.seat o)
+may_ask_stage stages.Opening r past c o k f w = subst (λ (x : Call). MayAsk x past) (wish_of calls.Open c w) (none_away past.state o)
 may_ask_stage stages.Running r past c o k f w = may_ask_message r.stage r.known.items past c o k f.knows f.sound.stage
     (message_wish (wanted r) c w)
 may_ask_stage stages.Undoing r past c o k f w = subst (λ (x : Call). MayAsk x past) (wish_of calls.Rollback c w)
-    (in_transaction past.seat o)
+    (in_transaction past.state o)
 may_ask_stage (stages.Telling reply) r past c o k f w = absurd (cc w)
 may_ask_stage (stages.Leaving finish) r past c o k f w = subst (λ (x : Call). MayAsk x past) (wish_of calls.Rollback c w)
-    (in_transaction past.seat o)
-may_ask_stage (stages.Closing finish) r past c o k f w = subst (λ (x : Call). MayAsk x past) (wish_of calls.Close c w) (idle past.seat o)
+    (in_transaction past.state o)
+may_ask_stage (stages.Closing finish) r past c o k f w = subst (λ (x : Call). MayAsk x past) (wish_of calls.Close c w) (idle past.state o)
 may_ask_stage (stages.Parting fatal) r past c o k f w = absurd (cc w)
 may_ask_stage (stages.Ended finish) r past c o k f w = absurd (cc w)
 
@@ -291,28 +291,28 @@ may_ask s past c sits w = may_ask_stage s.stage s.runner past c sits.owed sits.k
 
 -- ---- where an answer leaves the book
 
-seat_owed : (p : Past) (c : Call) (a : Answer) (t : Seat) → MayAsk c p → Fits c a → SeatAfter c a p.seat t →
-    owed_of t ≡ owed_after c a (owed_of p.seat)
-seat_owed p calls.Open (answers.Opened s) t m f h = ap owed_of h
-seat_owed p calls.Open (answers.Refused why) t m f h = ap owed_of h
-seat_owed p calls.Close answers.Closed t m f h = ap owed_of h
-seat_owed p (calls.Look k) (answers.Looked ts) t m f h = ap owed_of h
-seat_owed p (calls.Look k) (answers.Refused why) t m f h = ap owed_of h
-seat_owed p (calls.Define n) (answers.Defined d) t m f h = ap owed_of h
-seat_owed p (calls.Define n) (answers.Refused why) t m f h = ap owed_of h
-seat_owed p calls.Begin (answers.Begun n) t m f h = ap owed_of h
-seat_owed p calls.Begin (answers.Refused why) t m f h = ap owed_of h
-seat_owed p (calls.Scan n) (answers.Listed ks) t m f h = ap owed_of h
-seat_owed p (calls.Scan n) (answers.Refused why) t m f h = ap owed_of h
-seat_owed p (calls.Touch cell) (answers.Found v) t m f h = ap owed_of h
-seat_owed p (calls.Touch cell) (answers.Refused why) t m f h = ap owed_of h
-seat_owed p (calls.Write cell v) answers.Written t m f h = ap owed_of h ∙ sym (rollback_of p.seat m.0)
-seat_owed p (calls.Write cell v) (answers.Refused why) t m f h = ap owed_of h
-seat_owed p calls.Commit answers.Committed t m f h = ap owed_of h
-seat_owed p calls.Rollback answers.RolledBack t m f h = ap owed_of h
-seat_owed p calls.Show (answers.Shown n) t m f h = ap owed_of h
-seat_owed p calls.Show (answers.Refused why) t m f h = ap owed_of h
-seat_owed p _ _ t m f h = absurd f
+state_owed : (p : Past) (c : Call) (a : Answer) (t : SessionState) → MayAsk c p → Fits c a → StateAfter c a p.state t →
+    owed_of t ≡ owed_after c a (owed_of p.state)
+state_owed p calls.Open (answers.Opened s) t m f h = ap owed_of h
+state_owed p calls.Open (answers.Refused why) t m f h = ap owed_of h
+state_owed p calls.Close answers.Closed t m f h = ap owed_of h
+state_owed p (calls.Look k) (answers.Looked ts) t m f h = ap owed_of h
+state_owed p (calls.Look k) (answers.Refused why) t m f h = ap owed_of h
+state_owed p (calls.Define n) (answers.Defined d) t m f h = ap owed_of h
+state_owed p (calls.Define n) (answers.Refused why) t m f h = ap owed_of h
+state_owed p calls.Begin (answers.Begun n) t m f h = ap owed_of h
+state_owed p calls.Begin (answers.Refused why) t m f h = ap owed_of h
+state_owed p (calls.Scan n) (answers.Listed ks) t m f h = ap owed_of h
+state_owed p (calls.Scan n) (answers.Refused why) t m f h = ap owed_of h
+state_owed p (calls.Touch cell) (answers.Found v) t m f h = ap owed_of h
+state_owed p (calls.Touch cell) (answers.Refused why) t m f h = ap owed_of h
+state_owed p (calls.Write cell v) answers.Written t m f h = ap owed_of h ∙ sym (rollback_of p.state m.0)
+state_owed p (calls.Write cell v) (answers.Refused why) t m f h = ap owed_of h
+state_owed p calls.Commit answers.Committed t m f h = ap owed_of h
+state_owed p calls.Rollback answers.RolledBack t m f h = ap owed_of h
+state_owed p calls.Show (answers.Shown n) t m f h = ap owed_of h
+state_owed p calls.Show (answers.Refused why) t m f h = ap owed_of h
+state_owed p _ _ t m f h = absurd f
 
 -- a look is asked from the tables that are known on
 abbrev pub LooksFrom : Call → ℕ → Type 0
@@ -403,11 +403,11 @@ tables_after gives p v c (answers.Shown n) e q w known after h k l is = same_tab
 
 pub sits_after : {W : Type 0} (gives : W → ℕ → W → Type 0) (s next : Session) (p : Past) (v : W) (c : Call) (a : Answer) (e : Event)
     (q : Past) (w : W) →
-    Sits s p → wants s.stage s.runner ≡ wishes.Book c → MayAsk c p → Fits c a → Plays gives p v c a e q w → SeatAfter c a p.seat q.seat →
+    Sits s p → wants s.stage s.runner ≡ wishes.Book c → MayAsk c p → Fits c a → Plays gives p v c a e q w → StateAfter c a p.state q.state →
     owed_at next.stage next.runner ≡ owed_after c a (owed_at s.stage s.runner) → IsKnownAfter (known_of s.runner) a (known_of next.runner) →
     IsFit next.runner → Sits next q
-sits_after gives s next p v c a e q w sits wants_c may fits plays seat owed after_is fit = record {
-  owed = seat_owed p c a q.seat may fits seat ∙ ap (owed_after c a) sits.owed ∙ sym owed;
+sits_after gives s next p v c a e q w sits wants_c may fits plays state owed after_is fit = record {
+  owed = state_owed p c a q.state may fits state ∙ ap (owed_after c a) sits.owed ∙ sym owed;
   known_tables = tables_after gives p v c a e q w (known_of s.runner) (known_of next.runner) plays sits.known_tables
       (stage_look s.stage s.runner c wants_c) after_is;
   fit = fit;

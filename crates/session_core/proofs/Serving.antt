@@ -7,7 +7,7 @@ use Rattle.cell_base.specs.declared.level.Level.{Level}
 use Rattle.link_traits.specs.Faults.{Rose}
 use Rattle.link_traits.specs.Traffic.{Traffic, Took, Wrote, Both, Sight}
 use Rattle.history_core.specs.declared.event.Event.{Event}
-use Rattle.history_core.specs.Book.{Past, Seat, away, seated, pending}
+use Rattle.history_core.specs.Book.{Past, SessionState, no_session, in_session, pending}
 use Rattle.block_machine.specs.Calls.{Call}
 use Rattle.block_machine.specs.Calls as calls
 use Rattle.block_machine.specs.Script.{Entry, ended, short, unsent, stop, more, has_short}
@@ -31,7 +31,7 @@ use Rattle.session_core.specs.Wants as wishes
 use Rattle.session_core.specs.Talk.{Talk, IsTalk, unread}
 use Rattle.session_core.specs.Told.{told, opened_in}
 use Rattle.session_core.specs.Sessions.{Stands, StandsShort}
-use Rattle.session_core.specs.Record.{SeatAfter}
+use Rattle.session_core.specs.Record.{StateAfter}
 use Rattle.session_core.specs.Plays.{Plays, owed_of}
 use Rattle.session_core.specs.Stands.{IsFit, Lacks, LacksBy, owed_at, outer_end, IsStopped, outer, end_of, wants, IsHolding, Shows, IsLast}
 use Rattle.session_core.specs.Serve.{IsOfLast, Carries, IsAtEnd, Blames, Ran, Serves, Sits, most_read}
@@ -101,8 +101,8 @@ pub Ran-answered : {W : Type 0} (gives : W → ℕ → W → Type 0) (level : Le
     ((taken : List ℕ) (es : List Entry) (asked : List Call) (sent : List ℕ) → Stands s taken es asked sent →
     StandsShort r taken (es ++ entry_for a e ∷ []) (asked ++ c ∷ []) sent) →
     level_of r.runner ≡ level_of s.runner → outer r.stage ≡ outer s.stage → ((lost : List ℕ) → Lacks s.stage lost → Lacks r.stage lost) →
-    Plays gives q w c a e q' w' → SeatAfter c a q.seat q'.seat → Ran gives level p v f s q w g many → Ran gives level p v f r q' w' g many
-Ran-answered gives level p v f s r q q' w w' g many c a e grown same outer_is lacks plays seat ran =
+    Plays gives q w c a e q' w' → StateAfter c a q.state q'.state → Ran gives level p v f s q w g many → Ran gives level p v f r q' w' g many
+Ran-answered gives level p v f s r q q' w w' g many c a e grown same outer_is lacks plays state ran =
     let (taken, es, asked, sent, lost, many_is, run) = ran in
     let (added, is_short, stands) = grown taken es asked sent run.stands in (
       taken,
@@ -115,7 +115,7 @@ Ran-answered gives level p v f s r q q' w w' g many c a e grown same outer_is la
         stands = stands;
         served_level = same ∙ run.served_level;
         lawful = Lawful-short gives p v (asked ++ c ∷ []) (es ++ entry_for a e ∷ []) q' w' sent added is_short
-            (Lawful-plays gives p v asked es q w c a e q' w' run.lawful plays seat);
+            (Lawful-plays gives p v asked es q w c a e q' w' run.lawful plays state);
         carries = Both-weaker f.traffic g.traffic
             (λ x y k. Carries-record level taken (es ++ entry_for a e ∷ []) added sent lost x y
             (Carries-record level taken es (entry_for a e ∷ []) sent lost x y k)) run.carries;
@@ -458,9 +458,9 @@ is_over _ r h l = absurd h
 
 -- a session at its beginning sits by a book that has none
 pub sits_new : (s : Session) (p : Past) → s.stage ≡ stages.Waiting phases.Startup → known_of s.runner ≡ [] → IsFit s.runner →
-    p.seat ≡ away → Sits s p
-sits_new s p is none fit seat = record {
-  owed = ap owed_of seat ∙ sym (ap (λ (x : Stage). owed_at x s.runner) is);
+    p.state ≡ no_session → Sits s p
+sits_new s p is none fit state = record {
+  owed = ap owed_of state ∙ sym (ap (λ (x : Stage). owed_at x s.runner) is);
   known_tables = omega (arith, ap length none);
   fit = fit;
 }
@@ -479,9 +479,9 @@ pub sits_kept : (s next : Session) (p : Past) → Sits s p → owed_at next.stag
     next.runner ≡ s.runner → Sits next p
 sits_kept s next p sits owed same = sits_same s next p sits owed (ap known_of same) (subst IsFit (sym same) sits.fit)
 
-is_away : (seat : Seat) → owed_of seat ≡ owes.Nothing → seat ≡ away
-is_away away h = refl
-is_away (seated s) h = absurd (cc h)
+is_away : (state : SessionState) → owed_of state ≡ owes.Nothing → state ≡ no_session
+is_away no_session h = refl
+is_away (in_session s) h = absurd (cc h)
 is_away (pending s writes) h = absurd (cc h)
 
 message_over : (w : calls.Want) → IsOver (of_message w) → ⊥
@@ -489,14 +489,14 @@ message_over (calls.Book c) h = h
 message_over calls.Send h = h
 message_over calls.Nothing h = h
 
-stage_away : (stage : Stage) (r : Runner) (seat : Seat) → IsOver (wants stage r) → owed_of seat ≡ owed_at stage r → seat ≡ away
-stage_away (stages.Ended e) r seat over owed = is_away seat owed
-stage_away stages.Running r seat over owed = absurd (message_over (wanted r) over)
-stage_away _ r seat over owed = absurd over
+stage_away : (stage : Stage) (r : Runner) (state : SessionState) → IsOver (wants stage r) → owed_of state ≡ owed_at stage r → state ≡ no_session
+stage_away (stages.Ended e) r state over owed = is_away state owed
+stage_away stages.Running r state over owed = absurd (message_over (wanted r) over)
+stage_away _ r state over owed = absurd over
 
 -- a session that ended left its book
-pub away_over : (s : Session) (p : Past) → IsOver (wants s.stage s.runner) → Sits s p → p.seat ≡ away
-away_over s p over sits = stage_away s.stage s.runner p.seat over sits.owed
+pub away_over : (s : Session) (p : Past) → IsOver (wants s.stage s.runner) → Sits s p → p.state ≡ no_session
+away_over s p over sits = stage_away s.stage s.runner p.state over sits.owed
 
 told_short : (level : Level) → told level unread (short true 0 ∷ []) ≡ (record { bytes = []; calls = [] }, ended ends.Memory)
 unfolding told

@@ -11,7 +11,7 @@ use Rattle.history_core.specs.declared.fault.BookFault.TheVariants as faults
 use Rattle.history_core.specs.declared.fault.DefineAnswer.TheVariants as defines
 use Rattle.history_core.specs.Events.{begun, names}
 use Rattle.history_core.specs.Legal.{full_for, full_load}
-use Rattle.history_core.specs.Book.{Past, Seat, away, seated, pending, IsUnwritten, HasWrite, LastWrite, session_of, writes_of, Adds, GoesOn, AnswersTables, AnswersDefine}
+use Rattle.history_core.specs.Book.{Past, SessionState, no_session, in_session, pending, IsUnwritten, HasWrite, LastWrite, session_of, writes_of, Adds, GoesOn, AnswersTables, AnswersDefine}
 use Rattle.block_machine.specs.Calls.{Call}
 use Rattle.block_machine.specs.Calls as calls
 use Rattle.block_machine.specs.declared.call.Answer.{Answer}
@@ -43,35 +43,35 @@ Declines old c faults.Memory new = may_be_refused c × GoesOn old new
 
 -- the cell is read back: the pending transaction wrote the value last
 pub record ReadsBack (old : Past) (cell : Cell) (value : Value) (e : Event) : Type 0 where
-  pub written : HasWrite cell old.seat
-  pub last : LastWrite cell value old.seat
-  pub event_is : e ≡ Own (session_of old.seat) cell value
+  pub written : HasWrite cell old.state
+  pub last : LastWrite cell value old.state
+  pub event_is : e ≡ Own (session_of old.state) cell value
 
 -- the cell is read from the history, which the pending transaction didn't write
 pub record ReadsFrom (old : Past) (cell : Cell) (value : Value) (e : Event) : Type 0 where
-  pub unwritten : IsUnwritten cell old.seat
+  pub unwritten : IsUnwritten cell old.state
   pub source : ℕ
   pub count : ℕ
   pub word : ℕ
-  pub event_is : e ≡ Read (session_of old.seat) cell source count word value
+  pub event_is : e ≡ Read (session_of old.state) cell source count word value
 
 -- A call is answered: its one event is made, and holds the answer.
 abbrev pub Happens : Past → Call → Answer → Event → Past → Type 0
 Happens old calls.Open (answers.Opened session) e new = (e ≡ Open session) × Adds old e new
-Happens old calls.Close answers.Closed e new = (e ≡ Close (session_of old.seat)) × Adds old e new
-Happens old (calls.Look known) (answers.Looked tables) e new = (e ≡ Look (session_of old.seat) (length new.seen.tables)) ×
+Happens old calls.Close answers.Closed e new = (e ≡ Close (session_of old.state)) × Adds old e new
+Happens old (calls.Look known) (answers.Looked tables) e new = (e ≡ Look (session_of old.state) (length new.seen.tables)) ×
     AnswersTables old known tables new
-Happens old (calls.Define table) (answers.Defined (defines.Defined n)) e new = (e ≡ Define (session_of old.seat) table.name) ×
+Happens old (calls.Define table) (answers.Defined (defines.Defined n)) e new = (e ≡ Define (session_of old.state) table.name) ×
     AnswersDefine old table (defines.Defined n) new
-Happens old (calls.Define table) (answers.Defined (defines.Taken n)) e new = (e ≡ Look (session_of old.seat) n) ×
+Happens old (calls.Define table) (answers.Defined (defines.Taken n)) e new = (e ≡ Look (session_of old.state) n) ×
     AnswersDefine old table (defines.Taken n) new
-Happens old calls.Begin (answers.Begun n) e new = (e ≡ Begin (session_of old.seat)) × Adds old e new × (n ≡ begun new.seen.events)
-Happens old (calls.Scan table) (answers.Listed keys) e new = (e ≡ Scan (session_of old.seat) table keys) × Adds old e new
+Happens old calls.Begin (answers.Begun n) e new = (e ≡ Begin (session_of old.state)) × Adds old e new × (n ≡ begun new.seen.events)
+Happens old (calls.Scan table) (answers.Listed keys) e new = (e ≡ Scan (session_of old.state) table keys) × Adds old e new
 Happens old (calls.Touch cell) (answers.Found value) e new = (ReadsBack old cell value e ⊎ ReadsFrom old cell value e) × Adds old e new
-Happens old (calls.Write cell value) answers.Written e new = (e ≡ Write (session_of old.seat) cell value) × Adds old e new
-Happens old calls.Commit answers.Committed e new = (e ≡ Commit (session_of old.seat)) × Adds old e new
-Happens old calls.Rollback answers.RolledBack e new = (e ≡ Rollback (session_of old.seat)) × Adds old e new
-Happens old calls.Show (answers.Shown n) e new = (e ≡ Show (session_of old.seat) n) × Adds old e new × (n ≡ length new.seen.events)
+Happens old (calls.Write cell value) answers.Written e new = (e ≡ Write (session_of old.state) cell value) × Adds old e new
+Happens old calls.Commit answers.Committed e new = (e ≡ Commit (session_of old.state)) × Adds old e new
+Happens old calls.Rollback answers.RolledBack e new = (e ≡ Rollback (session_of old.state)) × Adds old e new
+Happens old calls.Show (answers.Shown n) e new = (e ≡ Show (session_of old.state) n) × Adds old e new × (n ≡ length new.seen.events)
 Happens old _ _ e new = ⊥
 
 -- the event of the entry, where it has one, is a read that holds the word
@@ -83,19 +83,19 @@ HoldsWord _ word = ⊥
 -- One word is drawn for each read of the history, refused or not, and the event holds it. None is drawn where a cell is read back.
 abbrev pub Draws : {W : Type 0} → (W → ℕ → W → Type 0) → Past → W → Call → Entry → W → Type 0
 Draws gives old before (calls.Touch cell) entry after =
-    (HasWrite cell old.seat × (after ≡ before))
-    ⊎ (IsUnwritten cell old.seat × ((word : ℕ) × gives before word after × HoldsWord entry word))
+    (HasWrite cell old.state × (after ≡ before))
+    ⊎ (IsUnwritten cell old.state × ((word : ℕ) × gives before word after × HoldsWord entry word))
 Draws gives old before _ entry after = after ≡ before
 
 -- where an answer leaves the session of a book
-abbrev pub SeatAfter : Call → Answer → Seat → Seat → Type 0
-SeatAfter calls.Open (answers.Opened s) old new = new ≡ seated s
-SeatAfter calls.Close answers.Closed old new = new ≡ away
-SeatAfter calls.Begin (answers.Begun n) old new = new ≡ pending (session_of old) []
-SeatAfter (calls.Write cell value) answers.Written old new = new ≡ pending (session_of old) (writes_of old ++ (cell, value) ∷ [])
-SeatAfter calls.Commit answers.Committed old new = new ≡ seated (session_of old)
-SeatAfter calls.Rollback answers.RolledBack old new = new ≡ seated (session_of old)
-SeatAfter _ _ old new = new ≡ old
+abbrev pub StateAfter : Call → Answer → SessionState → SessionState → Type 0
+StateAfter calls.Open (answers.Opened s) old new = new ≡ in_session s
+StateAfter calls.Close answers.Closed old new = new ≡ no_session
+StateAfter calls.Begin (answers.Begun n) old new = new ≡ pending (session_of old) []
+StateAfter (calls.Write cell value) answers.Written old new = new ≡ pending (session_of old) (writes_of old ++ (cell, value) ∷ [])
+StateAfter calls.Commit answers.Committed old new = new ≡ in_session (session_of old)
+StateAfter calls.Rollback answers.RolledBack old new = new ≡ in_session (session_of old)
+StateAfter _ _ old new = new ≡ old
 
 -- The calls were answered by the entries in order, from one past and one value of the words on to others. Behind an answer the book's
 -- session is where the answer leaves it, and behind a refusal where it was.
@@ -104,7 +104,7 @@ Lawful gives p v [] [] q w = (q ≡ p) × (w ≡ v)
 Lawful gives p v (c ∷ cs) [] q w = ⊥
 Lawful gives p v [] (did a e ∷ es) q w = ⊥
 Lawful {W} gives p v (c ∷ cs) (did a e ∷ es) q w = (m : Past) × (u : W) × Happens p c a e m × Draws gives p v c (did a e) u ×
-    Lawful gives m u cs es q w × SeatAfter c a p.seat m.seat
+    Lawful gives m u cs es q w × StateAfter c a p.state m.state
 Lawful gives p v [] (refused why ∷ es) q w = ⊥
 Lawful {W} gives p v (c ∷ cs) (refused why ∷ es) q w = (m : Past) × (u : W) × Declines p c why m × Draws gives p v c (refused why) u ×
     Lawful gives m u cs es q w

@@ -23,7 +23,7 @@ most_read = 1073741824
 
 -- The book is where the session's stage has it, and has defined the tables that the session knows.
 pub record Sits (s : Session) (past : Past) : Type 0 where
-  pub owed : owed_of past.seat ≡ owed_at s.stage s.runner
+  pub owed : owed_of past.state ≡ owed_at s.stage s.runner
   pub known_tables : length (runners.known_of s.runner) ≤ length past.seen.tables
   pub fit : IsFit s.runner
 

@@ -3,11 +3,11 @@ ghost use Rattle.std.specs.Prelude.{◌≡◌, true, IfOk};
 ghost use Rattle.sound_table.specs.Sound.{IsSound};
 ghost use Rattle.history_core.specs.declared.event.Event.{Event};
 ghost use Rattle.history_core.specs.Chronicle.{IsLegalChronicle};
-ghost use Rattle.history_core.specs.Book.{IsSeated, IsUnwritten, HasWrite};
+ghost use Rattle.history_core.specs.Book.{HasSession, IsUnwritten, HasWrite};
 ghost use Rattle.block_machine.specs.Calls as calls;
 ghost use Rattle.block_machine.specs.Calls.{asks_cells, call_for, call_of};
 ghost use Rattle.block_machine.specs.Stages.{Fits};
-ghost use Rattle.session_core.specs.Record.{SeatAfter};
+ghost use Rattle.session_core.specs.Record.{StateAfter};
 ghost use Rattle.session_core.specs.Plays.{MayAsk, Plays};
 
 use block_machine::{Answer, Call};
@@ -20,11 +20,11 @@ use std::alloc::Global;
 
 /// Defines a table in the book.
 pub fn define<B: Book, W: Words>(book: &mut B, words: &W, table: &Table) -> Answer
-    requires may { IsSeated (B.past book.old).seat }
+    requires may { HasSession (B.past book.old).state }
     requires sound { IsSound table.now }
     ensures fits { Fits (calls.Define table.now) result }
     ensures plays { (e : Event) × Plays W.gives (B.past book.old) words.now (calls.Define table.now) result e (B.past book.new) words.now }
-    ensures seat { SeatAfter (calls.Define table.now) result (B.past book.old).seat (B.past book.new).seat }
+    ensures state { StateAfter (calls.Define table.now) result (B.past book.old).state (B.past book.new).state }
     ensures legal { IsLegalChronicle (B.past book.old).seen → IsLegalChronicle (B.past book.new).seen }
     ensures stays { B.stays book.old book.new }
 {
@@ -39,7 +39,7 @@ pub fn call<B: Book, W: Words>(book: &mut B, words: &W, c: Call) -> Answer
     requires may { MayAsk (call_of c) (B.past book.old) }
     ensures fits { Fits (call_of c) result }
     ensures plays { (e : Event) × Plays W.gives (B.past book.old) words.now (call_of c) result e (B.past book.new) words.now }
-    ensures seat { SeatAfter (call_of c) result (B.past book.old).seat (B.past book.new).seat }
+    ensures state { StateAfter (call_of c) result (B.past book.old).state (B.past book.new).state }
     ensures legal { IsLegalChronicle (B.past book.old).seen → IsLegalChronicle (B.past book.new).seen }
     ensures stays { B.stays book.old book.new }
 {
@@ -78,10 +78,10 @@ pub fn call<B: Book, W: Words>(book: &mut B, words: &W, c: Call) -> Answer
 // Reads a cell of which nothing is pending. A word is drawn before the read.
 fn read<B: Book, W: Words>(book: &mut B, words: &mut W, cell: &Cell) -> Answer
     requires may { MayAsk (calls.Touch cell.now) (B.past book.old) }
-    requires unwritten { IsUnwritten cell.now (B.past book.old).seat }
+    requires unwritten { IsUnwritten cell.now (B.past book.old).state }
     ensures fits { Fits (calls.Touch cell.now) result }
     ensures plays { (e : Event) × Plays W.gives (B.past book.old) words.old (calls.Touch cell.now) result e (B.past book.new) words.new }
-    ensures seat { SeatAfter (calls.Touch cell.now) result (B.past book.old).seat (B.past book.new).seat }
+    ensures state { StateAfter (calls.Touch cell.now) result (B.past book.old).state (B.past book.new).state }
     ensures legal { IsLegalChronicle (B.past book.old).seen → IsLegalChronicle (B.past book.new).seen }
     ensures stays { B.stays book.old book.new }
 {
@@ -95,10 +95,10 @@ fn read<B: Book, W: Words>(book: &mut B, words: &mut W, cell: &Cell) -> Answer
 // Reads a cell back that the pending transaction wrote.
 fn own<B: Book, W: Words>(book: &mut B, words: &W, cell: &Cell) -> Answer
     requires may { MayAsk (calls.Touch cell.now) (B.past book.old) }
-    requires written { HasWrite cell.now (B.past book.old).seat }
+    requires written { HasWrite cell.now (B.past book.old).state }
     ensures fits { Fits (calls.Touch cell.now) result }
     ensures plays { (e : Event) × Plays W.gives (B.past book.old) words.now (calls.Touch cell.now) result e (B.past book.new) words.now }
-    ensures seat { SeatAfter (calls.Touch cell.now) result (B.past book.old).seat (B.past book.new).seat }
+    ensures state { StateAfter (calls.Touch cell.now) result (B.past book.old).state (B.past book.new).state }
     ensures legal { IsLegalChronicle (B.past book.old).seen → IsLegalChronicle (B.past book.new).seen }
     ensures stays { B.stays book.old book.new }
 {
@@ -113,7 +113,7 @@ fn touch<B: Book, W: Words>(book: &mut B, words: &mut W, cell: &Cell) -> Answer
     requires may { MayAsk (calls.Touch cell.now) (B.past book.old) }
     ensures fits { Fits (calls.Touch cell.now) result }
     ensures plays { (e : Event) × Plays W.gives (B.past book.old) words.old (calls.Touch cell.now) result e (B.past book.new) words.new }
-    ensures seat { SeatAfter (calls.Touch cell.now) result (B.past book.old).seat (B.past book.new).seat }
+    ensures state { StateAfter (calls.Touch cell.now) result (B.past book.old).state (B.past book.new).state }
     ensures legal { IsLegalChronicle (B.past book.old).seen → IsLegalChronicle (B.past book.new).seen }
     ensures stays { B.stays book.old book.new }
 {
@@ -129,7 +129,7 @@ fn write<B: Book, W: Words>(book: &mut B, words: &W, cell: Cell, value: Value) -
     requires may { MayAsk (calls.Write cell value) (B.past book.old) }
     ensures fits { Fits (calls.Write cell value) result }
     ensures plays { (e : Event) × Plays W.gives (B.past book.old) words.now (calls.Write cell value) result e (B.past book.new) words.now }
-    ensures seat { SeatAfter (calls.Write cell value) result (B.past book.old).seat (B.past book.new).seat }
+    ensures state { StateAfter (calls.Write cell value) result (B.past book.old).state (B.past book.new).state }
     ensures legal { IsLegalChronicle (B.past book.old).seen → IsLegalChronicle (B.past book.new).seen }
     ensures stays { B.stays book.old book.new }
 {
@@ -158,7 +158,7 @@ fn write_copy<B: Book, W: Words>(
     ensures fits { Fits (calls.Write cell.now value.now) result }
     ensures plays { (e : Event) × Plays W.gives (B.past book.old) words.now (calls.Write cell.now value.now) result e (B.past book.new)
         words.now }
-    ensures seat { SeatAfter (calls.Write cell.now value.now) result (B.past book.old).seat (B.past book.new).seat }
+    ensures state { StateAfter (calls.Write cell.now value.now) result (B.past book.old).state (B.past book.new).state }
     ensures legal { IsLegalChronicle (B.past book.old).seen → IsLegalChronicle (B.past book.new).seen }
     ensures stays { B.stays book.old book.new }
 {
@@ -174,7 +174,7 @@ pub fn ask<B: Book, W: Words>(alloc: Global, book: &mut B, words: &mut W, demand
     requires asks { asks_cells demand.now ≡ true }
     ensures fits { Fits (call_for demand.now) result }
     ensures plays { (e : Event) × Plays W.gives (B.past book.old) words.old (call_for demand.now) result e (B.past book.new) words.new }
-    ensures seat { SeatAfter (call_for demand.now) result (B.past book.old).seat (B.past book.new).seat }
+    ensures state { StateAfter (call_for demand.now) result (B.past book.old).state (B.past book.new).state }
     ensures legal { IsLegalChronicle (B.past book.old).seen → IsLegalChronicle (B.past book.new).seen }
     ensures stays { B.stays book.old book.new }
 {

@@ -1,7 +1,7 @@
 // Serves a session over a link.
 ghost use Rattle.std.specs.Prelude.{◌≡◌, ℕ, ◌+◌, ◌<◌, ◌≤◌, List, [], length, IfOk};
 ghost use Rattle.history_core.specs.Chronicle.{IsLegalChronicle};
-ghost use Rattle.history_core.specs.Book.{Past, away};
+ghost use Rattle.history_core.specs.Book.{Past, no_session};
 ghost use Rattle.link_traits.specs.Traffic.{Sight, sight_of};
 ghost use Rattle.block_machine.specs.Calls.{Call as Asked};
 ghost use Rattle.block_machine.specs.Script.{Entry, has_short};
@@ -140,12 +140,12 @@ fn run<B: Book, L: Link, W: Words>(
     requires known { known_of session.old.runner ≡ [] }
     requires fit { IsFit session.old.runner }
     requires room { 0 < length room.old }
-    requires away { (B.past book.old).seat ≡ away }
+    requires no_session { (B.past book.old).state ≡ no_session }
     ensures served { (talk : Talk) × (taken : List ℕ) × (es : List Entry) × (asked : List Asked) × (sent : List ℕ) × (lost : List ℕ) ×
         Serves W.gives (level_of session.old.runner) (B.past book.old) words.old (sight_of L.traffic L.read_faults L.write_faults link.old)
         result.session result.end result.short
         (B.past book.new) words.new (sight_of L.traffic L.read_faults L.write_faults link.new) talk taken es asked sent lost }
-    ensures away { (B.past book.new).seat ≡ away }
+    ensures no_session { (B.past book.new).state ≡ no_session }
     ensures legal { IsLegalChronicle (B.past book.old).seen → IsLegalChronicle (B.past book.new).seen }
     ensures stays { B.stays book.old book.new }
 {
@@ -175,12 +175,12 @@ pub fn serve_link<B: Book, L: Link, W: Words>(
     link: &mut L,
     words: &mut W,
 ) -> Served
-    requires { (B.past book.old).seat ≡ away }
+    requires { (B.past book.old).state ≡ no_session }
     ensures served { (talk : Talk) × (taken : List ℕ) × (es : List Entry) × (asked : List Asked) × (sent : List ℕ) × (lost : List ℕ) ×
         Serves W.gives level (B.past book.old) words.old (sight_of L.traffic L.read_faults L.write_faults link.old) result.session
         result.end result.short
         (B.past book.new) words.new (sight_of L.traffic L.read_faults L.write_faults link.new) talk taken es asked sent lost }
-    ensures away { (B.past book.new).seat ≡ away }
+    ensures no_session { (B.past book.new).state ≡ no_session }
     ensures legal { IsLegalChronicle (B.past book.old).seen → IsLegalChronicle (B.past book.new).seen }
     ensures stays { B.stays book.old book.new }
 {

@@ -15,41 +15,41 @@ use Rattle.history_core.specs.Events.{begun, names, is_begin}
 use Rattle.history_core.specs.Transactions.{IsOf}
 use Rattle.history_core.specs.Legal.{WroteItself}
 use Rattle.history_core.specs.Chronicle.{Chronicle}
-use Rattle.history_core.specs.Book.{seated, pending, IsSeated, IsIdle, IsInTransaction, IsUnwritten, session_of, writes_of, GoesOn, Adds, AddsRead, AnswersTables, AnswersDefine}
+use Rattle.history_core.specs.Book.{in_session, pending, HasSession, IsIdle, IsInTransaction, IsUnwritten, session_of, writes_of, GoesOn, Adds, AddsRead, AnswersTables, AnswersDefine}
 use Rattle.history_core.proofs.Grown.{of_back}
 use Rattle.history_core.proofs.Prefixes.{along, sound_of, begun-push_start, begun-push_other}
 use Rattle.history_core.proofs.Next.{of_none}
 use Rattle.history_core.proofs.Offers.{pending_unique}
 use Rattle.history_core.proofs.KeptLemmas.{names-push}
 use Rattle.solo_book.specs.declared.desk.Stage.{Stage}
-use Rattle.solo_book.specs.declared.desk.Stage.TheVariants.{Away, Seated, Pending}
+use Rattle.solo_book.specs.declared.desk.Stage.TheVariants.{NoSession, InSession, Pending}
 use Rattle.solo_book.specs.declared.desk.Desk.{Desk}
-use Rattle.solo_book.specs.Desk.{note, last_writes, seat_of, past_of, IsServed, GoesTo, ReadsTo, LooksTo, DefinesTo, AnswersTo}
+use Rattle.solo_book.specs.Desk.{note, last_writes, state_of, past_of, IsServed, GoesTo, ReadsTo, LooksTo, DefinesTo, AnswersTo}
 use Rattle.solo_book.proofs.Desks.{last_writes-push}
 
-pub stage_idle : (stage : Stage) (s : ℕ) (events : List Event) → IsIdle (seat_of stage s events) → stage ≡ Seated
-stage_idle Away s events is = absurd is
-stage_idle Seated s events is = refl
+pub stage_idle : (stage : Stage) (s : ℕ) (events : List Event) → IsIdle (state_of stage s events) → stage ≡ InSession
+stage_idle NoSession s events is = absurd is
+stage_idle InSession s events is = refl
 stage_idle Pending s events is = absurd is
 
-pub stage_pending : (stage : Stage) (s : ℕ) (events : List Event) → IsInTransaction (seat_of stage s events) → stage ≡ Pending
-stage_pending Away s events is = absurd is
-stage_pending Seated s events is = absurd is
+pub stage_pending : (stage : Stage) (s : ℕ) (events : List Event) → IsInTransaction (state_of stage s events) → stage ≡ Pending
+stage_pending NoSession s events is = absurd is
+stage_pending InSession s events is = absurd is
 stage_pending Pending s events is = refl
 
-pub stage_open : (stage : Stage) (s : ℕ) (events : List Event) → IsSeated (seat_of stage s events) → stage ≢ Away
-stage_open Away s events is = absurd is
-stage_open Seated s events is = λ same. cc
+pub stage_open : (stage : Stage) (s : ℕ) (events : List Event) → HasSession (state_of stage s events) → stage ≢ NoSession
+stage_open NoSession s events is = absurd is
+stage_open InSession s events is = λ same. cc
 stage_open Pending s events is = λ same. cc
 
-pub session_seated : (stage : Stage) (s : ℕ) (events : List Event) → stage ≢ Away → session_of (seat_of stage s events) ≡ s
-session_seated Away s events open_is = absurd (open_is refl)
-session_seated Seated s events open_is = refl
-session_seated Pending s events open_is = refl
+pub session_is_in : (stage : Stage) (s : ℕ) (events : List Event) → stage ≢ NoSession → session_of (state_of stage s events) ≡ s
+session_is_in NoSession s events open_is = absurd (open_is refl)
+session_is_in InSession s events open_is = refl
+session_is_in Pending s events open_is = refl
 
-pub writes_pending : (stage : Stage) (s : ℕ) (events : List Event) → stage ≡ Pending → writes_of (seat_of stage s events) ≡ last_writes events
-writes_pending Away s events is = cc
-writes_pending Seated s events is = cc
+pub writes_pending : (stage : Stage) (s : ℕ) (events : List Event) → stage ≡ Pending → writes_of (state_of stage s events) ≡ last_writes events
+writes_pending NoSession s events is = cc
+writes_pending InSession s events is = cc
 writes_pending Pending s events is = refl
 
 nothing_between : (es : List Event) (e : Event) → es ++ e ∷ [] ≡ es ++ [] ++ e ∷ []
@@ -82,24 +82,24 @@ goes_same old new same = record {
   more = [];
   tables = ap (λ (d : Desk). d.history.tables) same ∙ sym (append-nil old.history.tables);
   own = ap (λ (d : Desk). d.history.events) same;
-  seat = ap (λ (d : Desk). seat_of d.stage d.sessions d.history.events) same;
+  state = ap (λ (d : Desk). state_of d.stage d.sessions d.history.events) same;
 }
 
 -- where the session stands after the event
-pub seat_goes :
-    (old new : Desk) (e : Event) (s : ℕ) (stage : Stage) → GoesTo old e s stage new → (past_of new).seat ≡ seat_of stage s (old.history.events ++ e ∷ [])
-seat_goes old new e s stage goes =
-    ap (λ (t : Stage). seat_of t new.sessions new.history.events) goes.stands
-    ∙ ap (λ (n : ℕ). seat_of stage n new.history.events) goes.sessions
-    ∙ ap (λ (h : Chronicle). seat_of stage s h.events) goes.history
+pub state_goes :
+    (old new : Desk) (e : Event) (s : ℕ) (stage : Stage) → GoesTo old e s stage new → (past_of new).state ≡ state_of stage s (old.history.events ++ e ∷ [])
+state_goes old new e s stage goes =
+    ap (λ (t : Stage). state_of t new.sessions new.history.events) goes.stands
+    ∙ ap (λ (n : ℕ). state_of stage n new.history.events) goes.sessions
+    ∙ ap (λ (h : Chronicle). state_of stage s h.events) goes.history
 
--- an event that notes no write leaves the seat
-pub seat_still :
+-- an event that notes no write leaves the state
+pub state_still :
     (stage : Stage) (s : ℕ) (events : List Event) (e : Event) → ((writes : List (Cell × Value)) → note writes e ≡ writes) →
-    seat_of stage s (events ++ e ∷ []) ≡ seat_of stage s events
-seat_still Away s events e still = refl
-seat_still Seated s events e still = refl
-seat_still Pending s events e still = ap (λ (w : List (Cell × Value)). pending s w) (last_writes-push events e ∙ still (last_writes events))
+    state_of stage s (events ++ e ∷ []) ≡ state_of stage s events
+state_still NoSession s events e still = refl
+state_still InSession s events e still = refl
+state_still Pending s events e still = ap (λ (w : List (Cell × Value)). pending s w) (last_writes-push events e ∙ still (last_writes events))
 
 -- what the transaction that began last wrote is noted
 abbrev pub AllNoted : List Event → Type 0
@@ -179,36 +179,36 @@ pub err_goes : {A E : Type 0} (old new : Desk) (r : Result A E) → OnErr r (new
 err_goes old new (Ok a) h = h
 err_goes old new (Err e) h = goes_same old new h
 
--- the event with the number of the session that the seat names
-pub adds_seated :
-    (old new : Desk) (f : ℕ → Event) (s : ℕ) (stage : Stage) → old.stage ≢ Away → GoesTo old (f old.sessions) s stage new →
-    Adds (past_of old) (f (session_of (seat_of old.stage old.sessions old.history.events))) (past_of new)
-adds_seated old new f s stage open_is goes =
-    subst (λ (n : ℕ). Adds (past_of old) (f n) (past_of new)) (sym (session_seated old.stage old.sessions old.history.events open_is))
+-- the event with the number of the session that the state names
+pub adds_in_session :
+    (old new : Desk) (f : ℕ → Event) (s : ℕ) (stage : Stage) → old.stage ≢ NoSession → GoesTo old (f old.sessions) s stage new →
+    Adds (past_of old) (f (session_of (state_of old.stage old.sessions old.history.events))) (past_of new)
+adds_in_session old new f s stage open_is goes =
+    subst (λ (n : ℕ). Adds (past_of old) (f n) (past_of new)) (sym (session_is_in old.stage old.sessions old.history.events open_is))
     (adds_goes old new (f old.sessions) s stage goes)
 
-pub pending_open : (stage : Stage) → stage ≡ Pending → stage ≢ Away
+pub pending_open : (stage : Stage) → stage ≡ Pending → stage ≢ NoSession
 pending_open stage is same = cc
 
-pub seated_open : (stage : Stage) → stage ≡ Seated → stage ≢ Away
-seated_open stage is same = cc
+pub in_session_open : (stage : Stage) → stage ≡ InSession → stage ≢ NoSession
+in_session_open stage is same = cc
 
-seat_same : (old new : Desk) → new ≡ old → (past_of new).seat ≡ (past_of old).seat
-seat_same old new same = ap (λ (d : Desk). seat_of d.stage d.sessions d.history.events) same
+state_same : (old new : Desk) → new ≡ old → (past_of new).state ≡ (past_of old).state
+state_same old new same = ap (λ (d : Desk). state_of d.stage d.sessions d.history.events) same
 
-seat_stays :
+state_stays :
     (old new : Desk) (e : Event) (stage : Stage) → ((writes : List (Cell × Value)) → note writes e ≡ writes) → old.stage ≡ stage →
-    GoesTo old e old.sessions stage new → (past_of new).seat ≡ (past_of old).seat
-seat_stays old new e stage still is goes =
-    seat_goes old new e old.sessions stage goes
-    ∙ seat_still stage old.sessions old.history.events e still
-    ∙ ap (λ (t : Stage). seat_of t old.sessions old.history.events) (sym is)
+    GoesTo old e old.sessions stage new → (past_of new).state ≡ (past_of old).state
+state_stays old new e stage still is goes =
+    state_goes old new e old.sessions stage goes
+    ∙ state_still stage old.sessions old.history.events e still
+    ∙ ap (λ (t : Stage). state_of t old.sessions old.history.events) (sym is)
 
 tables_same : (old new : Desk) (e : Event) (s : ℕ) (stage : Stage) → GoesTo old e s stage new → new.history.tables ≡ old.history.tables
 tables_same old new e s stage goes = ap (λ (h : Chronicle). h.tables) goes.history
 
 pub looks_answers :
-    (old new : Desk) (known : ℕ) (tables : List Table) → old.stage ≢ Away → LooksTo old known tables new →
+    (old new : Desk) (known : ℕ) (tables : List Table) → old.stage ≢ NoSession → LooksTo old known tables new →
     AnswersTables (past_of old) known tables (past_of new)
 looks_answers old new known tables open_is looks =
     let same : new.history.tables ≡ old.history.tables =
@@ -218,16 +218,16 @@ looks_answers old new known tables open_is looks =
       whole = same ∙ looks.whole;
       known_is = looks.known_is;
       adds =
-          subst (λ (n : ℕ). Adds (past_of old) (Look (session_of (seat_of old.stage old.sessions old.history.events)) n) (past_of new)) (sym (ap length same))
-          (adds_seated old new (λ n. Look n (length old.history.tables)) old.sessions old.stage open_is looks.goes);
+          subst (λ (n : ℕ). Adds (past_of old) (Look (session_of (state_of old.stage old.sessions old.history.events)) n) (past_of new)) (sym (ap length same))
+          (adds_in_session old new (λ n. Look n (length old.history.tables)) old.sessions old.stage open_is looks.goes);
     }
 
-pub looks_seat :
+pub looks_state :
     {E : Type 0} (old new : Desk) (known : ℕ) (r : Result (List Table) E) → IfOk r (λ tables. LooksTo old known tables new) → OnErr r (new ≡ old) →
-    (past_of new).seat ≡ (past_of old).seat
-looks_seat old new known (Ok tables) looks same =
-    seat_stays old new (Look old.sessions (length old.history.tables)) old.stage (λ w. refl) refl looks.goes
-looks_seat old new known (Err e) looks same = seat_same old new same
+    (past_of new).state ≡ (past_of old).state
+looks_state old new known (Ok tables) looks same =
+    state_stays old new (Look old.sessions (length old.history.tables)) old.stage (λ w. refl) refl looks.goes
+looks_state old new known (Err e) looks same = state_same old new same
 
 pub reads_adds :
     (old new : Desk) (cell : Cell) (word : ℕ) (value : Value) → old.stage ≡ Pending → ReadsTo old cell word value new →
@@ -235,22 +235,22 @@ pub reads_adds :
 reads_adds old new cell word value is reads = record {
   source = reads.source;
   count = reads.count;
-  adds = adds_seated old new (λ n. Read n cell reads.source reads.count word value) old.sessions Pending (pending_open old.stage is) reads.goes;
+  adds = adds_in_session old new (λ n. Read n cell reads.source reads.count word value) old.sessions Pending (pending_open old.stage is) reads.goes;
 }
 
-pub reads_seat :
+pub reads_state :
     {E : Type 0} (old new : Desk) (cell : Cell) (word : ℕ) (r : Result Value E) → old.stage ≡ Pending → IfOk r (λ value. ReadsTo old cell word value new) →
-    OnErr r (new ≡ old) → (past_of new).seat ≡ (past_of old).seat
-reads_seat old new cell word (Ok value) is reads same =
-    seat_stays old new (Read old.sessions cell reads.source reads.count word value) Pending (λ w. refl) is reads.goes
-reads_seat old new cell word (Err e) is reads same = seat_same old new same
+    OnErr r (new ≡ old) → (past_of new).state ≡ (past_of old).state
+reads_state old new cell word (Ok value) is reads same =
+    state_stays old new (Read old.sessions cell reads.source reads.count word value) Pending (λ w. refl) is reads.goes
+reads_state old new cell word (Err e) is reads same = state_same old new same
 
--- a call whose event notes no write leaves the seat
-pub call_seat :
+-- a call whose event notes no write leaves the state
+pub call_state :
     {A E : Type 0} (old new : Desk) (f : A → Event) (stage : Stage) (r : Result A E) → ((a : A) (writes : List (Cell × Value)) → note writes (f a) ≡ writes) →
-    old.stage ≡ stage → IfOk r (λ a. GoesTo old (f a) old.sessions stage new) → OnErr r (new ≡ old) → (past_of new).seat ≡ (past_of old).seat
-call_seat old new f stage (Ok a) still is goes same = seat_stays old new (f a) stage (still a) is goes
-call_seat old new f stage (Err e) still is goes same = seat_same old new same
+    old.stage ≡ stage → IfOk r (λ a. GoesTo old (f a) old.sessions stage new) → OnErr r (new ≡ old) → (past_of new).state ≡ (past_of old).state
+call_state old new f stage (Ok a) still is goes same = state_stays old new (f a) stage (still a) is goes
+call_state old new f stage (Err e) still is goes same = state_same old new same
 
 defines_adds : (old new : Desk) (table : Table) → DefinesTo old table new → Adds (past_of old) (Define old.sessions table.name) (past_of new)
 defines_adds old new table defines =
@@ -266,13 +266,13 @@ defines_adds old new table defines =
     }
 
 pub defines_answers :
-    (old new : Desk) (table : Table) (answer : DefineAnswer) → old.stage ≢ Away → AnswersTo old table answer new →
+    (old new : Desk) (table : Table) (answer : DefineAnswer) → old.stage ≢ NoSession → AnswersTo old table answer new →
     AnswersDefine (past_of old) table answer (past_of new)
 defines_answers old new table (Defined n) open_is (count, defines) = (
   old.history.tables,
   ap (λ (h : Chronicle). h.tables) defines.history,
   sym count,
-  subst (λ (s : ℕ). Adds (past_of old) (Define s table.name) (past_of new)) (sym (session_seated old.stage old.sessions old.history.events open_is))
+  subst (λ (s : ℕ). Adds (past_of old) (Define s table.name) (past_of new)) (sym (session_is_in old.stage old.sessions old.history.events open_is))
       (defines_adds old new table defines),
 )
 defines_answers old new table (Taken n) open_is (count, member, goes) =
@@ -281,52 +281,52 @@ defines_answers old new table (Taken n) open_is (count, member, goes) =
     ap (λ (h : Chronicle). names h.events) goes.history ∙ names-push old.history.events (Look old.sessions n) refl in (
       count ∙ ap length (sym same),
       subst (λ (ns : List (List ℕ)). Contains ns table.name) (sym named) member,
-      adds_seated old new (λ s. Look s n) old.sessions old.stage open_is goes,
+      adds_in_session old new (λ s. Look s n) old.sessions old.stage open_is goes,
     )
 
-pub defines_seat :
+pub defines_state :
     {E : Type 0} (old new : Desk) (table : Table) (r : Result DefineAnswer E) → IfOk r (λ answer. AnswersTo old table answer new) → OnErr r (new ≡ old) →
-    (past_of new).seat ≡ (past_of old).seat
-defines_seat old new table (Ok (Defined n)) (count, defines) same =
-    ap (λ (t : Stage). seat_of t new.sessions new.history.events) defines.stands
-    ∙ ap (λ (s : ℕ). seat_of old.stage s new.history.events) defines.sessions
-    ∙ ap (λ (h : Chronicle). seat_of old.stage old.sessions h.events) defines.history
-    ∙ seat_still old.stage old.sessions old.history.events (Define old.sessions table.name) (λ w. refl)
-defines_seat old new table (Ok (Taken n)) (count, member, goes) same =
-    seat_stays old new (Look old.sessions n) old.stage (λ w. refl) refl goes
-defines_seat old new table (Err e) answers same = seat_same old new same
+    (past_of new).state ≡ (past_of old).state
+defines_state old new table (Ok (Defined n)) (count, defines) same =
+    ap (λ (t : Stage). state_of t new.sessions new.history.events) defines.stands
+    ∙ ap (λ (s : ℕ). state_of old.stage s new.history.events) defines.sessions
+    ∙ ap (λ (h : Chronicle). state_of old.stage old.sessions h.events) defines.history
+    ∙ state_still old.stage old.sessions old.history.events (Define old.sessions table.name) (λ w. refl)
+defines_state old new table (Ok (Taken n)) (count, member, goes) same =
+    state_stays old new (Look old.sessions n) old.stage (λ w. refl) refl goes
+defines_state old new table (Err e) answers same = state_same old new same
 
--- the seat after a Begin, and after a write
-pub begin_seat :
-    (old new : Desk) → old.stage ≢ Away → GoesTo old (Begin old.sessions) old.sessions Pending new →
-    (past_of new).seat ≡ pending (session_of (seat_of old.stage old.sessions old.history.events)) []
-begin_seat old new open_is goes =
-    seat_goes old new (Begin old.sessions) old.sessions Pending goes
+-- the state after a Begin, and after a write
+pub begin_state :
+    (old new : Desk) → old.stage ≢ NoSession → GoesTo old (Begin old.sessions) old.sessions Pending new →
+    (past_of new).state ≡ pending (session_of (state_of old.stage old.sessions old.history.events)) []
+begin_state old new open_is goes =
+    state_goes old new (Begin old.sessions) old.sessions Pending goes
     ∙ ap (λ (w : List (Cell × Value)). pending old.sessions w) (last_writes-push old.history.events (Begin old.sessions))
-    ∙ ap (λ (s : ℕ). pending s []) (sym (session_seated old.stage old.sessions old.history.events open_is))
+    ∙ ap (λ (s : ℕ). pending s []) (sym (session_is_in old.stage old.sessions old.history.events open_is))
 
-pub write_seat :
+pub write_state :
     (old new : Desk) (cell : Cell) (value : Value) → old.stage ≡ Pending → GoesTo old (Write old.sessions cell value) old.sessions Pending new →
-    (past_of new).seat
-    ≡ pending (session_of (seat_of old.stage old.sessions old.history.events)) (writes_of (seat_of old.stage old.sessions old.history.events) ++ (cell, value) ∷ [])
-write_seat old new cell value is goes =
-    seat_goes old new (Write old.sessions cell value) old.sessions Pending goes
+    (past_of new).state
+    ≡ pending (session_of (state_of old.stage old.sessions old.history.events)) (writes_of (state_of old.stage old.sessions old.history.events) ++ (cell, value) ∷ [])
+write_state old new cell value is goes =
+    state_goes old new (Write old.sessions cell value) old.sessions Pending goes
     ∙ ap (λ (w : List (Cell × Value)). pending old.sessions w) (last_writes-push old.history.events (Write old.sessions cell value))
-    ∙ ap (λ (s : ℕ). pending s (last_writes old.history.events ++ (cell, value) ∷ [])) (sym (session_seated old.stage old.sessions old.history.events (pending_open old.stage is)))
-    ∙ ap (λ (w : List (Cell × Value)). pending (session_of (seat_of old.stage old.sessions old.history.events)) (w ++ (cell, value) ∷ []))
+    ∙ ap (λ (s : ℕ). pending s (last_writes old.history.events ++ (cell, value) ∷ [])) (sym (session_is_in old.stage old.sessions old.history.events (pending_open old.stage is)))
+    ∙ ap (λ (w : List (Cell × Value)). pending (session_of (state_of old.stage old.sessions old.history.events)) (w ++ (cell, value) ∷ []))
     (sym (writes_pending old.stage old.sessions old.history.events is))
 
--- the seat after the session's or the transaction's end
-pub end_seat :
-    (old new : Desk) (e : Event) → old.stage ≢ Away → GoesTo old e old.sessions Seated new →
-    (past_of new).seat ≡ seated (session_of (seat_of old.stage old.sessions old.history.events))
-end_seat old new e open_is goes =
-    seat_goes old new e old.sessions Seated goes
-    ∙ ap (λ (s : ℕ). seated s) (sym (session_seated old.stage old.sessions old.history.events open_is))
+-- the state after the session's or the transaction's end
+pub end_state :
+    (old new : Desk) (e : Event) → old.stage ≢ NoSession → GoesTo old e old.sessions InSession new →
+    (past_of new).state ≡ in_session (session_of (state_of old.stage old.sessions old.history.events))
+end_state old new e open_is goes =
+    state_goes old new e old.sessions InSession goes
+    ∙ ap (λ (s : ℕ). in_session s) (sym (session_is_in old.stage old.sessions old.history.events open_is))
 
 pub unwritten_kept :
     (desk : Desk) (cell : Cell) → IsServed desk.history desk.sessions desk.stage → desk.stage ≡ Pending →
-    IsUnwritten cell (seat_of desk.stage desk.sessions desk.history.events) → WroteItself desk.history.events desk.sessions cell → ⊥
+    IsUnwritten cell (state_of desk.stage desk.sessions desk.history.events) → WroteItself desk.history.events desk.sessions cell → ⊥
 unwritten_kept desk cell served is unwritten =
     not_written desk.history desk.sessions cell (subst (λ (t : Stage). IsServed desk.history desk.sessions t) is served)
     (subst (λ (ws : List (Cell × Value)). All (λ write. write.0 ≢ cell) ws) (writes_pending desk.stage desk.sessions desk.history.events is) unwritten)

@@ -27,7 +27,7 @@ use Rattle.history_core.proofs.Next.{of_new, of_none, pending_kept, pending_back
 use Rattle.history_core.proofs.Numbers.{opened_bounds, pending_opened, closed_opened}
 use Rattle.history_core.proofs.SessionLemmas.{open_still, IsPlain, opened-push_other}
 use Rattle.solo_book.specs.declared.desk.Stage.{Stage}
-use Rattle.solo_book.specs.declared.desk.Stage.TheVariants.{Away, Seated, Pending}
+use Rattle.solo_book.specs.declared.desk.Stage.TheVariants.{NoSession, InSession, Pending}
 use Rattle.solo_book.specs.Desk.{note, noted, last_writes, AreWritesOf, Stands, IsServed}
 
 -- a plain event that isn't a write
@@ -127,8 +127,8 @@ pending_plain events e s plain open_is pending =
 
 pub stands_plain :
     (events : List Event) (e : Event) (s : ℕ) (stage : Stage) → WritesNone e → Stands stage s events → Stands stage s (events ++ e ∷ [])
-stands_plain events e s Away quiet stands = tt
-stands_plain events e s Seated quiet (open_is, none) = (
+stands_plain events e s NoSession quiet stands = tt
+stands_plain events e s InSession quiet (open_is, none) = (
   (open_still events e s (quiet.plain.no_open s) (quiet.plain.no_close s)).1 open_is,
   λ (k, pending). elim (pending_back events e k s pending) [
     | inl before ↦ none (k, before.0)
@@ -149,7 +149,7 @@ stands_write events s cell value (open_is, pending, own) =
     let notes : last_writes (events ++ Write s cell value ∷ []) ≡ last_writes events ++ (cell, value) ∷ [] = last_writes-push events (Write s cell value) in
     (on.0, on.1, rw (same, notes) (own_more events s (begun events) cell value (last_writes events) pending own))
 
-pub stands_open : (events : List Event) (s : ℕ) → IsFormed events → s ≡ opened events + 1 → Stands Seated s (events ++ Open s ∷ [])
+pub stands_open : (events : List Event) (s : ℕ) → IsFormed events → s ≡ opened events + 1 → Stands InSession s (events ++ Open s ∷ [])
 stands_open events s formed number = (
   (
     Contains-push events (Open s),
@@ -164,7 +164,7 @@ stands_open events s formed number = (
     never : Contains events (Open s) → ⊥
     never member = let h = opened_bounds events formed s member in absurd (omega arith)
 
-pub stands_begin : (events : List Event) (s : ℕ) → Stands Seated s events → Stands Pending s (events ++ Begin s ∷ [])
+pub stands_begin : (events : List Event) (s : ℕ) → Stands InSession s events → Stands Pending s (events ++ Begin s ∷ [])
 stands_begin events s (open_is, none) =
     let more : begun (events ++ Begin s ∷ []) ≡ begun events + 1 = begun-push_start events s in
     let notes : last_writes (events ++ Begin s ∷ []) ≡ [] = last_writes-push events (Begin s) in (
@@ -175,7 +175,7 @@ stands_begin events s (open_is, none) =
 
 pub stands_end :
     (events : List Event) (e : Event) (s : ℕ) → session_in e ≡ s → is_end e ≡ true → (e ≡ Open s → ⊥) → (e ≡ Close s → ⊥) → (e ≡ Begin s → ⊥) →
-    Stands Pending s events → Stands Seated s (events ++ e ∷ [])
+    Stands Pending s events → Stands InSession s (events ++ e ∷ [])
 stands_end events e s same ends no_open no_close no_begin (open_is, pending_is, own) = (
   (open_still events e s no_open no_close).1 open_is,
   λ (k, pending). elim (pending_back events e k s pending) [
@@ -185,7 +185,7 @@ stands_end events e s same ends no_open no_close no_begin (open_is, pending_is, 
 )
 
 pub served_opens :
-    (old new : Chronicle) (n : ℕ) (stage : Stage) → IsServed old n stage → GoesWith old new (Open (n + 1)) → IsServed new (n + 1) Seated
+    (old new : Chronicle) (n : ℕ) (stage : Stage) → IsServed old n stage → GoesWith old new (Open (n + 1)) → IsServed new (n + 1) InSession
 served_opens old new n stage is follows =
     let more : opened (old.events ++ Open (n + 1) ∷ []) ≡ opened old.events + 1 = count_by-push is_open_event old.events (Open (n + 1)) in
     let count = is.count in
@@ -215,7 +215,7 @@ served_writes old new n cell value is follows = record {
 }
 
 pub served_begins :
-    (old new : Chronicle) (n : ℕ) → IsServed old n Seated → GoesWith old new (Begin n) → IsServed new n Pending
+    (old new : Chronicle) (n : ℕ) → IsServed old n InSession → GoesWith old new (Begin n) → IsServed new n Pending
 served_begins old new n is follows = record {
   level = follows.level ∙ is.level;
   legal = follows.legal;
@@ -225,7 +225,7 @@ served_begins old new n is follows = record {
 
 pub served_ends :
     (old new : Chronicle) (n : ℕ) (e : Event) → session_in e ≡ n → is_end e ≡ true → (e ≡ Open n → ⊥) → (e ≡ Close n → ⊥) → (e ≡ Begin n → ⊥) →
-    is_open_event e ≡ false → IsServed old n Pending → GoesWith old new e → IsServed new n Seated
+    is_open_event e ≡ false → IsServed old n Pending → GoesWith old new e → IsServed new n InSession
 served_ends old new n e same ends no_open no_close no_begin opens_none is follows = record {
   level = follows.level ∙ is.level;
   legal = follows.legal;
@@ -234,7 +234,7 @@ served_ends old new n e same ends no_open no_close no_begin opens_none is follow
 }
 
 pub served_closes :
-    (old new : Chronicle) (n : ℕ) → IsServed old n Seated → GoesWith old new (Close n) → IsServed new n Away
+    (old new : Chronicle) (n : ℕ) → IsServed old n InSession → GoesWith old new (Close n) → IsServed new n NoSession
 served_closes old new n is follows = record {
   level = follows.level ∙ is.level;
   legal = follows.legal;
@@ -322,5 +322,5 @@ pub pending_last : (history : Chronicle) (n : ℕ) → IsServed history n Pendin
 pending_last history n served k pending =
     pending_unique history.events (sound_of history.events served.legal.legal.formed) n k (begun history.events) pending served.stands.1
 
-pub idle_last : (history : Chronicle) (n : ℕ) → IsServed history n Seated → IsLast history.events n
+pub idle_last : (history : Chronicle) (n : ℕ) → IsServed history n InSession → IsLast history.events n
 idle_last history n served k pending = absurd (served.stands.1 (k, pending))

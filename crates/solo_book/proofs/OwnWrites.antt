@@ -1,4 +1,4 @@
--- What the pending transaction has written, as the records say it and as the seat says it.
+-- What the pending transaction has written, as the records say it and as the state says it.
 use Rattle.std.proofs.Common.{◌≡◌, ◌≢◌, ℕ, List, get_or, refl, subst}
 use Rattle.std.specs.List.{All, Any}
 use Rattle.std.proofs.lemmas.List.Elements.{Contains-get_or}

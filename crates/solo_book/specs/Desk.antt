@@ -13,9 +13,9 @@ use Rattle.history_core.specs.Transactions.{IsPending, HasPending}
 use Rattle.history_core.specs.Relations.{HasWritten, LastWrites, Writes}
 use Rattle.history_core.specs.Legal.{IsOpen, IsOffered}
 use Rattle.history_core.specs.Chronicle.{Chronicle, IsLegalChronicle, followed_by, with_table}
-use Rattle.history_core.specs.Book.{Past, Seat, away, seated, pending, WritesLast}
+use Rattle.history_core.specs.Book.{Past, SessionState, no_session, in_session, pending, WritesLast}
 use Rattle.solo_book.specs.declared.desk.Stage.{Stage}
-use Rattle.solo_book.specs.declared.desk.Stage.TheVariants.{Away, Seated, Pending}
+use Rattle.solo_book.specs.declared.desk.Stage.TheVariants.{NoSession, InSession, Pending}
 use Rattle.solo_book.specs.declared.desk.Desk.{Desk}
 use Rattle.solo_book.specs.declared.desk.Choice.{Choice}
 
@@ -33,13 +33,13 @@ noted writes (e ∷ es) = noted (note writes e) es
 abbrev pub last_writes : List Event → List (Cell × Value)
 last_writes events = noted [] events
 
-abbrev pub seat_of : Stage → ℕ → List Event → Seat
-seat_of Away session events = away
-seat_of Seated session events = seated session
-seat_of Pending session events = pending session (last_writes events)
+abbrev pub state_of : Stage → ℕ → List Event → SessionState
+state_of NoSession session events = no_session
+state_of InSession session events = in_session session
+state_of Pending session events = pending session (last_writes events)
 
 abbrev pub past_of : Desk → Past
-past_of desk = record { seen = desk.history; own = desk.history.events; seat = seat_of desk.stage desk.sessions desk.history.events }
+past_of desk = record { seen = desk.history; own = desk.history.events; state = state_of desk.stage desk.sessions desk.history.events }
 
 -- the transaction of the number wrote each cell that is noted, and what it wrote last to a cell is noted last of that cell
 pub record AreWritesOf (events : List Event) (number : ℕ) (writes : List (Cell × Value)) : Type 0 where
@@ -48,8 +48,8 @@ pub record AreWritesOf (events : List Event) (number : ℕ) (writes : List (Cell
 
 -- the session that was opened last stands so
 abbrev pub Stands : Stage → ℕ → List Event → Type 0
-Stands Away session events = Unit {0}
-Stands Seated session events = IsOpen events session × (¬ HasPending events session)
+Stands NoSession session events = Unit {0}
+Stands InSession session events = IsOpen events session × (¬ HasPending events session)
 Stands Pending session events =
     IsOpen events session × IsPending events (begun events) session × AreWritesOf events (begun events) (last_writes events)
 

@@ -41,18 +41,18 @@ impl SoloBook {
     ghost use Rattle.std.specs.Prelude.{◌≡◌, ◌≤◌, [], length};
     ghost use Rattle.cell_base.specs.declared.level.Level.TheVariants.{Rc};
     ghost use Rattle.history_core.specs.Chronicle.{IsLegalChronicle};
-    ghost use Rattle.history_core.specs.Book.{away};
+    ghost use Rattle.history_core.specs.Book.{no_session};
 
     /// A book whose history has no events yet. Takes no memory.
     pub fn new(alloc: Global) -> SoloBook
-        ensures { result ≡ record { seen = record { level = Rc; events = []; tables = [] }; own = []; seat = away } }
+        ensures { result ≡ record { seen = record { level = Rc; events = []; tables = [] }; own = []; state = no_session } }
     {
         SoloBook {
             desk: Desk {
                 alloc,
                 history: IndexedHistory::new(alloc, Level::Rc),
                 sessions: 0,
-                stage: Stage::Away,
+                stage: Stage::NoSession,
             },
         }
     }

@@ -22,7 +22,7 @@ use std::alloc::Global;
 pub fn open_session(desk: &mut Desk) -> Result<u32, BookFault>
     requires { IsDesk desk.old }
     ensures kept { IsDesk desk.new }
-    ensures ok { IfOk result (λ s. GoesTo desk.old (Event.Open s) s stages.Seated desk.new) }
+    ensures ok { IfOk result (λ s. GoesTo desk.old (Event.Open s) s stages.InSession desk.new) }
     ensures full { (limit : Limit) → result ≡ Err (BookFault.Full limit) → full_for desk.new.history.events (Event.Open 0) ≡ Some limit }
     ensures err { OnErr result (desk.new ≡ desk.old) }
 {
@@ -30,7 +30,7 @@ pub fn open_session(desk: &mut Desk) -> Result<u32, BookFault>
     match append(&mut desk.history, Event::Open(session)) {
         Ok(()) => {
             desk.sessions = session;
-            desk.stage = Stage::Seated;
+            desk.stage = Stage::InSession;
             Ok(session)
         }
         Err(fault) => Err(fault),
@@ -40,18 +40,18 @@ pub fn open_session(desk: &mut Desk) -> Result<u32, BookFault>
 /// Ends the session.
 pub fn close_session(desk: &mut Desk)
     requires kept { IsDesk desk.old }
-    requires idle { desk.old.stage ≡ stages.Seated }
+    requires idle { desk.old.stage ≡ stages.InSession }
     ensures kept { IsDesk desk.new }
-    ensures adds { GoesTo desk.old (Event.Close desk.old.sessions) desk.old.sessions stages.Away desk.new }
+    ensures adds { GoesTo desk.old (Event.Close desk.old.sessions) desk.old.sessions stages.NoSession desk.new }
 {
     append_end(&mut desk.history, Event::Close(desk.sessions));
-    desk.stage = Stage::Away;
+    desk.stage = Stage::NoSession;
 }
 
 /// Starts a transaction and answers its number.
 pub fn begin_transaction(desk: &mut Desk) -> Result<u32, BookFault>
     requires kept { IsDesk desk.old }
-    requires idle { desk.old.stage ≡ stages.Seated }
+    requires idle { desk.old.stage ≡ stages.InSession }
     ensures kept { IsDesk desk.new }
     ensures ok { OnOk result (GoesTo desk.old (Event.Begin desk.old.sessions) desk.old.sessions stages.Pending desk.new) }
     ensures number { IfOk result (λ n. n ≡ begun desk.new.history.events) }
@@ -87,10 +87,10 @@ pub fn commit_transaction(desk: &mut Desk)
     requires kept { IsDesk desk.old }
     requires pending { desk.old.stage ≡ stages.Pending }
     ensures kept { IsDesk desk.new }
-    ensures adds { GoesTo desk.old (Event.Commit desk.old.sessions) desk.old.sessions stages.Seated desk.new }
+    ensures adds { GoesTo desk.old (Event.Commit desk.old.sessions) desk.old.sessions stages.InSession desk.new }
 {
     append_end(&mut desk.history, Event::Commit(desk.sessions));
-    desk.stage = Stage::Seated;
+    desk.stage = Stage::InSession;
 }
 
 /// Ends the pending transaction by a Rollback.
@@ -98,16 +98,16 @@ pub fn roll_back_transaction(desk: &mut Desk)
     requires kept { IsDesk desk.old }
     requires pending { desk.old.stage ≡ stages.Pending }
     ensures kept { IsDesk desk.new }
-    ensures adds { GoesTo desk.old (Event.Rollback desk.old.sessions) desk.old.sessions stages.Seated desk.new }
+    ensures adds { GoesTo desk.old (Event.Rollback desk.old.sessions) desk.old.sessions stages.InSession desk.new }
 {
     append_end(&mut desk.history, Event::Rollback(desk.sessions));
-    desk.stage = Stage::Seated;
+    desk.stage = Stage::InSession;
 }
 
 /// Tells the number of the event that tells it.
 pub fn show_number(desk: &mut Desk) -> Result<u32, BookFault>
     requires kept { IsDesk desk.old }
-    requires open { desk.old.stage ≢ stages.Away }
+    requires open { desk.old.stage ≢ stages.NoSession }
     ensures kept { IsDesk desk.new }
     ensures number { IfOk result (λ number. number ≡ length desk.new.history.events) }
     ensures ok { IfOk result (λ number. GoesTo desk.old (Event.Show desk.old.sessions number) desk.old.sessions desk.old.stage desk.new) }

@@ -6,9 +6,9 @@ use std::alloc::Global;
 #[derive(Clone, Copy, Debug, PartialEq, Eq)]
 pub enum Stage {
     /// It is closed, or none was opened.
-    Away,
+    NoSession,
     /// It is open, and nothing is pending in it.
-    Seated,
+    InSession,
     /// Its transaction is pending.
     Pending,
 }

@@ -36,7 +36,7 @@ fn is_taken(tables: &[Table], name: &Text) -> bool
 /// Adds a look, and answers the number of the tables.
 fn append_look(desk: &mut Desk) -> Result<u32, BookFault>
     requires kept { IsDesk desk.old }
-    requires open { desk.old.stage ≢ stages.Away }
+    requires open { desk.old.stage ≢ stages.NoSession }
     ensures kept { IsDesk desk.new }
     ensures count { IfOk result (λ n. n ≡ length desk.old.history.tables) }
     ensures ok { IfOk result (λ n. GoesTo desk.old (Event.Look desk.old.sessions n) desk.old.sessions desk.old.stage desk.new) }
@@ -54,7 +54,7 @@ fn append_look(desk: &mut Desk) -> Result<u32, BookFault>
 /// Looks at the tables, and answers those from the known number on.
 pub fn look_at_tables(desk: &mut Desk, known: u32) -> Result<Items<Table>, BookFault>
     requires kept { IsDesk desk.old }
-    requires open { desk.old.stage ≢ stages.Away }
+    requires open { desk.old.stage ≢ stages.NoSession }
     requires known { known ≤ length desk.old.history.tables }
     ensures kept { IsDesk desk.new }
     ensures ok { IfOk result (λ tables. LooksTo desk.old known tables desk.new) }
@@ -76,7 +76,7 @@ pub fn look_at_tables(desk: &mut Desk, known: u32) -> Result<Items<Table>, BookF
 /// Defines a table whose name isn't taken, where the load leaves room, and answers its number.
 fn append_table(desk: &mut Desk, table: &Table) -> Result<u32, BookFault>
     requires kept { IsDesk desk.old }
-    requires open { desk.old.stage ≢ stages.Away }
+    requires open { desk.old.stage ≢ stages.NoSession }
     requires sound { IsSound table.now }
     requires untaken { ¬ Contains (names desk.old.history.events) table.now.name }
     requires load { load_of desk.old.history.events < 1048576 }
@@ -103,7 +103,7 @@ fn append_table(desk: &mut Desk, table: &Table) -> Result<u32, BookFault>
 /// Defines a table, or looks where its name is taken.
 pub fn define_table(desk: &mut Desk, table: &Table) -> Result<DefineAnswer, BookFault>
     requires kept { IsDesk desk.old }
-    requires open { desk.old.stage ≢ stages.Away }
+    requires open { desk.old.stage ≢ stages.NoSession }
     requires sound { IsSound table.now }
     ensures kept { IsDesk desk.new }
     ensures ok { IfOk result (λ answer. AnswersTo desk.old table.now answer desk.new) }

@@ -1,4 +1,4 @@
-use Rattle.book_cases.specs.Seats.{IsBusy}
+use Rattle.book_cases.specs.SessionStates.{IsBusy}
 use Rattle.book_cases.proofs.scans.write_rows.Given as goal
 
 abbrev pub invariant-loop-row : goal.invariant-loop-row

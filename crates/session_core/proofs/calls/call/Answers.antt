@@ -14,7 +14,7 @@ returns-in-Err-clause-plays g c = declined g.W.Words.gives (g.B.Book.past c.args
 
 pub returns-in-Close-clause-plays : goal.returns-in-Close-clause-plays
 returns-in-Close-clause-plays g c = played g.W.Words.gives (g.B.Book.past c.args.book.now) c.args.words.now (call_of c.args.c) calls.Close
-    answers.Closed (Close (session_of (g.B.Book.past c.args.book.now).seat)) (g.B.Book.past c.close.new.self) c.args.words.now
+    answers.Closed (Close (session_of (g.B.Book.past c.args.book.now).state)) (g.B.Book.past c.close.new.self) c.args.words.now
     (ap call_of c.in-Close.is) ((refl, c.close.ensures.adds), refl)
 
 pub returns-in-Ok-look-clause-fits : goal.returns-in-Ok-look-clause-fits
@@ -24,7 +24,7 @@ returns-in-Ok-look-clause-fits g c = look_fits (call_of c.args.c) (g.B.Book.past
 pub returns-in-Ok-look-clause-plays : goal.returns-in-Ok-look-clause-plays
 returns-in-Ok-look-clause-plays g c = played g.W.Words.gives (g.B.Book.past c.args.book.now) c.args.words.now (call_of c.args.c)
     (calls.Look c.in-Look.known) (answers.Looked c.in-Ok-look.tables)
-    (Look (session_of (g.B.Book.past c.args.book.now).seat) (length (g.B.Book.past c.look.new.self).seen.tables))
+    (Look (session_of (g.B.Book.past c.args.book.now).state) (length (g.B.Book.past c.look.new.self).seen.tables))
     (g.B.Book.past c.look.new.self) c.args.words.now (ap call_of c.in-Look.is) ((refl, c.in-Ok-look.ensures.ok), refl)
 
 pub returns-in-Err-look-clause-plays : goal.returns-in-Err-look-clause-plays
@@ -34,7 +34,7 @@ returns-in-Err-look-clause-plays g c = declined g.W.Words.gives (g.B.Book.past c
 
 pub returns-in-Ok-begin-clause-plays : goal.returns-in-Ok-begin-clause-plays
 returns-in-Ok-begin-clause-plays g c = played g.W.Words.gives (g.B.Book.past c.args.book.now) c.args.words.now (call_of c.args.c)
-    calls.Begin (answers.Begun c.in-Ok-begin.number) (Begin (session_of (g.B.Book.past c.args.book.now).seat))
+    calls.Begin (answers.Begun c.in-Ok-begin.number) (Begin (session_of (g.B.Book.past c.args.book.now).state))
     (g.B.Book.past c.begin.new.self) c.args.words.now (ap call_of c.in-Begin.is)
     ((refl, c.in-Ok-begin.ensures.ok, c.in-Ok-begin.ensures.number), refl)
 
@@ -45,17 +45,17 @@ returns-in-Err-begin-clause-plays g c = declined g.W.Words.gives (g.B.Book.past 
 
 pub returns-in-Commit-clause-plays : goal.returns-in-Commit-clause-plays
 returns-in-Commit-clause-plays g c = played g.W.Words.gives (g.B.Book.past c.args.book.now) c.args.words.now (call_of c.args.c) calls.Commit
-    answers.Committed (Commit (session_of (g.B.Book.past c.args.book.now).seat)) (g.B.Book.past c.commit.new.self) c.args.words.now
+    answers.Committed (Commit (session_of (g.B.Book.past c.args.book.now).state)) (g.B.Book.past c.commit.new.self) c.args.words.now
     (ap call_of c.in-Commit.is) ((refl, c.commit.ensures.adds), refl)
 
 pub returns-in-Rollback-clause-plays : goal.returns-in-Rollback-clause-plays
 returns-in-Rollback-clause-plays g c = played g.W.Words.gives (g.B.Book.past c.args.book.now) c.args.words.now (call_of c.args.c)
-    calls.Rollback answers.RolledBack (Rollback (session_of (g.B.Book.past c.args.book.now).seat)) (g.B.Book.past c.rollback.new.self)
+    calls.Rollback answers.RolledBack (Rollback (session_of (g.B.Book.past c.args.book.now).state)) (g.B.Book.past c.rollback.new.self)
     c.args.words.now (ap call_of c.in-Rollback.is) ((refl, c.rollback.ensures.adds), refl)
 
 pub returns-in-Ok-show-clause-plays : goal.returns-in-Ok-show-clause-plays
 returns-in-Ok-show-clause-plays g c = played g.W.Words.gives (g.B.Book.past c.args.book.now) c.args.words.now (call_of c.args.c) calls.Show
-    (answers.Shown c.in-Ok-show.number) (Show (session_of (g.B.Book.past c.args.book.now).seat) c.in-Ok-show.number)
+    (answers.Shown c.in-Ok-show.number) (Show (session_of (g.B.Book.past c.args.book.now).state) c.in-Ok-show.number)
     (g.B.Book.past c.show.new.self) c.args.words.now (ap call_of c.in-Show.is)
     ((refl, c.in-Ok-show.ensures.ok, c.in-Ok-show.ensures.number), refl)
 

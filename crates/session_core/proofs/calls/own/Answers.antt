@@ -7,7 +7,7 @@ use Rattle.session_core.proofs.calls.own.Goals as goal
 
 pub returns-in-Ok-clause-plays : goal.returns-in-Ok-clause-plays
 returns-in-Ok-clause-plays g c = (
-  Own (session_of (g.B.Book.past c.args.book.now).seat) c.args.cell.now c.in-Ok.value,
+  Own (session_of (g.B.Book.past c.args.book.now).state) c.args.cell.now c.in-Ok.value,
   (
     (inl (record { written = c.requires.written; last = c.in-Ok.ensures.last; event_is = refl }), c.in-Ok.ensures.ok),
     inl (c.requires.written, refl),

@@ -8,7 +8,7 @@ use Rattle.session_core.proofs.calls.read.Goals as goal
 pub returns-in-Ok-clause-plays : goal.returns-in-Ok-clause-plays
 returns-in-Ok-clause-plays g c =
     let r = c.in-Ok.ensures.ok in (
-      Read (session_of (g.B.Book.past c.args.book.now).seat) c.args.cell.now r.source r.count c.next-word.result c.in-Ok.value,
+      Read (session_of (g.B.Book.past c.args.book.now).state) c.args.cell.now r.source r.count c.next-word.result c.in-Ok.value,
       (
         (
           inr (record {

@@ -10,7 +10,7 @@ returns-clause-ran g c = λ level p v f seen many ran.
     Ran-answered g.W.Words.gives level p v f c.args.session.now c.answer.new.self (g.B.Book.past c.args.book.now)
     (g.B.Book.past c.call-answer.new.book) c.args.words.now c.args.words.now seen many asked c.call-answer.result e
     (λ taken es calls sent st. c.answer.ensures.grown taken es calls sent asked e st c.requires.wanted) c.answer.ensures.level
-    c.answer.ensures.outer c.answer.ensures.lacks plays c.call-answer.ensures.seat ran
+    c.answer.ensures.outer c.answer.ensures.lacks plays c.call-answer.ensures.state ran
 
 pub returns-clause-sits : goal.returns-clause-sits
 returns-clause-sits g c =
@@ -20,5 +20,5 @@ returns-clause-sits g c =
     c.call-answer.result e
     (g.B.Book.past c.call-answer.new.book) c.args.words.now c.requires.sits c.requires.wanted
     (may_ask c.args.session.now (g.B.Book.past c.args.book.now) asked c.requires.sits c.requires.wanted)
-    c.call-answer.ensures.fits plays c.call-answer.ensures.seat (c.answer.ensures.owed asked c.requires.wanted) c.answer.ensures.known
+    c.call-answer.ensures.fits plays c.call-answer.ensures.state (c.answer.ensures.owed asked c.requires.wanted) c.answer.ensures.known
     c.answer.ensures.fit

@@ -10,7 +10,7 @@ returns-clause-ran g c = λ level p v f seen many ran.
     Ran-answered g.W.Words.gives level p v f c.args.session.now c.answer.new.self (g.B.Book.past c.args.book.now)
     (g.B.Book.past c.ask-answer.new.book) c.args.words.now c.ask-answer.new.words seen many asked c.ask-answer.result e
     (λ taken es calls sent st. c.answer.ensures.grown taken es calls sent asked e st c.demanded.ensures.wanted) c.answer.ensures.level
-    c.answer.ensures.outer c.answer.ensures.lacks plays c.ask-answer.ensures.seat ran
+    c.answer.ensures.outer c.answer.ensures.lacks plays c.ask-answer.ensures.state ran
 
 pub returns-clause-sits : goal.returns-clause-sits
 returns-clause-sits g c =
@@ -20,5 +20,5 @@ returns-clause-sits g c =
     c.ask-answer.result e
     (g.B.Book.past c.ask-answer.new.book) c.ask-answer.new.words c.requires.sits c.demanded.ensures.wanted
     (may_ask c.args.session.now (g.B.Book.past c.args.book.now) asked c.requires.sits c.demanded.ensures.wanted)
-    c.ask-answer.ensures.fits plays c.ask-answer.ensures.seat (c.answer.ensures.owed asked c.demanded.ensures.wanted) c.answer.ensures.known
+    c.ask-answer.ensures.fits plays c.ask-answer.ensures.state (c.answer.ensures.owed asked c.demanded.ensures.wanted) c.answer.ensures.known
     c.answer.ensures.fit

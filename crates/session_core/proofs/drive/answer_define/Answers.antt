@@ -10,7 +10,7 @@ returns-clause-ran g c = λ level p v f seen many ran.
     Ran-answered g.W.Words.gives level p v f c.args.session.now c.answer.new.self (g.B.Book.past c.args.book.now)
     (g.B.Book.past c.define-answer.new.book) c.args.words.now c.args.words.now seen many asked c.define-answer.result e
     (λ taken es calls sent st. c.answer.ensures.grown taken es calls sent asked e st c.table.ensures.table) c.answer.ensures.level
-    c.answer.ensures.outer c.answer.ensures.lacks plays c.define-answer.ensures.seat ran
+    c.answer.ensures.outer c.answer.ensures.lacks plays c.define-answer.ensures.state ran
 
 pub returns-clause-sits : goal.returns-clause-sits
 returns-clause-sits g c =
@@ -20,5 +20,5 @@ returns-clause-sits g c =
     c.define-answer.result e
     (g.B.Book.past c.define-answer.new.book) c.args.words.now c.requires.sits c.table.ensures.table
     (may_ask c.args.session.now (g.B.Book.past c.args.book.now) asked c.requires.sits c.table.ensures.table)
-    c.define-answer.ensures.fits plays c.define-answer.ensures.seat (c.answer.ensures.owed asked c.table.ensures.table)
+    c.define-answer.ensures.fits plays c.define-answer.ensures.state (c.answer.ensures.owed asked c.table.ensures.table)
     c.answer.ensures.known c.answer.ensures.fit

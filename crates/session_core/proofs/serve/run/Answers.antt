@@ -14,7 +14,7 @@ loop-session-init g c = record {
         (sight_of g.L.Sides.traffic g.L.Sides.read_faults g.L.Sides.write_faults c.args.link.now) c.args.session.now c.requires.empty refl
         c.requires.stage,
   );
-  sits = sits_new c.args.session.now (g.B.Book.past c.args.book.now) c.requires.stage c.requires.known c.requires.fit c.requires.away;
+  sits = sits_new c.args.session.now (g.B.Book.past c.args.book.now) c.requires.stage c.requires.known c.requires.fit c.requires.no_session;
   legal = λ legal. legal;
   stays = g.met.B.Book.stays_same c.args.book.now;
   room = c.requires.room;
@@ -30,8 +30,8 @@ returns-in-Ended-clause-served g c =
     (c.drive.ensures.ran (level_of c.args.session.now.runner) (g.B.Book.past c.args.book.now) c.args.words.now f
     c.loop-session.invariant.ran.0 c.loop-session.invariant.ran.2)
 
-pub returns-in-Ended-clause-away : goal.returns-in-Ended-clause-away
-returns-in-Ended-clause-away g c = away_over c.drive.new.session (g.B.Book.past c.drive.new.book)
+pub returns-in-Ended-clause-no_session : goal.returns-in-Ended-clause-no_session
+returns-in-Ended-clause-no_session g c = away_over c.drive.new.session (g.B.Book.past c.drive.new.book)
     (subst IsOver (sym c.finish.ensures.end) tt) c.drive.ensures.sits
 
 pub returns-in-Ended-clause-legal : goal.returns-in-Ended-clause-legal
@@ -57,7 +57,7 @@ returns-then-n-eq0 g c =
           (c.take_in-n.ensures.ran (level_of c.args.session.now.runner) (g.B.Book.past c.args.book.now) c.args.words.now f many
           c.loop-session.invariant.ran.1 (c.drive.ensures.ran (level_of c.args.session.now.runner) (g.B.Book.past c.args.book.now)
           c.args.words.now f many c.loop-session.invariant.ran.2)));
-      away = away_over c.drive-then-n-eq0.new.session (g.B.Book.past c.drive-then-n-eq0.new.book)
+      no_session = away_over c.drive-then-n-eq0.new.session (g.B.Book.past c.drive-then-n-eq0.new.book)
           (is_over c.drive-then-n-eq0.new.session.stage c.drive-then-n-eq0.new.session.runner c.drive-then-n-eq0.ensures.rests
           (c.drive-then-n-eq0.ensures.last (c.take_in-n.ensures.stopped c.if-n-eq0.true))) c.drive-then-n-eq0.ensures.sits;
       legal = λ legal. c.drive-then-n-eq0.ensures.legal (c.drive.ensures.legal (c.loop-session.invariant.legal legal));

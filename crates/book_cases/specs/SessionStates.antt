@@ -4,16 +4,16 @@ use Rattle.history_core.specs.Book.{Past, IsIdle, IsInTransaction, HasTable, wri
 
 -- a session is open with nothing pending, and there is a table
 pub record IsReady (past : Past) : Type 0 where
-  pub idle : IsIdle past.seat
+  pub idle : IsIdle past.state
   pub table : HasTable past 0
 
 -- a transaction is pending, which wrote nothing
 pub record IsFresh (past : Past) : Type 0 where
-  pub pending : IsInTransaction past.seat
+  pub pending : IsInTransaction past.state
   pub table : HasTable past 0
-  pub unwritten : writes_of past.seat ≡ []
+  pub unwritten : writes_of past.state ≡ []
 
 -- a transaction is pending
 pub record IsBusy (past : Past) : Type 0 where
-  pub pending : IsInTransaction past.seat
+  pub pending : IsInTransaction past.state
   pub table : HasTable past 0
