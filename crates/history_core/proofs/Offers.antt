@@ -3,7 +3,7 @@ use Rattle.std.proofs.Common.{◌≡◌, ℕ, ◌+◌, ◌<◌, ◌≤◌, List,
 use Rattle.std.proofs.lemmas.Option.{slice_get_within}
 use Rattle.std.proofs.lemmas.Bool.{cases_order}
 use Rattle.graph_base.specs.Order.{HoldsEachOnce, place_of}
-use Rattle.graph_base.specs.Closure.{IsChain, Chained}
+use Rattle.graph_base.specs.Chain.{IsChain, Chained}
 use Rattle.cell_base.specs.declared.level.Level.{Level}
 use Rattle.cell_base.specs.declared.level.Level.TheVariants.{Rc, Ra, Cc}
 use Rattle.cell_base.specs.declared.cell.Cell.{Cell}
@@ -66,14 +66,14 @@ initial_precedes events s k n pending initial =
 pub chain_seen :
     (level : Level) (events : List Event) (reader p writer : ℕ) → IsVisibleAt level events reader p writer → Chained (Precedes events) writer reader
 chain_seen Rc events reader p writer visible =
-    record { middles = []; is = inr record { place = visible.earlier; cell = visible.cell; reads = visible.reads } }
-chain_seen Ra events reader p writer visible = record { middles = []; is = visible }
+    record { between = []; is = inr record { place = visible.earlier; cell = visible.cell; reads = visible.reads } }
+chain_seen Ra events reader p writer visible = record { between = []; is = visible }
 chain_seen Cc events reader p writer visible = visible
 
 -- what may be seen leads to the reader
 pub chain_of :
     (events : List Event) (s k writer : ℕ) → IsPending events k s → MaySee events k writer → Chained (Precedes events) writer k
-chain_of events s k writer pending (inl initial) = record { middles = []; is = initial_precedes events s k writer pending initial }
+chain_of events s k writer pending (inl initial) = record { between = []; is = initial_precedes events s k writer pending initial }
 chain_of events s k writer pending (inr visible) = chain_seen visible.level events k (length events) writer visible.sees
 
 -- at Read Atomic what may be seen comes before the reader
@@ -119,7 +119,7 @@ visible_read Ra events sound s k cell source n u v pending may t q a within runs
           subst (λ (m : ℕ). Precedes events m t) (sym new.0) (subst (λ (m : ℕ). Precedes events source m) (sym new.1) through)
     ]
 visible_read Cc events sound s k cell source n u v pending may t q a within runs visible =
-    let found = chain_read a visible.middles t visible.is in record { middles = found.0; is = found.1 }
+    let found = chain_read a visible.between t visible.is in record { between = found.0; is = found.1 }
   where
     through : Chained (Precedes events) source k
     through = chain_of events s k source pending may
@@ -131,9 +131,9 @@ visible_read Cc events sound s k cell source n u v pending may t q a within runs
         elim (precedes_read events sound s k cell source n u v pending a b link) [
           | inl old ↦ ([], old)
           | inr new ↦ (
-            through.middles,
-            subst (λ (m : ℕ). IsChain (Precedes events) m through.middles b) (sym new.0)
-                (subst (λ (m : ℕ). IsChain (Precedes events) source through.middles m) (sym new.1) through.is),
+            through.between,
+            subst (λ (m : ℕ). IsChain (Precedes events) m through.between b) (sym new.0)
+                (subst (λ (m : ℕ). IsChain (Precedes events) source through.between m) (sym new.1) through.is),
           )
         ]
     chain_read a (x ∷ xs) b (link, rest) =
@@ -141,10 +141,10 @@ visible_read Cc events sound s k cell source n u v pending may t q a within runs
         elim (precedes_read events sound s k cell source n u v pending a x link) [
           | inl old ↦ (x ∷ on.0, (old, on.1))
           | inr new ↦
-              let first : IsChain (Precedes events) a through.middles x =
-              subst (λ (m : ℕ). IsChain (Precedes events) m through.middles x) (sym new.0)
-              (subst (λ (m : ℕ). IsChain (Precedes events) source through.middles m) (sym new.1) through.is) in
-              (through.middles ++ x ∷ on.0, chain_append events a through.middles x on.0 b first on.1)
+              let first : IsChain (Precedes events) a through.between x =
+              subst (λ (m : ℕ). IsChain (Precedes events) m through.between x) (sym new.0)
+              (subst (λ (m : ℕ). IsChain (Precedes events) source through.between m) (sym new.1) through.is) in
+              (through.between ++ x ∷ on.0, chain_append events a through.between x on.0 b first on.1)
         ]
 
 pub writer_bounded : (events : List Event) (n : ℕ) (cell : Cell) → Writes events n cell → n < begun events + 1
@@ -170,7 +170,7 @@ pub meets_read :
 meets_read events sound s k cell source n u v order pending meets writes_source may last =
     let size : begun (events ++ Read s cell source n u v ∷ []) + 1 ≡ begun events + 1 = ap (λ (n : ℕ). n + 1) (begun-push_other events (Read s cell source n u v) refl) in
     let chain = chain_of events s k source pending may in
-    let up : place_of order source < place_of order k = chain_forward events order meets.precedes source chain.middles k chain.is in
+    let up : place_of order source < place_of order k = chain_forward events order meets.precedes source chain.between k chain.is in
     record {
       holds = rw size meets.holds;
       first = meets.first;

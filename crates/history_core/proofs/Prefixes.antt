@@ -7,7 +7,7 @@ use Rattle.std.proofs.lemmas.List.Elements.{All-push}
 use Rattle.std.proofs.lemmas.Option.{slice_get_within, get_or_from_slice_get}
 use Rattle.std.proofs.lemmas.Bool.{cases_lt, cases_eq, false≢true}
 use Rattle.graph_base.specs.Order.{HoldsEachOnce, place_of}
-use Rattle.graph_base.specs.Closure.{IsChain}
+use Rattle.graph_base.specs.Chain.{IsChain}
 use Rattle.graph_base.proofs.Places.{count_by-push, place_of-append, place_of-push, place_of-le, count_by-absent, place_of-append_ge, place_of-above}
 use Rattle.cell_base.specs.declared.level.Level.{Level}
 use Rattle.cell_base.specs.declared.level.Level.TheVariants.{Rc, Ra, Cc}
@@ -226,9 +226,9 @@ pub pending_unseen :
 pending_unseen Rc events sound k s reader p pending visible =
     pending_first events sound k s reader pending (inr record { place = visible.earlier; cell = visible.cell; reads = visible.reads })
 pending_unseen Ra events sound k s reader p pending visible = pending_first events sound k s reader pending visible
-pending_unseen Cc events sound k s reader p pending visible = chain_unseen visible.middles visible.is
+pending_unseen Cc events sound k s reader p pending visible = chain_unseen visible.between visible.is
   where
-    chain_unseen : (middles : List ℕ) → IsChain (Precedes events) k middles reader → ⊥
+    chain_unseen : (between : List ℕ) → IsChain (Precedes events) k between reader → ⊥
     chain_unseen [] link = pending_first events sound k s reader pending link
     chain_unseen (next ∷ rest) (link, chain) = pending_first events sound k s next pending link
 
@@ -241,7 +241,7 @@ visible_still Rc old new precedes reads reader p k visible =
     record { earlier = visible.earlier; cell = visible.cell; below = visible.below; reads = reads reader visible.earlier visible.cell k visible.reads }
 visible_still Ra old new precedes reads reader p k visible = precedes k reader visible
 visible_still Cc old new precedes reads reader p k visible =
-    record { middles = visible.middles; is = chain_still k visible.middles reader visible.is }
+    record { between = visible.between; is = chain_still k visible.between reader visible.is }
   where
     chain_still : (a : ℕ) (xs : List ℕ) (b : ℕ) → IsChain (Precedes new) a xs b → IsChain (Precedes old) a xs b
     chain_still a [] b link = precedes a b link
@@ -314,7 +314,7 @@ visible_scan Rc events s table keys reader p k within visible =
     ]
 visible_scan Ra events s table keys reader p k within visible = precedes_scan events s table keys k reader visible
 visible_scan Cc events s table keys reader p k within visible =
-    record { middles = visible.middles; is = chain_scan k visible.middles reader visible.is }
+    record { between = visible.between; is = chain_scan k visible.between reader visible.is }
   where
     chain_scan : (a : ℕ) (xs : List ℕ) (b : ℕ) → IsChain (Precedes (events ++ Scan s table keys ∷ [])) a xs b → IsChain (Precedes events) a xs b
     chain_scan a [] b link = precedes_scan events s table keys a b link
@@ -425,7 +425,7 @@ visible_begin Rc events s begins reader p k sound started visible =
 visible_begin Ra events s begins reader p k sound started visible =
     elim (precedes_begin events s begins k reader sound visible) [ inl old ↦ old | inr new ↦ let at = new.1 in absurd (omega arith) ]
 visible_begin Cc events s begins reader p k sound started visible =
-    record { middles = visible.middles; is = chain_begin k visible.middles visible.is }
+    record { between = visible.between; is = chain_begin k visible.between visible.is }
   where
     chain_begin : (a : ℕ) (xs : List ℕ) → IsChain (Precedes (events ++ Begin s begins ∷ [])) a xs reader → IsChain (Precedes events) a xs reader
     chain_begin a [] link =

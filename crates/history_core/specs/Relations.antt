@@ -1,7 +1,7 @@
 -- What transactions write and read, what comes before what, and the commit orders that a level allows.
 use Rattle.std.specs.Prelude.{◌≡◌, ◌≢◌, ◌<◌, ◌≤◌, ◌+◌, ◌⊎◌, ℕ, Some, List, [], ◌∷◌, Contains, slice_get}
 use Rattle.graph_base.specs.Order.{HoldsEachOnce, place_of}
-use Rattle.graph_base.specs.Closure.{Chained}
+use Rattle.graph_base.specs.Chain.{Chained}
 use Rattle.cell_base.specs.declared.level.Level.{Level}
 use Rattle.cell_base.specs.declared.level.Level.TheVariants.{Rc, Ra, Cc}
 use Rattle.cell_base.specs.declared.cell.Cell.{Cell}
