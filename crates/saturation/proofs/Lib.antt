@@ -1,0 +1,4 @@
+pub mod Orders
+pub mod Adds
+pub mod Chains
+pub mod Sights

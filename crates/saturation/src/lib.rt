@@ -1,0 +1,5 @@
+//! Saturation.
+#![tactic(auto)]
+
+/// Nothing yet.
+pub fn nothing() {}
