@@ -5,3 +5,5 @@ pub mod Sights
 pub mod After
 pub mod Decides
 pub mod Readers
+pub mod Marks
+pub mod Steps

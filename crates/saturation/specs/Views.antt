@@ -56,6 +56,16 @@ pub record IsRival (events : List Event) (seen : Seen) (writer : ℕ) : Type 0 w
   pub other : writer ≢ source_of seen
   pub writes : Writes events writer cell
 
+-- the transaction precedes a marked one
+pub record PrecedesMarked (events : List Event) (marks : List Bool) (number : ℕ) : Type 0 where
+  pub second : ℕ
+  pub marked : IsMarked marks second
+  pub precedes : Precedes events number second
+
+-- the cell has a value among these
+abbrev pub WritesCell : List (Cell × Value) → Cell → Type 0
+WritesCell entries cell = (value : Value) × Contains entries (cell, value)
+
 -- the marks are on the transactions that precede the reader
 pub record ArePredecessors (events : List Event) (reader : ℕ) (marks : List Bool) : Type 0 where
   pub size : length marks ≡ begun events + 1

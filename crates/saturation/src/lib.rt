@@ -1,5 +1,10 @@
-//! Saturation.
+//! Saturation: the pairs of transactions that a history forces on each commit order, and whether a further read is permitted.
 #![tactic(auto)]
 
-/// Nothing yet.
-pub fn nothing() {}
+mod demands;
+mod pairs;
+mod past;
+mod records;
+
+pub use order_witness::holds_cycle;
+pub use pairs::{candidates, forced, is_writer};
