@@ -2,9 +2,13 @@
 #![tactic(auto)]
 
 mod demands;
+mod laws;
 mod pairs;
 mod past;
+mod permitted;
 mod records;
 
+pub use laws::{forced_decides, further_read};
 pub use order_witness::holds_cycle;
 pub use pairs::{candidates, forced, is_writer};
+pub use permitted::is_permitted;
