@@ -20,8 +20,8 @@ use Rattle.history_core.specs.Records.{seen_of, Saw}
 use Rattle.history_core.specs.Forced.{IsForced, IsDemandOf}
 use Rattle.txn_buffer.proofs.Lists.{slice_get_push_cases}
 use Rattle.history_core.proofs.Places.{slice_get-append_left, start_unique}
-use Rattle.history_core.proofs.Grown.{start_kept, of_back, reads_back, writes_back, pending_not_committed}
-use Rattle.history_core.proofs.Prefixes.{IsSound, of_kept, committed_kept, begun-push_other, start_positive, start_bounded, pending_first}
+use Rattle.history_core.proofs.Grown.{start_kept, runs_kept, of_back, reads_back, writes_back, pending_not_committed}
+use Rattle.history_core.proofs.Prefixes.{IsSound, of_kept, committed_kept, begun-push_other, start_positive, pending_first, runs_still}
 use Rattle.history_core.proofs.Offers.{pending_unique, precedes_read}
 use Rattle.history_core.proofs.Next.{of_new}
 use Rattle.saturation.specs.Laws.{with_read}
@@ -68,27 +68,6 @@ before_back events e r p a within before =
       | inl old ↦ record { earlier = before.earlier; cell = before.cell; below = before.below; reads = old }
       | inr new ↦ let at = new.0 in let under = before.below in absurd (omega arith)
     ]
-
-pub runs_kept : (events : List Event) (e : Event) (k : ℕ) (level : Level) → RunsAt events k level → RunsAt (events ++ e ∷ []) k level
-runs_kept events e k level runs =
-    let within : runs.place < length events = slice_get_within events runs.place (Begin runs.session level) runs.is in
-    let same : begun (take runs.place (events ++ e ∷ [])) ≡ begun (take runs.place events) =
-    ap begun (take-append-le runs.place events (e ∷ []) (omega arith)) in
-    record {
-      session = runs.session;
-      place = runs.place;
-      is = slice_get-append_left events (e ∷ []) runs.place within ∙ runs.is;
-      counts = let h = runs.counts in omega arith;
-    }
-
--- a transaction has one level
-pub runs_unique : (events : List Event) (k : ℕ) (first second : Level) → RunsAt events k first → RunsAt events k second → first ≡ second
-runs_unique events k first second a b =
-    let start_a : IsStart events k a.session a.place = record { level = first; is = a.is; counts = a.counts } in
-    let start_b : IsStart events k b.session b.place = record { level = second; is = b.is; counts = b.counts } in
-    let same : a.place ≡ b.place = start_unique events k a.session b.session a.place b.place start_a start_b in
-    let both : Some (Begin a.session first) ≡ Some (Begin b.session second) = sym a.is ∙ ap (λ (n : ℕ). slice_get events n) same ∙ b.is in
-    cc
 
 -- ---- what the further read adds
 
@@ -161,17 +140,6 @@ visible_after Cc events e r p a sees = record { middles = sees.middles; is = cha
     chain_kept a [] b link = precedes_kept events e a b link
     chain_kept a (m ∷ middles) b (link, rest) = (precedes_kept events e a m link, chain_kept m middles b rest)
 
-pub runs_before :
-    (events : List Event) (s : ℕ) (x : Cell) (w n u : ℕ) (v : Value) (k : ℕ) (level : Level) → RunsAt (with_read events s x w n u v) k level → RunsAt events k level
-runs_before events s x w n u v k level runs =
-    elim (slice_get_push_cases events (Read s x w n u v) runs.place (Begin runs.session level) runs.is) [
-      | inl old ↦
-          let same : begun (take runs.place (with_read events s x w n u v)) ≡ begun (take runs.place events) =
-          ap begun (take-append-le runs.place events (Read s x w n u v ∷ []) (let h = old.0 in omega arith)) in
-          record { session = runs.session; place = runs.place; is = old.1; counts = let h = runs.counts in omega arith }
-      | inr new ↦ cc (new.1)
-    ]
-
 pub demands_kept : (events : List Event) (e : Event) (a b : ℕ) → Demands events a b → Demands (events ++ e ∷ []) a b
 demands_kept events e a b d = record {
   reader = d.reader;
@@ -205,7 +173,7 @@ demands_before events sound s k x w n u v pending writes a b d other =
             writes = writes_before events s x w n u v a d.cell d.writes;
             visible = record {
               level = d.visible.level;
-              runs = runs_before events s x w n u v d.reader d.visible.level d.visible.runs;
+              runs = runs_still events (Read s x w n u v) d.reader d.visible.level refl d.visible.runs;
               sees = visible_before d.visible.level events sound s k x w n u v pending writes d.reader d.place a other (omega arith) d.visible.sees;
             };
           }

@@ -21,7 +21,8 @@ use Rattle.history_core.specs.Transactions.{RunsAt, IsOf, IsPending}
 use Rattle.history_core.specs.Relations.{Writes, Gives, Reads, Precedes, ReadsBefore, IsVisibleAt, Demands}
 use Rattle.history_core.specs.Records.{seen_of, Saw, IsRecordOf}
 use Rattle.history_core.specs.Forced.{IsForced, IsPairList, IsDemandOf}
-use Rattle.history_core.proofs.Grown.{of_back, reads_back}
+use Rattle.history_core.proofs.Places.{runs_unique}
+use Rattle.history_core.proofs.Grown.{runs_kept, of_back, reads_back}
 use Rattle.history_core.proofs.Prefixes.{IsSound, of_kept}
 use Rattle.history_core.proofs.Offers.{precedes_read, writer_bounded}
 use Rattle.history_core.proofs.Next.{of_new}
@@ -31,7 +32,7 @@ use Rattle.saturation.specs.Pairs.{AddsPairs, IsSeenDemand, IsDemandIn, IsForced
 use Rattle.saturation.proofs.Adds.{adds_as, adds_then, list_more}
 use Rattle.saturation.proofs.Chains.{marked_from_chain, chain_from_marked}
 use Rattle.saturation.proofs.Sights.{gives_from_seen, seen_from_gives, seen_number, before_from_record, record_before}
-use Rattle.saturation.proofs.After.{precedes_kept, before_kept, before_back, runs_kept, runs_unique, size_after, read_now, writes_kept, writes_before, forced_after, forced_before}
+use Rattle.saturation.proofs.After.{precedes_kept, before_kept, before_back, read_now, writes_kept, writes_before, forced_after, forced_before}
 use Rattle.saturation.proofs.Decides.{initial_ordered, committed_bounded, reader_bounded, precedes_range, forced_range}
 
 -- ---- a reader's view: the history `now` has the writers of `events`, and the reads see what the tests say
