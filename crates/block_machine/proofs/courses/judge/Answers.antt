@@ -14,19 +14,19 @@ use Rattle.block_machine.proofs.Tables.{narrow_sound, columns_narrow}
 use Rattle.block_machine.proofs.courses.judge.Goals as goal
 
 pub typed-requires : goal.typed-requires
-typed-requires c = narrow_sound c.args.known.now c.requires.few c.requires.tables
+typed-requires c = narrow_sound c.args.known.now.tables.items c.requires.few c.requires.tables
 
 pub planned-requires : goal.planned-requires
-planned-requires c = columns_narrow c.args.known.now c.requires.tables
+planned-requires c = columns_narrow c.args.known.now.tables.items c.requires.tables
 
 pub begin_course-requires : goal.begin_course-requires
 begin_course-requires c =
-    subst (λ (x : Course). EndsIn CanBeTold x) (sym c.in_ok-plan-in-Ok.ensures) (outcomes_told c.args.known.now c.args.statement.now c.in-Ok.t c.requires.tables c.requires.plain c.in-Ok.ensures)
+    subst (λ (x : Course). EndsIn CanBeTold x) (sym c.in_ok-plan-in-Ok.ensures) (outcomes_told c.args.known.now.tables.items c.args.statement.now c.in-Ok.t c.requires.tables c.requires.plain c.in-Ok.ensures)
 
 pub returns-in_ok-plan-in-Ok-clause-knows : goal.returns-in_ok-plan-in-Ok-clause-knows
 returns-in_ok-plan-in-Ok-clause-knows c =
-    if_ok (λ stage. (known : List Table) → ReadsFirst (length known) (rest_of c.in_ok-plan-in-Ok.plan) → KnowsTables stage known) (λ stage. KnowsTables stage c.args.known.now) c.begin_course.result
-    (λ stage knows. knows c.args.known.now (subst (λ (x : Course). ReadsFirst (length c.args.known.now) x) (sym c.in_ok-plan-in-Ok.ensures) (reads_first c.args.known.now c.in-Ok.t)))
+    if_ok (λ stage. (known : List Table) → ReadsFirst (length known) (rest_of c.in_ok-plan-in-Ok.plan) → KnowsTables stage known) (λ stage. KnowsTables stage c.args.known.now.tables.items) c.begin_course.result
+    (λ stage knows. knows c.args.known.now.tables.items (subst (λ (x : Course). ReadsFirst (length c.args.known.now.tables.items) x) (sym c.in_ok-plan-in-Ok.ensures) (reads_first c.args.known.now.tables.items c.in-Ok.t)))
     c.begin_course.ensures.knows
 
 pub returns-in-Err-State-clause-some : goal.returns-in-Err-State-clause-some
