@@ -1,9 +1,8 @@
--- A course behind each answer, and as a script.
+-- A course after each answer, and as a script.
 use Rattle.std.proofs.Common.{◌≡◌, ℕ, true, List, [], ◌∷◌, refl, sym, ap, subst}
 use Rattle.cell_base.specs.declared.sql_state.SqlState.{SqlState}
 use Rattle.history_core.specs.declared.event.Event.{Event}
 use Rattle.history_core.specs.declared.fault.BookFault.{BookFault}
-use Rattle.sql_tree.specs.declared.table.Table.{Table}
 use Rattle.statement_course.specs.declared.demand.Demand.{Demand}
 use Rattle.statement_course.specs.declared.demand.Demand.TheVariants as demands
 use Rattle.statement_course.specs.declared.demand.Outcome.{Outcome}
@@ -18,6 +17,7 @@ use Rattle.outcome_replies.specs.Ends.{EndsIn}
 use Rattle.block_machine.specs.declared.block.Block.{Block}
 use Rattle.block_machine.specs.declared.call.Answer.TheVariants as answers
 use Rattle.block_machine.specs.Calls.{asks_cells, call_for}
+use Rattle.block_machine.specs.Knowledge.{Knowledge}
 use Rattle.block_machine.specs.Script.{Entry, Said, call, with_call}
 use Rattle.block_machine.specs.Statements.{Around, refusal_state, succeeds, fails, concludes, runs, continues}
 use Rattle.block_machine.specs.Stages.{Fits, answer_with, entry_for}
@@ -87,13 +87,13 @@ ends_done P c outcome is h = subst (EndsIn P) is h
 
 -- ---- scripts
 
-pub runs_asks : (c : Course) (block : Block) (known : List Table) (around : Around) (said : Said) → asks_cells (first_demand c) ≡ true → runs c block known around said [] ≡ (said, call (call_for (first_demand c)))
+pub runs_asks : (c : Course) (block : Block) (known : Knowledge) (around : Around) (said : Said) → asks_cells (first_demand c) ≡ true → runs c block known around said [] ≡ (said, call (call_for (first_demand c)))
 runs_asks (scan table next) block known around said h = refl
 runs_asks (touch cell next) block known around said h = refl
 runs_asks (write cell value next) block known around said h = refl
 runs_asks (course.done outcome) block known around said h = absurd (cc h)
 
-pub runs_answered : (c : Course) (b : PlanAnswer) (block : Block) (known : List Table) (around : Around) (said : Said) (e : Event) (es : List Entry) → FitsDemand c b →
+pub runs_answered : (c : Course) (b : PlanAnswer) (block : Block) (known : Knowledge) (around : Around) (said : Said) (e : Event) (es : List Entry) → FitsDemand c b →
     runs c block known around said (entry_for (answer_with b) e ∷ es) ≡ continues (behind c b) block known around (with_call said (call_for (first_demand c))) es
 runs_answered (scan table next) (plan_answers.Keys keys) block known around said e es f = refl
 runs_answered (touch cell next) (plan_answers.Value value) block known around said e es f = refl
@@ -106,7 +106,7 @@ runs_answered (touch cell next) plan_answers.Written block known around said e e
 runs_answered (write cell value next) (plan_answers.Keys keys) block known around said e es f = absurd f
 runs_answered (write cell value next) (plan_answers.Value v) block known around said e es f = absurd f
 
-pub runs_refused : (c : Course) (why : BookFault) (block : Block) (known : List Table) (around : Around) (said : Said) (e : Event) (es : List Entry) → asks_cells (first_demand c) ≡ true →
+pub runs_refused : (c : Course) (why : BookFault) (block : Block) (known : Knowledge) (around : Around) (said : Said) (e : Event) (es : List Entry) → asks_cells (first_demand c) ≡ true →
     runs c block known around said (entry_for (answers.Refused why) e ∷ es) ≡ fails (refusal_state why) block known around (with_call said (call_for (first_demand c))) es
 runs_refused (scan table next) why block known around said e es h = refl
 runs_refused (touch cell next) why block known around said e es h = refl
@@ -114,7 +114,7 @@ runs_refused (write cell value next) why block known around said e es h = refl
 runs_refused (course.done outcome) why block known around said e es h = absurd (cc h)
 
 -- a statement that is done, and didn't fail
-pub concludes_told : (outcome : Outcome) (block : Block) (known : List Table) (around : Around) (said : Said) (es : List Entry) → ((code : SqlState) → outcome ≡ outcomes.Failed code → ⊥) →
+pub concludes_told : (outcome : Outcome) (block : Block) (known : Knowledge) (around : Around) (said : Said) (es : List Entry) → ((code : SqlState) → outcome ≡ outcomes.Failed code → ⊥) →
     concludes outcome block known around said es ≡ succeeds (outcome_reply outcome) block known around said es
 concludes_told (outcomes.Failed code) block known around said es h = absurd (h code refl)
 concludes_told (outcomes.Rows fields rows) block known around said es h = refl

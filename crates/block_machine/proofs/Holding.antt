@@ -6,6 +6,7 @@ use Rattle.block_machine.specs.declared.block.Block.{Block}
 use Rattle.block_machine.specs.declared.reply.Reply.TheVariants as replies
 use Rattle.block_machine.specs.declared.stage.Stage.{Stage}
 use Rattle.block_machine.specs.declared.stage.Stage.TheVariants as stages
+use Rattle.block_machine.specs.Knowledge.{Knowledge}
 use Rattle.block_machine.specs.Script.{Said, Entry, tell}
 use Rattle.block_machine.specs.Messages.{Outside}
 use Rattle.block_machine.specs.Stages.{NoBuilt, HasReply, IsHolding, reply_of, after_reply, owed_at, goes_on, IsQuiet, IsRunning, IsSoundStage, KnowsTables}
@@ -23,7 +24,7 @@ pub built_some : (built reply : List ℕ) (block : Block) → built ≡ reply �
 built_some built reply block is some k = subst (λ (bytes : List ℕ). 0 < length bytes) (sym is) some
 
 -- a held reply is told
-pub holding_tells : (stage : Stage) (built : List ℕ) (known : List Table) (more : List Statement) (outside : Outside) (said : Said) (es : List Entry) → IsHolding stage →
+pub holding_tells : (stage : Stage) (built : List ℕ) (known : Knowledge) (more : List Statement) (outside : Outside) (said : Said) (es : List Entry) → IsHolding stage →
     goes_on stage built known more outside said es ≡ tell (reply_of built stage) (outside.broken (owed_at stage)) (after_reply stage known more outside) said es
 holding_tells (stages.Telling reply block) built known more outside said es h = refl
 holding_tells (stages.Failing code state) built known more outside said es h = refl

@@ -24,6 +24,7 @@ use Rattle.block_machine.specs.declared.stage.Run.{Run}
 use Rattle.block_machine.specs.declared.stage.Stage.{Stage}
 use Rattle.block_machine.specs.declared.stage.Stage.TheVariants as stages
 use Rattle.block_machine.specs.declared.step.Step.{Step}
+use Rattle.block_machine.specs.Knowledge.{Knowledge, with_tables}
 use Rattle.block_machine.specs.Script.{Script}
 use Rattle.block_machine.specs.Statements.{Around, owed_in, refusal_state, fails, unless_short_in, runs, judged}
 use Rattle.block_machine.specs.Stages.{IsScriptAt, IsScriptOf, LeadsTo, Advances, Fits, NoBuilt, HasReply, answer_with, block_of}
@@ -38,7 +39,7 @@ owed_pending pending.Implicit = refl
 owed_pending pending.Regular = refl
 
 -- memory wasn't wanting
-pub calm_advances : (earlier : Stage) (known : List Table) (answer : Answer) (step : Step) (next : Stage) (built : List ℕ) (after : List Table) → step ≡ record { stage = next; wanting = false } →
+pub calm_advances : (earlier : Stage) (known : Knowledge) (answer : Answer) (step : Step) (next : Stage) (built : List ℕ) (after : Knowledge) → step ≡ record { stage = next; wanting = false } →
     Advances earlier known answer next false built after → Advances earlier known answer step.stage step.wanting built after
 calm_advances earlier known answer step next built after is goes =
     subst (λ (s : Step). Advances earlier known answer s.stage s.wanting built after) (sym is) goes
@@ -52,18 +53,18 @@ pub demand_fits : (run : Run) (answer : Answer) (b : PlanAnswer) → answer ≡ 
 demand_fits run answer b is fits =
     fits_demand (rest_of run.plan) b run.asks (subst (λ (a : Answer). Fits (call_for (first_demand (rest_of run.plan))) a) is fits)
 
-pub pursue_goes : (run : Run) (p : Pending) (answer : Answer) (b : PlanAnswer) (block : Block) (r : Result Stage Memory) (next : Stage) (w : Bool) (built : List ℕ) (known : List Table) →
+pub pursue_goes : (run : Run) (p : Pending) (answer : Answer) (b : PlanAnswer) (block : Block) (r : Result Stage Memory) (next : Stage) (w : Bool) (built : List ℕ) (known : Knowledge) →
     answer ≡ answer_with b → Fits (call_for (first_demand (rest_of run.plan))) answer → block ≡ block_of p →
     IfOk r (λ stage. IsScriptOf (runs (behind (rest_of run.plan) b) (block_of p)) stage built) →
-    ((script : Around → Script) (bytes : List ℕ) (tables : List Table) → IfOk r (λ it. IsScriptAt script it bytes tables) →
-    LeadsTo (λ around. unless_short_in block tables around (script around)) next w bytes tables) →
+    ((script : Around → Script) (bytes : List ℕ) (other : Knowledge) → IfOk r (λ it. IsScriptAt script it bytes other) →
+    LeadsTo (λ around. unless_short_in block other around (script around)) next w bytes other) →
     Advances (stages.Running run p) known answer next w built known
 pursue_goes run p answer b block r next w built known is fits same goes leads =
     run_advances run p answer b next w built known is (demand_fits run answer b is fits)
     (subst (λ (x : Block). LeadsTo (λ around. unless_short_in x known around (runs (behind (rest_of run.plan) b) (block_of p) known around)) next w built known) same
     (leads (runs (behind (rest_of run.plan) b) (block_of p) known) built known (ok_at r (runs (behind (rest_of run.plan) b) (block_of p)) built known goes)))
 
-pub pursue_refused : (run : Run) (p : Pending) (answer : Answer) (why : BookFault) (code : SqlState) (block : Block) (next : Stage) (built : List ℕ) (known : List Table) →
+pub pursue_refused : (run : Run) (p : Pending) (answer : Answer) (why : BookFault) (code : SqlState) (block : Block) (next : Stage) (built : List ℕ) (known : Knowledge) →
     answer ≡ answers.Refused why → code ≡ refusal_state why → block ≡ block_of p →
     ((bytes : List ℕ) → IsScriptOf (fails code block) next bytes) → Advances (stages.Running run p) known answer next false built known
 pursue_refused run p answer why code block next built known is coded same goes =
@@ -73,10 +74,10 @@ pursue_refused run p answer why code block next built known is coded same goes =
 
 -- ---- the begin of its transaction
 
-pub start_goes : (plan : Plan) (answer : Answer) (n : ℕ) (r : Result Stage Memory) (next : Stage) (w : Bool) (built : List ℕ) (known : List Table) → answer ≡ answers.Begun n →
+pub start_goes : (plan : Plan) (answer : Answer) (n : ℕ) (r : Result Stage Memory) (next : Stage) (w : Bool) (built : List ℕ) (known : Knowledge) → answer ≡ answers.Begun n →
     IfOk r (λ stage. IsScriptOf (runs (rest_of plan) (Implicit true)) stage built) →
-    ((script : Around → Script) (bytes : List ℕ) (tables : List Table) → IfOk r (λ it. IsScriptAt script it bytes tables) →
-    LeadsTo (λ around. unless_short_in (Implicit true) tables around (script around)) next w bytes tables) →
+    ((script : Around → Script) (bytes : List ℕ) (other : Knowledge) → IfOk r (λ it. IsScriptAt script it bytes other) →
+    LeadsTo (λ around. unless_short_in (Implicit true) other around (script around)) next w bytes other) →
     Advances (stages.Beginning plan) known answer next w built known
 start_goes plan answer n r next w built known is goes leads =
     subst (λ (a : Answer). Advances (stages.Beginning plan) known a next w built known) (sym is)
@@ -85,12 +86,17 @@ start_goes plan answer n r next w built known is goes leads =
 
 -- ---- a look
 
-pub look_short : (statement : Statement) (block : Block) (known tables after : List Table) (next : Stage) (w : Bool) (built : List ℕ) → after ≡ known →
-    ((script : Around → Script) (bytes : List ℕ) (shown : List Table) → LeadsTo (λ around. unless_short_in block shown around (script around)) next w bytes shown) →
+pub look_short : (statement : Statement) (block : Block) (known : Knowledge) (tables : List Table) (after : Knowledge) (next : Stage) (w : Bool) (built : List ℕ) → after ≡ known →
+    ((script : Around → Script) (bytes : List ℕ) (other : Knowledge) → LeadsTo (λ around. unless_short_in block other around (script around)) next w bytes other) →
     Advances (stages.Looking statement block) known (answers.Looked tables) next w built after
 look_short statement block known tables after next w built is leads =
-    subst (λ (x : List Table). Advances (stages.Looking statement block) known (answers.Looked tables) next w built x) (sym is)
-    (look_advances statement block known tables next w built known (leads (judged (typed (known ++ tables) statement) block (known ++ tables)) built known))
+    subst (λ (x : Knowledge). Advances (stages.Looking statement block) known (answers.Looked tables) next w built x) (sym is)
+    (look_advances statement block known tables next w built known
+    (leads (judged (typed (known.tables ++ tables) statement) block (with_tables known tables)) built known))
+
+-- other tables, and the same level
+pub known_tables : (known : Knowledge) (tables : List Table) → tables ≡ known.tables → record { tables = tables; level = known.level; served = known.served } ≡ known
+known_tables known tables is = ap (λ (xs : List Table). record { tables = xs; level = known.level; served = known.served }) is
 
 -- the tables known where memory was wanting for more
 pub appended_not : (ok err : Bool) (after both known : List Table) → after ≡ (if ok then both else known) → ok ≡ not err → err ≡ true → after ≡ known

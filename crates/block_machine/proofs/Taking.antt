@@ -1,38 +1,38 @@
 -- The steps of statements as they begin.
 use Rattle.std.proofs.Common.{◌≡◌, ℕ, Bool, List, refl, sym, ◌∙◌, ap, subst, Option, Some, Result, Ok, Err, IfOk}
 use Rattle.std.specs.Fmt.{decimal}
-use Rattle.cell_base.specs.declared.level.Level.{Level}
 use Rattle.cell_base.specs.declared.memory.Memory.{Memory}
 use Rattle.sql_tree.specs.declared.statement.Statement.{Statement}
-use Rattle.sql_tree.specs.declared.table.Table.{Table}
 use Rattle.block_machine.specs.Calls.{Call}
 use Rattle.block_machine.specs.Calls as calls
 use Rattle.block_machine.specs.declared.block.Block.{Block}
 use Rattle.block_machine.specs.declared.call.Answer.TheVariants as answers
 use Rattle.block_machine.specs.declared.stage.Stage.{Stage}
 use Rattle.block_machine.specs.declared.stage.Stage.TheVariants as stages
+use Rattle.block_machine.specs.Knowledge.{Knowledge}
 use Rattle.block_machine.specs.Script.{Script, Said, Entry, with_call}
 use Rattle.block_machine.specs.Replies.{show_reply}
 use Rattle.block_machine.specs.Settings.{history_name}
 use Rattle.block_machine.specs.Statements.{Around, unless_short_in, succeeds, prepares, looks, shows_value, performs}
 use Rattle.block_machine.specs.Messages.{before}
-use Rattle.block_machine.specs.Stages.{IsScriptAt, IsScriptOf, LeadsTo, LeadsAt, Advances, goes_on, with_short}
+use Rattle.block_machine.specs.Stages.{IsScriptAt, IsScriptOf, LeadsTo, Advances, goes_on, with_short}
 use Rattle.block_machine.proofs.Wanting.{ok_at}
 
 -- a statement that looks at the tables
-pub leads_kept : (level : Level) (statement : Statement) (block : Block) (next : Stage) (w : Bool) (built : List ℕ) →
-    ((known : List Table) (around : Around) (said : Said) (es : List Entry) → performs statement block known around said es ≡ prepares statement block known around said es) →
-    ((known : List Table) → LeadsTo (λ around. unless_short_in block known around (looks statement block known around)) next w built known) →
-    LeadsAt level (performs statement block) next w built
-leads_kept level statement block next w built looked goes known more outside said es same from =
-    looked known (before more outside) said (with_short w said.bytes es) ∙ goes known more outside said es from
+pub leads_kept : (statement : Statement) (block : Block) (known after : Knowledge) (next : Stage) (w : Bool) (built : List ℕ) → after ≡ known →
+    ((it : Knowledge) (around : Around) (said : Said) (es : List Entry) → performs statement block it around said es ≡ prepares statement block it around said es) →
+    LeadsTo (λ around. unless_short_in block known around (looks statement block known around)) next w built known →
+    LeadsTo (performs statement block known) next w built after
+leads_kept statement block known after next w built same looked goes =
+    subst (λ (x : Knowledge). LeadsTo (performs statement block known) next w built x) (sym same)
+    (λ more outside said es from. looked known (before more outside) said (with_short w said.bytes es) ∙ goes more outside said es from)
 
 -- ---- the number of events of the history
 
 show_is : (c : Call) → calls.Book calls.Show ≡ calls.Book c → calls.Show ≡ c
 show_is c h = cc h
 
-pub show_advances : (n : ℕ) (block : Block) (next : Stage) (w : Bool) (built : List ℕ) (known : List Table) →
+pub show_advances : (n : ℕ) (block : Block) (next : Stage) (w : Bool) (built : List ℕ) (known : Knowledge) →
     LeadsTo (λ around. unless_short_in block known around (succeeds (show_reply history_name (decimal n)) block known around)) next w built known →
     Advances (stages.Showing block) known (answers.Shown n) next w built known
 show_advances n block next w built known goes c unbuilt more outside said es e wants_c from =
@@ -41,11 +41,11 @@ show_advances n block next w built known goes c unbuilt more outside said es e w
 
 -- ---- a stage that keeps its statement
 
-kept_script : (statement : Statement) (block : Block) (stage : Stage) (built : List ℕ) (known : List Table) → stage ≡ stages.Looking statement block → IsScriptAt (looks statement block known) stage built known
+kept_script : (statement : Statement) (block : Block) (stage : Stage) (built : List ℕ) (known : Knowledge) → stage ≡ stages.Looking statement block → IsScriptAt (looks statement block known) stage built known
 kept_script statement block stage built known is =
     subst (λ (x : Stage). IsScriptAt (looks statement block known) x built known) (sym is) (λ more outside said es. refl)
 
-pub kept_at : (statement : Statement) (block : Block) (r : Result Stage Memory) (built : List ℕ) (known : List Table) → IfOk r (λ stage. stage ≡ stages.Looking statement block) →
+pub kept_at : (statement : Statement) (block : Block) (r : Result Stage Memory) (built : List ℕ) (known : Knowledge) → IfOk r (λ stage. stage ≡ stages.Looking statement block) →
     IfOk r (λ stage. IsScriptAt (looks statement block known) stage built known)
 kept_at statement block (Ok stage) built known is = kept_script statement block stage built known is
 kept_at statement block (Err e) built known is = is
@@ -53,9 +53,9 @@ kept_at statement block (Err e) built known is = is
 -- a setting that is known
 pub leads_value : (name value : List ℕ) (found : Option (List ℕ)) (block : Block) (r : Result Stage Memory) (next : Stage) (w : Bool) (built : List ℕ) → found ≡ Some value →
     IfOk r (λ stage. IsScriptOf (succeeds (show_reply name value) block) stage built) →
-    ((script : Around → Script) (bytes : List ℕ) (tables : List Table) → IfOk r (λ it. IsScriptAt script it bytes tables) →
-    LeadsTo (λ around. unless_short_in block tables around (script around)) next w bytes tables) →
-    (known : List Table) → LeadsTo (shows_value name found block known) next w built known
+    ((script : Around → Script) (bytes : List ℕ) (other : Knowledge) → IfOk r (λ it. IsScriptAt script it bytes other) →
+    LeadsTo (λ around. unless_short_in block other around (script around)) next w bytes other) →
+    (known : Knowledge) → LeadsTo (shows_value name found block known) next w built known
 leads_value name value found block r next w built is goes leads known =
     subst (λ (x : Option (List ℕ)). LeadsTo (shows_value name x block known) next w built known) (sym is)
     (leads (succeeds (show_reply name value) block known) built known (ok_at r (succeeds (show_reply name value) block) built known goes))

@@ -1,6 +1,7 @@
 -- The calls that a session makes of its book, and what a message wants next.
 use Rattle.std.specs.Prelude.{◌≡◌, ℕ, Bool, true, false}
 use Rattle.cell_base.specs.declared.cell.Cell.{Cell}
+use Rattle.cell_base.specs.declared.level.Level.{Level}
 use Rattle.cell_base.specs.declared.value.Value.{Value}
 use Rattle.sql_tree.specs.declared.table.Table.{Table}
 use Rattle.statement_course.specs.declared.demand.Demand.{Demand}
@@ -17,7 +18,8 @@ pub data Call : Type 0 where
   -- how many tables the session knows
   Look : ℕ → Call
   Define : Table → Call
-  Begin : Call
+  -- at this level
+  Begin : Level → Call
   -- the keys of a table
   Scan : ℕ → Call
   -- the value of a cell: the last own write where the pending transaction wrote it, else a read of the history
@@ -39,7 +41,7 @@ abbrev pub call_of : Plain → Call
 call_of plain.Open = Open
 call_of plain.Close = Close
 call_of (plain.Look known) = Look known
-call_of plain.Begin = Begin
+call_of (plain.Begin level) = Begin level
 call_of plain.Commit = Commit
 call_of plain.Rollback = Rollback
 call_of plain.Show = Show

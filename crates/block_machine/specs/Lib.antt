@@ -1,3 +1,4 @@
+pub mod Knowledge
 pub mod Calls
 pub mod Script
 pub mod Settings

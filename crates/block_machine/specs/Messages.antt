@@ -1,15 +1,14 @@
 -- A query message: its statements one after another, and its end; and what the bytes of one ask for.
 use Rattle.std.specs.Prelude.{ℕ, List, [], ◌∷◌, true, false}
 use Rattle.std.specs.Str.{IsUtf8}
-use Rattle.cell_base.specs.declared.level.Level.{Level}
 use Rattle.cell_base.specs.declared.sql_state.SqlState.TheVariants as states
 use Rattle.pg_framing.specs.declared.replies.TransactionState.{TransactionState}
 use Rattle.pg_framing.specs.declared.replies.TransactionState.TheVariants as ready
 use Rattle.sql_statements.specs.declared.fault.ParseFault.{ParseFault}
 use Rattle.sql_statements.specs.Faults.{AreStatementsOf, IsFaultOfText, state_of}
 use Rattle.sql_tree.specs.declared.statement.Statement.{Statement}
-use Rattle.sql_tree.specs.declared.table.Table.{Table}
 use Rattle.block_machine.specs.Calls as calls
+use Rattle.block_machine.specs.Knowledge.{Knowledge}
 use Rattle.block_machine.specs.Replies.{ready_reply, empty_reply}
 use Rattle.block_machine.specs.Script.{Script, ask, tell}
 use Rattle.block_machine.specs.Statements.{Around, succeeds, fails, told_of}
@@ -20,11 +19,10 @@ use Rattle.block_machine.specs.declared.block.Owed.TheVariants as owes
 use Rattle.block_machine.specs.declared.message.Message.{Message}
 use Rattle.block_machine.specs.declared.message.Message.TheVariants as messages
 
--- What a message stands in: the level that is served, what follows its end, by the state in which it leaves the session and the
--- tables that are then known, and what follows a reply that could not be sent, by what the session owes.
+-- What follows a message: at its end, by the state in which it leaves the session and what the session then knows, and where a reply
+-- could not be sent, by what the session owes.
 pub record Outside : Type 0 where
-  pub level : Level
-  pub next : TransactionState → List Table → Script
+  pub next : TransactionState → Knowledge → Script
   pub broken : Owed → Script
 
 -- the transaction of a block is pending between two messages too
@@ -34,31 +32,29 @@ owed_between ready.Block = owes.Rollback
 owed_between ready.Failed = owes.Close
 
 -- ReadyForQuery, and what follows the message
-abbrev pub readied : TransactionState → List Table → Outside → Script
+abbrev pub readied : TransactionState → Knowledge → Outside → Script
 readied state known outside = tell (ready_reply state) (outside.broken (owed_between state)) (outside.next state known)
 
 -- The end of a message commits the message's own transaction, where one is pending, and then ReadyForQuery is told.
-abbrev pub ends : Block → List Table → Outside → Script
+abbrev pub ends : Block → Knowledge → Outside → Script
 ends (Implicit false) known outside = readied ready.Idle known outside
 ends (Implicit true) known outside = ask calls.Commit (λ _. readied ready.Idle known outside)
 ends Regular known outside = readied ready.Block known outside
 ends Failed known outside = readied ready.Failed known outside
 
--- Statements one after another. Behind the ErrorResponse of one that fails the others are skipped, and ReadyForQuery is told.
-abbrev pub statements : List Statement → Block → List Table → Outside → Script
+-- Statements one after another. After the ErrorResponse of one that fails the others are skipped, and ReadyForQuery is told.
+abbrev pub statements : List Statement → Block → Knowledge → Outside → Script
 statements [] block known outside = ends block known outside
 statements (s ∷ more) block known outside =
     told_of s block known (record {
-      level = outside.level;
       succeeded = λ b k. statements more b k outside;
       failed = λ state k. readied state k outside;
       broken = outside.broken;
     })
 
--- what a statement stands in before others of its message
+-- what follows a statement before others of its message
 abbrev pub before : List Statement → Outside → Around
 before more outside = record {
-  level = outside.level;
   succeeded = λ b k. statements more b k outside;
   failed = λ state k. readied state k outside;
   broken = outside.broken;
@@ -71,12 +67,12 @@ block_at ready.Block = Regular
 block_at ready.Failed = Failed
 
 -- A message that is read. One without a statement is told EmptyQueryResponse.
-abbrev pub opens : List Statement → Block → List Table → Outside → Script
+abbrev pub opens : List Statement → Block → Knowledge → Outside → Script
 opens [] block known outside = succeeds empty_reply block known (before [] outside)
 opens (s ∷ more) block known outside = statements (s ∷ more) block known outside
 
 -- A message that can't be read is told ErrorResponse before its first statement, also in a failed block.
-abbrev pub message : Message → TransactionState → List Table → Outside → Script
+abbrev pub message : Message → TransactionState → Knowledge → Outside → Script
 message (messages.Unread code) state known outside = fails code (block_at state) known (before [] outside)
 message (messages.Statements asked) state known outside = opens asked (block_at state) known outside
 

@@ -1,12 +1,12 @@
 -- What a runner goes on with.
 use Rattle.std.specs.Prelude.{ℕ, ◌+◌, ◌*◌, All, List, length, Bool}
 use Rattle.std.specs.Vec.Iter.{into_iter_items}
-use Rattle.cell_base.specs.declared.level.Level.{Level}
 use Rattle.sql_tree.specs.declared.statement.Statement.{Statement}
 use Rattle.sql_tree.specs.declared.table.Table.{Table}
 use Rattle.block_machine.specs.declared.block.Owed.{Owed}
 use Rattle.block_machine.specs.declared.runner.Runner.{Runner}
 use Rattle.block_machine.specs.Calls.{Want}
+use Rattle.block_machine.specs.Knowledge.{Knowledge, knowledge_in}
 use Rattle.block_machine.specs.Script.{Script}
 use Rattle.block_machine.specs.Messages.{Outside}
 use Rattle.block_machine.specs.Stages.{goes_on, wants, reply_of, after_reply, owed_at, work_at, left_at, running_at, is_busy, IsHolding, IsRunning, KnowsTables, IsSoundStage, IsSoundStatement}
@@ -15,13 +15,17 @@ use Rattle.block_machine.specs.Stages.{goes_on, wants, reply_of, after_reply, ow
 abbrev pub statements_of : Runner → List Statement
 statements_of r = into_iter_items r.rest
 
+-- what its session knows
+abbrev pub knowledge_of : Runner → Knowledge
+knowledge_of r = knowledge_in r.known
+
 -- what it goes on with
 abbrev pub follows : Runner → Outside → Script
-follows r outside = goes_on r.stage r.built.items r.known.items (statements_of r) outside
+follows r outside = goes_on r.stage r.built.items (knowledge_of r) (statements_of r) outside
 
 -- what it wants
 abbrev pub wanted : Runner → Want
-wanted r = wants r.stage r.known.items
+wanted r = wants r.stage (knowledge_of r)
 
 -- the bytes of the reply that it holds; none where it holds none
 abbrev pub held : Runner → List ℕ
@@ -33,17 +37,13 @@ work_of r = work_at r.stage + 8 * length (statements_of r)
 
 -- ---- words for what stands above
 
--- the level that is served
-abbrev pub level_of : Runner → Level
-level_of r = r.level
-
 -- the tables known
-abbrev pub known_of : Runner → List Table
-known_of r = r.known.items
+abbrev pub tables_of : Runner → List Table
+tables_of r = r.known.tables.items
 
 -- what follows the reply that is held
 abbrev pub behind : Runner → Outside → Script
-behind r outside = after_reply r.stage r.known.items (statements_of r) outside
+behind r outside = after_reply r.stage (knowledge_of r) (statements_of r) outside
 
 -- what the session owes its book
 abbrev pub owes : Runner → Owed
@@ -63,7 +63,7 @@ Runs r = IsRunning r.stage
 
 -- a statement that begins or runs asks only for cells of the tables that are known
 abbrev pub Knows : Runner → Type 0
-Knows r = KnowsTables r.stage r.known.items
+Knows r = KnowsTables r.stage (tables_of r)
 
 -- the table that is about to be defined is sound, and so are the statements that wait; what the one under way comes to can be told
 pub record IsSoundRunner (r : Runner) : Type 0 where

@@ -13,21 +13,21 @@ use Rattle.block_machine.specs.declared.call.Answer.TheVariants as answers
 use Rattle.block_machine.specs.declared.end.End.{End}
 use Rattle.block_machine.specs.declared.end.Stop.{Stop}
 
--- An entry of a session's record. A want of memory says whether it ends the session, and how many bytes had been told, so that it is
--- known where it stands; a failed write says how many had been told before those that it was to send.
+-- An entry of a session's record. Where the session itself is out of memory, the entry says whether that ends the session, and how many
+-- bytes had been told, so that it is known where it stands; a failed write says how many had been told before those that it was to send.
 pub data Entry : Type 0 where
   -- the answer to a call, and the event that it made
   did : Answer → Event → Entry
   -- a call that was refused
   refused : BookFault → Entry
-  -- a want of memory of the session itself
+  -- the session itself is out of memory
   short : Bool → ℕ → Entry
   -- a write that failed
   unsent : ℕ → Entry
   -- why no more bytes come
   stop : Stop → Entry
 
--- a want of memory: of the session itself, or of its book
+-- out of memory: the session itself, or its book
 abbrev pub is_short : Entry → Bool
 is_short (did a e) = false
 is_short (refused faults.Memory) = true
@@ -132,8 +132,8 @@ unless_unsent before fault rest said (stop cause ∷ entries) = rest said (stop 
 abbrev pub tell : List ℕ → Script → Script → Script
 tell bytes fault rest said entries = unless_unsent (length said.bytes) fault rest (with_bytes said bytes) entries
 
--- A want of memory of the session itself stands where as many bytes were told as its entry says. Before a message, and behind the
--- call that opens the session, it ends the session; in the reading of a query, or in a statement, it doesn't.
+-- The session itself is out of memory where as many bytes were told as the entry says. Before a message, and after the call that opens
+-- the session, that ends the session; in the reading of a query, or in a statement, it doesn't.
 abbrev pub unless_short : Bool → Script → Script → Script
 unless_short final short_of rest said [] = rest said []
 unless_short final short_of rest said (did a e ∷ entries) = rest said (did a e ∷ entries)

@@ -1,6 +1,5 @@
 -- What each stage of a message goes on with, what it wants and owes, and what a step from one to the next comes to.
 use Rattle.std.specs.Prelude.{◌≡◌, ℕ, ◌+◌, ◌<◌, ◌≤◌, ◌⊎◌, List, [], ◌∷◌, ◌++◌, length, All, Bool, true, false, Ok}
-use Rattle.cell_base.specs.declared.level.Level.{Level}
 use Rattle.history_core.specs.declared.event.Event.{Event}
 use Rattle.history_core.specs.declared.fault.BookFault.TheVariants as faults
 use Rattle.pg_framing.specs.declared.replies.TransactionState.{TransactionState}
@@ -20,6 +19,7 @@ use Rattle.statement_course.specs.declared.demand.PlanAnswer.TheVariants as plan
 use Rattle.cell_compile.specs.Plans.{rest_of, left_of}
 use Rattle.block_machine.specs.Calls.{Call, Want, call_for}
 use Rattle.block_machine.specs.Calls as calls
+use Rattle.block_machine.specs.Knowledge.{Knowledge, with_tables, with_level}
 use Rattle.block_machine.specs.Replies.{ready_reply, error_reply, fixed_reply, bytes_of}
 use Rattle.block_machine.specs.Script.{Entry, did, refused, short, unsent, stop, Said, Script, lost, with_call, ask}
 use Rattle.block_machine.specs.Statements.{Around, owed_in, succeeds, refused_with, fails, starts, defines, runs, begins, looks, shows_history}
@@ -45,13 +45,13 @@ abbrev pub block_of : Pending → Block
 block_of pending.Implicit = Implicit true
 block_of pending.Regular = Regular
 
--- the state of a session behind a statement that failed
+-- the state of a session after a statement that failed
 abbrev pub state_behind : ErrorState → TransactionState
 state_behind errors.Idle = ready.Idle
 state_behind errors.Failed = ready.Failed
 
--- What a stage goes on with, given the reply that was built, the tables known, and the statements that the message still has.
-abbrev pub goes_on : Stage → List ℕ → List Table → List Statement → Outside → Script
+-- What a stage goes on with, given the reply that was built, what the session knows, and the statements that the message still has.
+abbrev pub goes_on : Stage → List ℕ → Knowledge → List Statement → Outside → Script
 goes_on (stages.Over state) built known more outside = outside.next state known
 goes_on (stages.Defining table block) built known more outside = defines (Ok table) block known (before more outside)
 goes_on (stages.Looking statement block) built known more outside = looks statement block known (before more outside)
@@ -69,14 +69,14 @@ goes_on (stages.Failing code state) built known more outside = refused_with code
 goes_on stages.Finishing built known more outside = ends (Implicit true) known outside
 goes_on (stages.Readying state) built known more outside = readied state known outside
 
--- what a stage wants, given the tables known
-abbrev pub wants : Stage → List Table → Want
+-- what a stage wants, given what the session knows
+abbrev pub wants : Stage → Knowledge → Want
 wants (stages.Over state) known = calls.Nothing
 wants (stages.Defining table block) known = calls.Book (calls.Define table)
-wants (stages.Looking statement block) known = calls.Book (calls.Look (length known))
-wants (stages.Beginning plan) known = calls.Book calls.Begin
+wants (stages.Looking statement block) known = calls.Book (calls.Look (length known.tables))
+wants (stages.Beginning plan) known = calls.Book (calls.Begin known.level)
 wants (stages.Running run p) known = calls.Book (call_for (first_demand (rest_of run.plan)))
-wants (stages.Starting start) known = calls.Book calls.Begin
+wants (stages.Starting start) known = calls.Book (calls.Begin known.level)
 wants (stages.Showing block) known = calls.Book calls.Show
 wants (stages.Committing reply) known = calls.Book calls.Commit
 wants (stages.RollingBack reply) known = calls.Book calls.Rollback
@@ -103,11 +103,11 @@ owed_at (stages.Failing code state) = owes.Close
 owed_at stages.Finishing = owes.Rollback
 owed_at (stages.Readying state) = owed_between state
 
--- what is owed behind the answer to a call: a refusal changes nothing
+-- what is owed after the answer to a call: a refusal changes nothing
 abbrev pub owed_after : Call → Answer → Owed → Owed
 owed_after calls.Open (answers.Opened s) owed = owes.Close
 owed_after calls.Close answers.Closed owed = owes.Nothing
-owed_after calls.Begin (answers.Begun n) owed = owes.Rollback
+owed_after (calls.Begin level) (answers.Begun n) owed = owes.Rollback
 owed_after calls.Commit answers.Committed owed = owes.Close
 owed_after calls.Rollback answers.RolledBack owed = owes.Close
 owed_after _ _ owed = owed
@@ -129,7 +129,7 @@ reply_of built (stages.Readying state) = ready_reply state
 reply_of built _ = []
 
 -- what follows a reply that was sent
-abbrev pub after_reply : Stage → List Table → List Statement → Outside → Script
+abbrev pub after_reply : Stage → Knowledge → List Statement → Outside → Script
 after_reply (stages.Telling reply block) known more outside = statements more block known outside
 after_reply (stages.Failing code state) known more outside = readied (state_behind state) known outside
 after_reply (stages.Readying state) known more outside = outside.next state known
@@ -146,12 +146,12 @@ HasReply stage built = IsHolding stage → 0 < length (reply_of built stage)
 
 -- ---- entries
 
--- how many bytes more are told at least before memory may be wanting: between two messages none
+-- how many bytes more are told at least before the session may be out of memory: between two messages none
 abbrev pub least : Stage → ℕ
 least (stages.Over state) = 0
 least _ = 1
 
--- A failed write as the first entry stands no earlier than where the bytes sent end; a want of memory, at least `least` bytes behind
+-- A failed write as the first entry stands no earlier than where the bytes sent end; out of memory stands at least `least` bytes after
 -- that.
 abbrev pub IsFrom : ℕ → ℕ → List Entry → Type 0
 IsFrom least sent [] = Unit {0}
@@ -161,7 +161,7 @@ IsFrom least sent (short final n ∷ es) = least + sent ≤ n
 IsFrom least sent (unsent n ∷ es) = sent ≤ n
 IsFrom least sent (stop cause ∷ es) = Unit {0}
 
--- the entries with a want of memory of the session before them, where there was one
+-- the entries, and before them that the session was out of memory, where it was
 abbrev pub with_short : Bool → List ℕ → List Entry → List Entry
 with_short false sent es = es
 with_short true sent es = short false (length sent) ∷ es
@@ -181,8 +181,8 @@ Fits (calls.Look known) (answers.Looked tables) = (known + length tables < 42949
 Fits (calls.Look known) (answers.Refused why) = Unit {0}
 Fits (calls.Define table) (answers.Defined a) = Unit {0}
 Fits (calls.Define table) (answers.Refused why) = Unit {0}
-Fits calls.Begin (answers.Begun n) = Unit {0}
-Fits calls.Begin (answers.Refused why) = Unit {0}
+Fits (calls.Begin level) (answers.Begun n) = Unit {0}
+Fits (calls.Begin level) (answers.Refused why) = Unit {0}
 Fits (calls.Scan table) (answers.Listed keys) = length keys < 4294967296
 Fits (calls.Scan table) (answers.Refused why) = Unit {0}
 Fits (calls.Touch cell) (answers.Found value) = Unit {0}
@@ -199,7 +199,7 @@ abbrev pub FitsWant : Want → Answer → Type 0
 FitsWant (calls.Book c) a = Fits c a
 FitsWant _ a = ⊥
 
--- the answer is a want of memory of the book
+-- the book was out of memory
 abbrev pub wants_memory : Answer → Bool
 wants_memory (answers.Refused faults.Memory) = true
 wants_memory (answers.Refused (faults.Full limit)) = false
@@ -208,47 +208,44 @@ wants_memory _ = false
 -- ---- steps
 
 -- the script of a statement is what a stage goes on with
-abbrev pub IsScriptAt : (Around → Script) → Stage → List ℕ → List Table → Type 0
+abbrev pub IsScriptAt : (Around → Script) → Stage → List ℕ → Knowledge → Type 0
 IsScriptAt script stage built known =
     (more : List Statement) (outside : Outside) (said : Said) (es : List Entry) →
     script (before more outside) said es ≡ goes_on stage built known more outside said es
 
--- whatever the tables are
-abbrev pub IsScriptOf : (List Table → Around → Script) → Stage → List ℕ → Type 0
-IsScriptOf script stage built = (known : List Table) → IsScriptAt (script known) stage built known
+-- whatever the session knows
+abbrev pub IsScriptOf : (Knowledge → Around → Script) → Stage → List ℕ → Type 0
+IsScriptOf script stage built = (known : Knowledge) → IsScriptAt (script known) stage built known
 
--- the script of a statement leads to a stage, with a want of memory before it where there was one
-abbrev pub LeadsTo : (Around → Script) → Stage → Bool → List ℕ → List Table → Type 0
+-- the script of a statement leads to a stage and what the session then knows, out of memory on the way where it was
+abbrev pub LeadsTo : (Around → Script) → Stage → Bool → List ℕ → Knowledge → Type 0
 LeadsTo script next wanting built known =
     (more : List Statement) (outside : Outside) (said : Said) (es : List Entry) → IsFrom 1 (length said.bytes) es →
     script (before more outside) said (with_short wanting said.bytes es) ≡ goes_on next built known more outside said es
 
--- the same, whatever the tables are, where this level is served
-abbrev pub LeadsAt : Level → (List Table → Around → Script) → Stage → Bool → List ℕ → Type 0
-LeadsAt level script next wanting built =
-    (known : List Table) (more : List Statement) (outside : Outside) (said : Said) (es : List Entry) →
-    outside.level ≡ level → IsFrom 1 (length said.bytes) es →
-    script known (before more outside) said (with_short wanting said.bytes es) ≡ goes_on next built known more outside said es
+-- a message, or what follows a reply, leads to a stage, what the session then knows, and the statements that are then left
+abbrev pub TurnsTo : (Outside → Script) → Stage → Bool → List ℕ → Knowledge → List Statement → Type 0
+TurnsTo script next wanting built known more =
+    (outside : Outside) (said : Said) (es : List Entry) → IsFrom (least next) (length said.bytes) es →
+    script outside said (with_short wanting said.bytes es) ≡ goes_on next built known more outside said es
 
--- a message, or what follows a reply, leads to a stage and the statements that are then left
-abbrev pub TurnsTo : Level → (List Table → Outside → Script) → Stage → Bool → List ℕ → List Statement → Type 0
-TurnsTo level script next wanting built more =
-    (known : List Table) (outside : Outside) (said : Said) (es : List Entry) →
-    outside.level ≡ level → IsFrom (least next) (length said.bytes) es →
-    script known outside said (with_short wanting said.bytes es) ≡ goes_on next built known more outside said es
-
--- An answer to a stage's call leads on, with a want of memory behind it where there was one.
-abbrev pub Advances : Stage → List Table → Answer → Stage → Bool → List ℕ → List Table → Type 0
+-- An answer to a stage's call leads on, out of memory after it where the session was.
+abbrev pub Advances : Stage → Knowledge → Answer → Stage → Bool → List ℕ → Knowledge → Type 0
 Advances stage known answer next wanting built after =
     (c : Call) (unbuilt : List ℕ) (more : List Statement) (outside : Outside) (said : Said) (es : List Entry) (e : Event) →
     wants stage known ≡ calls.Book c → IsFrom 1 (length said.bytes) es →
     goes_on stage unbuilt known more outside said (entry_for answer e ∷ with_short wanting said.bytes es)
     ≡ goes_on next built after more outside (with_call said c) es
 
--- The tables known behind an answer are those known before, and, behind a look, perhaps those that it showed.
-abbrev pub IsKnownAfter : List Table → Answer → List Table → Type 0
-IsKnownAfter known (answers.Looked tables) after = (after ≡ known) ⊎ (after ≡ known ++ tables)
+-- What the session knows after an answer is what it knew before, and, after a look, perhaps the tables that it showed.
+abbrev pub IsKnownAfter : Knowledge → Answer → Knowledge → Type 0
+IsKnownAfter known (answers.Looked tables) after = (after ≡ known) ⊎ (after ≡ with_tables known tables)
 IsKnownAfter known _ after = after ≡ known
+
+-- What the session knows after a message began or a reply was sent is the same, but for the level, which a SET may have changed: how, the
+-- scripts say.
+abbrev pub IsSameButLevel : Knowledge → Knowledge → Type 0
+IsSameButLevel known after = after ≡ with_level known after.level
 
 -- an answer to a statement's demand
 abbrev pub answer_with : PlanAnswer → Answer
@@ -326,7 +323,7 @@ IsSoundStage _ = Unit {0}
 
 -- ---- how much work is left
 
--- how much work a stage leaves until the message is done, but for the demands of a running statement and for the statements behind it
+-- how much work a stage leaves until the message is done, but for the demands of a running statement and for the statements after it
 abbrev pub work_at : Stage → ℕ
 work_at (stages.Over state) = 0
 work_at (stages.Defining table block) = 4

@@ -24,7 +24,8 @@ use Rattle.statement_course.specs.Course.{Course, scan, touch, write, done}
 use Rattle.statement_course.specs.Statements.{course_of}
 use Rattle.outcome_replies.specs.Replies.{outcome_reply}
 use Rattle.block_machine.specs.Calls as calls
-use Rattle.block_machine.specs.Settings.{is_own, history_name, value_of}
+use Rattle.block_machine.specs.Knowledge.{Knowledge, with_tables, with_level}
+use Rattle.block_machine.specs.Settings.{is_own, history_name, level_name, chosen_level, value_of}
 use Rattle.block_machine.specs.Replies.{error_reply, created_reply, set_reply, commit_reply, rollback_reply, needless_commit_reply, needless_rollback_reply, start_reply, needless_start_reply, show_reply}
 use Rattle.block_machine.specs.Script.{Script, lost, ask, tell, unless_short, on_looked, on_defined, on_begun, on_listed, on_found, on_written, on_shown}
 use Rattle.block_machine.specs.declared.block.Block.{Block}
@@ -32,13 +33,12 @@ use Rattle.block_machine.specs.declared.block.Block.TheVariants.{Implicit, Regul
 use Rattle.block_machine.specs.declared.block.Owed.{Owed}
 use Rattle.block_machine.specs.declared.block.Owed.TheVariants as owes
 
--- What a statement stands in: the level that is served, and what follows it. Where it succeeded, that is by the block in which it
--- leaves the session and the tables that are then known; where it failed, by the state in which it leaves the session and these
--- tables; where its reply could not be sent, by what the session owes.
+-- What follows a statement. Where it succeeded, that is by the block in which it leaves the session and what the session then knows;
+-- where it failed, by the state in which it leaves the session and what the session then knows; where its reply could not be sent, by
+-- what the session owes.
 pub record Around : Type 0 where
-  pub level : Level
-  pub succeeded : Block → List Table → Script
-  pub failed : TransactionState → List Table → Script
+  pub succeeded : Block → Knowledge → Script
+  pub failed : TransactionState → Knowledge → Script
   pub broken : Owed → Script
 
 -- a pending transaction is rolled back before the session is closed
@@ -49,16 +49,16 @@ owed_in Regular = owes.Rollback
 owed_in Failed = owes.Close
 
 -- a statement that succeeds is told this reply
-abbrev pub succeeds : List ℕ → Block → List Table → Around → Script
+abbrev pub succeeds : List ℕ → Block → Knowledge → Around → Script
 succeeds reply block known around = tell reply (around.broken (owed_in block)) (around.succeeded block known)
 
 -- ErrorResponse, where no transaction is pending, and what follows a statement that failed
-abbrev pub refused_with : SqlState → TransactionState → List Table → Around → Script
+abbrev pub refused_with : SqlState → TransactionState → Knowledge → Around → Script
 refused_with code state known around = tell (error_reply code) (around.broken owes.Close) (around.failed state known)
 
 -- A statement that fails: the transaction that is pending is rolled back first, and then ErrorResponse is told. A regular block is then
 -- failed.
-abbrev pub fails : SqlState → Block → List Table → Around → Script
+abbrev pub fails : SqlState → Block → Knowledge → Around → Script
 fails code (Implicit false) known around = refused_with code ready.Idle known around
 fails code (Implicit true) known around = ask calls.Rollback (λ _. refused_with code ready.Idle known around)
 fails code Regular known around = ask calls.Rollback (λ _. refused_with code ready.Failed known around)
@@ -70,32 +70,33 @@ refusal_state (faults.Full limit) = states.S54000
 refusal_state faults.Memory = states.S53200
 
 -- a statement whose call was refused
-abbrev pub declined : Block → List Table → Around → BookFault → Script
+abbrev pub declined : Block → Knowledge → Around → BookFault → Script
 declined block known around why = fails (refusal_state why) block known around
 
--- a want of memory of the session itself, in a statement
-abbrev pub unless_short_in : Block → List Table → Around → Script → Script
+-- the session itself is out of memory in a statement
+abbrev pub unless_short_in : Block → Knowledge → Around → Script → Script
 unless_short_in block known around rest = unless_short false (fails states.S53200 block known around) rest
 
 -- ---- BEGIN, COMMIT, ROLLBACK: one for each block
 
--- BEGIN, and START TRANSACTION where the flag is true. A transaction that the message has begun goes on in the block.
-abbrev pub starts : Bool → Block → List Table → Around → Script
+-- BEGIN, and START TRANSACTION where the flag is true: a transaction at the session's level. One that the message has begun goes on in
+-- the block.
+abbrev pub starts : Bool → Block → Knowledge → Around → Script
 starts start (Implicit false) known around =
-    ask calls.Begin (λ a. on_begun a (succeeds (start_reply start) Regular known around) (declined (Implicit false) known around))
+    ask (calls.Begin known.level) (λ a. on_begun a (succeeds (start_reply start) Regular known around) (declined (Implicit false) known around))
 starts start (Implicit true) known around = succeeds (start_reply start) Regular known around
 starts start Regular known around = succeeds (needless_start_reply start) Regular known around
 starts start Failed known around = fails states.S25P02 Failed known around
 
 -- COMMIT, END. Of a failed block nothing is left to commit, and its reply is that of ROLLBACK.
-abbrev pub commits : Block → List Table → Around → Script
+abbrev pub commits : Block → Knowledge → Around → Script
 commits (Implicit false) known around = succeeds needless_commit_reply (Implicit false) known around
 commits (Implicit true) known around = ask calls.Commit (λ _. succeeds needless_commit_reply (Implicit false) known around)
 commits Regular known around = ask calls.Commit (λ _. succeeds commit_reply (Implicit false) known around)
 commits Failed known around = succeeds rollback_reply (Implicit false) known around
 
 -- ROLLBACK, ABORT
-abbrev pub rolls_back : Block → List Table → Around → Script
+abbrev pub rolls_back : Block → Knowledge → Around → Script
 rolls_back (Implicit false) known around = succeeds needless_rollback_reply (Implicit false) known around
 rolls_back (Implicit true) known around = ask calls.Rollback (λ _. succeeds needless_rollback_reply (Implicit false) known around)
 rolls_back Regular known around = ask calls.Rollback (λ _. succeeds rollback_reply (Implicit false) known around)
@@ -104,7 +105,7 @@ rolls_back Failed known around = succeeds rollback_reply (Implicit false) known 
 -- ---- CREATE TABLE
 
 -- A table that is built is defined at once, whatever becomes of the block. Where its name is taken the code is 42P07.
-abbrev pub defines : Result Table → Block → List Table → Around → Script
+abbrev pub defines : Result Table → Block → Knowledge → Around → Script
 defines (Err code) block known around = fails code block known around
 defines (Ok table) block known around =
     ask (calls.Define table) (λ a.
@@ -113,13 +114,13 @@ defines (Ok table) block known around =
 -- ---- SELECT, INSERT, UPDATE, DELETE
 
 -- what a statement comes to
-abbrev pub concludes : Outcome → Block → List Table → Around → Script
+abbrev pub concludes : Outcome → Block → Knowledge → Around → Script
 concludes (outcomes.Failed code) block known around = fails code block known around
 concludes outcome block known around = succeeds (outcome_reply outcome) block known around
 
--- A statement in its transaction asks for what its course demands, one call for each demand. A want of memory of the session itself may
--- stand behind each answer.
-abbrev pub runs : Course → Block → List Table → Around → Script
+-- A statement in its transaction asks for what its course demands, one call for each demand. The session itself may be out of memory
+-- after each answer.
+abbrev pub runs : Course → Block → Knowledge → Around → Script
 runs (scan table next) block known around =
     ask (calls.Scan table) (λ a.
     on_listed a (λ keys. unless_short_in block known around (runs (next keys) block known around)) (declined block known around))
@@ -131,83 +132,91 @@ runs (write cell value next) block known around =
     on_written a (unless_short_in block known around (runs next block known around)) (declined block known around))
 runs (done outcome) block known around = concludes outcome block known around
 
--- the same behind an answer, where memory may be wanting
-abbrev pub continues : Course → Block → List Table → Around → Script
+-- the same after an answer, where the session may be out of memory
+abbrev pub continues : Course → Block → Knowledge → Around → Script
 continues c block known around = unless_short_in block known around (runs c block known around)
 
--- A statement that runs: an implicit block begins its transaction where none is pending.
-abbrev pub begins : Course → Block → List Table → Around → Script
+-- A statement that runs: an implicit block begins its transaction, at the session's level, where none is pending.
+abbrev pub begins : Course → Block → Knowledge → Around → Script
 begins c (Implicit false) known around =
-    ask calls.Begin (λ a. on_begun a (continues c (Implicit true) known around) (declined (Implicit false) known around))
+    ask (calls.Begin known.level) (λ a. on_begun a (continues c (Implicit true) known around) (declined (Implicit false) known around))
 begins c (Implicit true) known around = runs c (Implicit true) known around
 begins c Regular known around = runs c Regular known around
 begins c Failed known around = fails states.S25P02 Failed known around
 
 -- a statement that has its types runs over the tables that are known
-abbrev pub judged : Result Typed → Block → List Table → Around → Script
-judged (Ok t) block known around = begins (course_of known t) block known around
+abbrev pub judged : Result Typed → Block → Knowledge → Around → Script
+judged (Ok t) block known around = begins (course_of known.tables t) block known around
 judged (Err code) block known around = fails code block known around
 
--- A statement is typed over the tables that are known behind its look. A want of memory in its typing forgets what the look showed.
-abbrev pub typed_over : Statement → Block → List Table → List Table → Around → Script
+-- A statement is typed over the tables that are known after its look. A session that is out of memory for its typing forgets what the
+-- look showed.
+abbrev pub typed_over : Statement → Block → Knowledge → List Table → Around → Script
 typed_over statement block known tables around =
-    unless_short_in block known around (judged (typed (known ++ tables) statement) block (known ++ tables) around)
+    unless_short_in block known around
+    (judged (typed (known.tables ++ tables) statement) block (with_tables known tables) around)
 
 -- A statement looks at the tables: the session is shown those that it doesn't know.
-abbrev pub looks : Statement → Block → List Table → Around → Script
+abbrev pub looks : Statement → Block → Knowledge → Around → Script
 looks statement block known around =
-    ask (calls.Look (length known)) (λ a.
+    ask (calls.Look (length known.tables)) (λ a.
     on_looked a (λ tables. typed_over statement block known tables around) (declined block known around))
 
--- the statement is kept meanwhile, for which memory may be wanting
-abbrev pub prepares : Statement → Block → List Table → Around → Script
+-- the statement is kept meanwhile, and the session may be out of memory for it
+abbrev pub prepares : Statement → Block → Knowledge → Around → Script
 prepares statement block known around = unless_short_in block known around (looks statement block known around)
 
 -- A SELECT without FROM is answered at once. It begins no transaction, and its course asks for nothing.
-abbrev pub at_once : Course → Block → List Table → Around → Script
+abbrev pub at_once : Course → Block → Knowledge → Around → Script
 at_once (done outcome) block known around = concludes outcome block known around
 at_once _ block known around = lost
 
-abbrev pub judged_at_once : Result Typed → Block → List Table → Around → Script
+abbrev pub judged_at_once : Result Typed → Block → Knowledge → Around → Script
 judged_at_once (Ok t) block known around = at_once (course_of [] t) block known around
 judged_at_once (Err code) block known around = fails code block known around
 
 -- a SELECT, given its FROM
-abbrev pub selects : List TableRef → Statement → Block → List Table → Around → Script
+abbrev pub selects : List TableRef → Statement → Block → Knowledge → Around → Script
 selects [] statement block known around =
     unless_short_in block known around (judged_at_once (typed [] statement) block known around)
 selects (entry ∷ more) statement block known around = prepares statement block known around
 
 -- ---- SET, SHOW
 
--- a setting of the server's own can't be set, and to set another one has no effect
-abbrev pub sets : List ℕ → Block → List Table → Around → Script
-sets name block known around = if is_own name then fails states.S0A000 block known around else succeeds set_reply block known around
+-- A SET of the level of the session's next transactions, given the level that its values choose. A running transaction keeps the level
+-- of its Begin, and no rollback undoes the SET.
+abbrev pub sets_level : Option Level → Block → Knowledge → Around → Script
+sets_level (Some level) block known around = succeeds set_reply block (with_level known level) around
+sets_level None block known around = fails states.S0A000 block known around
+
+-- Of the settings of the server's own the level alone can be set. To set another setting has no effect.
+abbrev pub sets : List ℕ → List (List ℕ) → Block → Knowledge → Around → Script
+sets name values block known around =
+    if bytes_eq name level_name then sets_level (chosen_level known.served values) block known around
+    else if is_own name then fails states.S0A000 block known around
+    else succeeds set_reply block known around
 
 -- a setting that isn't there is 0A000
-abbrev pub shows_value : List ℕ → Option (List ℕ) → Block → List Table → Around → Script
+abbrev pub shows_value : List ℕ → Option (List ℕ) → Block → Knowledge → Around → Script
 shows_value name None block known around = fails states.S0A000 block known around
 shows_value name (Some value) block known around = unless_short_in block known around (succeeds (show_reply name value) block known around)
 
 -- how many events the history has is asked of the book
-abbrev pub shows_history : Block → List Table → Around → Script
+abbrev pub shows_history : Block → Knowledge → Around → Script
 shows_history block known around =
     ask calls.Show (λ a.
     on_shown a (λ n. unless_short_in block known around (succeeds (show_reply history_name (decimal n)) block known around))
     (declined block known around))
 
-abbrev pub shows_at : Level → List ℕ → Block → List Table → Around → Script
-shows_at level name block known around =
+abbrev pub shows : List ℕ → Block → Knowledge → Around → Script
+shows name block known around =
     if bytes_eq name history_name then shows_history block known around
-    else shows_value name (value_of level name) block known around
-
-abbrev pub shows : List ℕ → Block → List Table → Around → Script
-shows name block known around = shows_at around.level name block known around
+    else shows_value name (value_of known.level name) block known around
 
 -- ---- all of them
 
 -- a statement outside a failed block
-abbrev pub performs : Statement → Block → List Table → Around → Script
+abbrev pub performs : Statement → Block → Knowledge → Around → Script
 performs (tree.Select select) block known around = selects select.from (tree.Select select) block known around
 performs (tree.Insert insert) block known around = prepares (tree.Insert insert) block known around
 performs (tree.Update update) block known around = prepares (tree.Update update) block known around
@@ -216,18 +225,18 @@ performs (tree.Create create) block known around = unless_short_in block known a
 performs (tree.Begin start) block known around = starts start block known around
 performs tree.Commit block known around = commits block known around
 performs tree.Rollback block known around = rolls_back block known around
-performs (tree.Set name values) block known around = sets name block known around
+performs (tree.Set name values) block known around = sets name values block known around
 performs tree.SetModes block known around = succeeds set_reply block known around
 performs (tree.Show name) block known around = shows name block known around
 
 -- a failed block takes its end alone
-abbrev pub in_failed : Statement → List Table → Around → Script
+abbrev pub in_failed : Statement → Knowledge → Around → Script
 in_failed tree.Commit known around = commits Failed known around
 in_failed tree.Rollback known around = rolls_back Failed known around
 in_failed _ known around = fails states.S25P02 Failed known around
 
 -- a statement, in the block in which it stands
-abbrev pub told_of : Statement → Block → List Table → Around → Script
+abbrev pub told_of : Statement → Block → Knowledge → Around → Script
 told_of statement (Implicit pending) known around = performs statement (Implicit pending) known around
 told_of statement Regular known around = performs statement Regular known around
 told_of statement Failed known around = in_failed statement known around

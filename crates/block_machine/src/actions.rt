@@ -12,23 +12,25 @@ ghost use Rattle.outcome_replies.specs.Replies.{CanBeTold};
 ghost use Rattle.statement_course.specs.declared.demand.Outcome.{Outcome as CameTo};
 ghost use Rattle.statement_course.specs.Statements.{course_of};
 ghost use Rattle.block_machine.specs.declared.call.Answer.{Answer};
+ghost use Rattle.block_machine.specs.Knowledge.{Knowledge, knowledge_in};
 ghost use Rattle.block_machine.specs.Script.{Said, Entry};
 ghost use Rattle.block_machine.specs.Replies.{show_reply};
 ghost use Rattle.block_machine.specs.Settings.{IsShown, history_name, value_of};
-ghost use Rattle.block_machine.specs.Statements.{Around, owed_in, succeeds, concludes, defines, prepares, at_once, judged_at_once, sets, shows_at, shows_value, performs, told_of};
+ghost use Rattle.block_machine.specs.Statements.{Around, owed_in, succeeds, concludes, defines, prepares, at_once, judged_at_once, sets, sets_level, shows, shows_value, performs, told_of};
 ghost use Rattle.block_machine.specs.Messages.{statements};
-ghost use Rattle.block_machine.specs.Stages.{IsScriptOf, LeadsTo, LeadsAt, TurnsTo, Advances, IsQuiet, IsBusy, IsRunning, IsSoundStage, IsSoundStatement, KnowsTables, NoBuilt, HasReply, owed_at, work_at};
+ghost use Rattle.block_machine.specs.Stages.{IsScriptAt, IsScriptOf, LeadsTo, TurnsTo, Advances, IsSameButLevel, IsQuiet, IsBusy, IsRunning, IsSoundStage, IsSoundStatement, KnowsTables, NoBuilt, HasReply, owed_at, work_at};
 
 use crate::block::Block;
 use crate::blocks::{commit, finish, refuse, roll_back, start};
 use crate::courses::conclude;
 use crate::kept::Kept;
+use crate::known::Known;
 use crate::replies::shown;
 use crate::reply::{Fixed, Reply};
-use crate::settings::{HISTORY, is_own, value_of};
+use crate::settings::{HISTORY, LEVEL, chosen_level, is_own, value_of};
 use crate::stage::Stage;
-use crate::step::{Step, calm, fail, or_short};
-use cell_base::{Level, Memory, SqlFault, SqlState, Text};
+use crate::step::{Step, calm, fail, or_short, tell};
+use cell_base::{Items, Level, Memory, SqlFault, SqlState, Text};
 use cell_compile::Plan;
 use itoa::Buffer;
 use sql_tree::{CreateTable, Statement, Typed};
@@ -44,7 +46,7 @@ fn define(alloc: Global, create: &CreateTable, block: Block) -> Result<Stage, Me
     ensures goes { IfOk result (λ stage. (built : List ℕ) → IsScriptOf (defines (table_built create.now) block) stage built) }
     ensures owed { IfOk result (λ stage. owed_at stage ≡ owed_in block) }
     ensures work { IfOk result (λ stage. work_at stage ≤ 4) }
-    ensures knows { IfOk result (λ stage. (known : List Defined) → KnowsTables stage known) }
+    ensures knows { IfOk result (λ stage. (tables : List Defined) → KnowsTables stage tables) }
     ensures silent { IfOk result (λ stage. IsRunning stage → ⊥) }
     ensures sound { IfOk result IsSoundStage }
     ensures busy { IfOk result IsBusy }
@@ -120,19 +122,43 @@ fn answer_alone(
     }
 }
 
-// The stage of a SET.
-fn set(name: &Text, block: Block) -> Stage
-    ensures goes { (built : List ℕ) → IsScriptOf (sets name.now block) result built }
+// The stage of a SET of the level, whose values choose this one.
+fn set_level(chosen: Option<Level>, block: Block, known: &mut Known) -> Stage
+    ensures goes { (built : List ℕ) →
+        IsScriptAt (sets_level chosen block (knowledge_in known.old)) result built (knowledge_in known.new) }
+    ensures known { IsSameButLevel (knowledge_in known.old) (knowledge_in known.new) }
     ensures owed { owed_at result ≡ owed_in block }
     ensures work { work_at result ≤ 3 }
     ensures quiet { IsQuiet result }
     ensures busy { IsBusy result }
     ensures constant { NoBuilt result }
 {
-    if is_own(name.as_str()) {
+    match chosen {
+        Some(level) => {
+            known.level = level;
+            tell(Fixed::Set, block)
+        }
+        None => fail(SqlState::S0A000, block),
+    }
+}
+
+// The stage of a SET.
+fn set(name: &Text, values: &Items<Text>, block: Block, known: &mut Known) -> Stage
+    ensures goes { (built : List ℕ) →
+        IsScriptAt (sets name.now values.now block (knowledge_in known.old)) result built (knowledge_in known.new) }
+    ensures known { IsSameButLevel (knowledge_in known.old) (knowledge_in known.new) }
+    ensures owed { owed_at result ≡ owed_in block }
+    ensures work { work_at result ≤ 3 }
+    ensures quiet { IsQuiet result }
+    ensures busy { IsBusy result }
+    ensures constant { NoBuilt result }
+{
+    if name.as_str() == LEVEL {
+        set_level(chosen_level(known.served, values.as_slice()), block, known)
+    } else if is_own(name.as_str()) {
         fail(SqlState::S0A000, block)
     } else {
-        Stage::Telling(Reply::Fixed(Fixed::Set), block)
+        tell(Fixed::Set, block)
     }
 }
 
@@ -159,7 +185,7 @@ fn tell_setting(
 
 // The step of a SHOW of another setting than the history.
 fn show_value(alloc: Global, level: Level, name: &str, block: Block, built: &mut Vec<u8>) -> Step
-    ensures goes { (known : List Defined) →
+    ensures goes { (known : Knowledge) →
         LeadsTo (shows_value name.now (value_of level name.now) block known) result.stage result.wanting built.new.items known }
     ensures owed { owed_at result.stage ≡ owed_in block }
     ensures work { work_at result.stage ≤ 3 }
@@ -174,9 +200,9 @@ fn show_value(alloc: Global, level: Level, name: &str, block: Block, built: &mut
 }
 
 // The step of a SHOW.
-fn show(alloc: Global, level: Level, name: &str, block: Block, built: &mut Vec<u8>) -> Step
-    ensures goes { (known : List Defined) →
-        LeadsTo (shows_at level name.now block known) result.stage result.wanting built.new.items known }
+fn show(alloc: Global, known: &Known, name: &str, block: Block, built: &mut Vec<u8>) -> Step
+    ensures goes { LeadsTo (shows name.now block (knowledge_in known.now))
+        result.stage result.wanting built.new.items (knowledge_in known.now) }
     ensures owed { owed_at result.stage ≡ owed_in block }
     ensures work { work_at result.stage ≤ 4 }
     ensures quiet { IsQuiet result.stage }
@@ -186,11 +212,11 @@ fn show(alloc: Global, level: Level, name: &str, block: Block, built: &mut Vec<u
     if name == HISTORY {
         calm(Stage::Showing(block))
     } else {
-        show_value(alloc, level, name, block, built)
+        show_value(alloc, known.level, name, block, built)
     }
 }
 
-// The stage of SHOW monkey.history behind its number.
+// The stage of SHOW monkey.history after its number.
 fn tell_history(alloc: Global, n: u32, block: Block, built: &mut Vec<u8>) -> Result<Stage, Memory>
     ensures goes { IfOk result (λ stage. IsScriptOf (succeeds (show_reply history_name (decimal n)) block) stage built.new.items) }
     ensures owed { IfOk result (λ stage. owed_at stage ≡ owed_in block) }
@@ -203,9 +229,9 @@ fn tell_history(alloc: Global, n: u32, block: Block, built: &mut Vec<u8>) -> Res
     tell_setting(alloc, HISTORY, buffer.format(n), block, built)
 }
 
-/// The step of SHOW monkey.history behind its number.
+/// The step of SHOW monkey.history after its number.
 pub fn show_history(alloc: Global, n: u32, block: Block, built: &mut Vec<u8>) -> Step
-    ensures goes { (known : List Defined) →
+    ensures goes { (known : Knowledge) →
         Advances (Stage.Showing block) known (Answer.Shown n) result.stage result.wanting built.new.items known }
     ensures owed { owed_at result.stage ≡ owed_in block }
     ensures work { work_at result.stage ≤ 3 }
@@ -219,19 +245,22 @@ pub fn show_history(alloc: Global, n: u32, block: Block, built: &mut Vec<u8>) ->
 // The step of a statement outside a failed block that doesn't look at the tables; none for one that does.
 fn act(
     alloc: Global,
-    level: Level,
     statement: &Statement,
     block: Block,
+    known: &mut Known,
     built: &mut Vec<u8>,
 ) -> Option<Step>
     requires { IsSoundStatement statement.now }
-    ensures goes { IfSome result (λ step. LeadsAt level (performs statement.now block) step.stage step.wanting built.new.items) }
-    ensures looks { IsNone result → (known : List Defined) (around : Around) (said : Said) (es : List Entry) →
-        performs statement.now block known around said es ≡ prepares statement.now block known around said es }
+    ensures goes { IfSome result (λ step. LeadsTo (performs statement.now block (knowledge_in known.old))
+        step.stage step.wanting built.new.items (knowledge_in known.new)) }
+    ensures known { IsSameButLevel (knowledge_in known.old) (knowledge_in known.new) }
+    ensures same { IsNone result → knowledge_in known.new ≡ knowledge_in known.old }
+    ensures looks { IsNone result → (it : Knowledge) (around : Around) (said : Said) (es : List Entry) →
+        performs statement.now block it around said es ≡ prepares statement.now block it around said es }
     ensures plain { IsNone result → HasPlainNames statement.now }
     ensures owed { IfSome result (λ step. owed_at step.stage ≡ owed_in block) }
     ensures work { IfSome result (λ step. work_at step.stage ≤ 4) }
-    ensures knows { IfSome result (λ step. (known : List Defined) → KnowsTables step.stage known) }
+    ensures knows { IfSome result (λ step. (tables : List Defined) → KnowsTables step.stage tables) }
     ensures silent { IfSome result (λ step. IsRunning step.stage → ⊥) }
     ensures sound { IfSome result (λ step. IsSoundStage step.stage) }
     ensures busy { IfSome result (λ step. IsBusy step.stage) }
@@ -247,9 +276,9 @@ fn act(
         Statement::Begin(flag) => Some(calm(start(*flag, block))),
         Statement::Commit => Some(calm(commit(block))),
         Statement::Rollback => Some(calm(roll_back(block))),
-        Statement::Set(name, _) => Some(calm(set(name, block))),
+        Statement::Set(name, values) => Some(calm(set(name, values, block, known))),
         Statement::SetModes => Some(calm(Stage::Telling(Reply::Fixed(Fixed::Set), block))),
-        Statement::Show(name) => Some(show(alloc, level, name.as_str(), block, built)),
+        Statement::Show(name) => Some(show(alloc, known, name.as_str(), block, built)),
     }
 }
 
@@ -263,22 +292,24 @@ fn keep(alloc: Global, statement: Statement, block: Block) -> Result<Stage, Memo
 // The step of a statement outside a failed block.
 fn perform(
     alloc: Global,
-    level: Level,
     statement: Statement,
     block: Block,
+    known: &mut Known,
     built: &mut Vec<u8>,
 ) -> Step
     requires { IsSoundStatement statement }
-    ensures goes { LeadsAt level (performs statement block) result.stage result.wanting built.new.items }
+    ensures goes { LeadsTo (performs statement block (knowledge_in known.old))
+        result.stage result.wanting built.new.items (knowledge_in known.new) }
+    ensures known { IsSameButLevel (knowledge_in known.old) (knowledge_in known.new) }
     ensures owed { owed_at result.stage ≡ owed_in block }
     ensures work { work_at result.stage ≤ 7 }
-    ensures knows { (known : List Defined) → KnowsTables result.stage known }
+    ensures knows { (tables : List Defined) → KnowsTables result.stage tables }
     ensures silent { IsRunning result.stage → ⊥ }
     ensures sound { IsSoundStage result.stage }
     ensures busy { IsBusy result.stage }
     ensures some { HasReply result.stage built.new.items }
 {
-    match act(alloc, level, &statement, block, built) {
+    match act(alloc, &statement, block, known, built) {
         Some(step) => step,
         None => or_short(keep(alloc, statement, block), block),
     }
@@ -287,16 +318,18 @@ fn perform(
 /// The step of a statement.
 pub fn take(
     alloc: Global,
-    level: Level,
     statement: Statement,
     block: Block,
+    known: &mut Known,
     built: &mut Vec<u8>,
 ) -> Step
     requires { IsSoundStatement statement }
-    ensures goes { LeadsAt level (told_of statement block) result.stage result.wanting built.new.items }
+    ensures goes { LeadsTo (told_of statement block (knowledge_in known.old))
+        result.stage result.wanting built.new.items (knowledge_in known.new) }
+    ensures known { IsSameButLevel (knowledge_in known.old) (knowledge_in known.new) }
     ensures owed { owed_at result.stage ≡ owed_in block }
     ensures work { work_at result.stage ≤ 7 }
-    ensures knows { (known : List Defined) → KnowsTables result.stage known }
+    ensures knows { (tables : List Defined) → KnowsTables result.stage tables }
     ensures silent { IsRunning result.stage → ⊥ }
     ensures sound { IsSoundStage result.stage }
     ensures busy { IsBusy result.stage }
@@ -304,32 +337,33 @@ pub fn take(
 {
     match block {
         Block::Failed => calm(refuse(&statement)),
-        Block::Implicit(_) | Block::Regular => perform(alloc, level, statement, block, built),
+        Block::Implicit(_) | Block::Regular => perform(alloc, statement, block, known, built),
     }
 }
 
 /// The step to the next statement, or to the end of the message.
 pub fn next_statement(
     alloc: Global,
-    level: Level,
     rest: &mut IntoIter<Statement>,
     block: Block,
+    known: &mut Known,
     built: &mut Vec<u8>,
 ) -> Step
     requires { All IsSoundStatement (into_iter_items rest.old) }
-    ensures goes { TurnsTo level (statements (into_iter_items rest.old) block)
-        result.stage result.wanting built.new.items (into_iter_items rest.new) }
+    ensures goes { TurnsTo (statements (into_iter_items rest.old) block (knowledge_in known.old))
+        result.stage result.wanting built.new.items (knowledge_in known.new) (into_iter_items rest.new) }
+    ensures known { IsSameButLevel (knowledge_in known.old) (knowledge_in known.new) }
     ensures rest { All IsSoundStatement (into_iter_items rest.new) }
     ensures owed { owed_at result.stage ≡ owed_in block }
     ensures work { work_at result.stage + 8 * length (into_iter_items rest.new) < 3 + 8 * length (into_iter_items rest.old) }
-    ensures knows { (known : List Defined) → KnowsTables result.stage known }
+    ensures knows { (tables : List Defined) → KnowsTables result.stage tables }
     ensures silent { IsRunning result.stage → ⊥ }
     ensures sound { IsSoundStage result.stage }
     ensures busy { IsBusy result.stage }
     ensures some { HasReply result.stage built.new.items }
 {
     match rest.next() {
-        Some(statement) => take(alloc, level, statement, block, built),
+        Some(statement) => take(alloc, statement, block, known, built),
         None => calm(finish(block)),
     }
 }

@@ -1,8 +1,8 @@
-// The steps of a message behind an answer or a reply, where no memory is needed for them.
-ghost use Rattle.std.specs.Prelude.{◌≡◌, ℕ, ◌<◌, ◌≤◌, List, [], length, false};
-ghost use Rattle.sql_tree.specs.declared.table.Table.{Table as Defined};
+// The steps of a message after an answer or a reply, where no memory is needed for them.
+ghost use Rattle.std.specs.Prelude.{◌≡◌, ℕ, ◌<◌, ◌≤◌, List, length, false};
 ghost use Rattle.block_machine.specs.Calls as calls;
 ghost use Rattle.block_machine.specs.Calls.{Call as Asked, IsWant};
+ghost use Rattle.block_machine.specs.Knowledge.{Knowledge};
 ghost use Rattle.block_machine.specs.Script.{ask};
 ghost use Rattle.block_machine.specs.Statements.{Around, fails, refused_with};
 ghost use Rattle.block_machine.specs.Stages.{block_of, Advances, FitsWant, IsPlain, IsQuiet, IsBusy, IsHolding, IsRunning, NoBuilt, wants, owed_at, owed_after, state_behind, work_at, running_at};
@@ -15,13 +15,13 @@ use crate::reply::Fixed;
 use crate::stage::{ErrorState, Stage};
 use crate::step::{fail, tell};
 use crate::want::Want;
-use cell_base::SqlState;
+use cell_base::{Level, SqlState};
 use history_core::DefineAnswer;
 use pg_framing::TransactionState;
 
-// The state of a block behind a statement that failed in it.
+// The state of a block after a statement that failed in it.
 fn failed(pending: Pending) -> ErrorState
-    ensures { (code : SqlState) (known : List Defined) (around : Around) →
+    ensures { (code : SqlState) (known : Knowledge) (around : Around) →
         fails code (block_of pending) known around ≡ ask calls.Rollback (λ a. refused_with code (state_behind result) known around) }
 {
     match pending {
@@ -30,12 +30,12 @@ fn failed(pending: Pending) -> ErrorState
     }
 }
 
-/// The stage behind the answer to a stage's call, where no memory is needed for it.
+/// The stage after the answer to a stage's call, where no memory is needed for it.
 pub fn advance(stage: &Stage, answer: &Answer) -> Stage
-    requires fits { FitsWant (wants stage.now []) answer.now }
+    requires fits { (known : Knowledge) × FitsWant (wants stage.now known) answer.now }
     requires plain { IsPlain stage.now answer.now }
-    ensures goes { (built : List ℕ) (known : List Defined) → Advances stage.now known answer.now result false built known }
-    ensures owed { (c : Asked) (known : List Defined) → wants stage.now known ≡ calls.Book c →
+    ensures goes { (built : List ℕ) (known : Knowledge) → Advances stage.now known answer.now result false built known }
+    ensures owed { (c : Asked) (known : Knowledge) → wants stage.now known ≡ calls.Book c →
         owed_at result ≡ owed_after c answer.now (owed_at stage.now) }
     ensures work { work_at result < work_at stage.now }
     ensures quiet { IsQuiet result }
@@ -65,9 +65,9 @@ pub fn advance(stage: &Stage, answer: &Answer) -> Stage
     }
 }
 
-/// What a stage wants, given how many tables are known.
-pub fn want_of(stage: &Stage, known: u32) -> Want
-    ensures want { (tables : List Defined) → length tables ≡ known → IsWant result (wants stage.now tables) }
+/// What a stage wants, given how many tables are known and the session's level.
+pub fn want_of(stage: &Stage, known: u32, level: Level) -> Want
+    ensures want { (it : Knowledge) → length it.tables ≡ known → it.level ≡ level → IsWant result (wants stage.now it) }
     ensures holding { result ≡ Want.Send → IsHolding stage.now }
     ensures running { result ≡ Want.Cells → IsRunning stage.now }
     ensures calm { (result ≡ Want.Cells → ⊥) → running_at stage.now ≡ 0 }
@@ -77,7 +77,7 @@ pub fn want_of(stage: &Stage, known: u32) -> Want
         Stage::Over(_) => Want::Nothing,
         Stage::Defining(_, _) => Want::Define,
         Stage::Looking(_, _) => Want::Book(Call::Look(known)),
-        Stage::Beginning(_) | Stage::Starting(_) => Want::Book(Call::Begin),
+        Stage::Beginning(_) | Stage::Starting(_) => Want::Book(Call::Begin(level)),
         Stage::Running(_, _) => Want::Cells,
         Stage::Showing(_) => Want::Book(Call::Show),
         Stage::Committing(_) | Stage::Finishing => Want::Book(Call::Commit),

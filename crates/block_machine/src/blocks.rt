@@ -1,7 +1,7 @@
 // The statements that begin and end blocks, and the end of a message.
 ghost use Rattle.std.specs.Prelude.{◌≡◌, ℕ, ◌≤◌, List, IfSome, IsNone};
-ghost use Rattle.sql_tree.specs.declared.table.Table.{Table as Defined};
 ghost use Rattle.sql_tree.specs.declared.statement.Statement.{Statement as Tree};
+ghost use Rattle.block_machine.specs.Knowledge.{Knowledge};
 ghost use Rattle.block_machine.specs.Script.{Said, Entry};
 ghost use Rattle.block_machine.specs.Replies.{fixed_reply, start_reply, needless_start_reply};
 ghost use Rattle.block_machine.specs.Statements.{owed_in, starts, commits, rolls_back, in_failed};
@@ -137,7 +137,7 @@ pub fn refuse(statement: &Statement) -> Stage
 
 /// The stage of the end of a message.
 pub fn finish(block: Block) -> Stage
-    ensures goes { (built : List ℕ) (known : List Defined) (more : List Tree) (outside : Outside) (said : Said) (es : List Entry) →
+    ensures goes { (built : List ℕ) (known : Knowledge) (more : List Tree) (outside : Outside) (said : Said) (es : List Entry) →
         ends block known outside said es ≡ goes_on result built known more outside said es }
     ensures owed { owed_at result ≡ owed_in block }
     ensures work { work_at result ≤ 2 }

@@ -1,5 +1,5 @@
 // The calls that a session makes of its book, and their answers.
-use cell_base::{Items, Key, Value};
+use cell_base::{Items, Key, Level, Value};
 use history_core::{BookFault, DefineAnswer};
 use sql_tree::Table;
 
@@ -12,8 +12,8 @@ pub enum Call {
     Close,
     /// A look at the tables, with the number of those that the session knows.
     Look(u32),
-    /// The begin of a transaction.
-    Begin,
+    /// The begin of a transaction, at this level.
+    Begin(Level),
     /// The commit of the pending transaction.
     Commit,
     /// The rollback of the pending transaction.

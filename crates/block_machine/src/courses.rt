@@ -1,5 +1,6 @@
-// A statement that reads or writes rows: its look, its typing, and its course behind each answer.
+// A statement that reads or writes rows: its look, its typing, and its course after each answer.
 ghost use Rattle.std.specs.Prelude.{◌≡◌, ℕ, ◌+◌, ◌<◌, ◌≤◌, ◌^◌, List, length, All, true, false, IfOk, IfErr};
+ghost use Rattle.cell_base.specs.declared.level.Level.{Level};
 ghost use Rattle.sql_tree.specs.declared.table.Table.{Table as Defined};
 ghost use Rattle.typing_rules.specs.Typed.{typed};
 ghost use Rattle.sound_table.specs.Sound.{IsSound};
@@ -14,6 +15,7 @@ ghost use Rattle.cell_compile.specs.Narrow.{AreNarrow};
 ghost use Rattle.cell_compile.specs.Plans.{rest_of, left_of};
 ghost use Rattle.block_machine.specs.Calls as calls;
 ghost use Rattle.block_machine.specs.Calls.{asks_cells, call_for};
+ghost use Rattle.block_machine.specs.Knowledge.{Knowledge, knowledge_in};
 ghost use Rattle.block_machine.specs.Statements.{owed_in, refusal_state, concludes, runs, begins, judged};
 ghost use Rattle.block_machine.specs.Stages.{IsScriptOf, IsScriptAt, Advances, Fits, IsQuiet, IsRunning, IsBusy, IsSoundStage, KnowsTables, IsKnownAfter, HasReply, owed_at, owed_after, work_at, running_at, left_at, answer_with};
 ghost use Rattle.block_machine.specs.Stages as stages_spec;
@@ -22,6 +24,7 @@ use crate::block::{Block, Owed, Pending};
 use crate::blocks::block_of;
 use crate::call::Answer;
 use crate::kept::Kept;
+use crate::known::Known;
 use crate::reply::Reply;
 use crate::stage::{Run, Stage};
 use crate::step::{Step, calm, fail, or_short, short};
@@ -78,7 +81,7 @@ pub fn settle(
     ensures owed { IfOk result (λ stage. owed_at stage ≡ Owed.Rollback) }
     ensures work { IfOk result (λ stage. work_at stage ≤ 4 + running_at stage) }
     ensures left { IfOk result (λ stage. left_at stage ≤ 1 + left_of plan) }
-    ensures knows { IfOk result (λ stage. (known : List Defined) → ReadsFirst (length known) (rest_of plan) → KnowsTables stage known) }
+    ensures knows { IfOk result (λ stage. (tables : List Defined) → ReadsFirst (length tables) (rest_of plan) → KnowsTables stage tables) }
     ensures sound { IfOk result IsSoundStage }
     ensures busy { IfOk result IsBusy }
     ensures some { IfOk result (λ stage. HasReply stage built.new.items) }
@@ -101,7 +104,7 @@ pub fn begin_course(
     ensures goes { IfOk result (λ stage. IsScriptOf (begins (rest_of plan) block) stage built.new.items) }
     ensures owed { IfOk result (λ stage. owed_at stage ≡ owed_in block) }
     ensures work { IfOk result (λ stage. work_at stage ≤ 6) }
-    ensures knows { IfOk result (λ stage. (known : List Defined) → ReadsFirst (length known) (rest_of plan) → KnowsTables stage known) }
+    ensures knows { IfOk result (λ stage. (tables : List Defined) → ReadsFirst (length tables) (rest_of plan) → KnowsTables stage tables) }
     ensures sound { IfOk result IsSoundStage }
     ensures busy { IfOk result IsBusy }
     ensures some { IfOk result (λ stage. HasReply stage built.new.items) }
@@ -114,7 +117,7 @@ pub fn begin_course(
     }
 }
 
-// The stage of a statement behind the answer to its demand.
+// The stage of a statement after the answer to its demand.
 fn go_on(
     alloc: Global,
     plan: Kept<Plan>,
@@ -129,8 +132,8 @@ fn go_on(
     ensures owed { IfOk result (λ stage. owed_at stage ≡ Owed.Rollback) }
     ensures work { IfOk result (λ stage. work_at stage ≤ 4 + running_at stage) }
     ensures left { IfOk result (λ stage. left_at stage ≤ left_of plan) }
-    ensures knows { IfOk result (λ stage. (known : List Defined) →
-        ReadsFirst (length known) (behind (rest_of plan) answer) → KnowsTables stage known) }
+    ensures knows { IfOk result (λ stage. (tables : List Defined) →
+        ReadsFirst (length tables) (behind (rest_of plan) answer) → KnowsTables stage tables) }
     ensures sound { IfOk result IsSoundStage }
     ensures busy { IfOk result IsBusy }
     ensures some { IfOk result (λ stage. HasReply stage built.new.items) }
@@ -157,7 +160,7 @@ fn answer_to_demand(answer: Answer) -> Result<PlanAnswer, BookFault>
     }
 }
 
-/// The step of a running statement behind the answer to its demand.
+/// The step of a running statement after the answer to its demand.
 pub fn pursue(
     alloc: Global,
     run: Run,
@@ -167,12 +170,12 @@ pub fn pursue(
 ) -> Step
     requires fits { Fits (call_for (first_demand (rest_of run.plan))) answer }
     requires told { EndsIn CanBeTold (rest_of run.plan) }
-    ensures goes { (known : List Defined) →
+    ensures goes { (known : Knowledge) →
         Advances (Stage.Running run pending) known answer result.stage result.wanting built.new.items known }
     ensures owed { owed_at result.stage ≡ Owed.Rollback }
     ensures work { work_at result.stage ≤ 4 + running_at result.stage }
     ensures left { left_at result.stage < 1 + left_of run.plan }
-    ensures knows { (known : List Defined) → ReadsFirst (length known) (rest_of run.plan) → KnowsTables result.stage known }
+    ensures knows { (tables : List Defined) → ReadsFirst (length tables) (rest_of run.plan) → KnowsTables result.stage tables }
     ensures sound { IsSoundStage result.stage }
     ensures busy { IsBusy result.stage }
     ensures some { HasReply result.stage built.new.items }
@@ -186,14 +189,14 @@ pub fn pursue(
     }
 }
 
-/// The step of a statement behind the answer to the begin of its transaction.
+/// The step of a statement after the answer to the begin of its transaction.
 pub fn start_course(alloc: Global, plan: Kept<Plan>, answer: Answer, built: &mut Vec<u8>) -> Step
-    requires fits { Fits calls.Begin answer }
+    requires fits { (level : Level) × Fits (calls.Begin level) answer }
     requires told { EndsIn CanBeTold (rest_of plan) }
-    ensures goes { (known : List Defined) → Advances (Stage.Beginning plan) known answer result.stage result.wanting built.new.items known }
-    ensures owed { owed_at result.stage ≡ owed_after calls.Begin answer Owed.Close }
+    ensures goes { (known : Knowledge) → Advances (Stage.Beginning plan) known answer result.stage result.wanting built.new.items known }
+    ensures owed { (level : Level) → owed_at result.stage ≡ owed_after (calls.Begin level) answer Owed.Close }
     ensures work { work_at result.stage ≤ 4 + running_at result.stage }
-    ensures knows { (known : List Defined) → ReadsFirst (length known) (rest_of plan) → KnowsTables result.stage known }
+    ensures knows { (tables : List Defined) → ReadsFirst (length tables) (rest_of plan) → KnowsTables result.stage tables }
     ensures sound { IsSoundStage result.stage }
     ensures busy { IsBusy result.stage }
     ensures some { HasReply result.stage built.new.items }
@@ -222,24 +225,26 @@ fn judge(
     alloc: Global,
     statement: &Statement,
     block: Block,
-    known: &[Table],
+    known: &Known,
     built: &mut Vec<u8>,
 ) -> Result<Stage, Memory>
-    requires few { length known.now < 2 ^ 32 }
-    requires tables { All IsSound known.now }
+    requires few { length known.now.tables.items < 2 ^ 32 }
+    requires tables { All IsSound known.now.tables.items }
     requires plain { HasPlainNames statement.now }
     ensures goes { IfOk result (λ stage.
-        IsScriptAt (judged (typed known.now statement.now) block known.now) stage built.new.items known.now) }
+        IsScriptAt (judged (typed known.now.tables.items statement.now) block (knowledge_in known.now))
+        stage built.new.items (knowledge_in known.now)) }
     ensures owed { IfOk result (λ stage. owed_at stage ≡ owed_in block) }
     ensures work { IfOk result (λ stage. work_at stage ≤ 6) }
-    ensures knows { IfOk result (λ stage. KnowsTables stage known.now) }
+    ensures knows { IfOk result (λ stage. KnowsTables stage known.now.tables.items) }
     ensures sound { IfOk result IsSoundStage }
     ensures busy { IfOk result IsBusy }
     ensures some { IfOk result (λ stage. HasReply stage built.new.items) }
 {
-    match typed(alloc, statement, known) {
+    let tables = known.tables.as_slice();
+    match typed(alloc, statement, tables) {
         Ok(t) => {
-            let plan = planned(alloc, t, known)?;
+            let plan = planned(alloc, t, tables)?;
             begin_course(alloc, plan, block, built)
         }
         Err(SqlFault::State(code)) => Ok(fail(code, block)),
@@ -247,40 +252,40 @@ fn judge(
     }
 }
 
-/// The step of a statement whose session was shown the tables that it didn't know. Where memory is wanting they are forgotten.
+/// The step of a statement whose session was shown the tables that it didn't know. Out of memory it forgets them.
 pub fn look(
     alloc: Global,
     statement: &Statement,
     block: Block,
-    known: &mut Vec<Table>,
+    known: &mut Known,
     tables: Items<Table>,
     built: &mut Vec<u8>,
 ) -> Step
-    requires few { length known.old.items + length tables < 2 ^ 32 }
-    requires sound { All IsSound known.old.items }
+    requires few { length known.old.tables.items + length tables < 2 ^ 32 }
+    requires sound { All IsSound known.old.tables.items }
     requires more { All IsSound tables }
     requires plain { HasPlainNames statement.now }
-    ensures goes { Advances (Stage.Looking statement.now block) known.old.items (Answer.Looked tables)
-        result.stage result.wanting built.new.items known.new.items }
-    ensures known { IsKnownAfter known.old.items (Answer.Looked tables) known.new.items }
-    ensures few { length known.new.items < 2 ^ 32 }
-    ensures tables { All IsSound known.new.items }
+    ensures goes { Advances (Stage.Looking statement.now block) (knowledge_in known.old) (Answer.Looked tables)
+        result.stage result.wanting built.new.items (knowledge_in known.new) }
+    ensures known { IsKnownAfter (knowledge_in known.old) (Answer.Looked tables) (knowledge_in known.new) }
+    ensures few { length known.new.tables.items < 2 ^ 32 }
+    ensures tables { All IsSound known.new.tables.items }
     ensures owed { owed_at result.stage ≡ owed_in block }
     ensures work { work_at result.stage ≤ 6 }
-    ensures knows { KnowsTables result.stage known.new.items }
+    ensures knows { KnowsTables result.stage known.new.tables.items }
     ensures sound { IsSoundStage result.stage }
     ensures busy { IsBusy result.stage }
     ensures some { HasReply result.stage built.new.items }
 {
-    let before = known.len();
+    let before = known.tables.len();
     let mut tables = tables.into_vec();
-    if known.append(&mut tables).is_err() {
+    if known.tables.append(&mut tables).is_err() {
         return short(block);
     }
-    match judge(alloc, statement, block, known.as_slice(), built) {
+    match judge(alloc, statement, block, known, built) {
         Ok(stage) => calm(stage),
         Err(Memory) => {
-            known.truncate(before);
+            known.tables.truncate(before);
             short(block)
         }
     }

@@ -3,7 +3,8 @@
 //! A [`Runner`] takes a message (its statements, or the code with which it can't be read), asks for the calls of its statements,
 //! takes their answers, and hands out replies until the message is done. What a message asks for and is told stands in
 //! `specs/Statements` and `specs/Messages`, as scripts over what became of it; each step of the runner is one step of a script,
-//! whatever follows the message.
+//! whatever follows the message. What the session knows, as the tables that it was shown and the level of its transactions, is handed on
+//! through all of it.
 #![tactic(auto)]
 
 mod actions;
@@ -15,6 +16,7 @@ mod courses;
 mod end;
 mod errors;
 mod kept;
+mod known;
 mod message;
 mod prepared;
 mod reading;

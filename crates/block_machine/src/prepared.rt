@@ -1,4 +1,4 @@
-// The replies that a message may need, made before it needs them, so that no want of memory stands between a call and the
+// The replies that a message may need, made before it needs them, so that the session is never out of memory between a call and the
 // reply that tells it.
 ghost use Rattle.std.specs.Prelude.{◌≡◌, codes, true, false};
 ghost use Rattle.block_machine.specs.Replies.{ready_reply, error_reply, empty_reply, created_reply, set_reply, start_reply, needless_start_reply, commit_reply, needless_commit_reply, rollback_reply, needless_rollback_reply, fixed_reply, bytes_of};

@@ -1,6 +1,6 @@
 // The replies to statements that succeed.
 
-/// A reply that is known beforehand: CommandComplete with the tag of a statement, behind a NoticeResponse where the statement wasn't
+/// A reply that is known beforehand: CommandComplete with the tag of a statement, after a NoticeResponse where the statement wasn't
 /// needed, or EmptyQueryResponse.
 #[derive(Clone, Copy, Debug, PartialEq, Eq)]
 pub enum Fixed {

@@ -1,20 +1,22 @@
-// The statements of a session's messages as a machine: answers come in, calls and replies go out. It keeps the tables that the
-// session was shown, and what its running statement needs.
+// The statements of a session's messages as a machine: answers come in, calls and replies go out. It keeps what the session knows, and
+// what its running statement needs.
 ghost use Rattle.std.specs.Prelude.{◌≡◌, ℕ, ◌+◌, ◌*◌, ◌<◌, ◌≤◌, ◌^◌, List, [], ◌∷◌, length, All, true, IfOk, IfSome, IsNone};
 ghost use Rattle.sql_tree.specs.declared.table.Table.{Table as Defined};
 ghost use Rattle.sound_table.specs.Sound.{IsSound};
 ghost use Rattle.history_core.specs.declared.event.Event.{Event};
 ghost use Rattle.block_machine.specs.Calls as calls;
 ghost use Rattle.block_machine.specs.Calls.{Call as Asked, IsWant, asks_cells, call_for};
+ghost use Rattle.block_machine.specs.Knowledge.{at_start};
 ghost use Rattle.block_machine.specs.Script.{Said, Entry, call as asking, with_call, tell};
 ghost use Rattle.block_machine.specs.Messages.{Outside, message as told, owed_between};
 ghost use Rattle.block_machine.specs.Statements.{owed_in};
-ghost use Rattle.block_machine.specs.Stages.{FitsWant, IsFrom, IsHolding, IsKnownAfter, IsBusy, IsRunning, IsSoundMessage, IsSoundStage, IsSoundStatement, KnowsTables, HasReply, after_reply, entry_for, least, left_at, length_of, owed_after, owed_at, running_at, with_short};
+ghost use Rattle.block_machine.specs.Stages.{FitsWant, IsFrom, IsHolding, IsKnownAfter, IsSameButLevel, IsBusy, IsRunning, IsSoundMessage, IsSoundStage, IsSoundStatement, KnowsTables, HasReply, entry_for, least, left_at, length_of, owed_after, owed_at, running_at, with_short};
 
 use crate::advance::want_of;
 use crate::block::{Block, Owed};
 use crate::blocks::{block_at, owed_between};
 use crate::call::Answer;
+use crate::known::Known;
 use crate::message::Message;
 use crate::prepared::Prepared;
 use crate::stage::Stage;
@@ -32,13 +34,12 @@ use std::vec::IntoIter;
 #[derive(Debug, Drop)]
 pub struct Runner {
     alloc: Global,
-    level: Level,
     prepared: Prepared,
     built: Vec<u8>,
-    known: Vec<Table>,
+    known: Known,
     rest: IntoIter<Statement>,
     stage: Stage,
-    ghost few: { length known.items < 2 ^ 32 },
+    ghost few: { length known.tables.items < 2 ^ 32 },
 }
 
 // What a session owes its book in a block.
@@ -66,21 +67,23 @@ fn owed_of(stage: &Stage) -> Owed
 }
 
 impl Runner {
-    ghost use Rattle.block_machine.specs.Runners.{statements_of, follows, wanted, held, work_of};
+    ghost use Rattle.block_machine.specs.Runners.{knowledge_of, tables_of, statements_of, follows, behind, wanted, held, work_of};
 
-    /// Runs no message yet, and knows no tables.
+    /// Runs no message yet, and knows no tables. Its transactions are at this level, the level of the server, until a SET chooses another.
     pub fn new(alloc: Global, level: Level) -> Result<Runner, Memory>
         ensures stage { IfOk result (λ r. r.stage ≡ Stage.Over TransactionState.Idle) }
-        ensures known { IfOk result (λ r. r.known.items ≡ []) }
-        ensures level { IfOk result (λ r. r.level ≡ level) }
+        ensures known { IfOk result (λ r. knowledge_of r ≡ at_start level) }
         ensures rest { IfOk result (λ r. All IsSoundStatement (statements_of r)) }
     {
         Ok(Runner {
             alloc,
-            level,
             prepared: Prepared::new(alloc)?,
             built: Vec::new(alloc),
-            known: Vec::new(alloc),
+            known: Known {
+                tables: Vec::new(alloc),
+                level,
+                served: level,
+            },
             rest: Vec::new(alloc).into_iter(),
             stage: Stage::Over(TransactionState::Idle),
         })
@@ -96,7 +99,11 @@ impl Runner {
         ensures asks { (c : Asked) (outside : Outside) (said : Said) → wanted self.now ≡ calls.Book c →
             follows self.now outside said [] ≡ (said, asking c) }
     {
-        want_of(&self.stage, self.known.len() as u32)
+        want_of(
+            &self.stage,
+            self.known.tables.len() as u32,
+            self.known.level,
+        )
     }
 
     /// The table that is to be defined.
@@ -130,8 +137,7 @@ impl Runner {
         ensures held { result.now ≡ held self.now }
         // The reply is what the script tells next.
         ensures tells { (outside : Outside) (said : Said) (es : List Entry) → follows self.now outside said es ≡
-            tell (held self.now) (outside.broken (owed_at self.now.stage))
-            (after_reply self.now.stage self.now.known.items (statements_of self.now) outside) said es }
+            tell (held self.now) (outside.broken (owed_at self.now.stage)) (behind self.now outside) said es }
     {
         match &self.stage {
             Stage::Telling(reply, _) => self.prepared.bytes(self.built.as_slice(), *reply),
@@ -141,18 +147,17 @@ impl Runner {
         }
     }
 
-    /// Begins with a message that finds the session in this state. Answers whether memory was wanting.
+    /// Begins with a message that finds the session in this state. Answers whether the session was out of memory.
     pub fn begin(&mut self, message: Message, state: TransactionState) -> bool
         requires { IsSoundMessage message }
         ensures goes { (outside : Outside) (said : Said) (es : List Entry) →
-            outside.level ≡ self.old.level → IsFrom 1 (length said.bytes) es →
-            told message state self.old.known.items outside said (with_short result said.bytes es) ≡ follows self.new outside said es }
-        ensures level { self.new.level ≡ self.old.level }
-        ensures known { self.new.known.items ≡ self.old.known.items }
+            IsFrom 1 (length said.bytes) es →
+            told message state (knowledge_of self.old) outside said (with_short result said.bytes es) ≡ follows self.new outside said es }
+        ensures known { IsSameButLevel (knowledge_of self.old) (knowledge_of self.new) }
         ensures rest { All IsSoundStatement (statements_of self.new) }
         ensures owed { owed_at self.new.stage ≡ owed_between state }
         ensures work { work_of self.new ≤ 8 + 8 * length_of message }
-        ensures knows { KnowsTables self.new.stage self.new.known.items }
+        ensures knows { KnowsTables self.new.stage (tables_of self.new) }
         ensures silent { IsRunning self.new.stage → ⊥ }
         ensures sound { IsSoundStage self.new.stage }
         ensures busy { IsBusy self.new.stage }
@@ -161,35 +166,34 @@ impl Runner {
         let block = block_at(state);
         let step = begin_message(
             self.alloc,
-            self.level,
             message,
             &mut self.rest,
             block,
+            &mut self.known,
             &mut self.built,
         );
         self.stage = step.stage;
         step.wanting
     }
 
-    /// Takes the answer to the call that is wanted. Answers whether memory was wanting.
+    /// Takes the answer to the call that is wanted. Answers whether the session was out of memory.
     pub fn answer(&mut self, answer: Answer) -> bool
         requires fits { FitsWant (wanted self.old) answer }
-        requires tables { All IsSound self.old.known.items }
+        requires tables { All IsSound (tables_of self.old) }
         requires sound { IsSoundStage self.old.stage }
         ensures goes { (c : Asked) (outside : Outside) (said : Said) (es : List Entry) (e : Event) →
             wanted self.old ≡ calls.Book c → IsFrom 1 (length said.bytes) es →
             follows self.old outside said (entry_for answer e ∷ with_short result said.bytes es)
             ≡ follows self.new outside (with_call said c) es }
-        ensures level { self.new.level ≡ self.old.level }
-        ensures known { IsKnownAfter self.old.known.items answer self.new.known.items }
+        ensures known { IsKnownAfter (knowledge_of self.old) answer (knowledge_of self.new) }
         ensures rest { statements_of self.new ≡ statements_of self.old }
         ensures owed { (c : Asked) → wanted self.old ≡ calls.Book c →
             owed_at self.new.stage ≡ owed_after c answer (owed_at self.old.stage) }
         ensures work { work_of self.new < work_of self.old + running_at self.new.stage }
         ensures left { IsRunning self.old.stage → left_at self.new.stage < left_at self.old.stage }
-        ensures knows { KnowsTables self.old.stage self.old.known.items → KnowsTables self.new.stage self.new.known.items }
+        ensures knows { KnowsTables self.old.stage (tables_of self.old) → KnowsTables self.new.stage (tables_of self.new) }
         ensures sound { IsSoundStage self.new.stage }
-        ensures tables { All IsSound self.new.known.items }
+        ensures tables { All IsSound (tables_of self.new) }
         ensures busy { IsBusy self.new.stage }
         ensures some { HasReply self.new.stage self.new.built.items }
     {
@@ -199,29 +203,27 @@ impl Runner {
         step.wanting
     }
 
-    /// The reply was sent. Answers whether memory was wanting for what follows it.
+    /// The reply was sent. Answers whether the session was out of memory for what follows it.
     pub fn sent(&mut self) -> bool
         requires holding { IsHolding self.old.stage }
         requires rest { All IsSoundStatement (statements_of self.old) }
         ensures goes { (outside : Outside) (said : Said) (es : List Entry) →
-            outside.level ≡ self.old.level → IsFrom (least self.new.stage) (length said.bytes) es →
-            after_reply self.old.stage self.old.known.items (statements_of self.old) outside said (with_short result said.bytes es)
-            ≡ follows self.new outside said es }
-        ensures level { self.new.level ≡ self.old.level }
-        ensures known { self.new.known.items ≡ self.old.known.items }
+            IsFrom (least self.new.stage) (length said.bytes) es →
+            behind self.old outside said (with_short result said.bytes es) ≡ follows self.new outside said es }
+        ensures known { IsSameButLevel (knowledge_of self.old) (knowledge_of self.new) }
         ensures rest { All IsSoundStatement (statements_of self.new) }
         ensures owed { owed_at self.new.stage ≡ owed_at self.old.stage }
         ensures work { work_of self.new < work_of self.old }
-        ensures knows { KnowsTables self.new.stage self.new.known.items }
+        ensures knows { KnowsTables self.new.stage (tables_of self.new) }
         ensures silent { IsRunning self.new.stage → ⊥ }
         ensures sound { IsSoundStage self.new.stage }
         ensures some { HasReply self.new.stage self.new.built.items }
     {
         let step = next_step(
             self.alloc,
-            self.level,
             &self.stage,
             &mut self.rest,
+            &mut self.known,
             &mut self.built,
         );
         self.stage = step.stage;
@@ -231,13 +233,12 @@ impl Runner {
     /// Begins with a message that finds the session in this state and fails before its first statement, with this code.
     pub fn refuse(&mut self, code: SqlState, state: TransactionState)
         ensures goes { (outside : Outside) (said : Said) (es : List Entry) →
-            told (Message.Unread code) state self.old.known.items outside said es ≡ follows self.new outside said es }
-        ensures level { self.new.level ≡ self.old.level }
-        ensures known { self.new.known.items ≡ self.old.known.items }
+            told (Message.Unread code) state (knowledge_of self.old) outside said es ≡ follows self.new outside said es }
+        ensures known { knowledge_of self.new ≡ knowledge_of self.old }
         ensures rest { All IsSoundStatement (statements_of self.new) }
         ensures owed { owed_at self.new.stage ≡ owed_between state }
         ensures work { work_of self.new ≤ 8 }
-        ensures knows { KnowsTables self.new.stage self.new.known.items }
+        ensures knows { KnowsTables self.new.stage (tables_of self.new) }
         ensures silent { IsRunning self.new.stage → ⊥ }
         ensures sound { IsSoundStage self.new.stage }
         ensures busy { IsBusy self.new.stage }

@@ -1,11 +1,14 @@
 // The settings that SET and SHOW name.
 ghost use Rattle.std.specs.Prelude.{◌≡◌, ◌≤◌, length, Some, None, IfSome, IsNone};
-ghost use Rattle.block_machine.specs.Settings.{IsShown, is_own, history_name, level_word, parameter_value, value_of};
+ghost use Rattle.block_machine.specs.Settings.{IsShown, is_own, level_word, level_named, chosen_level, parameter_value, value_of};
 
-use cell_base::Level;
+use cell_base::{Level, Text};
 
 /// The setting whose value is the number of events of the history.
 pub const HISTORY: &str = "monkey.history";
+
+/// The setting whose value is the level of the session's next transactions.
+pub const LEVEL: &str = "monkey.level";
 
 /// Whether a setting is one of the server's own.
 pub fn is_own(name: &str) -> bool
@@ -23,6 +26,37 @@ fn level_word(level: Level) -> &'static str
         Level::Rc => "rc",
         Level::Ra => "ra",
         Level::Cc => "cc",
+    }
+}
+
+// The level with this word.
+fn level_named(word: &str) -> Option<Level>
+    ensures { result ≡ level_named word.now }
+{
+    if word == "rc" {
+        Some(Level::Rc)
+    } else if word == "ra" {
+        Some(Level::Ra)
+    } else if word == "cc" {
+        Some(Level::Cc)
+    } else {
+        None
+    }
+}
+
+/// The level that the values of a SET choose, given the level of the server.
+pub fn chosen_level(served: Level, values: &[Text]) -> Option<Level>
+    ensures { result ≡ chosen_level served values.now }
+{
+    match values {
+        [value] => {
+            if value.as_str() == "default" {
+                Some(served)
+            } else {
+                level_named(value.as_str())
+            }
+        }
+        _ => None,
     }
 }
 
@@ -45,13 +79,13 @@ fn parameter_value(name: &str) -> Option<&'static str>
     }
 }
 
-/// The value of a setting but for the history's; none where there is no such setting.
+/// The value of a setting but for the history's, given the session's level; none where there is no such setting.
 pub fn value_of(level: Level, name: &str) -> Option<&'static str>
     ensures some { IfSome result (λ value. value_of level name.now ≡ Some value.now) }
     ensures none { IsNone result → value_of level name.now ≡ None }
     ensures shown { IfSome result (λ value. IsShown name.now × (length value.now ≤ 64)) }
 {
-    if name == "monkey.level" {
+    if name == LEVEL {
         Some(level_word(level))
     } else {
         parameter_value(name)

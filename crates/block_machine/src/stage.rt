@@ -50,7 +50,7 @@ pub enum Stage {
     Committing(Fixed),
     /// ROLLBACK rolls back, and is then told this reply.
     RollingBack(Fixed),
-    /// The reply to a statement is held, behind which the next statement follows in this block.
+    /// The reply to a statement is held, after which the next statement follows in this block.
     Telling(Reply, Block),
     /// The rollback of a statement that failed with this code.
     Undoing(SqlState, Pending),

@@ -1,6 +1,7 @@
-// A step of a message, and how a want of memory becomes the failure of a statement.
+// A step of a message, and how a statement fails that is out of memory.
 ghost use Rattle.std.specs.Prelude.{◌≡◌, ℕ, ◌+◌, ◌≤◌, List, true, false, IfOk};
 ghost use Rattle.sql_tree.specs.declared.table.Table.{Table as Defined};
+ghost use Rattle.block_machine.specs.Knowledge.{Knowledge};
 ghost use Rattle.block_machine.specs.Script.{Script};
 ghost use Rattle.block_machine.specs.Statements.{Around, owed_in, fails, unless_short_in};
 ghost use Rattle.block_machine.specs.Stages.{IsScriptAt, IsScriptOf, LeadsTo, IsQuiet, IsRunning, IsBusy, IsSoundStage, KnowsTables, NoBuilt, HasReply, owed_at, work_at, running_at, left_at};
@@ -10,14 +11,14 @@ use crate::reply::{Fixed, Reply};
 use crate::stage::{ErrorState, Stage};
 use cell_base::{Memory, SqlState};
 
-/// A stage, and whether memory was wanting on the way to it.
+/// A stage, and whether the session was out of memory on the way to it.
 #[derive(Debug, Drop)]
 pub struct Step {
     pub stage: Stage,
     pub wanting: bool,
 }
 
-/// The step to a stage for which memory wasn't wanting.
+/// The step to a stage for which there was memory.
 pub fn calm(stage: Stage) -> Step
     ensures { result ≡ record { stage = stage; wanting = false } }
 {
@@ -51,9 +52,9 @@ pub fn fail(code: SqlState, block: Block) -> Stage
     }
 }
 
-/// The step of a statement for which memory was wanting.
+/// The step of a statement that is out of memory.
 pub fn short(block: Block) -> Step
-    ensures goes { (script : Around → Script) (built : List ℕ) (known : List Defined) →
+    ensures goes { (script : Around → Script) (built : List ℕ) (known : Knowledge) →
         LeadsTo (λ around. unless_short_in block known around (script around)) result.stage result.wanting built known }
     ensures owed { owed_at result.stage ≡ owed_in block }
     ensures work { work_at result.stage ≤ 3 }
@@ -67,9 +68,9 @@ pub fn short(block: Block) -> Step
     }
 }
 
-/// The step to a stage, or that of a statement for which memory was wanting.
+/// The step to a stage, or that of a statement that is out of memory.
 pub fn or_short(stage: Result<Stage, Memory>, block: Block) -> Step
-    ensures goes { (script : Around → Script) (built : List ℕ) (known : List Defined) →
+    ensures goes { (script : Around → Script) (built : List ℕ) (known : Knowledge) →
         IfOk stage (λ it. IsScriptAt script it built known) →
         LeadsTo (λ around. unless_short_in block known around (script around)) result.stage result.wanting built known }
     ensures owed { IfOk stage (λ it. owed_at it ≡ owed_in block) → owed_at result.stage ≡ owed_in block }
@@ -80,7 +81,7 @@ pub fn or_short(stage: Result<Stage, Memory>, block: Block) -> Step
     ensures quiet { IfOk stage IsQuiet → IsQuiet result.stage }
     ensures busy { IfOk stage IsBusy → IsBusy result.stage }
     ensures sound { IfOk stage IsSoundStage → IsSoundStage result.stage }
-    ensures knows { (known : List Defined) → IfOk stage (λ it. KnowsTables it known) → KnowsTables result.stage known }
+    ensures knows { (tables : List Defined) → IfOk stage (λ it. KnowsTables it tables) → KnowsTables result.stage tables }
     ensures some { (built : List ℕ) → IfOk stage (λ it. HasReply it built) → HasReply result.stage built }
 {
     match stage {

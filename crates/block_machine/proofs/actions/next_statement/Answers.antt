@@ -1,6 +1,7 @@
 use Rattle.std.proofs.Common.{◌≡◌, ◌∷◌, All, subst}
 use Rattle.std.proofs.lemmas.List.Elements.{All-tail}
 use Rattle.std.specs.Vec.Iter.{into_iter_items}
+use Rattle.block_machine.specs.Knowledge.{knowledge_in}
 use Rattle.block_machine.specs.Stages.{IsSoundStatement}
 use Rattle.block_machine.proofs.Pursuing.{calm_some}
 use Rattle.block_machine.proofs.Wanting.{turns_more}
@@ -8,7 +9,7 @@ use Rattle.block_machine.proofs.actions.next_statement.Goals as goal
 
 pub returns-in-Some-clause-goes : goal.returns-in-Some-clause-goes
 returns-in-Some-clause-goes c =
-    turns_more c.args.level c.in-Some.statement (into_iter_items c.args.rest.now) (into_iter_items c.next.new.self) c.args.block c.take.result.stage c.take.result.wanting c.take.new.built.items
+    turns_more c.in-Some.statement (into_iter_items c.args.rest.now) (into_iter_items c.next.new.self) c.args.block (knowledge_in c.args.known.now) (knowledge_in c.take.new.known) c.take.result.stage c.take.result.wanting c.take.new.built.items
     c.in-Some.ensures.cases.0 c.take.ensures.busy c.take.ensures.goes
 
 pub returns-in-Some-clause-rest : goal.returns-in-Some-clause-rest

@@ -5,6 +5,7 @@ use Rattle.block_machine.specs.declared.reply.Fixed.TheVariants as fixed
 use Rattle.block_machine.specs.declared.reply.Reply.TheVariants as replies
 use Rattle.block_machine.specs.declared.stage.Stage.{Stage}
 use Rattle.block_machine.specs.declared.stage.Stage.TheVariants as stages
+use Rattle.block_machine.specs.Knowledge.{knowledge_in}
 use Rattle.block_machine.specs.Stages.{HasReply, IsSoundStatement}
 use Rattle.block_machine.proofs.Holding.{holding_some}
 use Rattle.block_machine.proofs.Turning.{opens_more, stage_calm}
@@ -12,8 +13,8 @@ use Rattle.block_machine.proofs.turns.open.Goals as goal
 
 pub returns-in-Some-clause-goes : goal.returns-in-Some-clause-goes
 returns-in-Some-clause-goes c =
-    opens_more c.args.level c.in-Some.statement (into_iter_items c.args.rest.now) (into_iter_items c.next.new.self) c.args.block
-    c.take.result.stage c.take.result.wanting c.take.new.built.items
+    opens_more c.in-Some.statement (into_iter_items c.args.rest.now) (into_iter_items c.next.new.self) c.args.block
+    (knowledge_in c.args.known.now) (knowledge_in c.take.new.known) c.take.result.stage c.take.result.wanting c.take.new.built.items
     c.in-Some.ensures.cases.0 c.take.ensures.busy c.take.ensures.goes
 
 pub returns-in-Some-clause-rest : goal.returns-in-Some-clause-rest
