@@ -212,7 +212,7 @@ message_tells _ built known rest outside said es h = absurd h
 holding_tells : (stage : Stage) (r : Runner) (startup : List ℕ) (talk : Talk) (said : Said) (es : List Entry) → IsHolding stage r →
     goes_on stage r startup talk said es ≡ tell (reply_of stage r startup) (broken (owed_at stage r)) (after_reply stage r talk) said es
 holding_tells stages.Running r startup talk said es h = message_tells r.stage r.built.items r.known.items (statements_of r)
-    (outside_of (level_of r) (on r talk)) said es h
+    (outside_of (on talk)) said es h
 holding_tells (stages.Telling reply) r startup talk said es h = refl
 holding_tells (stages.Parting fatal) r startup talk said es h = refl
 holding_tells _ r startup talk said es h = absurd h
@@ -350,7 +350,7 @@ unfolding told
 StandsFor-new r startup none = record {
   whole = λ talk. talk;
   heard = λ bytes talk fed h. h;
-  goes = λ talk es from. ap (λ (known : List Table). on r talk phases.Startup known (record { bytes = []; calls = [] }) es) (sym none);
+  goes = λ talk es from. ap (λ (known : List Table). on talk phases.Startup known (record { bytes = []; calls = [] }) es) (sym none);
   waits = λ other is. nothing_waits;
   some = λ h. absurd h;
 }

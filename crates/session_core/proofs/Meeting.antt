@@ -129,7 +129,7 @@ meets_sync state r = inl (record { asked = sync; says = tt; busy = tt; passing =
 
 pub meets_extended : (step : Extended) (state : TransactionState) (stage : Stage) (r : Runner) → IsBusy stage →
     ((startup : List ℕ) (talk : Talk) (said : Said) (es : List Entry) →
-    refuses (level_of r) state (known_of r) (on r talk) said es ≡ goes_on stage r startup talk said es) →
+    refuses state (knowledge_of r) (on talk) said es ≡ goes_on stage r startup talk said es) →
     Meets (fronts.Extended step) (phases.Normal state) r stage r None
 meets_extended step state stage r busy goes =
     inl (record { asked = extended; says = tt; busy = busy; passing = tt; goes = λ startup talk said es from. goes startup talk said es })

@@ -82,7 +82,7 @@ Steps-entered phase r before after front stage next wanting takes started enters
   );
   goes = λ startup talk said es from.
       unless_short-over wanting (ending (owed_by phase) ends.Memory)
-      (handled (level_of r) enters.asked phase (known_of r) (on r talk)) said es enters.passing
+      (handled (level_of r) enters.asked phase (known_of r) (on talk)) said es enters.passing
       (at_one stage (length said.bytes) es enters.busy from)
       ∙ enters.goes startup talk said es (at_one stage (length said.bytes) es enters.busy from);
   waits = λ other is. absurd (subst IsBusy is enters.busy);
@@ -102,7 +102,7 @@ Steps-skipped phase r before after front takes started skips = record {
   );
   goes = λ startup talk said es from.
       ap (λ (x : Script). unless_short true (ending (owed_by phase) ends.Memory) x said es)
-      (skips.goes (level_of r) (known_of r) (on r talk))
+      (skips.goes (level_of r) (known_of r) (on talk))
       ∙ session-again (level_of r) phase (known_of r) talk said es;
   waits = λ other is. absurd (cc is);
 }

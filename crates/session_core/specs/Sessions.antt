@@ -22,7 +22,7 @@ abbrev pub StandsShort : Session → List ℕ → List Entry → List Call → L
 StandsShort s taken es asked sent = (added : List Entry) × IsShort sent added × Stands s taken (es ++ added) asked sent
 
 abbrev pub level_of : Session → Level
-level_of s = runners.level_of s.runner
+level_of s = served_of s.runner
 
 abbrev pub wanted : Session → Want
 wanted s = stands.wants s.stage s.runner
