@@ -4,6 +4,7 @@ ghost use Rattle.history_core.specs.Chronicle.{IsLegalChronicle};
 ghost use Rattle.history_core.specs.Book.{Past, no_session};
 ghost use Rattle.link_traits.specs.Traffic.{Sight, sight_of};
 ghost use Rattle.block_machine.specs.Calls.{Call as Asked};
+ghost use Rattle.block_machine.specs.Knowledge.{at_start};
 ghost use Rattle.block_machine.specs.Script.{Entry, has_short};
 ghost use Rattle.block_machine.specs.Runners.{knowledge_of, tables_of};
 ghost use Rattle.session_core.specs.declared.phase.Phase.TheVariants as phases;
@@ -12,7 +13,7 @@ ghost use Rattle.session_core.specs.Wants as wishes;
 ghost use Rattle.session_core.specs.Wants.{IsOver};
 ghost use Rattle.session_core.specs.Talk.{Talk};
 ghost use Rattle.session_core.specs.Told.{opened_in};
-ghost use Rattle.session_core.specs.Stands.{IsFit, IsLast};
+ghost use Rattle.session_core.specs.Stands.{IsFit, IsLast, served_of};
 ghost use Rattle.session_core.specs.Sessions.{Stands, wanted};
 ghost use Rattle.session_core.specs.Serve.{Sits, Ran, Serves};
 

@@ -6,6 +6,7 @@ ghost use Rattle.sound_table.specs.Sound.{IsSound};
 ghost use Rattle.history_core.specs.declared.event.Event.{Event};
 ghost use Rattle.block_machine.specs.Calls.{Call as Asked, asks_cells, call_for};
 ghost use Rattle.block_machine.specs.Calls as calls;
+ghost use Rattle.block_machine.specs.Knowledge.{at_start};
 ghost use Rattle.block_machine.specs.Script.{Entry, Said, call as asking, unsent, stop as stopped, has_short};
 ghost use Rattle.block_machine.specs.Messages.{Outside};
 ghost use Rattle.block_machine.specs.Stages.{IsKnownAfter, IsSameButLevel, entry_for, owed_after};
@@ -14,7 +15,7 @@ ghost use Rattle.block_machine.specs.declared.runner.Runner.{Runner as Machine};
 ghost use Rattle.session_core.specs.Wants as wishes;
 ghost use Rattle.session_core.specs.Wants.{IsWant};
 ghost use Rattle.session_core.specs.Told.{opened_in};
-ghost use Rattle.session_core.specs.Stands.{FitsWant, InPhase, IsFit, IsHolding, IsLast, IsStopped, IsUnder, Lacks, Shows, Tells, left_at, message_at, message_work, outer, owed_at, reply_of, statement_at, wants, work_at};
+ghost use Rattle.session_core.specs.Stands.{FitsWant, InPhase, IsFit, IsHolding, IsLast, IsStopped, IsUnder, Lacks, Shows, Tells, left_at, message_at, message_work, outer, owed_at, reply_of, served_of, statement_at, wants, work_at};
 
 use crate::answers::{after_sent, answered, is_want, number_after, owed_holding};
 use crate::messages::{feed_piece, take_message};

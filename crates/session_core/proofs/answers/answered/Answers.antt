@@ -27,7 +27,6 @@ returns-in_default c =
       work = omega (arith, own.work);
       message = λ running. absurd (c.in_default.not-Running running);
       left = λ running. absurd (c.in_default.not-Running running);
-      level = refl;
       known = own.known c.args.runner.now;
       fit = c.requires.fit;
       under = own.under c.args.runner.now;
