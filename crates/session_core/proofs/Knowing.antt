@@ -1,8 +1,6 @@
 -- What changes in what a session knows: the level of the server never does, and the tables by a look alone.
-use Rattle.std.proofs.Common.{◌≡◌, List, refl, sym, ap, subst, inl, inr}
-use Rattle.cell_base.specs.declared.level.Level.{Level}
-use Rattle.sql_tree.specs.declared.table.Table.{Table}
-use Rattle.block_machine.specs.Knowledge.{Knowledge, with_level}
+use Rattle.std.proofs.Common.{◌≡◌, ap, inl, inr}
+use Rattle.block_machine.specs.Knowledge.{Knowledge}
 use Rattle.block_machine.specs.Stages.{IsKnownAfter, IsSameButLevel}
 use Rattle.block_machine.specs.declared.call.Answer.{Answer}
 use Rattle.block_machine.specs.declared.call.Answer.TheVariants as answers
@@ -17,6 +15,3 @@ pub served_answered : (known : Knowledge) (a : Answer) (after : Knowledge) → I
 served_answered known (answers.Looked tables) after (inl same) = ap (λ (k : Knowledge). k.served) same
 served_answered known (answers.Looked tables) after (inr more) = ap (λ (k : Knowledge). k.served) more
 served_answered known _ after same = ap (λ (k : Knowledge). k.served) same
-
-pub all_kept : (known after : Knowledge) → after ≡ known → IsSameButLevel known after
-all_kept known after same = subst (λ (k : Knowledge). k ≡ with_level known k.level) (sym same) refl

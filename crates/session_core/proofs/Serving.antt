@@ -12,7 +12,7 @@ use Rattle.block_machine.specs.Calls.{Call}
 use Rattle.block_machine.specs.Calls as calls
 use Rattle.block_machine.specs.Script.{Entry, ended, short, unsent, stop, more, has_short}
 use Rattle.block_machine.specs.Stages.{entry_for}
-use Rattle.block_machine.specs.Runners.{knowledge_of, tables_of, wanted}
+use Rattle.block_machine.specs.Runners.{tables_of, wanted}
 use Rattle.block_machine.specs.declared.block.Owed.TheVariants as owes
 use Rattle.block_machine.specs.declared.call.Answer.{Answer}
 use Rattle.block_machine.specs.declared.end.End.{End}

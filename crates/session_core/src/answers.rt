@@ -6,7 +6,7 @@ ghost use Rattle.block_machine.specs.Runners.{Runs, knowledge_of};
 ghost use Rattle.block_machine.specs.declared.runner.Runner.{Runner as Machine};
 ghost use Rattle.session_core.specs.Told.{opened_after};
 ghost use Rattle.session_core.specs.Wants as wishes;
-ghost use Rattle.session_core.specs.Stands.{FitsWant, HasReply, InPhase, IsAwake, IsFit, IsHolding, IsLast, IsUnder, Lacks, NoBuilt, left_at, message_at, message_work, outer, own_want, owed_at, statement_at, wants, work_at};
+ghost use Rattle.session_core.specs.Stands.{FitsWant, HasReply, InPhase, IsAwake, IsFit, IsHolding, IsLast, IsUnder, Lacks, left_at, message_at, message_work, outer, own_want, owed_at, statement_at, wants, work_at};
 ghost use Rattle.session_core.specs.Steps.{Advances, Sends};
 
 use crate::messages::passing;

@@ -1,5 +1,5 @@
 // The stages that messages lead to.
-ghost use Rattle.std.specs.Prelude.{◌≡◌, ◌≢◌, ℕ, ◌+◌, ◌*◌, ◌<◌, ◌≤◌, ◌^◌, List, [], length, Bool, true, false, None, Some};
+ghost use Rattle.std.specs.Prelude.{◌≡◌, ◌≢◌, ℕ, ◌+◌, ◌*◌, ◌<◌, ◌≤◌, ◌^◌, List, length, Bool, true, false, None, Some};
 ghost use Rattle.cell_base.specs.Texts.{HasNoZero};
 ghost use Rattle.client_framing.specs.Spelling.{phase_after};
 ghost use Rattle.block_machine.specs.Messages as blocks;

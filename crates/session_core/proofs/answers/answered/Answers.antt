@@ -1,5 +1,5 @@
 -- What is left to show of `answered`.
-use Rattle.std.proofs.Common.{refl, sym, subst, arith}
+use Rattle.std.proofs.Common.{sym, subst, arith}
 use Rattle.session_core.specs.declared.stage.Stage.{Stage}
 use Rattle.session_core.specs.Stands.{HasReply}
 use Rattle.session_core.specs.Steps.{Advances}

@@ -1,7 +1,5 @@
-use Rattle.block_machine.specs.Runners.{knowledge_of}
 use Rattle.session_core.specs.Told.{outside_of}
 use Rattle.session_core.specs.Stands.{on}
-use Rattle.session_core.proofs.Knowing.{all_kept}
 use Rattle.session_core.proofs.messages.fail.Goals as goal
 
 pub returns-clause-goes : goal.returns-clause-goes

@@ -22,7 +22,7 @@ returns-clause-grown c =
             c.take_message-step.result.stage c.take_message-step.result.wanting
             (subst (λ (x : Stage). StandsFor x c.args.self.now.runner c.args.self.now.startup.items c.args.self.now.frames taken es asked
             sent) c.phase_taking-phase.ensures s.stage)
-            c.take_message-step.ensures.goes 
+            c.take_message-step.ensures.goes
             (served_kept (knowledge_of c.args.self.now.runner) (knowledge_of c.take_message-step.new.runner)
             c.take_message-step.ensures.leads.known)
             (c.take_message-step.ensures.leads.some c.args.self.now.startup.items);
