@@ -1,6 +1,5 @@
 // The program.
-ghost use Rattle.std.specs.Prelude.{◌≡◌, ℕ, List, ◌⊎◌, IfOk, IfSome, IsSome, Some, None};
-ghost use Rattle.monkey_server.specs.Command.{IsPipe};
+ghost use Rattle.std.specs.Prelude.{◌≡◌, IsSome, Some, None};
 ghost use Rattle.monkey_server.specs.Program.{hosted_of, no_past, status_of, ServesAlone, Pipes, Misused, Does};
 ghost use Rattle.link_traits.specs.Traffic.{sight_of};
 

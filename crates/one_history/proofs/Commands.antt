@@ -1,10 +1,10 @@
 -- The words of a command line say one command.
-use Rattle.std.proofs.Common.{◌≡◌, ℕ, List, [], ◌∷◌, ◌++◌, refl, sym, ◌∙◌, ap, subst}
+use Rattle.std.proofs.Common.{◌≡◌, ℕ, List, [], ◌∷◌, refl, sym, ◌∙◌, ap, subst}
 use Rattle.std.specs.Prelude.{codes}
 use Rattle.cell_base.specs.declared.level.Level.{Level}
 use Rattle.cell_base.specs.declared.level.Level.TheVariants.{Rc, Ra, Cc}
 use Rattle.block_machine.specs.Settings.{level_word}
-use Rattle.monkey_server.specs.Command.{number_of, IsWord, Lists, IsPipe}
+use Rattle.monkey_server.specs.Command.{number_of, Lists, IsPipe}
 use Rattle.monkey_server.proofs.Commas.{no_comma_from, cut_same}
 use Rattle.monkey_server.proofs.Words.{word_has_no_comma, holds_comma}
 

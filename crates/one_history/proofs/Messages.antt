@@ -1,5 +1,5 @@
 -- A message's script agrees with itself where what stands outside does.
-use Rattle.std.proofs.Common.{◌≡◌, true, false, List, [], ◌∷◌}
+use Rattle.std.proofs.Common.{true, false, List, [], ◌∷◌}
 use Rattle.pg_framing.specs.declared.replies.TransactionState.{TransactionState}
 use Rattle.pg_framing.specs.declared.replies.TransactionState.TheVariants as ready
 use Rattle.sql_tree.specs.declared.statement.Statement.{Statement}

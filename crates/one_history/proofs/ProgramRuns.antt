@@ -1,10 +1,10 @@
 -- Two runs of the program with the same words and the same input, which end well or by their client's fault, are alike.
-use Rattle.std.proofs.Common.{◌≡◌, inl, inr, ◌⊎◌, ℕ, ◌<◌, ◌≤◌, List, [], ◌∷◌, ◌++◌, Option, Some, arith, refl, sym, ◌∙◌, ap, subst}
+use Rattle.std.proofs.Common.{◌≡◌, inl, inr, ℕ, ◌<◌, ◌≤◌, List, Option, Some, arith, refl, sym, ◌∙◌, ap, subst}
 use Rattle.std.specs.Prelude.{IfSome}
 use Rattle.cell_base.specs.declared.level.Level.{Level}
 use Rattle.link_traits.specs.Traffic.{Sight}
 use Rattle.monkey_server.specs.Command.{IsPipe}
-use Rattle.monkey_server.specs.Program.{Hosted, Piped, Linkless, Untouched, Misused, Prints, Pipes, Does}
+use Rattle.monkey_server.specs.Program.{Hosted, Piped, Untouched, Prints, Pipes, Does}
 use Rattle.one_history.specs.Laws.{ProgramRunsAreAlike}
 use Rattle.one_history.proofs.Commands.{pipe_same}
 use Rattle.one_history.proofs.PipedRuns.{piped_runs}

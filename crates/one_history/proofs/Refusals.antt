@@ -94,6 +94,7 @@ one_refusal m n c x y begun same one two =
         m.seen.events ≡ n.seen.events → limit_of m.seen.initial m.seen.events ≡ limit_of n.seen.initial n.seen.events
     both_same m n limit_of begun same =
         ap (λ (cells : List (Cell × Value)). limit_of cells m.seen.events) begun ∙ ap (λ (es : List Event). limit_of n.seen.initial es) same
+
     limits_same : (m n : Past) (c : Call) → m.seen.initial ≡ n.seen.initial → m.seen.events ≡ n.seen.events → limit_for m c ≡ limit_for n c
     limits_same m n calls.Open begun same = both_same m n (λ cells es. full_for cells es (Open 0)) begun same
     limits_same m n (calls.Define t) begun same = both_same m n (λ cells es. full_for cells es (Define 0 t.name)) begun same

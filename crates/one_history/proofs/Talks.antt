@@ -17,7 +17,7 @@ use Rattle.block_machine.specs.Calls as calls
 use Rattle.block_machine.specs.Knowledge.{Knowledge}
 use Rattle.block_machine.specs.Script.{Entry, did, refused, short, unsent, stop, Next, more, ended, Said, Script, lost, on_opened, tell}
 use Rattle.block_machine.specs.Messages as messages
-use Rattle.block_machine.specs.Messages.{Outside, owed_between, block_at, IsMessage}
+use Rattle.block_machine.specs.Messages.{owed_between, block_at, IsMessage}
 use Rattle.block_machine.specs.declared.block.Owed.TheVariants as owes
 use Rattle.block_machine.specs.declared.end.End.{End}
 use Rattle.block_machine.specs.declared.end.End.TheVariants as ends

@@ -117,7 +117,13 @@ const FAILED_BLOCK: Row = Row {
         b"C\0\0\0\x0dROLLBACK\0",
         READY,
     ],
-    events: &["open 1", "define 1 x74", "begin 1 rc", "rollback 1", "close 1"],
+    events: &[
+        "open 1",
+        "define 1 x74",
+        "begin 1 rc",
+        "rollback 1",
+        "close 1",
+    ],
     end: End::Terminated,
     session: Some(1),
 };
