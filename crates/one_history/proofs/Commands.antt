@@ -1,9 +1,9 @@
 -- The words of a command line say one command.
 use Rattle.std.proofs.Common.{◌≡◌, ℕ, List, [], ◌∷◌, refl, sym, ◌∙◌, ap, subst}
-use Rattle.std.specs.Prelude.{codes}
+use Rattle.std.specs.Prelude.{codes, Some}
 use Rattle.cell_base.specs.declared.level.Level.{Level}
 use Rattle.cell_base.specs.declared.level.Level.TheVariants.{Rc, Ra, Cc}
-use Rattle.block_machine.specs.Settings.{level_word}
+use Rattle.block_machine.specs.Settings.{level_word, level_named}
 use Rattle.monkey_server.specs.Command.{number_of, Lists, IsPipe}
 use Rattle.monkey_server.proofs.Commas.{no_comma_from, cut_same}
 use Rattle.monkey_server.proofs.Words.{word_has_no_comma, holds_comma}
@@ -22,17 +22,14 @@ lists_same text (n ∷ (q ∷ qs)) (m ∷ (p ∷ ps)) (a, b, e, is, lists) (c, d
     let tail : q ∷ qs ≡ p ∷ ps = lists_same b (q ∷ qs) (p ∷ ps) lists (subst (λ (t : List ℕ). Lists t (p ∷ ps)) (sym r.1) more) in
     ap (λ (x : ℕ). x ∷ (q ∷ qs)) head ∙ ap (λ (xs : List ℕ). m ∷ xs) tail
 
--- a word names one level
+-- the word of a level names it
+named_by : (level : Level) → level_named (level_word level) ≡ Some level
+named_by Rc = refl
+named_by Ra = refl
+named_by Cc = refl
+
 level_same : (a b : Level) → level_word a ≡ level_word b → a ≡ b
-level_same Rc Rc e = refl
-level_same Rc Ra e = cc
-level_same Rc Cc e = cc
-level_same Ra Rc e = cc
-level_same Ra Ra e = refl
-level_same Ra Cc e = cc
-level_same Cc Rc e = cc
-level_same Cc Ra e = cc
-level_same Cc Cc e = refl
+level_same a b e = let both : Some a ≡ Some b = sym (named_by a) ∙ ap level_named e ∙ named_by b in cc
 
 pub pipe_same : (args : List (List ℕ)) (a b : Level) (words others : List ℕ) → IsPipe args a words → IsPipe args b others →
     (a ≡ b) × (words ≡ others)
