@@ -1,5 +1,6 @@
 -- A statement's steps after answers.
 use Rattle.std.proofs.Common.{◌≡◌, ℕ, Bool, true, List, ◌++◌, length, sym, ◌∙◌, ap, subst, false, Result, IfOk}
+use Rattle.cell_base.specs.declared.level.Level.{Level}
 use Rattle.cell_base.specs.declared.memory.Memory.{Memory}
 use Rattle.history_core.specs.declared.fault.BookFault.{BookFault}
 use Rattle.sql_tree.specs.declared.statement.Statement.{Statement}
@@ -15,6 +16,8 @@ use Rattle.block_machine.specs.Calls.{Call, asks_cells, call_for}
 use Rattle.block_machine.specs.Calls as calls
 use Rattle.block_machine.specs.declared.block.Block.{Block}
 use Rattle.block_machine.specs.declared.block.Block.TheVariants.{Implicit}
+use Rattle.block_machine.specs.declared.block.Owed.{Owed}
+use Rattle.block_machine.specs.declared.block.Owed.TheVariants as owes
 use Rattle.block_machine.specs.declared.block.Pending.{Pending}
 use Rattle.block_machine.specs.declared.call.Answer.{Answer}
 use Rattle.block_machine.specs.declared.call.Answer.TheVariants as answers
@@ -25,7 +28,7 @@ use Rattle.block_machine.specs.Knowledge.{Knowledge, with_tables}
 use Rattle.block_machine.specs.Script.{Said, Entry, with_call}
 use Rattle.block_machine.specs.Statements.{refusal_state, fails, unless_short_in, concludes, runs, judged}
 use Rattle.block_machine.specs.Messages.{Outside, before}
-use Rattle.block_machine.specs.Stages.{IsScriptAt, IsScriptOf, LeadsTo, Advances, answer_with, block_of, goes_on, with_short}
+use Rattle.block_machine.specs.Stages.{IsScriptAt, IsScriptOf, LeadsTo, Advances, answer_with, block_of, goes_on, owed_after, owed_at, wants, with_short}
 use Rattle.block_machine.proofs.Answered.{runs_answered, runs_refused}
 
 book_is : (d c : Call) → calls.Book d ≡ calls.Book c → d ≡ c
@@ -63,6 +66,14 @@ pub begin_advances : (plan : Plan) (n : ℕ) (next : Stage) (w : Bool) (built : 
     Advances (stages.Beginning plan) known (answers.Begun n) next w built known
 begin_advances plan n next w built known goes c unbuilt more outside said es e wants_c from =
     goes more outside (with_call said (calls.Begin known.level)) es from ∙ said_call (calls.Begin known.level) c next built known more outside said es wants_c
+
+-- what is owed after it
+pub begin_owed : (stage : Stage) (plan : Plan) (known : Knowledge) (answer : Answer) (c : Call) (owed : Owed) → stage ≡ stages.Beginning plan →
+    ((level : Level) → owed ≡ owed_after (calls.Begin level) answer owes.Close) → wants stage known ≡ calls.Book c → owed ≡ owed_after c answer (owed_at stage)
+begin_owed stage plan known answer c owed is begun wanted =
+    subst (λ (s : Stage). wants s known ≡ calls.Book c → owed ≡ owed_after c answer (owed_at s)) (sym is)
+    (λ asked. subst (λ (x : Call). owed ≡ owed_after x answer owes.Close) (book_is (calls.Begin known.level) c asked) (begun known.level))
+    wanted
 
 -- a look
 pub look_advances : (statement : Statement) (block : Block) (known : Knowledge) (tables : List Table) (next : Stage) (w : Bool) (built : List ℕ) (after : Knowledge) →

@@ -242,7 +242,8 @@ abbrev pub IsKnownAfter : Knowledge → Answer → Knowledge → Type 0
 IsKnownAfter known (answers.Looked tables) after = (after ≡ known) ⊎ (after ≡ with_tables known tables)
 IsKnownAfter known _ after = after ≡ known
 
--- what the session knows after a message began or a reply was sent: a SET alone changes it, and no more of it than the level
+-- What the session knows after a message began or a reply was sent is the same, but for the level, which a SET may have changed: how, the
+-- scripts say.
 abbrev pub IsSameButLevel : Knowledge → Knowledge → Type 0
 IsSameButLevel known after = after ≡ with_level known after.level
 

@@ -1,5 +1,6 @@
 // A statement that reads or writes rows: its look, its typing, and its course after each answer.
 ghost use Rattle.std.specs.Prelude.{◌≡◌, ℕ, ◌+◌, ◌<◌, ◌≤◌, ◌^◌, List, length, All, true, false, IfOk, IfErr};
+ghost use Rattle.cell_base.specs.declared.level.Level.{Level};
 ghost use Rattle.sql_tree.specs.declared.table.Table.{Table as Defined};
 ghost use Rattle.typing_rules.specs.Typed.{typed};
 ghost use Rattle.sound_table.specs.Sound.{IsSound};

@@ -1,7 +1,8 @@
 use Rattle.std.proofs.Common.{sym, subst}
 use Rattle.block_machine.specs.declared.stage.Stage.{Stage}
 use Rattle.block_machine.specs.Knowledge.{knowledge_in}
-use Rattle.block_machine.specs.Stages.{Advances}
+use Rattle.block_machine.specs.Stages.{Advances, owed_at}
+use Rattle.block_machine.proofs.Advancing.{begin_owed}
 use Rattle.block_machine.proofs.Wanting.{not_running}
 use Rattle.block_machine.proofs.turns.answered.Goals as goal
 
@@ -10,6 +11,11 @@ returns-in-Beginning-clause-goes c =
     subst (λ (x : Stage). Advances x (knowledge_in c.args.known.now) c.args.answer c.start_course.result.stage c.start_course.result.wanting
     c.start_course.new.built.items (knowledge_in c.args.known.now)) (sym c.in-Beginning.is)
     (c.start_course.ensures.goes (knowledge_in c.args.known.now))
+
+pub returns-in-Beginning-clause-owed : goal.returns-in-Beginning-clause-owed
+returns-in-Beginning-clause-owed c = λ k wanted.
+    begin_owed c.args.stage c.in-Beginning.plan (knowledge_in c.args.known.now) c.args.answer k (owed_at c.start_course.result.stage)
+    c.in-Beginning.is c.start_course.ensures.owed wanted
 
 pub returns-in-Running-clause-goes : goal.returns-in-Running-clause-goes
 returns-in-Running-clause-goes c =
