@@ -39,4 +39,5 @@ pub use reading::read_message;
 pub use ready::ReadyReplies;
 pub use replies::error;
 pub use runner::Runner;
+pub use settings::level_named;
 pub use want::Want;

@@ -29,8 +29,8 @@ fn level_word(level: Level) -> &'static str
     }
 }
 
-// The level with this word.
-fn level_named(word: &str) -> Option<Level>
+/// The level with this word.
+pub fn level_named(word: &str) -> Option<Level>
     ensures { result ≡ level_named word.now }
 {
     if word == "rc" {

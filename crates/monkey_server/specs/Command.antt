@@ -1,5 +1,7 @@
 -- The words of the command line.
 use Rattle.std.specs.Prelude.{◌≡◌, ◌≤◌, ◌<◌, ◌+◌, ◌*◌, ◌-◌, ℕ, List, [], ◌∷◌, ◌++◌, length, codes, All, fold}
+use Rattle.cell_base.specs.declared.level.Level.{Level}
+use Rattle.block_machine.specs.Settings.{level_word}
 
 abbrev pub IsDigit : ℕ → Type 0
 IsDigit c = (48 ≤ c) × (c ≤ 57)
@@ -21,6 +23,6 @@ Lists text [] = ⊥
 Lists text (n ∷ []) = IsWord text n
 Lists text (n ∷ (m ∷ more)) = (front : List ℕ) × (rest : List ℕ) × (text ≡ front ++ 44 ∷ rest) × IsWord front n × Lists rest (m ∷ more)
 
--- `pipe rc WORDS`
-abbrev pub IsPipe : List (List ℕ) → List ℕ → Type 0
-IsPipe args words = (list : List ℕ) × (args ≡ codes "pipe" ∷ codes "rc" ∷ list ∷ []) × Lists list words
+-- `pipe LEVEL WORDS`
+abbrev pub IsPipe : List (List ℕ) → Level → List ℕ → Type 0
+IsPipe args level words = (list : List ℕ) × (args ≡ codes "pipe" ∷ level_word level ∷ list ∷ []) × Lists list words

@@ -1,6 +1,6 @@
 -- What the program does in a host.
 use Rattle.std.specs.Prelude.{◌≡◌, ℕ, List, [], ◌∷◌, ◌++◌, codes, Option, None, Some, IfSome, Bool, true, false, ◌⊎◌}
-use Rattle.cell_base.specs.declared.level.Level.TheVariants.{Rc}
+use Rattle.cell_base.specs.declared.level.Level.{Level}
 use Rattle.link_traits.specs.Faults.{Rose}
 use Rattle.link_traits.specs.Traffic.{Both, Wrote, WrotePart, Sight}
 use Rattle.link_traits.specs.Host.{HostCall, standard_link_called}
@@ -39,13 +39,13 @@ hosted_of calls back out objects_out link_faults next_link host = record {
 abbrev pub usage_line : List ℕ
 usage_line = codes "usage: monkeydb pipe LEVEL WORDS | serve [OPTIONS] | check PATH | sim LEVEL SEED SESSIONS QUERIES" ++ 10 ∷ []
 
--- the past of a book at Read Committed that has no event
-abbrev pub no_past : Past
-no_past = record { seen = record { level = Rc; events = []; tables = [] }; own = []; state = no_session }
+-- the past of a book at a level that has no row at first and no event
+abbrev pub no_past : Level → Past
+no_past level = record { seen = record { level = level; initial = []; events = []; tables = [] }; own = []; state = no_session }
 
--- A session was served over a link, from no history at Read Committed to a legal one whose events are the session's alone. Its reads drew
--- these words in order, and then 0.
-pub record ServesAlone (words : List ℕ) (f g : Sight) (end : End) (wanting : Bool) : Type 0 where
+-- A session was served at a level over a link, from no history to a legal one whose events are the session's alone. Its reads drew these
+-- words in order, and then 0.
+pub record ServesAlone (level : Level) (words : List ℕ) (f g : Sight) (end : End) (wanting : Bool) : Type 0 where
   pub past : Past
   pub rest : List ℕ
   pub number : Option ℕ
@@ -55,8 +55,9 @@ pub record ServesAlone (words : List ℕ) (f g : Sight) (end : End) (wanting : B
   pub asked : List Call
   pub sent : List ℕ
   pub lost : List ℕ
-  pub serves : Serves DrawsFirst Rc no_past words f number end wanting past rest g talk taken es asked sent lost
-  pub level : past.seen.level ≡ Rc
+  pub serves : Serves DrawsFirst level (no_past level) words f number end wanting past rest g talk taken es asked sent lost
+  pub level_is : past.seen.level ≡ level
+  pub initial : past.seen.initial ≡ []
   pub legal : IsLegalChronicle past.seen
   pub events : past.seen.events ≡ events_of es
   pub closed : past.state ≡ no_session
@@ -80,7 +81,7 @@ pub record Untouched (before : Hosted) (code : ℕ) (after : Hosted) : Type 0 wh
   pub out : after.out ≡ before.out
 
 -- The host handed the standard link out, the one that it had told beforehand where it had, and got it back. A session was served over it.
-pub record Piped (words : List ℕ) (before : Hosted) (code : ℕ) (after : Hosted) : Type 0 where
+pub record Piped (level : Level) (words : List ℕ) (before : Hosted) (code : ℕ) (after : Hosted) : Type 0 where
   pub given : Sight
   pub returned : Sight
   pub end : End
@@ -89,7 +90,7 @@ pub record Piped (words : List ℕ) (before : Hosted) (code : ℕ) (after : Host
   pub calls : after.calls ≡ before.calls ++ standard_link_called (Some given) ∷ []
   pub back : after.back ≡ before.back ++ returned ∷ []
   pub out : after.out ≡ before.out
-  pub serves : ServesAlone words given returned end wanting
+  pub serves : ServesAlone level words given returned end wanting
   pub code_is : code ≡ status_of end wanting
 
 -- the host gave no link, and counted that
@@ -116,13 +117,13 @@ pub record Misused (before : Hosted) (code : ℕ) (after : Hosted) : Type 0 wher
   pub new_out_is : after.out ≡ Some new_out
   pub prints : Prints old_out code new_out
 
--- `pipe rc WORDS`
-abbrev pub Pipes : List ℕ → Hosted → ℕ → Hosted → Type 0
-Pipes words before code after = Piped words before code after ⊎ (Linkless before code after ⊎ Untouched before code after)
+-- `pipe LEVEL WORDS`
+abbrev pub Pipes : Level → List ℕ → Hosted → ℕ → Hosted → Type 0
+Pipes level words before code after = Piped level words before code after ⊎ (Linkless before code after ⊎ Untouched before code after)
 
 -- what the program does with these words
 abbrev pub Does : List (List ℕ) → Hosted → ℕ → Hosted → Type 0
 Does args before code after =
-    ((words : List ℕ) × IsPipe args words × Pipes words before code after)
-    ⊎ ((((words : List ℕ) → ¬ (IsPipe args words)) × Misused before code after)
+    ((level : Level) × (words : List ℕ) × IsPipe args level words × Pipes level words before code after)
+    ⊎ ((((level : Level) (words : List ℕ) → ¬ (IsPipe args level words)) × Misused before code after)
     ⊎ Untouched before code after)

@@ -1,8 +1,11 @@
-// The command `pipe rc WORDS`, read from the words that the program is started with.
+// The command `pipe LEVEL WORDS`, read from the words that the program is started with.
 ghost use Rattle.std.specs.Prelude.{◌≡◌, ◌≢◌, ◌≤◌, ◌<◌, ◌+◌, ◌*◌, ◌-◌, ◌↔◌, ℕ, List, [], ◌∷◌, ◌++◌, codes, Contains, IfOk, IfSome, IsNone, IsTrue, Ok, None};
+ghost use Rattle.cell_base.specs.declared.level.Level.{Level as Served};
+ghost use Rattle.block_machine.specs.Settings.{level_word};
 ghost use Rattle.monkey_server.specs.Command.{IsDigit, IsWord, Lists, IsPipe};
 
-use cell_base::{Items, Memory, Text};
+use block_machine::level_named;
+use cell_base::{Items, Level, Memory, Text};
 use std::alloc::Global;
 
 // The number with one more digit, where that fits 32 bits.
@@ -71,30 +74,46 @@ fn is_word(text: &Text, word: &[u8]) -> bool
     text.bytes() == word
 }
 
-// The list behind `pipe rc`.
-fn list_of(args: &[Text]) -> Option<&[u8]>
-    ensures some { IfSome result (λ list. args.now ≡ codes "pipe" ∷ codes "rc" ∷ list.now ∷ []) }
-    ensures none { IsNone result → (list : List ℕ) → args.now ≢ codes "pipe" ∷ codes "rc" ∷ list ∷ [] }
+// The level that the word names.
+fn level_of(word: &Text) -> Option<Level>
+    ensures some { IfSome result (λ level. word.now ≡ level_word level) }
+    ensures none { IsNone result → (level : Served) → word.now ≢ level_word level }
 {
-    let [pipe, rc, list] = args else {
+    level_named(word.as_str())
+}
+
+// The level and the list of `pipe LEVEL WORDS`.
+fn parts_of(args: &[Text]) -> Option<(Level, &[u8])>
+    ensures some { IfSome result (λ x. args.now ≡ codes "pipe" ∷ level_word x.0 ∷ x.1.now ∷ []) }
+    ensures none { IsNone result → (level : Served) (list : List ℕ) → args.now ≢ codes "pipe" ∷ level_word level ∷ list ∷ [] }
+{
+    let [pipe, level, list] = args else {
         return None;
     };
     if !is_word(pipe, b"pipe") {
         return None;
     }
-    if !is_word(rc, b"rc") {
-        return None;
-    }
-    Some(list.bytes())
+    let level = level_of(level)?;
+    Some((level, list.bytes()))
 }
 
-/// The numbers that follow `pipe rc`. `None` comes exactly where the words are no such command.
-pub fn command_of(alloc: Global, args: &[Text]) -> Result<Option<Items<u32>>, Memory>
-    ensures some { IfOk result (λ found. IfSome found (λ words. IsPipe args.now words)) }
-    ensures none { IfOk result (λ found. IsNone found → (words : List ℕ) → ¬ (IsPipe args.now words)) }
+/// The command `pipe LEVEL WORDS`.
+#[derive(Debug, Drop)]
+pub struct PipeCommand {
+    pub level: Level,
+    pub words: Items<u32>,
+}
+
+/// The command `pipe LEVEL WORDS` that the words spell. `None` comes exactly where they are no such command.
+pub fn command_of(alloc: Global, args: &[Text]) -> Result<Option<PipeCommand>, Memory>
+    ensures some { IfOk result (λ found. IfSome found (λ pipe. IsPipe args.now pipe.level pipe.words)) }
+    ensures none { IfOk result (λ found. IsNone found → (level : Served) (words : List ℕ) → ¬ (IsPipe args.now level words)) }
 {
-    match list_of(args) {
-        None => Ok(None),
-        Some(list) => words_of(alloc, list),
-    }
+    let Some((level, list)) = parts_of(args) else {
+        return Ok(None);
+    };
+    Ok(match words_of(alloc, list)? {
+        Some(words) => Some(PipeCommand { level, words }),
+        None => None,
+    })
 }

@@ -1,6 +1,6 @@
 //! The commands of the program.
 //!
-//! [`monkey_main`] does all that the program does in a host (`specs/Program`): `pipe rc WORDS` serves one session over the standard link,
+//! [`monkey_main`] does all that the program does in a host (`specs/Program`): `pipe LEVEL WORDS` serves one session over the standard link,
 //! other words print the usage line.
 #![tactic(auto)]
 

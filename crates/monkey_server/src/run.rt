@@ -1,12 +1,12 @@
 // The program.
-ghost use Rattle.std.specs.Prelude.{◌≡◌, ℕ, List, ◌⊎◌, IfOk, IfSome, IsSome, Some, None};
-ghost use Rattle.monkey_server.specs.Command.{IsPipe};
-ghost use Rattle.monkey_server.specs.Program.{hosted_of, status_of, ServesAlone, Pipes, Misused, Does};
+ghost use Rattle.std.specs.Prelude.{◌≡◌, IsSome, Some, None};
+ghost use Rattle.monkey_server.specs.Program.{hosted_of, no_past, status_of, ServesAlone, Pipes, Misused, Does};
 ghost use Rattle.link_traits.specs.Traffic.{sight_of};
 
-use crate::command::command_of;
+use crate::command::{PipeCommand, command_of};
 use cell_base::{Items, Level, Memory, Text};
 use choice_stream::ListWords;
+use history_core::InitialState;
 use link_traits::{Host, HostFault, Link, send_all};
 use session_core::{End, Served, serve_link};
 use solo_book::SoloBook;
@@ -39,30 +39,41 @@ fn status_for(served: Served) -> Status
     Status { code }
 }
 
-// Serves one session at Read Committed over a link.
-fn serve_alone<L: Link>(alloc: Global, link: &mut L, words: Items<u32>) -> Served
-    ensures { ServesAlone words (sight_of L.traffic L.read_faults L.write_faults link.old) (sight_of L.traffic L.read_faults L.write_faults link.new) result.end result.short }
+// Serves one session at a level over a link, on a book that has no event.
+fn serve_alone<L: Link>(
+    alloc: Global,
+    level: Level,
+    book: &mut SoloBook,
+    link: &mut L,
+    words: Items<u32>,
+) -> Served
+    requires { book.old ≡ no_past level }
+    ensures { ServesAlone level words (sight_of L.traffic L.read_faults L.write_faults link.old) (sight_of L.traffic L.read_faults L.write_faults link.new) result.end result.short }
 {
-    let mut book = SoloBook::new(alloc);
     let mut words = ListWords::new(words);
-    let served = serve_link(alloc, Level::Rc, &mut book, link, &mut words);
+    let served = serve_link(alloc, level, book, link, &mut words);
     // Only for its contract: the history is legal.
     let _ = book.history();
     served
 }
 
 // Serves one session over the standard link.
-fn pipe<H: Host>(alloc: Global, host: &mut H, words: Items<u32>) -> Status
+fn pipe<H: Host>(alloc: Global, host: &mut H, command: PipeCommand) -> Status
     requires { H.objects_out host.old ≡ 0 }
-    ensures pipes { Pipes words (hosted_of H.calls H.back H.out H.objects_out H.link_faults H.next_link host.old) result.code (hosted_of H.calls H.back H.out H.objects_out H.link_faults H.next_link host.new) }
+    ensures pipes { Pipes command.level command.words (hosted_of H.calls H.back H.out H.objects_out H.link_faults H.next_link host.old) result.code (hosted_of H.calls H.back H.out H.objects_out H.link_faults H.next_link host.new) }
     ensures none_out { H.objects_out host.new ≡ 0 }
 {
+    let PipeCommand { level, words } = command;
+    let mut book = match SoloBook::new(alloc, level, InitialState::empty(alloc)) {
+        Ok(book) => book,
+        Err(Memory) => return Status { code: 5 },
+    };
     let mut link = match host.standard_link() {
         Ok(link) => link,
         Err(HostFault::Failed) => return Status { code: 6 },
         Err(HostFault::Memory) => return Status { code: 5 },
     };
-    let served = serve_alone(alloc, &mut link, words);
+    let served = serve_alone(alloc, level, &mut book, &mut link, words);
     host.link_back(link);
     status_for(served)
 }
@@ -83,9 +94,9 @@ fn misuse<H: Host>(host: &mut H) -> Status
     }
 }
 
-/// Does all that the program does with the words of its command line, its own name left out. `pipe rc WORDS` serves one session
-/// at Read Committed over the host's standard link, with the numbers of WORDS as the choice words and 0 behind them; other words
-/// print the usage line.
+/// Does all that the program does with the words of its command line, its own name left out. `pipe LEVEL WORDS` serves one
+/// session over the host's standard link, at Read Committed (`rc`), Read Atomic (`ra`) or Causal Consistency (`cc`), with the numbers of
+/// WORDS as the choice words and 0 behind them; other words print the usage line.
 ///
 /// The status is 0 where the session ended well or was a cancel request; 1 where its input was cut short or was no messages, where its
 /// start was refused, or where more bytes were wanted than are read; 2 for the usage line; 3 where reading failed; 4 where writing failed;
@@ -97,7 +108,7 @@ pub fn monkey_main<H: Host>(alloc: Global, host: &mut H, words: &[Text]) -> Stat
     ensures none_out { H.objects_out host.new ≡ 0 }
 {
     match command_of(alloc, words) {
-        Ok(Some(list)) => pipe(alloc, host, list),
+        Ok(Some(command)) => pipe(alloc, host, command),
         Ok(None) => misuse(host),
         Err(Memory) => Status { code: 5 },
     }

@@ -1,7 +1,10 @@
 -- The words of a command line say one command.
-use Rattle.std.proofs.Common.{◌≡◌, ℕ, List, [], ◌∷◌, ◌++◌, refl, sym, ◌∙◌, ap, subst}
-use Rattle.std.specs.Prelude.{codes}
-use Rattle.monkey_server.specs.Command.{number_of, IsWord, Lists, IsPipe}
+use Rattle.std.proofs.Common.{◌≡◌, ℕ, List, [], ◌∷◌, refl, sym, ◌∙◌, ap, subst}
+use Rattle.std.specs.Prelude.{codes, Some}
+use Rattle.cell_base.specs.declared.level.Level.{Level}
+use Rattle.cell_base.specs.declared.level.Level.TheVariants.{Rc, Ra, Cc}
+use Rattle.block_machine.specs.Settings.{level_word, level_named}
+use Rattle.monkey_server.specs.Command.{number_of, Lists, IsPipe}
 use Rattle.monkey_server.proofs.Commas.{no_comma_from, cut_same}
 use Rattle.monkey_server.proofs.Words.{word_has_no_comma, holds_comma}
 
@@ -19,8 +22,21 @@ lists_same text (n ∷ (q ∷ qs)) (m ∷ (p ∷ ps)) (a, b, e, is, lists) (c, d
     let tail : q ∷ qs ≡ p ∷ ps = lists_same b (q ∷ qs) (p ∷ ps) lists (subst (λ (t : List ℕ). Lists t (p ∷ ps)) (sym r.1) more) in
     ap (λ (x : ℕ). x ∷ (q ∷ qs)) head ∙ ap (λ (xs : List ℕ). m ∷ xs) tail
 
-pub pipe_same : (args : List (List ℕ)) (words others : List ℕ) → IsPipe args words → IsPipe args others → words ≡ others
-pipe_same args words others (list, e, lists) (text, f, more) =
-    let both : codes "pipe" ∷ codes "rc" ∷ list ∷ [] ≡ codes "pipe" ∷ codes "rc" ∷ text ∷ [] = sym e ∙ f in
-    let same : list ≡ text = cc in
-    lists_same list words others lists (subst (λ (t : List ℕ). Lists t others) (sym same) more)
+-- the word of a level names it
+named_by : (level : Level) → level_named (level_word level) ≡ Some level
+named_by Rc = refl
+named_by Ra = refl
+named_by Cc = refl
+
+level_same : (a b : Level) → level_word a ≡ level_word b → a ≡ b
+level_same a b e = let both : Some a ≡ Some b = sym (named_by a) ∙ ap level_named e ∙ named_by b in cc
+
+pub pipe_same : (args : List (List ℕ)) (a b : Level) (words others : List ℕ) → IsPipe args a words → IsPipe args b others →
+    (a ≡ b) × (words ≡ others)
+pipe_same args a b words others (list, e, lists) (text, f, more) =
+    let both : codes "pipe" ∷ level_word a ∷ list ∷ [] ≡ codes "pipe" ∷ level_word b ∷ text ∷ [] = sym e ∙ f in
+    let level : level_word a ≡ level_word b = cc in
+    let same : list ≡ text = cc in (
+      level_same a b level,
+      lists_same list words others lists (subst (λ (t : List ℕ). Lists t others) (sym same) more),
+    )

@@ -106,13 +106,14 @@ one_history q r legal lawful near =
     sym (take_all (defined q.seen.events) q.seen.tables (omega (arith, tables_are q legal)))
     ∙ near.tables
     ∙ take_all (defined q.seen.events) r.seen.tables (omega (arith, tables_are r lawful, count)) in
-    chronicles q.seen r.seen near.level near.events tables
+    chronicles q.seen r.seen near.level near.initial near.events tables
   where
-    chronicles : (x y : Chronicle) → x.level ≡ y.level → x.events ≡ y.events → x.tables ≡ y.tables → x ≡ y
-    chronicles x y a b c =
-        ap (λ l. record { level = l; events = x.events; tables = x.tables }) a
-        ∙ ap (λ es. record { level = y.level; events = es; tables = x.tables }) b
-        ∙ ap (λ ts. record { level = y.level; events = y.events; tables = ts }) c
+    chronicles : (x y : Chronicle) → x.level ≡ y.level → x.initial ≡ y.initial → x.events ≡ y.events → x.tables ≡ y.tables → x ≡ y
+    chronicles x y a b c d =
+        ap (λ l. record { level = l; initial = x.initial; events = x.events; tables = x.tables }) a
+        ∙ ap (λ cells. record { level = y.level; initial = cells; events = x.events; tables = x.tables }) b
+        ∙ ap (λ es. record { level = y.level; initial = y.initial; events = es; tables = x.tables }) c
+        ∙ ap (λ ts. record { level = y.level; initial = y.initial; events = y.events; tables = ts }) d
 
 near_last : (a b q r : Past) → q ≡ a → r ≡ b → IsNear a b q r → IsNear q r q r
 near_last a b q r left right near =

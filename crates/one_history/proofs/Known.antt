@@ -2,7 +2,6 @@
 use Rattle.std.proofs.Common.{◌≡◌, ℕ, ◌+◌, List, [], ◌∷◌, ◌++◌, Some, None, length, take, drop, refl, ap, sym, ◌∙◌, subst, inl, inr, ◌⊎◌}
 use Rattle.std.specs.List.{Contains}
 use Rattle.std.proofs.lemmas.List.{take_at, drop_at, append-nil}
-use Rattle.cell_base.specs.declared.level.Level.{Level}
 use Rattle.cell_base.specs.declared.cell.Cell.{Cell}
 use Rattle.cell_base.specs.declared.key.Key.{Key}
 use Rattle.cell_base.specs.declared.value.Value.{Value}
@@ -11,6 +10,7 @@ use Rattle.history_core.specs.declared.event.Event.{Event}
 use Rattle.history_core.specs.declared.event.Event.TheVariants.{Open, Close, Define, Look, Begin, Scan, Read, Own, Write, Commit, Rollback, Show}
 use Rattle.history_core.specs.declared.fault.DefineAnswer.TheVariants as defines
 use Rattle.history_core.specs.Events.{names, defined, opened, begun, defined_name}
+use Rattle.history_core.specs.Initial.{IsInitialState}
 use Rattle.history_core.specs.Relations.{WritesValue}
 use Rattle.history_core.specs.Legal.{Follows, IsOffered, ListsKeys}
 use Rattle.history_core.specs.Chronicle.{IsLegalChronicle}
@@ -36,15 +36,16 @@ pub record Back (state : SessionState) (words : List ℕ) (cell : Cell) (value :
   pub words_are : after ≡ words
 
 -- a write that was offered
-pub record From (events : List Event) (level : Level) (state : SessionState) (words : List ℕ) (cell : Cell) (value : Value) (e : Event) (after : List ℕ) : Type 0 where
+pub record From (initial : List (Cell × Value)) (events : List Event) (state : SessionState) (words : List ℕ) (cell : Cell) (value : Value) (e : Event) (after : List ℕ) : Type 0 where
   pub unwritten : IsUnwritten cell state
   pub source : ℕ
   pub count : ℕ
   pub word : ℕ
   pub event : e ≡ Read (session_of state) cell source count word value
   pub drawn : DrawsFirst words word after
-  pub offered : IsOffered level events (Read (session_of state) cell source count word value)
-  pub writes : WritesValue events source cell value
+  pub is_state : IsInitialState initial
+  pub offered : IsOffered events (Read (session_of state) cell source count word value)
+  pub writes : WritesValue initial events source cell value
 
 -- what a definition comes to
 pub record News (events : List Event) (state : SessionState) (table : Table) (a : Answer) (e : Event) : Type 0 where
@@ -58,25 +59,25 @@ pub record Olds (events : List Event) (state : SessionState) (table : Table) (a 
   pub event : e ≡ Look (session_of state) (defined events)
 
 -- the tables that are defined, and what each call then comes to
-abbrev pub Known : List Event → Level → SessionState → List Table → List ℕ → Call → Answer → Event → List ℕ → Type 0
-Known events level state tables words calls.Open a e after =
+abbrev pub Known : List (Cell × Value) → List Event → SessionState → List Table → List ℕ → Call → Answer → Event → List ℕ → Type 0
+Known initial events state tables words calls.Open a e after =
     (a ≡ answers.Opened (opened events + 1)) × (e ≡ Open (opened events + 1)) × (after ≡ words)
-Known events level state tables words calls.Close a e after = (a ≡ answers.Closed) × (e ≡ Close (session_of state)) × (after ≡ words)
-Known events level state tables words (calls.Look known) a e after =
+Known initial events state tables words calls.Close a e after = (a ≡ answers.Closed) × (e ≡ Close (session_of state)) × (after ≡ words)
+Known initial events state tables words (calls.Look known) a e after =
     (a ≡ answers.Looked (drop known tables)) × (e ≡ Look (session_of state) (defined events)) × (after ≡ words)
-Known events level state tables words (calls.Define table) a e after =
+Known initial events state tables words (calls.Define table) a e after =
     (News events state table a e ⊎ Olds events state table a e) × (after ≡ words)
-Known events level state tables words calls.Begin a e after =
-    (a ≡ answers.Begun (begun (events ++ Begin (session_of state) ∷ []))) × (e ≡ Begin (session_of state)) × (after ≡ words)
-Known events level state tables words (calls.Scan table) a e after =
-    (keys : List Key) × ListsKeys events (session_of state) table keys × (a ≡ answers.Listed keys) × (e ≡ Scan (session_of state) table keys) × (after ≡ words)
-Known events level state tables words (calls.Touch cell) a e after =
-    (value : Value) × (a ≡ answers.Found value) × (Back state words cell value e after ⊎ From events level state words cell value e after)
-Known events level state tables words (calls.Write cell value) a e after =
+Known initial events state tables words (calls.Begin level) a e after =
+    (a ≡ answers.Begun (begun (events ++ Begin (session_of state) level ∷ []))) × (e ≡ Begin (session_of state) level) × (after ≡ words)
+Known initial events state tables words (calls.Scan table) a e after =
+    (keys : List Key) × ListsKeys initial events (session_of state) table keys × (a ≡ answers.Listed keys) × (e ≡ Scan (session_of state) table keys) × (after ≡ words)
+Known initial events state tables words (calls.Touch cell) a e after =
+    (value : Value) × (a ≡ answers.Found value) × (Back state words cell value e after ⊎ From initial events state words cell value e after)
+Known initial events state tables words (calls.Write cell value) a e after =
     (a ≡ answers.Written) × (e ≡ Write (session_of state) cell value) × (after ≡ words)
-Known events level state tables words calls.Commit a e after = (a ≡ answers.Committed) × (e ≡ Commit (session_of state)) × (after ≡ words)
-Known events level state tables words calls.Rollback a e after = (a ≡ answers.RolledBack) × (e ≡ Rollback (session_of state)) × (after ≡ words)
-Known events level state tables words calls.Show a e after =
+Known initial events state tables words calls.Commit a e after = (a ≡ answers.Committed) × (e ≡ Commit (session_of state)) × (after ≡ words)
+Known initial events state tables words calls.Rollback a e after = (a ≡ answers.RolledBack) × (e ≡ Rollback (session_of state)) × (after ≡ words)
+Known initial events state tables words calls.Show a e after =
     (a ≡ answers.Shown (length events + 1)) × (e ≡ Show (session_of state) (length events + 1)) × (after ≡ words)
 
 -- ---- it is known
@@ -85,11 +86,12 @@ Known events level state tables words calls.Show a e after =
 pub record Way (p m q : Past) (e : Event) : Type 0 where
   pub made : Made p m e
   pub level : m.seen.level ≡ p.seen.level
+  pub initial : m.seen.initial ≡ p.seen.initial
   pub legal : IsLegalChronicle q.seen
   pub leads : Leads m q
 
-follows_of : (p m : Past) (e f : Event) → Made p m e → e ≡ f → Follows p.seen.events f
-follows_of p m e f made is = subst (λ (x : Event). Follows p.seen.events x) is made.may.follows
+follows_of : (p m : Past) (e f : Event) → Made p m e → e ≡ f → Follows p.seen.initial p.seen.events f
+follows_of p m e f made is = subst (λ (x : Event). Follows p.seen.initial p.seen.events x) is made.may.follows
 
 word_held : (s : ℕ) (cell : Cell) (source count word : ℕ) (value : Value) (e : Event) (drawn : ℕ) → e ≡ Read s cell source count word value →
     HoldsWord (did (answers.Found value) e) drawn → word ≡ drawn
@@ -98,7 +100,7 @@ word_held s cell source count word value e drawn is holds =
 
 touched : (p m q : Past) (v u : List ℕ) (cell : Cell) (value : Value) (e : Event) → Way p m q e →
     ReadsBack p cell value e ⊎ ReadsFrom p cell value e → Draws DrawsFirst p v (calls.Touch cell) (did (answers.Found value) e) u →
-    Back p.state v cell value e u ⊎ From p.seen.events p.seen.level p.state v cell value e u
+    Back p.state v cell value e u ⊎ From p.seen.initial p.seen.events p.state v cell value e u
 touched p m q v u cell value e way (inl back) (inl same) = inl record { written = back.written; last = back.last; event = back.event_is; words_are = same.1 }
 touched p m q v u cell value e way (inl back) (inr drawn) = absurd (not_both cell p.state back.written drawn.0)
 touched p m q v u cell value e way (inr from) (inl same) = absurd (not_both cell p.state same.0 from.unwritten)
@@ -112,7 +114,8 @@ touched p m q v u cell value e way (inr from) (inr drawn) =
       word = from.word;
       event = from.event_is;
       drawn = subst (λ (w : ℕ). DrawsFirst v w u) (sym word) drawn.1.1;
-      offered = subst (λ (x : Event). IsOffered p.seen.level p.seen.events x) from.event_is way.made.offered;
+      is_state = subst (λ (cells : List (Cell × Value)). IsInitialState cells) (way.leads.initial ∙ way.initial) way.legal.initial;
+      offered = subst (λ (x : Event). IsOffered p.seen.events x) from.event_is way.made.offered;
       writes = follows.3;
     }
 
@@ -138,7 +141,7 @@ same_names events e none = names-more events (e ∷ []) ∙ ap (λ ns. names eve
     no_name (Open s) none = refl
     no_name (Close s) none = refl
     no_name (Look s n) none = refl
-    no_name (Begin s) none = refl
+    no_name (Begin s level) none = refl
     no_name (Scan s t ks) none = refl
     no_name (Read s c f n u v) none = refl
     no_name (Own s c v) none = refl
@@ -172,7 +175,7 @@ looked_as p m q known tables before e way is whole count =
     sym (ap (λ (ts : List Table). drop known ts) (front ∙ whole) ∙ cut)
 
 pub known : (p m q : Past) (v u : List ℕ) (c : Call) (a : Answer) (e : Event) → Way p m q e → Happens p c a e m → Draws DrawsFirst p v c (did a e) u →
-    Known p.seen.events p.seen.level p.state (take (defined p.seen.events) q.seen.tables) v c a e u
+    Known p.seen.initial p.seen.events p.state (take (defined p.seen.events) q.seen.tables) v c a e u
 known p m q v u calls.Open (answers.Opened s) e way h d =
     let number : s ≡ opened p.seen.events + 1 = follows_of p m e (Open s) way.made h.0 in
     (ap (λ (k : ℕ). answers.Opened k) number, h.0 ∙ ap (λ (k : ℕ). Open k) number, d)
@@ -185,7 +188,7 @@ known p m q v u (calls.Look many) (answers.Looked tables) e way h d = (
 known p m q v u (calls.Define t) (answers.Defined (defines.Defined n)) e way h d =
     (inl (defined_as p m q (session_of p.state) t h.1.0 n e way refl h.0 h.1.1 h.1.2), d)
 known p m q v u (calls.Define t) (answers.Defined (defines.Taken n)) e way h d = (inr (taken_as p m q t n e way h.0 h.1.1), d)
-known p m q v u calls.Begin (answers.Begun n) e way h d = (
+known p m q v u (calls.Begin level) (answers.Begun n) e way h d = (
   ap (λ (k : ℕ). answers.Begun k) (h.2 ∙ ap begun (way.made.seen ∙ ap (λ (x : Event). p.seen.events ++ x ∷ []) h.0)),
   h.0,
   d,

@@ -1,7 +1,8 @@
 -- Where a lawful record leads, and what a book that is alone has added.
 use Rattle.std.proofs.Common.{◌≡◌, ℕ, ◌+◌, ◌≤◌, List, [], ◌∷◌, ◌++◌, length, refl, sym, ◌∙◌, ap, subst, append_assoc, arith, length-append}
 use Rattle.std.proofs.lemmas.List.{append-nil, take_at}
-use Rattle.cell_base.specs.declared.level.Level.{Level}
+use Rattle.cell_base.specs.declared.cell.Cell.{Cell}
+use Rattle.cell_base.specs.declared.value.Value.{Value}
 use Rattle.sql_tree.specs.declared.table.Table.{Table}
 use Rattle.history_core.specs.declared.event.Event.{Event}
 use Rattle.history_core.specs.declared.fault.BookFault.{BookFault}
@@ -22,6 +23,7 @@ use Rattle.session_core.specs.Record.{Happens, Declines, Lawful}
 -- the one past goes on as the other: it adds as many events at least as the book adds
 pub record Leads (p q : Past) : Type 0 where
   pub level : q.seen.level ≡ p.seen.level
+  pub initial : q.seen.initial ≡ p.seen.initial
   pub events : List Event
   pub seen : q.seen.events ≡ p.seen.events ++ events
   pub more : List Table
@@ -31,6 +33,7 @@ pub record Leads (p q : Past) : Type 0 where
 pub leads_same : (p q : Past) → q ≡ p → Leads p q
 leads_same p q same = subst (λ (x : Past). Leads p x) (sym same) record {
   level = refl;
+  initial = refl;
   events = [];
   seen = sym (append-nil p.seen.events);
   more = [];
@@ -41,6 +44,7 @@ leads_same p q same = subst (λ (x : Past). Leads p x) (sym same) record {
 pub leads_on : (p m q : Past) → Leads p m → Leads m q → Leads p q
 leads_on p m q one other = record {
   level = other.level ∙ one.level;
+  initial = other.initial ∙ one.initial;
   events = one.events ++ other.events;
   seen = other.seen ∙ ap (λ (es : List Event). es ++ other.events) one.seen ∙ append_assoc p.seen.events one.events other.events;
   more = one.more ++ other.more;
@@ -51,6 +55,7 @@ leads_on p m q one other = record {
 pub leads_adds : (p q : Past) (e : Event) → Adds p e q → Leads p q
 leads_adds p q e adds = record {
   level = adds.level;
+  initial = adds.initial;
   events = adds.others ++ e ∷ [];
   seen = adds.seen ∙ append_assoc p.seen.events adds.others (e ∷ []);
   more = adds.more;
@@ -66,6 +71,7 @@ leads_adds p q e adds = record {
 pub leads_goes : (p q : Past) → GoesOn p q → Leads p q
 leads_goes p q goes = record {
   level = goes.level;
+  initial = goes.initial;
   events = goes.others;
   seen = goes.seen;
   more = goes.more;
@@ -83,7 +89,7 @@ happens_adds p calls.Close answers.Closed e q h = h.1
 happens_adds p (calls.Look known) (answers.Looked tables) e q h = subst (λ (x : Event). Adds p x q) (sym h.0) h.1.adds
 happens_adds p (calls.Define t) (answers.Defined (defines.Defined n)) e q h = subst (λ (x : Event). Adds p x q) (sym h.0) h.1.3
 happens_adds p (calls.Define t) (answers.Defined (defines.Taken n)) e q h = subst (λ (x : Event). Adds p x q) (sym h.0) h.1.2
-happens_adds p calls.Begin (answers.Begun n) e q h = h.1
+happens_adds p (calls.Begin level) (answers.Begun n) e q h = h.1
 happens_adds p (calls.Scan table) (answers.Listed keys) e q h = h.1
 happens_adds p (calls.Touch cell) (answers.Found value) e q h = h.1
 happens_adds p (calls.Write cell value) answers.Written e q h = h.1
@@ -142,29 +148,29 @@ goes_alone p m old new goes =
     goes.seen ∙ ap (λ (es : List Event). p.seen.events ++ es) none ∙ append-nil p.seen.events
 
 -- what comes before a legal history's end is legal
-pub legal_front : (level : Level) (xs ys : List Event) → IsLegal level (xs ++ ys) → IsLegal level xs
-legal_front level xs ys legal =
-    subst (λ (es : List Event). IsLegal level es) (take_at xs ys (length xs) refl) (legal_take level (xs ++ ys) (length xs) legal)
+pub legal_front : (initial : List (Cell × Value)) (xs ys : List Event) → IsLegal initial (xs ++ ys) → IsLegal initial xs
+legal_front initial xs ys legal =
+    subst (λ (es : List Event). IsLegal initial es) (take_at xs ys (length xs) refl) (legal_take initial (xs ++ ys) (length xs) legal)
 
-pub legal_before : (m q : Past) → Leads m q → IsLegalChronicle q.seen → IsLegal m.seen.level m.seen.events
+pub legal_before : (m q : Past) → Leads m q → IsLegalChronicle q.seen → IsLegal m.seen.initial m.seen.events
 legal_before m q leads legal =
-    legal_front m.seen.level m.seen.events leads.events
-    (subst (λ (l : Level). IsLegal l (m.seen.events ++ leads.events)) leads.level
-    (subst (λ (es : List Event). IsLegal q.seen.level es) leads.seen legal.legal))
+    legal_front m.seen.initial m.seen.events leads.events
+    (subst (λ (cells : List (Cell × Value)). IsLegal cells (m.seen.events ++ leads.events)) leads.initial
+    (subst (λ (es : List Event). IsLegal q.seen.initial es) leads.seen legal.legal))
 
 -- what is known of the event that a lone book added
 pub record Made (p m : Past) (e : Event) : Type 0 where
   pub seen : m.seen.events ≡ p.seen.events ++ e ∷ []
-  pub may : MayCome p.seen.events e
-  pub offered : IsOffered p.seen.level p.seen.events e
+  pub may : MayCome p.seen.initial p.seen.events e
+  pub offered : IsOffered p.seen.events e
 
 pub made_of : (p m q : Past) (e : Event) → length p.seen.events ≡ length p.own → length q.seen.events ≡ length q.own →
     IsLegalChronicle q.seen → Adds p e m → Leads m q → Made p m e
 made_of p m q e first last legal adds leads =
     let there = alone_between p m q first last (leads_adds p m e adds) leads in
     let seen : m.seen.events ≡ p.seen.events ++ e ∷ [] = adds_alone p m e first there adds in
-    let whole : IsLegal p.seen.level (p.seen.events ++ e ∷ []) =
-    subst (λ (l : Level). IsLegal l (p.seen.events ++ e ∷ [])) adds.level
-    (subst (λ (es : List Event). IsLegal m.seen.level es) seen (legal_before m q leads legal)) in
-    let back = legal_back p.seen.level p.seen.events e whole in
+    let whole : IsLegal p.seen.initial (p.seen.events ++ e ∷ []) =
+    subst (λ (cells : List (Cell × Value)). IsLegal cells (p.seen.events ++ e ∷ [])) adds.initial
+    (subst (λ (es : List Event). IsLegal m.seen.initial es) seen (legal_before m q leads legal)) in
+    let back = legal_back p.seen.initial p.seen.events e whole in
     record { seen = seen; may = back.1.0; offered = back.1.1 }

@@ -5,6 +5,8 @@ use Rattle.std.proofs.lemmas.List.{map-append, take_at, length-map, append-nil}
 use Rattle.std.proofs.lemmas.List.Elements.{filter_map-append}
 use Rattle.std.proofs.lemmas.Option.{slice_get_within}
 use Rattle.txn_buffer.proofs.Lists.{slice_get_push_cases, contains_at}
+use Rattle.cell_base.specs.declared.cell.Cell.{Cell}
+use Rattle.cell_base.specs.declared.value.Value.{Value}
 use Rattle.sql_tree.specs.declared.table.Table.{Table}
 use Rattle.history_core.specs.declared.event.Event.{Event}
 use Rattle.history_core.specs.declared.event.Event.TheVariants.{Open, Close, Define, Look, Begin, Scan, Read, Own, Write, Commit, Rollback, Show}
@@ -39,28 +41,28 @@ once_push xs x once new i j y at_i at_j =
 pub names-more : (events more : List Event) → names (events ++ more) ≡ names events ++ names more
 names-more events more = filter_map-append defined_name events more
 
-once_next : (events : List Event) (e : Event) → IsOnce (names events) → MayCome events e → IsOnce (names (events ++ e ∷ []))
-once_next events (Define s name) once may =
+once_next : (initial : List (Cell × Value)) (events : List Event) (e : Event) → IsOnce (names events) → MayCome initial events e → IsOnce (names (events ++ e ∷ []))
+once_next initial events (Define s name) once may =
     subst IsOnce (sym (names-more events (Define s name ∷ []))) (once_push (names events) name once may.follows.1)
-once_next events (Open s) once may = subst IsOnce (sym (names-more events (Open s ∷ []) ∙ append-nil (names events))) once
-once_next events (Close s) once may = subst IsOnce (sym (names-more events (Close s ∷ []) ∙ append-nil (names events))) once
-once_next events (Look s n) once may = subst IsOnce (sym (names-more events (Look s n ∷ []) ∙ append-nil (names events))) once
-once_next events (Begin s) once may = subst IsOnce (sym (names-more events (Begin s ∷ []) ∙ append-nil (names events))) once
-once_next events (Scan s t ks) once may = subst IsOnce (sym (names-more events (Scan s t ks ∷ []) ∙ append-nil (names events))) once
-once_next events (Read s c f n u v) once may = subst IsOnce (sym (names-more events (Read s c f n u v ∷ []) ∙ append-nil (names events))) once
-once_next events (Own s c v) once may = subst IsOnce (sym (names-more events (Own s c v ∷ []) ∙ append-nil (names events))) once
-once_next events (Write s c v) once may = subst IsOnce (sym (names-more events (Write s c v ∷ []) ∙ append-nil (names events))) once
-once_next events (Commit s) once may = subst IsOnce (sym (names-more events (Commit s ∷ []) ∙ append-nil (names events))) once
-once_next events (Rollback s) once may = subst IsOnce (sym (names-more events (Rollback s ∷ []) ∙ append-nil (names events))) once
-once_next events (Show s n) once may = subst IsOnce (sym (names-more events (Show s n ∷ []) ∙ append-nil (names events))) once
+once_next initial events (Open s) once may = subst IsOnce (sym (names-more events (Open s ∷ []) ∙ append-nil (names events))) once
+once_next initial events (Close s) once may = subst IsOnce (sym (names-more events (Close s ∷ []) ∙ append-nil (names events))) once
+once_next initial events (Look s n) once may = subst IsOnce (sym (names-more events (Look s n ∷ []) ∙ append-nil (names events))) once
+once_next initial events (Begin s level) once may = subst IsOnce (sym (names-more events (Begin s level ∷ []) ∙ append-nil (names events))) once
+once_next initial events (Scan s t ks) once may = subst IsOnce (sym (names-more events (Scan s t ks ∷ []) ∙ append-nil (names events))) once
+once_next initial events (Read s c f n u v) once may = subst IsOnce (sym (names-more events (Read s c f n u v ∷ []) ∙ append-nil (names events))) once
+once_next initial events (Own s c v) once may = subst IsOnce (sym (names-more events (Own s c v ∷ []) ∙ append-nil (names events))) once
+once_next initial events (Write s c v) once may = subst IsOnce (sym (names-more events (Write s c v ∷ []) ∙ append-nil (names events))) once
+once_next initial events (Commit s) once may = subst IsOnce (sym (names-more events (Commit s ∷ []) ∙ append-nil (names events))) once
+once_next initial events (Rollback s) once may = subst IsOnce (sym (names-more events (Rollback s ∷ []) ∙ append-nil (names events))) once
+once_next initial events (Show s n) once may = subst IsOnce (sym (names-more events (Show s n ∷ []) ∙ append-nil (names events))) once
 
 no_names : IsOnce []
 no_names i j x at_i at_j = let within = slice_get_within [] i x at_i in absurd (omega arith)
 
-pub names_once : (events : List Event) → IsFormed events → IsOnce (names events)
-names_once events =
-    along (λ (h : List Event). IsFormed h → IsOnce (names h))
-    (λ h e holds formed. let both = formed_back h e formed in once_next h e (holds both.0) both.1)
+pub names_once : (initial : List (Cell × Value)) (events : List Event) → IsFormed initial events → IsOnce (names events)
+names_once initial events =
+    along (λ (h : List Event). IsFormed initial h → IsOnce (names h))
+    (λ h e holds formed. let both = formed_back initial h e formed in once_next initial h e (holds both.0) both.1)
     [] events (λ formed. no_names)
 
 -- where the last table has the name of the definition that comes next, it is the table of that definition
@@ -81,7 +83,7 @@ placed p m q s table before legal leads seen tables =
     ∙ append_assoc (names p.seen.events) (table.name ∷ []) (names leads.events) in
     let named : names q.seen.events ≡ map name_of before ++ table.name ∷ map name_of leads.more =
     sym legal.tables.named ∙ ap (λ (ts : List Table). map name_of ts) whole ∙ map-append name_of before (table ∷ leads.more) in
-    let once = names_once q.seen.events legal.legal.formed in
+    let once = names_once q.seen.initial q.seen.events legal.legal.formed in
     let place : length (map name_of before) ≡ length (names p.seen.events) =
     once (length (map name_of before)) (length (names p.seen.events)) table.name
     (ap (λ (ns : List (List ℕ)). slice_get ns (length (map name_of before))) named ∙ middle_place (map name_of before) (map name_of leads.more) table.name)

@@ -1,7 +1,10 @@
 -- Bytes and words have one history.
 use Rattle.std.proofs.Common.{◌≡◌, inl, inr, ◌⊎◌, false, ℕ, List, [], ◌∷◌, ◌++◌, length, refl, sym, ◌∙◌, ap, subst}
+use Rattle.cell_base.specs.declared.cell.Cell.{Cell}
+use Rattle.cell_base.specs.declared.value.Value.{Value}
 use Rattle.cell_base.specs.declared.level.Level.{Level}
 use Rattle.history_core.specs.Chronicle.{Chronicle, IsLegalChronicle}
+use Rattle.block_machine.specs.Knowledge.{at_start}
 use Rattle.block_machine.specs.Script.{Said}
 use Rattle.block_machine.specs.declared.end.End.{End}
 use Rattle.session_core.specs.declared.phase.Phase.TheVariants as phases
@@ -15,27 +18,27 @@ use Rattle.one_history.proofs.Talks.{IsSpared, sessions_agree}
 abbrev nothing_said : Said
 nothing_said = record { bytes = []; calls = [] }
 
-last_of : (level : Level) (taken words : List ℕ) (history : Chronicle) (left sent : List ℕ) (end : End) →
-    (s : Served level taken words history left sent end) → IsLast s.past
-last_of level taken words history left sent end s = record {
+last_of : (level : Level) (initial : List (Cell × Value)) (taken words : List ℕ) (history : Chronicle) (left sent : List ℕ) (end : End) →
+    (s : Served level initial taken words history left sent end) → IsLast s.past
+last_of level initial taken words history left sent end s = record {
   legal = subst (λ (h : Chronicle). IsLegalChronicle h) (sym s.history_is) s.legal;
   alone =
       ap (λ (h : Chronicle). length h.events) s.history_is ∙ ap length s.alone
-      ∙ sym (ap length (own_events DrawsFirst (no_past level) words s.asked s.es s.past left s.lawful));
+      ∙ sym (ap length (own_events DrawsFirst (no_past level initial) words s.asked s.es s.past left s.lawful));
 }
 
 -- a session that was served rode over its whole script
-rides_of : (level : Level) (taken words : List ℕ) (history : Chronicle) (left sent : List ℕ) (end : End) →
-    (s : Served level taken words history left sent end) →
-    Rides (session level phases.Startup [] s.talk) nothing_said s.es (no_past level) words (record { bytes = sent; calls = s.asked }) end s.past left
+rides_of : (level : Level) (initial : List (Cell × Value)) (taken words : List ℕ) (history : Chronicle) (left sent : List ℕ) (end : End) →
+    (s : Served level initial taken words history left sent end) →
+    Rides (session phases.Startup (at_start level) s.talk) nothing_said s.es (no_past level initial) words (record { bytes = sent; calls = s.asked }) end s.past left
 unfolding told
-rides_of level taken words history left sent end s = record {
+rides_of level initial taken words history left sent end s = record {
   goes = record { is = s.told_is; calm = s.calm; written = s.written };
   calls = s.asked;
   asked = refl;
   lawful = s.lawful;
   alone = refl;
-  last = last_of level taken words history left sent end s;
+  last = last_of level initial taken words history left sent end s;
 }
 
 -- an end that is let off is one that wanted the bytes that follow
@@ -45,13 +48,13 @@ not_spared (x ∷ xs) end (inl none) spared = let both : x ∷ xs ≡ [] = none 
 not_spared (x ∷ xs) end (inr never) spared = never spared
 
 pub one_history : OneHistory
-one_history level taken more words first second left right sent told one other a b either =
-    let agree : Agree (IsSpared more) (session level phases.Startup [] a.talk) (session level phases.Startup [] b.talk) =
-    sessions_agree more level phases.Startup [] false taken a.talk b.talk a.talk_is b.talk_is in
-    let near : IsNear (no_past level) (no_past level) a.past b.past = record { level = refl; events = refl; state = refl; tables = refl } in
-    let rode = agree.same nothing_said a.es b.es (no_past level) (no_past level) words (record { bytes = sent; calls = a.asked })
+one_history level initial taken more words first second left right sent told one other a b either =
+    let agree : Agree (IsSpared more) (session phases.Startup (at_start level) a.talk) (session phases.Startup (at_start level) b.talk) =
+    sessions_agree more phases.Startup (at_start level) false taken a.talk b.talk a.talk_is b.talk_is in
+    let near : IsNear (no_past level initial) (no_past level initial) a.past b.past = record { level = refl; initial = refl; events = refl; state = refl; tables = refl } in
+    let rode = agree.same nothing_said a.es b.es (no_past level initial) (no_past level initial) words (record { bytes = sent; calls = a.asked })
     (record { bytes = told; calls = b.asked }) one other a.past b.past left right
-    (rides_of level taken words first left sent one a) (rides_of level (taken ++ more) words second right told other b) near in
+    (rides_of level initial taken words first left sent one a) (rides_of level initial (taken ++ more) words second right told other b) near in
     elim rode [
       | inl spared ↦ absurd (not_spared more one either spared)
       | inr same ↦ (sym a.history_is ∙ same.history ∙ b.history_is, same.words, same.alike)

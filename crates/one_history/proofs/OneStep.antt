@@ -1,6 +1,5 @@
 -- One call has one answer and one event.
 use Rattle.std.proofs.Common.{◌≡◌, ℕ, List, ap, sym, ◌∙◌, subst, inl, inr, ◌⊎◌}
-use Rattle.cell_base.specs.declared.level.Level.{Level}
 use Rattle.cell_base.specs.declared.cell.Cell.{Cell}
 use Rattle.cell_base.specs.declared.key.Key.{Key}
 use Rattle.cell_base.specs.declared.value.Value.{Value}
@@ -45,14 +44,14 @@ same_read : (s : ℕ) (cell : Cell) (a b m n u w : ℕ) (x y : Value) → a ≡ 
 same_read s cell a b m n u w x y p q r t =
     ap (λ k. Read s cell k m u x) p ∙ ap (λ k. Read s cell b k u x) q ∙ ap (λ k. Read s cell b n k x) r ∙ ap (λ k. Read s cell b n w k) t
 
-one_from : (events : List Event) (level : Level) (state : SessionState) (v : List ℕ) (cell : Cell) (a b : Answer) (value other : Value) (e f : Event) (u w : List ℕ) →
-    a ≡ answers.Found value → b ≡ answers.Found other → From events level state v cell value e u → From events level state v cell other f w → IsOne a b e f u w
-one_from events level state v cell a b value other e f u w left right one two =
+one_from : (initial : List (Cell × Value)) (events : List Event) (state : SessionState) (v : List ℕ) (cell : Cell) (a b : Answer) (value other : Value) (e f : Event) (u w : List ℕ) →
+    a ≡ answers.Found value → b ≡ answers.Found other → From initial events state v cell value e u → From initial events state v cell other f w → IsOne a b e f u w
+one_from initial events state v cell a b value other e f u w left right one two =
     let s : ℕ = session_of state in
     let drawn = one_drawn v one.word two.word u w one.drawn two.drawn in
-    let offered : IsOffered level events (Read s cell one.source one.count two.word value) =
-    subst (λ (k : ℕ). IsOffered level events (Read s cell one.source one.count k value)) drawn.0 one.offered in
-    let same = one_read level events s cell one.source two.source one.count two.count two.word value other offered two.offered one.writes two.writes in
+    let offered : IsOffered events (Read s cell one.source one.count two.word value) =
+    subst (λ (k : ℕ). IsOffered events (Read s cell one.source one.count k value)) drawn.0 one.offered in
+    let same = one_read initial events s cell one.source two.source one.count two.count two.word value other one.is_state offered two.offered one.writes two.writes in
     record {
       answers = found_same a b value other left right same.values;
       events = one.event
@@ -61,21 +60,21 @@ one_from events level state v cell a b value other e f u w left right one two =
       words = drawn.1;
     }
 
-one_touch : (events : List Event) (level : Level) (state : SessionState) (v : List ℕ) (cell : Cell) (a b : Answer) (value other : Value) (e f : Event) (u w : List ℕ) →
+one_touch : (initial : List (Cell × Value)) (events : List Event) (state : SessionState) (v : List ℕ) (cell : Cell) (a b : Answer) (value other : Value) (e f : Event) (u w : List ℕ) →
     a ≡ answers.Found value → b ≡ answers.Found other →
-    Back state v cell value e u ⊎ From events level state v cell value e u → Back state v cell other f w ⊎ From events level state v cell other f w →
+    Back state v cell value e u ⊎ From initial events state v cell value e u → Back state v cell other f w ⊎ From initial events state v cell other f w →
     IsOne a b e f u w
-one_touch events level state v cell a b value other e f u w left right (inl one) (inl two) =
+one_touch initial events state v cell a b value other e f u w left right (inl one) (inl two) =
     let same : value ≡ other = one_last_write cell value other state one.last two.last in
     record {
       answers = found_same a b value other left right same;
       events = one.event ∙ ap (λ (x : Value). Own (session_of state) cell x) same ∙ sym two.event;
       words = one.words_are ∙ sym two.words_are;
     }
-one_touch events level state v cell a b value other e f u w left right (inl one) (inr two) = absurd (not_both cell state one.written two.unwritten)
-one_touch events level state v cell a b value other e f u w left right (inr one) (inl two) = absurd (not_both cell state two.written one.unwritten)
-one_touch events level state v cell a b value other e f u w left right (inr one) (inr two) =
-    one_from events level state v cell a b value other e f u w left right one two
+one_touch initial events state v cell a b value other e f u w left right (inl one) (inr two) = absurd (not_both cell state one.written two.unwritten)
+one_touch initial events state v cell a b value other e f u w left right (inr one) (inl two) = absurd (not_both cell state two.written one.unwritten)
+one_touch initial events state v cell a b value other e f u w left right (inr one) (inr two) =
+    one_from initial events state v cell a b value other e f u w left right one two
 
 one_define : (events : List Event) (state : SessionState) (table : Table) (a b : Answer) (e f : Event) (u w v : List ℕ) → u ≡ v → w ≡ v →
     News events state table a e ⊎ Olds events state table a e → News events state table b f ⊎ Olds events state table b f → IsOne a b e f u w
@@ -86,29 +85,29 @@ one_define events state table a b e f u w v left right (inr one) (inl two) = abs
 one_define events state table a b e f u w v left right (inr one) (inr two) =
     record { answers = one.answer ∙ sym two.answer; events = one.event ∙ sym two.event; words = left ∙ sym right }
 
-one_scan : (events : List Event) (s table : ℕ) (a b : Answer) (xs ys : List Key) (e f : Event) (u w v : List ℕ) →
-    ListsKeys events s table xs → ListsKeys events s table ys → a ≡ answers.Listed xs → b ≡ answers.Listed ys →
+one_scan : (initial : List (Cell × Value)) (events : List Event) (s table : ℕ) (a b : Answer) (xs ys : List Key) (e f : Event) (u w v : List ℕ) →
+    ListsKeys initial events s table xs → ListsKeys initial events s table ys → a ≡ answers.Listed xs → b ≡ answers.Listed ys →
     e ≡ Scan s table xs → f ≡ Scan s table ys → u ≡ v → w ≡ v → IsOne a b e f u w
-one_scan events s table a b xs ys e f u w v one two a_is b_is e_is f_is left right =
-    let same : xs ≡ ys = one_listing events s table xs ys one two in
+one_scan initial events s table a b xs ys e f u w v one two a_is b_is e_is f_is left right =
+    let same : xs ≡ ys = one_listing initial events s table xs ys one two in
     record {
       answers = a_is ∙ ap (λ (ks : List Key). answers.Listed ks) same ∙ sym b_is;
       events = e_is ∙ ap (λ (ks : List Key). Scan s table ks) same ∙ sym f_is;
       words = left ∙ sym right;
     }
 
-pub known_one : (events : List Event) (level : Level) (state : SessionState) (tables : List Table) (v : List ℕ) (c : Call) (a b : Answer) (e f : Event) (u w : List ℕ) →
-    Known events level state tables v c a e u → Known events level state tables v c b f w → IsOne a b e f u w
-known_one events level state tables v calls.Open a b e f u w one two = plain a b _ e f _ u w v one two
-known_one events level state tables v calls.Close a b e f u w one two = plain a b _ e f _ u w v one two
-known_one events level state tables v (calls.Look known) a b e f u w one two = plain a b _ e f _ u w v one two
-known_one events level state tables v (calls.Define t) a b e f u w one two = one_define events state t a b e f u w v one.1 two.1 one.0 two.0
-known_one events level state tables v calls.Begin a b e f u w one two = plain a b _ e f _ u w v one two
-known_one events level state tables v (calls.Scan t) a b e f u w one two =
-    one_scan events (session_of state) t a b one.0 two.0 e f u w v one.1 two.1 one.2 two.2 one.3 two.3 one.4 two.4
-known_one events level state tables v (calls.Touch cell) a b e f u w one two =
-    one_touch events level state v cell a b one.0 two.0 e f u w one.1 two.1 one.2 two.2
-known_one events level state tables v (calls.Write cell value) a b e f u w one two = plain a b _ e f _ u w v one two
-known_one events level state tables v calls.Commit a b e f u w one two = plain a b _ e f _ u w v one two
-known_one events level state tables v calls.Rollback a b e f u w one two = plain a b _ e f _ u w v one two
-known_one events level state tables v calls.Show a b e f u w one two = plain a b _ e f _ u w v one two
+pub known_one : (initial : List (Cell × Value)) (events : List Event) (state : SessionState) (tables : List Table) (v : List ℕ) (c : Call) (a b : Answer) (e f : Event) (u w : List ℕ) →
+    Known initial events state tables v c a e u → Known initial events state tables v c b f w → IsOne a b e f u w
+known_one initial events state tables v calls.Open a b e f u w one two = plain a b _ e f _ u w v one two
+known_one initial events state tables v calls.Close a b e f u w one two = plain a b _ e f _ u w v one two
+known_one initial events state tables v (calls.Look known) a b e f u w one two = plain a b _ e f _ u w v one two
+known_one initial events state tables v (calls.Define t) a b e f u w one two = one_define events state t a b e f u w v one.1 two.1 one.0 two.0
+known_one initial events state tables v (calls.Begin level) a b e f u w one two = plain a b _ e f _ u w v one two
+known_one initial events state tables v (calls.Scan t) a b e f u w one two =
+    one_scan initial events (session_of state) t a b one.0 two.0 e f u w v one.1 two.1 one.2 two.2 one.3 two.3 one.4 two.4
+known_one initial events state tables v (calls.Touch cell) a b e f u w one two =
+    one_touch initial events state v cell a b one.0 two.0 e f u w one.1 two.1 one.2 two.2
+known_one initial events state tables v (calls.Write cell value) a b e f u w one two = plain a b _ e f _ u w v one two
+known_one initial events state tables v calls.Commit a b e f u w one two = plain a b _ e f _ u w v one two
+known_one initial events state tables v calls.Rollback a b e f u w one two = plain a b _ e f _ u w v one two
+known_one initial events state tables v calls.Show a b e f u w one two = plain a b _ e f _ u w v one two

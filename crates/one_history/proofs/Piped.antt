@@ -2,7 +2,6 @@
 use Rattle.std.proofs.Common.{◌≡◌, ◌≢◌, inl, inr, ◌⊎◌, false, ℕ, ◌+◌, ◌<◌, ◌≤◌, List, [], ◌∷◌, ◌++◌, length, Option, Some, None, arith, refl, sym, ◌∙◌, ap, subst}
 use Rattle.std.proofs.lemmas.List.{append-nil, length-append}
 use Rattle.cell_base.specs.declared.level.Level.{Level}
-use Rattle.cell_base.specs.declared.level.Level.TheVariants.{Rc}
 use Rattle.link_traits.specs.Traffic.{Traffic, Both, Sight}
 use Rattle.block_machine.specs.Script.{Entry}
 use Rattle.block_machine.specs.declared.end.End.{End}
@@ -13,9 +12,9 @@ use Rattle.monkey_server.specs.Program.{ServesAlone}
 use Rattle.one_history.specs.Laws.{Served, WantsMore, EndsApart, EndsAlike, PipeHasOneHistory}
 use Rattle.one_history.proofs.OneHistory.{one_history}
 
-served : (words : List ℕ) (f g : Sight) (end : End) (a : ServesAlone words f g end false) → end ≢ ends.WriteFault →
-    Served Rc a.taken words a.past.seen a.rest a.sent end
-served words f g end a written = record {
+served : (level : Level) (words : List ℕ) (f g : Sight) (end : End) (a : ServesAlone level words f g end false) → end ≢ ends.WriteFault →
+    Served level [] a.taken words a.past.seen a.rest a.sent end
+served level words f g end a written = record {
   talk = a.talk;
   es = a.es;
   asked = a.asked;
@@ -68,10 +67,10 @@ at_end ends.ReadFault f g taken u blames is reads wants = absurd (reads refl)
 at_end ends.Spent f g taken u blames is reads wants = inr blames
 at_end _ f g taken u blames is reads wants = absurd wants
 
-takes : (words : List ℕ) (f g : Sight) (end : End) (a : ServesAlone words f g end false) (t : Traffic) → f.traffic ≡ Some t →
+takes : (level : Level) (words : List ℕ) (f g : Sight) (end : End) (a : ServesAlone level words f g end false) (t : Traffic) → f.traffic ≡ Some t →
     end ≢ ends.ReadFault → Takes t.left a.taken end
-takes words f g end a t is reads =
-    let to = carried Rc a.taken a.es a.sent a.lost f.traffic g.traffic t a.serves.carries is in
+takes level words f g end a t is reads =
+    let to = carried level a.taken a.es a.sent a.lost f.traffic g.traffic t a.serves.carries is in
     record {
       behind = to.0.left;
       split = to.2.left;
@@ -161,17 +160,17 @@ same_ends sent told one other (inl both) never = both
 same_ends sent told one other (inr apart) never = absurd (never apart.0)
 
 -- two runs have one history, end alike and were told the same
-abbrev pub OneRun : (words : List ℕ) (f g h k : Sight) (one other : End) → ServesAlone words f g one false → ServesAlone words h k other false → Type 0
-OneRun words f g h k one other a b = (a.past.seen ≡ b.past.seen) × (a.rest ≡ b.rest) × (one ≡ other) × (a.sent ≡ b.sent)
+abbrev pub OneRun : (level : Level) (words : List ℕ) (f g h k : Sight) (one other : End) → ServesAlone level words f g one false → ServesAlone level words h k other false → Type 0
+OneRun level words f g h k one other a b = (a.past.seen ≡ b.past.seen) × (a.rest ≡ b.rest) × (one ≡ other) × (a.sent ≡ b.sent)
 
 -- the second run took what the first one took, and more
-run_longer : (words : List ℕ) (f g h k : Sight) (one other : End) (a : ServesAlone words f g one false) (b : ServesAlone words h k other false)
+run_longer : (level : Level) (words : List ℕ) (f g h k : Sight) (one other : End) (a : ServesAlone level words f g one false) (b : ServesAlone level words h k other false)
     (more : List ℕ) → one ≢ ends.WriteFault → other ≢ ends.WriteFault → one ≢ ends.ReadFault → other ≢ ends.ReadFault →
-    b.taken ≡ a.taken ++ more → (more ≡ []) ⊎ (¬ (WantsMore one)) → OneRun words f g h k one other a b
-run_longer words f g h k one other a b more written sent reads reads_too longer either =
+    b.taken ≡ a.taken ++ more → (more ≡ []) ⊎ (¬ (WantsMore one)) → OneRun level words f g h k one other a b
+run_longer level words f g h k one other a b more written sent reads reads_too longer either =
     let is =
-    one_history Rc a.taken more words a.past.seen b.past.seen a.rest b.rest a.sent b.sent one other (served words f g one a written)
-    (subst (λ (bytes : List ℕ). Served Rc bytes words b.past.seen b.rest b.sent other) longer (served words h k other b sent)) either in
+    one_history level [] a.taken more words a.past.seen b.past.seen a.rest b.rest a.sent b.sent one other (served level words f g one a written)
+    (subst (λ (bytes : List ℕ). Served level [] bytes words b.past.seen b.rest b.sent other) longer (served level words h k other b sent)) either in
     let never : EndsApart one other → ⊥ =
     λ apart.
     never_apart one other (length a.taken) reads reads_too (reaches one f g a.taken a.serves.blames)
@@ -180,15 +179,15 @@ run_longer words f g h k one other a b more written sent reads reads_too longer 
     let both = same_ends a.sent b.sent one other is.2 never in (is.0, is.1, both.0, both.1)
 
 pub piped : PipeHasOneHistory
-piped words f g h k t u one other a b at also input written sent reads reads_too =
-    let first : Takes t.left a.taken one = takes words f g one a t at reads in
-    let second : Takes u.left b.taken other = takes words h k other b u also reads_too in
+piped level words f g h k t u one other a b at also input written sent reads reads_too =
+    let first : Takes t.left a.taken one = takes level words f g one a t at reads in
+    let second : Takes u.left b.taken other = takes level words h k other b u also reads_too in
     elim (fronts a.taken b.taken first.behind second.behind (sym first.split ∙ input ∙ second.split)) [
       | inl on ↦
-          run_longer words f g h k one other a b on.more written sent reads reads_too on.longer
+          run_longer level words f g h k one other a b on.more written sent reads reads_too on.longer
           (took_all t.left a.taken b.taken second.behind one first on second.within)
       | inr on ↦
-          let back = run_longer words h k f g other one b a on.more sent written reads_too reads on.longer
+          let back = run_longer level words h k f g other one b a on.more sent written reads_too reads on.longer
           (took_all u.left b.taken a.taken first.behind other second on first.within) in
           (sym back.0, sym back.1, sym back.2, sym back.3)
     ]

@@ -1,7 +1,7 @@
 -- Two runs of the program whose codes are 0 or 1 have one code, one history, and wrote the same bytes.
 use Rattle.std.proofs.Common.{◌≡◌, ◌≢◌, true, false, Bool, ℕ, ◌<◌, List, [], ◌++◌, Some, arith, refl, sym, ◌∙◌, ap, subst}
 use Rattle.std.proofs.lemmas.List.{append-nil}
-use Rattle.cell_base.specs.declared.level.Level.TheVariants.{Rc}
+use Rattle.cell_base.specs.declared.level.Level.{Level}
 use Rattle.link_traits.specs.Traffic.{Traffic, Sight}
 use Rattle.block_machine.specs.declared.end.End.{End}
 use Rattle.block_machine.specs.declared.end.End.TheVariants as ends
@@ -32,10 +32,10 @@ record Wrote (f g : Sight) (t : Traffic) (sent : List ℕ) : Type 0 where
   pub is : g.traffic ≡ Some to
   pub written : to.written ≡ t.written ++ sent
 
-wrote : (words : List ℕ) (f g : Sight) (end : End) (a : ServesAlone words f g end false) (t : Traffic) → f.traffic ≡ Some t →
+wrote : (level : Level) (words : List ℕ) (f g : Sight) (end : End) (a : ServesAlone level words f g end false) (t : Traffic) → f.traffic ≡ Some t →
     end ≢ ends.WriteFault → Wrote f g t a.sent
-wrote words f g end a t at never =
-    let on = carried Rc a.taken a.es a.sent a.lost f.traffic g.traffic t a.serves.carries at in
+wrote level words f g end a t at never =
+    let on = carried level a.taken a.es a.sent a.lost f.traffic g.traffic t a.serves.carries at in
     record {
       to = on.0;
       is = on.1;
@@ -54,20 +54,20 @@ pub record WroteAlike (f g : Sight) : Type 0 where
   pub other_is : g.traffic ≡ Some other
   pub same : one.written ≡ other.written
 
-abbrev pub RunsAlike : (words : List ℕ) (f g h k : Sight) (one other : End) (wants lacks : Bool) → ServesAlone words f g one wants →
-    ServesAlone words h k other lacks → Type 0
-RunsAlike words f g h k one other wants lacks a b =
+abbrev pub RunsAlike : (level : Level) (words : List ℕ) (f g h k : Sight) (one other : End) (wants lacks : Bool) → ServesAlone level words f g one wants →
+    ServesAlone level words h k other lacks → Type 0
+RunsAlike level words f g h k one other wants lacks a b =
     (status_of one wants ≡ status_of other lacks) × (a.past.seen ≡ b.past.seen) × WroteAlike g k
 
-calm_runs : (words : List ℕ) (f g h k : Sight) (one other : End) (a : ServesAlone words f g one false) (b : ServesAlone words h k other false)
+calm_runs : (level : Level) (words : List ℕ) (f g h k : Sight) (one other : End) (a : ServesAlone level words f g one false) (b : ServesAlone level words h k other false)
     (t u : Traffic) → f.traffic ≡ Some t → h.traffic ≡ Some u → t.left ≡ u.left → t.written ≡ u.written → status_of one false < 2 →
-    status_of other false < 2 → RunsAlike words f g h k one other false false a b
-calm_runs words f g h k one other a b t u at also input output small smaller =
+    status_of other false < 2 → RunsAlike level words f g h k one other false false a b
+calm_runs level words f g h k one other a b t u at also input output small smaller =
     let sent : one ≢ ends.WriteFault = no_failed_write one small in
     let sent_too : other ≢ ends.WriteFault = no_failed_write other smaller in
-    let is = piped words f g h k t u one other a b at also input sent sent_too (no_failed_read one small) (no_failed_read other smaller) in
-    let left : Wrote f g t a.sent = wrote words f g one a t at sent in
-    let right : Wrote h k u b.sent = wrote words h k other b u also sent_too in (
+    let is = piped level words f g h k t u one other a b at also input sent sent_too (no_failed_read one small) (no_failed_read other smaller) in
+    let left : Wrote f g t a.sent = wrote level words f g one a t at sent in
+    let right : Wrote h k u b.sent = wrote level words h k other b u also sent_too in (
       ap (λ (e : End). status_of e false) is.2,
       is.0,
       record {
@@ -81,19 +81,19 @@ calm_runs words f g h k one other a b t u at also input output small smaller =
       },
     )
 
-runs : (words : List ℕ) (f g h k : Sight) (one other : End) (wants lacks : Bool) (a : ServesAlone words f g one wants)
-    (b : ServesAlone words h k other lacks) (t u : Traffic) → f.traffic ≡ Some t → h.traffic ≡ Some u → t.left ≡ u.left →
-    t.written ≡ u.written → status_of one wants < 2 → status_of other lacks < 2 → RunsAlike words f g h k one other wants lacks a b
-runs words f g h k one other true lacks a b t u at also input output small smaller = absurd (no_short one small)
-runs words f g h k one other false true a b t u at also input output small smaller = absurd (no_short other smaller)
-runs words f g h k one other false false a b t u at also input output small smaller =
-    calm_runs words f g h k one other a b t u at also input output small smaller
+runs : (level : Level) (words : List ℕ) (f g h k : Sight) (one other : End) (wants lacks : Bool) (a : ServesAlone level words f g one wants)
+    (b : ServesAlone level words h k other lacks) (t u : Traffic) → f.traffic ≡ Some t → h.traffic ≡ Some u → t.left ≡ u.left →
+    t.written ≡ u.written → status_of one wants < 2 → status_of other lacks < 2 → RunsAlike level words f g h k one other wants lacks a b
+runs level words f g h k one other true lacks a b t u at also input output small smaller = absurd (no_short one small)
+runs level words f g h k one other false true a b t u at also input output small smaller = absurd (no_short other smaller)
+runs level words f g h k one other false false a b t u at also input output small smaller =
+    calm_runs level words f g h k one other a b t u at also input output small smaller
 
-pub piped_runs : (words : List ℕ) (before after then later : Hosted) (code status : ℕ) (t u : Traffic) (a : Piped words before code after)
-    (b : Piped words then status later) → a.given.traffic ≡ Some t → b.given.traffic ≡ Some u → t.left ≡ u.left → t.written ≡ u.written →
+pub piped_runs : (level : Level) (words : List ℕ) (before after then later : Hosted) (code status : ℕ) (t u : Traffic) (a : Piped level words before code after)
+    (b : Piped level words then status later) → a.given.traffic ≡ Some t → b.given.traffic ≡ Some u → t.left ≡ u.left → t.written ≡ u.written →
     code < 2 → status < 2 → (code ≡ status) × (a.serves.past.seen ≡ b.serves.past.seen) × WroteAlike a.returned b.returned
-piped_runs words before after then later code status t u a b at also input output small smaller =
+piped_runs level words before after then later code status t u a b at also input output small smaller =
     let is =
-    runs words a.given a.returned b.given b.returned a.end b.end a.wanting b.wanting a.serves b.serves t u at also input output
+    runs level words a.given a.returned b.given b.returned a.end b.end a.wanting b.wanting a.serves b.serves t u at also input output
     (subst (λ (n : ℕ). n < 2) a.code_is small) (subst (λ (n : ℕ). n < 2) b.code_is smaller) in
     (a.code_is ∙ is.0 ∙ sym b.code_is, is.1, is.2)

@@ -37,9 +37,10 @@ pub record Rides (s : Script) (said : Said) (es : List Entry) (p : Past) (v : Li
   pub alone : length p.seen.events ≡ length p.own
   pub last : IsLast q
 
--- two pasts on the way to others have the same events, and the tables that are defined will be the same
+-- two pasts on the way to others have the same initial state and events, and the tables that are defined will be the same
 pub record IsNear (a b q r : Past) : Type 0 where
   pub level : a.seen.level ≡ b.seen.level
+  pub initial : a.seen.initial ≡ b.seen.initial
   pub events : a.seen.events ≡ b.seen.events
   pub state : a.state ≡ b.state
   pub tables : take (defined a.seen.events) q.seen.tables ≡ take (defined a.seen.events) r.seen.tables

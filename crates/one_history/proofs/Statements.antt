@@ -1,5 +1,5 @@
 -- A statement's script agrees with itself where what stands around it does.
-use Rattle.std.proofs.Common.{◌≡◌, Bool, true, false, cond, ℕ, List, [], ◌∷◌, ◌++◌, length, Option, Some, None, Ok, Err, subst}
+use Rattle.std.proofs.Common.{Bool, true, false, cond, ℕ, List, [], ◌∷◌, ◌++◌, length, Option, Some, None, Ok, Err}
 use Rattle.std.specs.Fmt.{decimal}
 use Rattle.std.specs.Str.{bytes_eq}
 use Rattle.cell_base.specs.declared.level.Level.{Level}
@@ -23,7 +23,8 @@ use Rattle.statement_course.specs.Statements.{course_of}
 use Rattle.outcome_replies.specs.Replies.{outcome_reply}
 use Rattle.block_machine.specs.declared.end.End.{End}
 use Rattle.block_machine.specs.Calls as calls
-use Rattle.block_machine.specs.Settings.{is_own, history_name, value_of}
+use Rattle.block_machine.specs.Knowledge.{Knowledge, with_tables, with_level}
+use Rattle.block_machine.specs.Settings.{is_own, history_name, level_name, chosen_level, value_of}
 use Rattle.block_machine.specs.Replies.{error_reply, created_reply, set_reply, commit_reply, rollback_reply, needless_commit_reply, needless_rollback_reply, start_reply, needless_start_reply, show_reply}
 use Rattle.block_machine.specs.Script.{Script}
 use Rattle.block_machine.specs.Statements as told
@@ -38,25 +39,24 @@ use Rattle.one_history.proofs.Cases.{looked_agrees, defined_agrees, begun_agrees
 
 -- what stands around a statement agrees
 pub record Alike (E : End → Type 0) (x y : Around) : Type 0 where
-  pub level : x.level ≡ y.level
-  pub succeeded : (b : Block) (k : List Table) → Agree E (x.succeeded b k) (y.succeeded b k)
-  pub failed : (state : TransactionState) (k : List Table) → Agree E (x.failed state k) (y.failed state k)
+  pub succeeded : (b : Block) (k : Knowledge) → Agree E (x.succeeded b k) (y.succeeded b k)
+  pub failed : (state : TransactionState) (k : Knowledge) → Agree E (x.failed state k) (y.failed state k)
   pub left : (owed : Owed) → Breaks (x.broken owed)
   pub right : (owed : Owed) → Breaks (y.broken owed)
 
-pub succeeds : (E : End → Type 0) → (x y : Around) → Alike E x y → (reply : List ℕ) (block : Block) (known : List Table) →
+pub succeeds : (E : End → Type 0) → (x y : Around) → Alike E x y → (reply : List ℕ) (block : Block) (known : Knowledge) →
     Agree E (told.succeeds reply block known x) (told.succeeds reply block known y)
 succeeds E x y h reply block known =
     tell_agrees E reply (x.broken (owed_in block)) (y.broken (owed_in block)) (x.succeeded block known) (y.succeeded block known)
     (h.left (owed_in block)) (h.right (owed_in block)) (h.succeeded block known)
 
-refused_with : (E : End → Type 0) → (x y : Around) → Alike E x y → (code : SqlState) (state : TransactionState) (known : List Table) →
+refused_with : (E : End → Type 0) → (x y : Around) → Alike E x y → (code : SqlState) (state : TransactionState) (known : Knowledge) →
     Agree E (told.refused_with code state known x) (told.refused_with code state known y)
 refused_with E x y h code state known =
     tell_agrees E (error_reply code) (x.broken owes.Close) (y.broken owes.Close) (x.failed state known) (y.failed state known)
     (h.left owes.Close) (h.right owes.Close) (h.failed state known)
 
-pub fails : (E : End → Type 0) → (x y : Around) → Alike E x y → (code : SqlState) (block : Block) (known : List Table) →
+pub fails : (E : End → Type 0) → (x y : Around) → Alike E x y → (code : SqlState) (block : Block) (known : Knowledge) →
     Agree E (told.fails code block known x) (told.fails code block known y)
 fails E x y h code (Implicit false) known = refused_with E x y h code ready.Idle known
 fails E x y h code (Implicit true) known =
@@ -67,32 +67,32 @@ fails E x y h code Regular known =
     (λ _. refused_with E x y h code ready.Failed known)
 fails E x y h code Failed known = refused_with E x y h code ready.Failed known
 
-declined : (E : End → Type 0) → (x y : Around) → Alike E x y → (block : Block) (known : List Table) (why : BookFault) →
+declined : (E : End → Type 0) → (x y : Around) → Alike E x y → (block : Block) (known : Knowledge) (why : BookFault) →
     Agree E (told.declined block known x why) (told.declined block known y why)
 declined E x y h block known why = fails E x y h (refusal_state why) block known
 
-calm : (E : End → Type 0) → (x y : Around) (block : Block) (known : List Table) (s t : Script) → Agree E s t →
+calm : (E : End → Type 0) → (x y : Around) (block : Block) (known : Knowledge) (s t : Script) → Agree E s t →
     Agree E (told.unless_short_in block known x s) (told.unless_short_in block known y t)
 calm E x y block known s t agree = calm_agrees E false (told.fails states.S53200 block known x) (told.fails states.S53200 block known y) s t agree
 
 -- ---- BEGIN, COMMIT, ROLLBACK
 
-starts : (E : End → Type 0) → (x y : Around) → Alike E x y → (start : Bool) (block : Block) (known : List Table) →
+starts : (E : End → Type 0) → (x y : Around) → Alike E x y → (start : Bool) (block : Block) (known : Knowledge) →
     Agree E (told.starts start block known x) (told.starts start block known y)
 starts E x y h start (Implicit false) known =
-    ask_agrees E calls.Begin _ _
+    ask_agrees E (calls.Begin known.level) _ _
     (λ a. begun_agrees E a _ _ _ _ (succeeds E x y h (start_reply start) Regular known) (declined E x y h (Implicit false) known))
 starts E x y h start (Implicit true) known = succeeds E x y h (start_reply start) Regular known
 starts E x y h start Regular known = succeeds E x y h (needless_start_reply start) Regular known
 starts E x y h start Failed known = fails E x y h states.S25P02 Failed known
 
-commits : (E : End → Type 0) → (x y : Around) → Alike E x y → (block : Block) (known : List Table) → Agree E (told.commits block known x) (told.commits block known y)
+commits : (E : End → Type 0) → (x y : Around) → Alike E x y → (block : Block) (known : Knowledge) → Agree E (told.commits block known x) (told.commits block known y)
 commits E x y h (Implicit false) known = succeeds E x y h needless_commit_reply (Implicit false) known
 commits E x y h (Implicit true) known = ask_agrees E calls.Commit _ _ (λ _. succeeds E x y h needless_commit_reply (Implicit false) known)
 commits E x y h Regular known = ask_agrees E calls.Commit _ _ (λ _. succeeds E x y h commit_reply (Implicit false) known)
 commits E x y h Failed known = succeeds E x y h rollback_reply (Implicit false) known
 
-rolls_back : (E : End → Type 0) → (x y : Around) → Alike E x y → (block : Block) (known : List Table) → Agree E (told.rolls_back block known x) (told.rolls_back block known y)
+rolls_back : (E : End → Type 0) → (x y : Around) → Alike E x y → (block : Block) (known : Knowledge) → Agree E (told.rolls_back block known x) (told.rolls_back block known y)
 rolls_back E x y h (Implicit false) known = succeeds E x y h needless_rollback_reply (Implicit false) known
 rolls_back E x y h (Implicit true) known = ask_agrees E calls.Rollback _ _ (λ _. succeeds E x y h needless_rollback_reply (Implicit false) known)
 rolls_back E x y h Regular known = ask_agrees E calls.Rollback _ _ (λ _. succeeds E x y h rollback_reply (Implicit false) known)
@@ -100,25 +100,25 @@ rolls_back E x y h Failed known = succeeds E x y h rollback_reply (Implicit fals
 
 -- ---- CREATE TABLE
 
-define_asks : (E : End → Type 0) → (x y : Around) → Alike E x y → (table : Table) (block : Block) (known : List Table) →
+define_asks : (E : End → Type 0) → (x y : Around) → Alike E x y → (table : Table) (block : Block) (known : Knowledge) →
     Agree E (told.defines (Ok table) block known x) (told.defines (Ok table) block known y)
 define_asks E x y h table block known =
     ask_agrees E (calls.Define table) _ _
     (λ a. defined_agrees E a _ _ _ _ _ _ (succeeds E x y h created_reply block known) (fails E x y h states.S42P07 block known) (declined E x y h block known))
 
-defines : (E : End → Type 0) → (x y : Around) → Alike E x y → (table : Result Table) (block : Block) (known : List Table) →
+defines : (E : End → Type 0) → (x y : Around) → Alike E x y → (table : Result Table) (block : Block) (known : Knowledge) →
     Agree E (told.defines table block known x) (told.defines table block known y)
 defines E x y h (Err code) block known = fails E x y h code block known
 defines E x y h (Ok table) block known = define_asks E x y h table block known
 
 -- ---- SELECT, INSERT, UPDATE, DELETE
 
-concludes : (E : End → Type 0) → (x y : Around) → Alike E x y → (outcome : Outcome) (block : Block) (known : List Table) →
+concludes : (E : End → Type 0) → (x y : Around) → Alike E x y → (outcome : Outcome) (block : Block) (known : Knowledge) →
     Agree E (told.concludes outcome block known x) (told.concludes outcome block known y)
 concludes E x y h (outcomes.Failed code) block known = fails E x y h code block known
 concludes E x y h outcome block known = succeeds E x y h (outcome_reply outcome) block known
 
-runs : (E : End → Type 0) → (x y : Around) → Alike E x y → (c : Course) (block : Block) (known : List Table) → Agree E (told.runs c block known x) (told.runs c block known y)
+runs : (E : End → Type 0) → (x y : Around) → Alike E x y → (c : Course) (block : Block) (known : Knowledge) → Agree E (told.runs c block known x) (told.runs c block known y)
 runs E x y h (scan table next) block known =
     ask_agrees E (calls.Scan table) _ _
     (λ a. listed_agrees E a _ _ _ _ (λ keys. calm E x y block known (told.runs (next keys) block known x) (told.runs (next keys) block known y) (runs E x y h (next keys) block known))
@@ -133,10 +133,10 @@ runs E x y h (write cell value next) block known =
     (declined E x y h block known))
 runs E x y h (done outcome) block known = concludes E x y h outcome block known
 
-begins : (E : End → Type 0) → (x y : Around) → Alike E x y → (c : Course) (block : Block) (known : List Table) →
+begins : (E : End → Type 0) → (x y : Around) → Alike E x y → (c : Course) (block : Block) (known : Knowledge) →
     Agree E (told.begins c block known x) (told.begins c block known y)
 begins E x y h c (Implicit false) known =
-    ask_agrees E calls.Begin _ _
+    ask_agrees E (calls.Begin known.level) _ _
     (λ a. begun_agrees E a _ _ _ _
     (calm E x y (Implicit true) known (told.runs c (Implicit true) known x) (told.runs c (Implicit true) known y) (runs E x y h c (Implicit true) known))
     (declined E x y h (Implicit false) known))
@@ -144,42 +144,42 @@ begins E x y h c (Implicit true) known = runs E x y h c (Implicit true) known
 begins E x y h c Regular known = runs E x y h c Regular known
 begins E x y h c Failed known = fails E x y h states.S25P02 Failed known
 
-judged : (E : End → Type 0) → (x y : Around) → Alike E x y → (t : Result Typed) (block : Block) (known : List Table) →
+judged : (E : End → Type 0) → (x y : Around) → Alike E x y → (t : Result Typed) (block : Block) (known : Knowledge) →
     Agree E (told.judged t block known x) (told.judged t block known y)
-judged E x y h (Ok t) block known = begins E x y h (course_of known t) block known
+judged E x y h (Ok t) block known = begins E x y h (course_of known.tables t) block known
 judged E x y h (Err code) block known = fails E x y h code block known
 
-typed_over : (E : End → Type 0) → (x y : Around) → Alike E x y → (statement : Statement) (block : Block) (known tables : List Table) →
+typed_over : (E : End → Type 0) → (x y : Around) → Alike E x y → (statement : Statement) (block : Block) (known : Knowledge) (tables : List Table) →
     Agree E (told.typed_over statement block known tables x) (told.typed_over statement block known tables y)
 typed_over E x y h statement block known tables =
-    calm E x y block known (told.judged (typed (known ++ tables) statement) block (known ++ tables) x)
-    (told.judged (typed (known ++ tables) statement) block (known ++ tables) y)
-    (judged E x y h (typed (known ++ tables) statement) block (known ++ tables))
+    calm E x y block known (told.judged (typed (known.tables ++ tables) statement) block (with_tables known tables) x)
+    (told.judged (typed (known.tables ++ tables) statement) block (with_tables known tables) y)
+    (judged E x y h (typed (known.tables ++ tables) statement) block (with_tables known tables))
 
-looks : (E : End → Type 0) → (x y : Around) → Alike E x y → (statement : Statement) (block : Block) (known : List Table) →
+looks : (E : End → Type 0) → (x y : Around) → Alike E x y → (statement : Statement) (block : Block) (known : Knowledge) →
     Agree E (told.looks statement block known x) (told.looks statement block known y)
 looks E x y h statement block known =
-    ask_agrees E (calls.Look (length known)) _ _
+    ask_agrees E (calls.Look (length known.tables)) _ _
     (λ a. looked_agrees E a _ _ _ _ (λ tables. typed_over E x y h statement block known tables) (declined E x y h block known))
 
-prepares : (E : End → Type 0) → (x y : Around) → Alike E x y → (statement : Statement) (block : Block) (known : List Table) →
+prepares : (E : End → Type 0) → (x y : Around) → Alike E x y → (statement : Statement) (block : Block) (known : Knowledge) →
     Agree E (told.prepares statement block known x) (told.prepares statement block known y)
 prepares E x y h statement block known =
     calm E x y block known (told.looks statement block known x) (told.looks statement block known y) (looks E x y h statement block known)
 
-at_once : (E : End → Type 0) → (x y : Around) → Alike E x y → (c : Course) (block : Block) (known : List Table) →
+at_once : (E : End → Type 0) → (x y : Around) → Alike E x y → (c : Course) (block : Block) (known : Knowledge) →
     Agree E (told.at_once c block known x) (told.at_once c block known y)
 at_once E x y h (done outcome) block known = concludes E x y h outcome block known
 at_once E x y h (scan table next) block known = (lost_agrees E)
 at_once E x y h (touch cell next) block known = (lost_agrees E)
 at_once E x y h (write cell value next) block known = (lost_agrees E)
 
-judged_at_once : (E : End → Type 0) → (x y : Around) → Alike E x y → (t : Result Typed) (block : Block) (known : List Table) →
+judged_at_once : (E : End → Type 0) → (x y : Around) → Alike E x y → (t : Result Typed) (block : Block) (known : Knowledge) →
     Agree E (told.judged_at_once t block known x) (told.judged_at_once t block known y)
 judged_at_once E x y h (Ok t) block known = at_once E x y h (course_of [] t) block known
 judged_at_once E x y h (Err code) block known = fails E x y h code block known
 
-selects : (E : End → Type 0) → (x y : Around) → Alike E x y → (entries : List TableRef) (statement : Statement) (block : Block) (known : List Table) →
+selects : (E : End → Type 0) → (x y : Around) → Alike E x y → (entries : List TableRef) (statement : Statement) (block : Block) (known : Knowledge) →
     Agree E (told.selects entries statement block known x) (told.selects entries statement block known y)
 selects E x y h [] statement block known =
     calm E x y block known (told.judged_at_once (typed [] statement) block known x) (told.judged_at_once (typed [] statement) block known y)
@@ -192,18 +192,25 @@ either : (E : End → Type 0) → (b : Bool) (s t u v : Script) → Agree E s t 
 either E true s t u v one two = one
 either E false s t u v one two = two
 
-sets : (E : End → Type 0) → (x y : Around) → Alike E x y → (name : List ℕ) (block : Block) (known : List Table) → Agree E (told.sets name block known x) (told.sets name block known y)
-sets E x y h name block known =
-    either E (is_own name) _ _ _ _ (fails E x y h states.S0A000 block known) (succeeds E x y h set_reply block known)
+sets_level : (E : End → Type 0) → (x y : Around) → Alike E x y → (level : Option Level) (block : Block) (known : Knowledge) →
+    Agree E (told.sets_level level block known x) (told.sets_level level block known y)
+sets_level E x y h (Some level) block known = succeeds E x y h set_reply block (with_level known level)
+sets_level E x y h None block known = fails E x y h states.S0A000 block known
 
-shows_value : (E : End → Type 0) → (x y : Around) → Alike E x y → (name : List ℕ) (value : Option (List ℕ)) (block : Block) (known : List Table) →
+sets : (E : End → Type 0) → (x y : Around) → Alike E x y → (name : List ℕ) (values : List (List ℕ)) (block : Block) (known : Knowledge) →
+    Agree E (told.sets name values block known x) (told.sets name values block known y)
+sets E x y h name values block known =
+    either E (bytes_eq name level_name) _ _ _ _ (sets_level E x y h (chosen_level known.served values) block known)
+    (either E (is_own name) _ _ _ _ (fails E x y h states.S0A000 block known) (succeeds E x y h set_reply block known))
+
+shows_value : (E : End → Type 0) → (x y : Around) → Alike E x y → (name : List ℕ) (value : Option (List ℕ)) (block : Block) (known : Knowledge) →
     Agree E (told.shows_value name value block known x) (told.shows_value name value block known y)
 shows_value E x y h name None block known = fails E x y h states.S0A000 block known
 shows_value E x y h name (Some value) block known =
     calm E x y block known (told.succeeds (show_reply name value) block known x) (told.succeeds (show_reply name value) block known y)
     (succeeds E x y h (show_reply name value) block known)
 
-shows_history : (E : End → Type 0) → (x y : Around) → Alike E x y → (block : Block) (known : List Table) → Agree E (told.shows_history block known x) (told.shows_history block known y)
+shows_history : (E : End → Type 0) → (x y : Around) → Alike E x y → (block : Block) (known : Knowledge) → Agree E (told.shows_history block known x) (told.shows_history block known y)
 shows_history E x y h block known =
     ask_agrees E calls.Show _ _
     (λ a. shown_agrees E a _ _ _ _
@@ -211,19 +218,14 @@ shows_history E x y h block known =
     (told.succeeds (show_reply history_name (decimal n)) block known y) (succeeds E x y h (show_reply history_name (decimal n)) block known))
     (declined E x y h block known))
 
-shows_at : (E : End → Type 0) → (x y : Around) → Alike E x y → (level : Level) (name : List ℕ) (block : Block) (known : List Table) →
-    Agree E (told.shows_at level name block known x) (told.shows_at level name block known y)
-shows_at E x y h level name block known =
-    either E (bytes_eq name history_name) _ _ _ _ (shows_history E x y h block known) (shows_value E x y h name (value_of level name) block known)
-
-shows : (E : End → Type 0) → (x y : Around) → Alike E x y → (name : List ℕ) (block : Block) (known : List Table) → Agree E (told.shows name block known x) (told.shows name block known y)
+shows : (E : End → Type 0) → (x y : Around) → Alike E x y → (name : List ℕ) (block : Block) (known : Knowledge) → Agree E (told.shows name block known x) (told.shows name block known y)
 shows E x y h name block known =
-    subst (λ (l : Level). Agree E (told.shows_at x.level name block known x) (told.shows_at l name block known y)) h.level
-    (shows_at E x y h x.level name block known)
+    either E (bytes_eq name history_name) _ _ _ _ (shows_history E x y h block known)
+    (shows_value E x y h name (value_of known.level name) block known)
 
 -- ---- all of them
 
-performs : (E : End → Type 0) → (x y : Around) → Alike E x y → (statement : Statement) (block : Block) (known : List Table) →
+performs : (E : End → Type 0) → (x y : Around) → Alike E x y → (statement : Statement) (block : Block) (known : Knowledge) →
     Agree E (told.performs statement block known x) (told.performs statement block known y)
 performs E x y h (tree.Select select) block known = selects E x y h select.from (tree.Select select) block known
 performs E x y h (tree.Insert insert) block known = prepares E x y h (tree.Insert insert) block known
@@ -234,17 +236,17 @@ performs E x y h (tree.Create create) block known =
 performs E x y h (tree.Begin start) block known = starts E x y h start block known
 performs E x y h tree.Commit block known = commits E x y h block known
 performs E x y h tree.Rollback block known = rolls_back E x y h block known
-performs E x y h (tree.Set name values) block known = sets E x y h name block known
+performs E x y h (tree.Set name values) block known = sets E x y h name values block known
 performs E x y h tree.SetModes block known = succeeds E x y h set_reply block known
 performs E x y h (tree.Show name) block known = shows E x y h name block known
 
-in_failed : (E : End → Type 0) → (x y : Around) → Alike E x y → (statement : Statement) (known : List Table) →
+in_failed : (E : End → Type 0) → (x y : Around) → Alike E x y → (statement : Statement) (known : Knowledge) →
     Agree E (told.in_failed statement known x) (told.in_failed statement known y)
 in_failed E x y h tree.Commit known = commits E x y h Failed known
 in_failed E x y h tree.Rollback known = rolls_back E x y h Failed known
 in_failed E x y h _ known = fails E x y h states.S25P02 Failed known
 
-pub told_of : (E : End → Type 0) → (x y : Around) → Alike E x y → (statement : Statement) (block : Block) (known : List Table) →
+pub told_of : (E : End → Type 0) → (x y : Around) → Alike E x y → (statement : Statement) (block : Block) (known : Knowledge) →
     Agree E (told.told_of statement block known x) (told.told_of statement block known y)
 told_of E x y h statement (Implicit pending) known = performs E x y h statement (Implicit pending) known
 told_of E x y h statement Regular known = performs E x y h statement Regular known

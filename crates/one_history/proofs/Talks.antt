@@ -2,7 +2,6 @@
 use Rattle.std.proofs.Common.{◌≡◌, inl, inr, ◌⊎◌, Bool, true, false, ℕ, List, [], ◌∷◌, ◌++◌, cond, length, refl, sym, ◌∙◌, ap, subst, append_assoc}
 use Rattle.std.specs.Prelude.{◌==◌}
 use Rattle.std.proofs.lemmas.List.{append-nil}
-use Rattle.cell_base.specs.declared.level.Level.{Level}
 use Rattle.cell_base.specs.declared.sql_state.SqlState.TheVariants as states
 use Rattle.client_framing.specs.declared.frontend_message.FrontendMessage.{FrontendMessage}
 use Rattle.client_framing.specs.declared.frontend_message.FrameFault.{FrameFault}
@@ -12,13 +11,13 @@ use Rattle.client_framing.specs.Fronts.{TakesFront}
 use Rattle.client_framing.proofs.Streams.{front_unique, behind_unique, front_no_fault, fault_unique, fault_stays}
 use Rattle.pg_framing.specs.declared.replies.TransactionState.{TransactionState}
 use Rattle.pg_framing.specs.declared.replies.TransactionState.TheVariants as block_states
-use Rattle.sql_tree.specs.declared.table.Table.{Table}
 use Rattle.history_core.specs.Book.{Past}
 use Rattle.block_machine.specs.Calls.{Call}
 use Rattle.block_machine.specs.Calls as calls
+use Rattle.block_machine.specs.Knowledge.{Knowledge}
 use Rattle.block_machine.specs.Script.{Entry, did, refused, short, unsent, stop, Next, more, ended, Said, Script, lost, on_opened, tell}
 use Rattle.block_machine.specs.Messages as messages
-use Rattle.block_machine.specs.Messages.{Outside, owed_between, block_at, IsMessage}
+use Rattle.block_machine.specs.Messages.{owed_between, block_at, IsMessage}
 use Rattle.block_machine.specs.declared.block.Owed.TheVariants as owes
 use Rattle.block_machine.specs.declared.end.End.{End}
 use Rattle.block_machine.specs.declared.end.End.TheVariants as ends
@@ -46,10 +45,10 @@ use Rattle.one_history.proofs.OneMessage.{one_message}
 
 -- what follows a message agrees
 abbrev pub Follow : Type 0
-Follow = Phase → List Table → Script
+Follow = Phase → Knowledge → Script
 
 abbrev pub FollowAlike : (End → Type 0) → Follow → Follow → Type 0
-FollowAlike E s t = (p : Phase) (k : List Table) → Agree E (s p k) (t p k)
+FollowAlike E s t = (p : Phase) (k : Knowledge) → Agree E (s p k) (t p k)
 
 -- ---- before the startup
 
@@ -66,7 +65,7 @@ opens E s t agree =
     (λ a. opened_agrees E a (λ session. tells_startup session s) (λ session. tells_startup session t) (λ why. closed (refusal_end why))
     (λ why. closed (refusal_end why)) (λ session. startup_told E session s t agree) (λ why. closed_agrees E (refusal_end why) (refusal_end why) (inl refl)))
 
-starting : (E : End → Type 0) → (asked : Ask) (known : List Table) (s t : Follow) → FollowAlike E s t → Agree E (told.starting asked known s) (told.starting asked known t)
+starting : (E : End → Type 0) → (asked : Ask) (known : Knowledge) (s t : Follow) → FollowAlike E s t → Agree E (told.starting asked known s) (told.starting asked known t)
 starting E encryption known s t h =
     tell_agrees E no_encryption (broken owes.Nothing) (broken owes.Nothing) (s phases.Startup known) (t phases.Startup known)
     (breaks owes.Nothing) (breaks owes.Nothing) (h phases.Startup known)
@@ -84,21 +83,19 @@ starting E function known s t h = (lost_agrees E)
 
 -- ---- after the startup
 
-beside : (E : End → Type 0) → (level : Level) (s t : Follow) → FollowAlike E s t → Beside E (outside_of level s) (outside_of level t)
-beside E level s t h = record {
-  level = refl;
+beside : (E : End → Type 0) → (s t : Follow) → FollowAlike E s t → Beside E (outside_of s) (outside_of t)
+beside E s t h = record {
   next = λ state k. h (phases.Normal state) k;
   left = breaks;
   right = breaks;
 }
 
-refuses : (E : End → Type 0) → (level : Level) (state : TransactionState) (known : List Table) (s t : Follow) → FollowAlike E s t →
-    Agree E (told.refuses level state known s) (told.refuses level state known t)
-refuses E level state known s t h =
-    fails E (record { level = level; succeeded = λ block k. lost; failed = λ after k. s (phases.Discarding after) k; broken = broken })
-    (record { level = level; succeeded = λ block k. lost; failed = λ after k. t (phases.Discarding after) k; broken = broken })
+refuses : (E : End → Type 0) → (state : TransactionState) (known : Knowledge) (s t : Follow) → FollowAlike E s t →
+    Agree E (told.refuses state known s) (told.refuses state known t)
+refuses E state known s t h =
+    fails E (record { succeeded = λ block k. lost; failed = λ after k. s (phases.Discarding after) k; broken = broken })
+    (record { succeeded = λ block k. lost; failed = λ after k. t (phases.Discarding after) k; broken = broken })
     (record {
-      level = refl;
       succeeded = λ block k. (lost_agrees E);
       failed = λ after k. h (phases.Discarding after) k;
       left = breaks;
@@ -107,64 +104,64 @@ refuses E level state known s t h =
     states.S0A000 (block_at state) known
 
 -- a query that nobody reads needs a want of memory
-unread_never : (level : Level) (state : TransactionState) (known : List Table) (s : Follow) → IsNever (told.serving level unread_query state known s)
-unread_never level state known s said es out end goes =
+unread_never : (state : TransactionState) (known : Knowledge) (s : Follow) → IsNever (told.serving unread_query state known s)
+unread_never state known s said es out end goes =
     lost_never said es out end
-    (calm_on false (messages.message (asked_by.Unread states.S53200) state known (outside_of level s)) lost said es out end
+    (calm_on false (messages.message (asked_by.Unread states.S53200) state known (outside_of s)) lost said es out end
     (record { is = goes.is; calm = goes.calm; written = goes.written }))
 
-serving : (E : End → Type 0) → (level : Level) (asked : Ask) (state : TransactionState) (known : List Table) (s t : Follow) → FollowAlike E s t →
-    Agree E (told.serving level asked state known s) (told.serving level asked state known t)
-serving E level (query asked) state known s t h = message E (outside_of level s) (outside_of level t) (beside E level s t h) asked state known
-serving E level unread_query state known s t h =
-    calm_agrees E false (messages.message (asked_by.Unread states.S53200) state known (outside_of level s))
-    (messages.message (asked_by.Unread states.S53200) state known (outside_of level t)) lost lost (lost_agrees E)
-serving E level terminate state known s t h = ending_agrees E (owed_between state) ends.Terminated ends.Terminated (inl refl)
-serving E level sync state known s t h = readied E (outside_of level s) (outside_of level t) (beside E level s t h) state known
-serving E level nothing state known s t h = h (phases.Normal state) known
-serving E level extended state known s t h = refuses E level state known s t h
-serving E level function state known s t h =
-    message E (outside_of level s) (outside_of level t) (beside E level s t h) (asked_by.Unread states.S0A000) state known
-serving E level encryption state known s t h = (lost_agrees E)
-serving E level cancel state known s t h = (lost_agrees E)
-serving E level start state known s t h = (lost_agrees E)
-serving E level userless state known s t h = (lost_agrees E)
-serving E level version state known s t h = (lost_agrees E)
+serving : (E : End → Type 0) → (asked : Ask) (state : TransactionState) (known : Knowledge) (s t : Follow) → FollowAlike E s t →
+    Agree E (told.serving asked state known s) (told.serving asked state known t)
+serving E (query asked) state known s t h = message E (outside_of s) (outside_of t) (beside E s t h) asked state known
+serving E unread_query state known s t h =
+    calm_agrees E false (messages.message (asked_by.Unread states.S53200) state known (outside_of s))
+    (messages.message (asked_by.Unread states.S53200) state known (outside_of t)) lost lost (lost_agrees E)
+serving E terminate state known s t h = ending_agrees E (owed_between state) ends.Terminated ends.Terminated (inl refl)
+serving E sync state known s t h = readied E (outside_of s) (outside_of t) (beside E s t h) state known
+serving E nothing state known s t h = h (phases.Normal state) known
+serving E extended state known s t h = refuses E state known s t h
+serving E function state known s t h =
+    message E (outside_of s) (outside_of t) (beside E s t h) (asked_by.Unread states.S0A000) state known
+serving E encryption state known s t h = (lost_agrees E)
+serving E cancel state known s t h = (lost_agrees E)
+serving E start state known s t h = (lost_agrees E)
+serving E userless state known s t h = (lost_agrees E)
+serving E version state known s t h = (lost_agrees E)
 
-discarding : (E : End → Type 0) → (level : Level) (asked : Ask) (state : TransactionState) (known : List Table) (s t : Follow) → FollowAlike E s t →
-    Agree E (told.discarding level asked state known s) (told.discarding level asked state known t)
-discarding E level terminate state known s t h = ending_agrees E (owed_between state) ends.Terminated ends.Terminated (inl refl)
-discarding E level sync state known s t h = readied E (outside_of level s) (outside_of level t) (beside E level s t h) state known
-discarding E level _ state known s t h = h (phases.Discarding state) known
+discarding : (E : End → Type 0) → (asked : Ask) (state : TransactionState) (known : Knowledge) (s t : Follow) → FollowAlike E s t →
+    Agree E (told.discarding asked state known s) (told.discarding asked state known t)
+discarding E terminate state known s t h = ending_agrees E (owed_between state) ends.Terminated ends.Terminated (inl refl)
+discarding E sync state known s t h = readied E (outside_of s) (outside_of t) (beside E s t h) state known
+discarding E _ state known s t h = h (phases.Discarding state) known
 
-handled : (E : End → Type 0) → (level : Level) (asked : Ask) (phase : Phase) (known : List Table) (s t : Follow) → FollowAlike E s t →
-    Agree E (told.handled level asked phase known s) (told.handled level asked phase known t)
-handled E level asked phases.Startup known s t h = starting E asked known s t h
-handled E level asked (phases.Normal state) known s t h = serving E level asked state known s t h
-handled E level asked (phases.Discarding state) known s t h = discarding E level asked state known s t h
+handled : (E : End → Type 0) → (asked : Ask) (phase : Phase) (known : Knowledge) (s t : Follow) → FollowAlike E s t →
+    Agree E (told.handled asked phase known s) (told.handled asked phase known t)
+handled E asked phases.Startup known s t h = starting E asked known s t h
+handled E asked (phases.Normal state) known s t h = serving E asked state known s t h
+handled E asked (phases.Discarding state) known s t h = discarding E asked state known s t h
 
 -- the same bytes are read by the one session and discarded by the other, which then needs a want of memory
-read_unread : (E : End → Type 0) → (level : Level) (asked : Message) (phase : Phase) (known : List Table) (s t : Follow) → FollowAlike E s t →
-    Agree E (told.handled level (query asked) phase known s) (told.handled level unread_query phase known t)
-read_unread E level asked phases.Startup known s t h = (lost_agrees E)
-read_unread E level asked (phases.Normal state) known s t h =
-    never_right E (told.serving level (query asked) state known s) (told.serving level unread_query state known t) (unread_never level state known t)
-    (serving E level (query asked) state known s t h).left
-read_unread E level asked (phases.Discarding state) known s t h = h (phases.Discarding state) known
+read_unread : (E : End → Type 0) → (asked : Message) (phase : Phase) (known : Knowledge) (s t : Follow) → FollowAlike E s t →
+    Agree E (told.handled (query asked) phase known s) (told.handled unread_query phase known t)
+read_unread E asked phases.Startup known s t h = (lost_agrees E)
+read_unread E asked (phases.Normal state) known s t h =
+    never_right E (told.serving (query asked) state known s) (told.serving unread_query state known t) (unread_never state known t)
+    (serving E (query asked) state known s t h).left
+read_unread E asked (phases.Discarding state) known s t h = h (phases.Discarding state) known
 
-unread_read : (E : End → Type 0) → (level : Level) (asked : Message) (phase : Phase) (known : List Table) (s t : Follow) → FollowAlike E s t →
-    Agree E (told.handled level unread_query phase known s) (told.handled level (query asked) phase known t)
-unread_read E level asked phases.Startup known s t h = (lost_agrees E)
-unread_read E level asked (phases.Normal state) known s t h =
-    never_left E (told.serving level unread_query state known s) (told.serving level (query asked) state known t) (unread_never level state known s)
-    (serving E level (query asked) state known s t h).right
-unread_read E level asked (phases.Discarding state) known s t h = h (phases.Discarding state) known
+unread_read : (E : End → Type 0) → (asked : Message) (phase : Phase) (known : Knowledge) (s t : Follow) → FollowAlike E s t →
+    Agree E (told.handled unread_query phase known s) (told.handled (query asked) phase known t)
+unread_read E asked phases.Startup known s t h = (lost_agrees E)
+unread_read E asked (phases.Normal state) known s t h =
+    never_left E (told.serving unread_query state known s) (told.serving (query asked) state known t) (unread_never state known s)
+    (serving E (query asked) state known s t h).right
+unread_read E asked (phases.Discarding state) known s t h = h (phases.Discarding state) known
 
 -- two readings of one message
-same_asks : (E : End → Type 0) → (level : Level) (a b : Ask) (phase : Phase) (known : List Table) (s t : Follow) → FollowAlike E s t → a ≡ b →
-    Agree E (told.handled level a phase known s) (told.handled level b phase known t)
-same_asks E level a b phase known s t h same =
-    subst (λ (x : Ask). Agree E (told.handled level a phase known s) (told.handled level x phase known t)) same (handled E level a phase known s t h)
+same_asks : (E : End → Type 0) → (a b : Ask) (phase : Phase) (known : Knowledge) (s t : Follow) → FollowAlike E s t → a ≡ b →
+    Agree E (told.handled a phase known s) (told.handled b phase known t)
+same_asks E a b phase known s t h same =
+    subst (λ (x : Ask). Agree E (told.handled a phase known s) (told.handled x phase known t)) same (handled E a phase known s t h)
 
 -- a front that asks for one thing, and what it is
 abbrev IsPlain : FrontendMessage → Type 0
@@ -223,30 +220,30 @@ query_asks text (query m) x = inl (m, refl, x)
 query_asks text unread_query x = inr refl
 query_asks text _ x = absurd x
 
-both_ask : (E : End → Type 0) → (level : Level) (a b c d : Ask) (phase : Phase) (known : List Table) (s t : Follow) → a ≡ c → b ≡ d →
-    Agree E (told.handled level c phase known s) (told.handled level d phase known t) →
-    Agree E (told.handled level a phase known s) (told.handled level b phase known t)
-both_ask E level a b c d phase known s t left right agree =
-    subst (λ (x : Ask). Agree E (told.handled level x phase known s) (told.handled level b phase known t)) (sym left)
-    (subst (λ (x : Ask). Agree E (told.handled level c phase known s) (told.handled level x phase known t)) (sym right) agree)
+both_ask : (E : End → Type 0) → (a b c d : Ask) (phase : Phase) (known : Knowledge) (s t : Follow) → a ≡ c → b ≡ d →
+    Agree E (told.handled c phase known s) (told.handled d phase known t) →
+    Agree E (told.handled a phase known s) (told.handled b phase known t)
+both_ask E a b c d phase known s t left right agree =
+    subst (λ (x : Ask). Agree E (told.handled x phase known s) (told.handled b phase known t)) (sym left)
+    (subst (λ (x : Ask). Agree E (told.handled c phase known s) (told.handled x phase known t)) (sym right) agree)
 
-one_query : (E : End → Type 0) → (level : Level) (text : List ℕ) (a b : Ask) (phase : Phase) (known : List Table) (s t : Follow) → FollowAlike E s t →
-    QueryAsks text a → QueryAsks text b → Agree E (told.handled level a phase known s) (told.handled level b phase known t)
-one_query E level text a b phase known s t h (inl x) (inl y) =
-    same_asks E level a b phase known s t h (x.1 ∙ ap (λ (z : Message). query z) (one_message text x.0 y.0 x.2 y.2) ∙ sym y.1)
-one_query E level text a b phase known s t h (inl x) (inr y) =
-    both_ask E level a b (query x.0) unread_query phase known s t x.1 y (read_unread E level x.0 phase known s t h)
-one_query E level text a b phase known s t h (inr x) (inl y) =
-    both_ask E level a b unread_query (query y.0) phase known s t x y.1 (unread_read E level y.0 phase known s t h)
-one_query E level text a b phase known s t h (inr x) (inr y) = same_asks E level a b phase known s t h (x ∙ sym y)
+one_query : (E : End → Type 0) → (text : List ℕ) (a b : Ask) (phase : Phase) (known : Knowledge) (s t : Follow) → FollowAlike E s t →
+    QueryAsks text a → QueryAsks text b → Agree E (told.handled a phase known s) (told.handled b phase known t)
+one_query E text a b phase known s t h (inl x) (inl y) =
+    same_asks E a b phase known s t h (x.1 ∙ ap (λ (z : Message). query z) (one_message text x.0 y.0 x.2 y.2) ∙ sym y.1)
+one_query E text a b phase known s t h (inl x) (inr y) =
+    both_ask E a b (query x.0) unread_query phase known s t x.1 y (read_unread E x.0 phase known s t h)
+one_query E text a b phase known s t h (inr x) (inl y) =
+    both_ask E a b unread_query (query y.0) phase known s t x y.1 (unread_read E y.0 phase known s t h)
+one_query E text a b phase known s t h (inr x) (inr y) = same_asks E a b phase known s t h (x ∙ sym y)
 
-asked_alike : (E : End → Type 0) → (level : Level) (front : FrontendMessage) (a b : Ask) (phase : Phase) (known : List Table) (s t : Follow) → FollowAlike E s t →
-    Says front a → Says front b → Agree E (told.handled level a phase known s) (told.handled level b phase known t)
-asked_alike E level (Query text) a b phase known s t h x y = one_query E level text a b phase known s t h (query_asks text a x) (query_asks text b y)
-asked_alike E level (Startup pairs) a b phase known s t h x y =
-    same_asks E level a b phase known s t h (one_start pairs a b (start_asks pairs a x) (start_asks pairs b y))
-asked_alike E level front a b phase known s t h x y =
-    same_asks E level a b phase known s t h (only_ask front a tt x ∙ sym (only_ask front b tt y))
+asked_alike : (E : End → Type 0) → (front : FrontendMessage) (a b : Ask) (phase : Phase) (known : Knowledge) (s t : Follow) → FollowAlike E s t →
+    Says front a → Says front b → Agree E (told.handled a phase known s) (told.handled b phase known t)
+asked_alike E (Query text) a b phase known s t h x y = one_query E text a b phase known s t h (query_asks text a x) (query_asks text b y)
+asked_alike E (Startup pairs) a b phase known s t h x y =
+    same_asks E a b phase known s t h (one_start pairs a b (start_asks pairs a x) (start_asks pairs b y))
+asked_alike E front a b phase known s t h x y =
+    same_asks E a b phase known s t h (only_ask front a tt x ∙ sym (only_ask front b tt y))
 
 -- ---- no more bytes come
 
@@ -350,23 +347,23 @@ calm_memory : (E : End → Type 0) → (phase : Phase) (s t : Script) → Agree 
 calm_memory E phase s t agree = calm_agrees E true (ending (owed_by phase) ends.Memory) (ending (owed_by phase) ends.Memory) s t agree
 
 -- a session agrees with itself
-pub session_itself : (E : End → Type 0) → (level : Level) (phase : Phase) (known : List Table) (talk : Talk) →
-    Agree E (told.session level phase known talk) (told.session level phase known talk)
-session_itself E level phase known (asks asked talk) =
-    calm_memory E phase (told.handled level asked phase known (λ p k. told.session level p k talk))
-    (told.handled level asked phase known (λ p k. told.session level p k talk))
-    (handled E level asked phase known (λ p k. told.session level p k talk) (λ p k. told.session level p k talk)
-    (λ p k. session_itself E level p k talk))
-session_itself E level phase known (partial rest) =
+pub session_itself : (E : End → Type 0) → (phase : Phase) (known : Knowledge) (talk : Talk) →
+    Agree E (told.session phase known talk) (told.session phase known talk)
+session_itself E phase known (asks asked talk) =
+    calm_memory E phase (told.handled asked phase known (λ p k. told.session p k talk))
+    (told.handled asked phase known (λ p k. told.session p k talk))
+    (handled E asked phase known (λ p k. told.session p k talk) (λ p k. told.session p k talk)
+    (λ p k. session_itself E p k talk))
+session_itself E phase known (partial rest) =
     calm_memory E phase (waiting phase (length rest)) (waiting phase (length rest)) (waits E phase (length rest))
-session_itself E level phase known (faulty fault) =
+session_itself E phase known (faulty fault) =
     calm_memory E phase (ending (owed_by phase) (ends.Protocol fault)) (ending (owed_by phase) (ends.Protocol fault))
     (ending_agrees E (owed_by phase) (ends.Protocol fault) (ends.Protocol fault) (inl refl))
-session_itself E level phase known unread = calm_memory E phase lost lost (lost_agrees E)
+session_itself E phase known unread = calm_memory E phase lost lost (lost_agrees E)
 
 -- bytes that nobody has looked at take no session to its end
-unheard : (level : Level) (phase : Phase) (known : List Table) → IsNever (told.session level phase known unread)
-unheard level phase known said es out end goes =
+unheard : (phase : Phase) (known : Knowledge) → IsNever (told.session phase known unread)
+unheard phase known said es out end goes =
     lost_never said es out end
     (calm_on true (ending (owed_by phase) ends.Memory) lost said es out end (record { is = goes.is; calm = goes.calm; written = goes.written }))
 
@@ -390,35 +387,35 @@ waits_want phase held said (refused why ∷ es) out end goes = absurd (astray_en
 waits_want phase held said (short final n ∷ es) out end goes = absurd (astray_ended said out end goes.is)
 waits_want phase held said (unsent n ∷ es) out end goes = absurd (astray_ended said out end goes.is)
 
-partial_wants : (level : Level) (phase : Phase) (known : List Table) (rest : List ℕ) (said : Said) (es : List Entry) (out : Said) (end : End) →
-    Goes (told.session level phase known (partial rest)) said es out end → WantsMore end
-partial_wants level phase known rest said es out end goes =
+partial_wants : (phase : Phase) (known : Knowledge) (rest : List ℕ) (said : Said) (es : List Entry) (out : Said) (end : End) →
+    Goes (told.session phase known (partial rest)) said es out end → WantsMore end
+partial_wants phase known rest said es out end goes =
     waits_want phase (length rest) said es out end
     (calm_on true (ending (owed_by phase) ends.Memory) (waiting phase (length rest)) said es out end
     (record { is = goes.is; calm = goes.calm; written = goes.written }))
 
 -- bytes of no whole message, which no more follow
-last_agrees : (E : End → Type 0) → (level : Level) (phase : Phase) (known : List Table) (started : Bool) (bytes rest : List ℕ) (other : Talk) →
+last_agrees : (E : End → Type 0) → (phase : Phase) (known : Knowledge) (started : Bool) (bytes rest : List ℕ) (other : Talk) →
     IsTalk started bytes (partial rest) → IsTalk started bytes other →
-    Agree E (told.session level phase known (partial rest)) (told.session level phase known other)
-last_agrees E level phase known started bytes rest unread a b =
-    never_right E (told.session level phase known (partial rest)) (told.session level phase known unread) (unheard level phase known)
-    (session_itself E level phase known (partial rest)).left
-last_agrees E level phase known started bytes rest (asks y other) a b = absurd (a.1.no_front b.0 b.1 b.2)
-last_agrees E level phase known started bytes rest (partial other) a b =
-    subst (λ (n : ℕ). Agree E (told.session level phase known (partial rest)) (unless_memory_ends phase (waiting phase n))) (ap length (a.0 ∙ sym b.0))
-    (session_itself E level phase known (partial rest))
-last_agrees E level phase known started bytes rest (faulty fault) a b = absurd (a.1.no_fault fault b)
+    Agree E (told.session phase known (partial rest)) (told.session phase known other)
+last_agrees E phase known started bytes rest unread a b =
+    never_right E (told.session phase known (partial rest)) (told.session phase known unread) (unheard phase known)
+    (session_itself E phase known (partial rest)).left
+last_agrees E phase known started bytes rest (asks y other) a b = absurd (a.1.no_front b.0 b.1 b.2)
+last_agrees E phase known started bytes rest (partial other) a b =
+    subst (λ (n : ℕ). Agree E (told.session phase known (partial rest)) (unless_memory_ends phase (waiting phase n))) (ap length (a.0 ∙ sym b.0))
+    (session_itself E phase known (partial rest))
+last_agrees E phase known started bytes rest (faulty fault) a b = absurd (a.1.no_fault fault b)
 
-partial_agrees : (extra : List ℕ) (level : Level) (phase : Phase) (known : List Table) (started : Bool) (bytes rest : List ℕ) (other : Talk) →
+partial_agrees : (extra : List ℕ) (phase : Phase) (known : Knowledge) (started : Bool) (bytes rest : List ℕ) (other : Talk) →
     IsTalk started bytes (partial rest) → IsTalk started (bytes ++ extra) other →
-    Agree (IsSpared extra) (told.session level phase known (partial rest)) (told.session level phase known other)
-partial_agrees [] level phase known started bytes rest other a b =
-    last_agrees (IsSpared []) level phase known started bytes rest other a (subst (λ (bs : List ℕ). IsTalk started bs other) (append-nil bytes) b)
-partial_agrees (z ∷ zs) level phase known started bytes rest other a b = record {
-  left = (session_itself (IsSpared (z ∷ zs)) level phase known (partial rest)).left;
-  right = (session_itself (IsSpared (z ∷ zs)) level phase known other).right;
-  same = λ said ds es p q v x y m n o r w u one two near. inl (partial_wants level phase known rest said ds x m one.goes);
+    Agree (IsSpared extra) (told.session phase known (partial rest)) (told.session phase known other)
+partial_agrees [] phase known started bytes rest other a b =
+    last_agrees (IsSpared []) phase known started bytes rest other a (subst (λ (bs : List ℕ). IsTalk started bs other) (append-nil bytes) b)
+partial_agrees (z ∷ zs) phase known started bytes rest other a b = record {
+  left = (session_itself (IsSpared (z ∷ zs)) phase known (partial rest)).left;
+  right = (session_itself (IsSpared (z ∷ zs)) phase known other).right;
+  same = λ said ds es p q v x y m n o r w u one two near. inl (partial_wants phase known rest said ds x m one.goes);
 }
 
 -- a message stands at the front, whatever follows
@@ -431,18 +428,18 @@ takes_further started bytes extra front behind takes = record {
 }
 
 -- two talks, of the same bytes and of more
-pub sessions_agree : (extra : List ℕ) (level : Level) (phase : Phase) (known : List Table) (started : Bool) (bytes : List ℕ) (one other : Talk) →
+pub sessions_agree : (extra : List ℕ) (phase : Phase) (known : Knowledge) (started : Bool) (bytes : List ℕ) (one other : Talk) →
     IsTalk started bytes one → IsTalk started (bytes ++ extra) other →
-    Agree (IsSpared extra) (told.session level phase known one) (told.session level phase known other)
-sessions_agree extra level phase known started bytes unread other a b =
-    never_left (IsSpared extra) (told.session level phase known unread) (told.session level phase known other) (unheard level phase known)
-    (session_itself (IsSpared extra) level phase known other).left
-sessions_agree extra level phase known started bytes (partial rest) other a b =
-    partial_agrees extra level phase known started bytes rest other a b
-sessions_agree extra level phase known started bytes (asks x one) unread a b =
-    never_right (IsSpared extra) (told.session level phase known (asks x one)) (told.session level phase known unread) (unheard level phase known)
-    (session_itself (IsSpared extra) level phase known (asks x one)).left
-sessions_agree extra level phase known started bytes (asks x one) (asks y other) a b =
+    Agree (IsSpared extra) (told.session phase known one) (told.session phase known other)
+sessions_agree extra phase known started bytes unread other a b =
+    never_left (IsSpared extra) (told.session phase known unread) (told.session phase known other) (unheard phase known)
+    (session_itself (IsSpared extra) phase known other).left
+sessions_agree extra phase known started bytes (partial rest) other a b =
+    partial_agrees extra phase known started bytes rest other a b
+sessions_agree extra phase known started bytes (asks x one) unread a b =
+    never_right (IsSpared extra) (told.session phase known (asks x one)) (told.session phase known unread) (unheard phase known)
+    (session_itself (IsSpared extra) phase known (asks x one)).left
+sessions_agree extra phase known started bytes (asks x one) (asks y other) a b =
     let further = takes_further started bytes extra a.0 a.1 a.2 in
     let front : a.0 ≡ b.0 = front_unique started a.0 b.0 (bytes ++ extra) (a.1 ++ extra) b.1 further b.2 in
     let behind : a.1 ++ extra ≡ b.1 = behind_unique started a.0 b.0 (bytes ++ extra) (a.1 ++ extra) b.1 further b.2 in
@@ -451,22 +448,22 @@ sessions_agree extra level phase known started bytes (asks x one) (asks y other)
     subst (λ (f : FrontendMessage). IsTalk (phase_after started f) b.1 other) (sym front) b.4 in
     let rest : IsTalk (phase_after started a.0) (a.1 ++ extra) other =
     subst (λ (bs : List ℕ). IsTalk (phase_after started a.0) bs other) (sym behind) after in
-    calm_memory (IsSpared extra) phase (told.handled level x phase known (λ p k. told.session level p k one))
-    (told.handled level y phase known (λ p k. told.session level p k other))
-    (asked_alike (IsSpared extra) level a.0 x y phase known (λ p k. told.session level p k one) (λ p k. told.session level p k other)
-    (λ p k. sessions_agree extra level p k (phase_after started a.0) a.1 one other a.4 rest) a.3 says)
-sessions_agree extra level phase known started bytes (asks x one) (partial rest) a b =
+    calm_memory (IsSpared extra) phase (told.handled x phase known (λ p k. told.session p k one))
+    (told.handled y phase known (λ p k. told.session p k other))
+    (asked_alike (IsSpared extra) a.0 x y phase known (λ p k. told.session p k one) (λ p k. told.session p k other)
+    (λ p k. sessions_agree extra p k (phase_after started a.0) a.1 one other a.4 rest) a.3 says)
+sessions_agree extra phase known started bytes (asks x one) (partial rest) a b =
     absurd (b.1.no_front a.0 (a.1 ++ extra) (takes_further started bytes extra a.0 a.1 a.2))
-sessions_agree extra level phase known started bytes (asks x one) (faulty fault) a b =
+sessions_agree extra phase known started bytes (asks x one) (faulty fault) a b =
     absurd (front_no_fault started a.0 fault (bytes ++ extra) (a.1 ++ extra) (takes_further started bytes extra a.0 a.1 a.2) b)
-sessions_agree extra level phase known started bytes (faulty fault) unread a b =
-    never_right (IsSpared extra) (told.session level phase known (faulty fault)) (told.session level phase known unread) (unheard level phase known)
-    (session_itself (IsSpared extra) level phase known (faulty fault)).left
-sessions_agree extra level phase known started bytes (faulty fault) (asks y other) a b =
+sessions_agree extra phase known started bytes (faulty fault) unread a b =
+    never_right (IsSpared extra) (told.session phase known (faulty fault)) (told.session phase known unread) (unheard phase known)
+    (session_itself (IsSpared extra) phase known (faulty fault)).left
+sessions_agree extra phase known started bytes (faulty fault) (asks y other) a b =
     absurd (front_no_fault started b.0 fault (bytes ++ extra) b.1 b.2 (fault_stays started bytes extra fault a))
-sessions_agree extra level phase known started bytes (faulty fault) (partial rest) a b =
+sessions_agree extra phase known started bytes (faulty fault) (partial rest) a b =
     absurd (b.1.no_fault fault (fault_stays started bytes extra fault a))
-sessions_agree extra level phase known started bytes (faulty fault) (faulty other) a b =
+sessions_agree extra phase known started bytes (faulty fault) (faulty other) a b =
     let same : fault ≡ other = fault_unique started (bytes ++ extra) fault other (fault_stays started bytes extra fault a) b in
     calm_memory (IsSpared extra) phase (ending (owed_by phase) (ends.Protocol fault)) (ending (owed_by phase) (ends.Protocol other))
     (ending_agrees (IsSpared extra) (owed_by phase) (ends.Protocol fault) (ends.Protocol other) (inl (ap (λ (f : FrameFault). ends.Protocol f) same)))

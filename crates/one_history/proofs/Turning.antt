@@ -1,7 +1,8 @@
 -- Two rides over one call get one answer, and stand at one past behind it.
 use Rattle.std.proofs.Common.{◌≡◌, inl, inr, ◌⊎◌, ℕ, ◌+◌, List, [], ◌∷◌, ◌++◌, None, length, take, refl, sym, ◌∙◌, ap, subst, arith}
 use Rattle.std.proofs.lemmas.List.{length_push}
-use Rattle.cell_base.specs.declared.level.Level.{Level}
+use Rattle.cell_base.specs.declared.cell.Cell.{Cell}
+use Rattle.cell_base.specs.declared.value.Value.{Value}
 use Rattle.sql_tree.specs.declared.table.Table.{Table}
 use Rattle.history_core.specs.declared.event.Event.{Event}
 use Rattle.history_core.specs.declared.event.Event.TheVariants.{Define}
@@ -33,7 +34,7 @@ use Rattle.one_history.proofs.Asking.{Answered, Stopped, turned, ask_grows}
 state_same : (c : Call) (a : Answer) (old x y : SessionState) → StateAfter c a old x → StateAfter c a old y → x ≡ y
 state_same calls.Open (answers.Opened s) old x y one two = one ∙ sym two
 state_same calls.Close answers.Closed old x y one two = one ∙ sym two
-state_same calls.Begin (answers.Begun n) old x y one two = one ∙ sym two
+state_same (calls.Begin level) (answers.Begun n) old x y one two = one ∙ sym two
 state_same (calls.Write cell value) answers.Written old x y one two = one ∙ sym two
 state_same calls.Commit answers.Committed old x y one two = one ∙ sym two
 state_same calls.Rollback answers.RolledBack old x y one two = one ∙ sym two
@@ -73,7 +74,7 @@ next_tables p m q calls.Close answers.Closed e way h = inl (still p m e _ way.ma
 next_tables p m q (calls.Look many) (answers.Looked tables) e way h = inl (still p m e _ way.made.seen h.0 refl)
 next_tables p m q (calls.Define t) (answers.Defined (defines.Defined n)) e way h = inr (grown p m q t h.1.0 e way h.0 h.1.1)
 next_tables p m q (calls.Define t) (answers.Defined (defines.Taken n)) e way h = inl (still p m e _ way.made.seen h.0 refl)
-next_tables p m q calls.Begin (answers.Begun n) e way h = inl (still p m e _ way.made.seen h.0 refl)
+next_tables p m q (calls.Begin level) (answers.Begun n) e way h = inl (still p m e _ way.made.seen h.0 refl)
 next_tables p m q (calls.Scan table) (answers.Listed keys) e way h = inl (still p m e _ way.made.seen h.0 refl)
 next_tables p m q (calls.Touch cell) (answers.Found value) e way h = elim h.0 [
   | inl back ↦ inl (still p m e _ way.made.seen back.event_is refl)
@@ -116,21 +117,23 @@ way_of p m q v c a u alone last leads took =
     record {
       made = made_of p m q took.event alone last.alone last.legal adds leads;
       level = adds.level;
+      initial = adds.initial;
       legal = last.legal;
       leads = leads;
     }
 
 known_near : (a b q r : Past) (v : List ℕ) (c : Call) (x : Answer) (f : Event) (w : List ℕ) → IsNear a b q r →
-    Known b.seen.events b.seen.level b.state (take (defined b.seen.events) r.seen.tables) v c x f w →
-    Known a.seen.events a.seen.level a.state (take (defined a.seen.events) q.seen.tables) v c x f w
+    Known b.seen.initial b.seen.events b.state (take (defined b.seen.events) r.seen.tables) v c x f w →
+    Known a.seen.initial a.seen.events a.state (take (defined a.seen.events) q.seen.tables) v c x f w
 known_near a b q r v c x f w near is =
-    let one : Known a.seen.events b.seen.level b.state (take (defined a.seen.events) r.seen.tables) v c x f w =
-    subst (λ (es : List Event). Known es b.seen.level b.state (take (defined es) r.seen.tables) v c x f w) (sym near.events) is in
-    let two : Known a.seen.events a.seen.level b.state (take (defined a.seen.events) r.seen.tables) v c x f w =
-    subst (λ (l : Level). Known a.seen.events l b.state (take (defined a.seen.events) r.seen.tables) v c x f w) (sym near.level) one in
-    let three : Known a.seen.events a.seen.level a.state (take (defined a.seen.events) r.seen.tables) v c x f w =
-    subst (λ (s : SessionState). Known a.seen.events a.seen.level s (take (defined a.seen.events) r.seen.tables) v c x f w) (sym near.state) two in
-    subst (λ (ts : List Table). Known a.seen.events a.seen.level a.state ts v c x f w) (sym near.tables) three
+    let one : Known b.seen.initial a.seen.events b.state (take (defined a.seen.events) r.seen.tables) v c x f w =
+    subst (λ (es : List Event). Known b.seen.initial es b.state (take (defined es) r.seen.tables) v c x f w) (sym near.events) is in
+    let two : Known a.seen.initial a.seen.events b.state (take (defined a.seen.events) r.seen.tables) v c x f w =
+    subst (λ (cells : List (Cell × Value)). Known cells a.seen.events b.state (take (defined a.seen.events) r.seen.tables) v c x f w) (sym near.initial)
+    one in
+    let three : Known a.seen.initial a.seen.events a.state (take (defined a.seen.events) r.seen.tables) v c x f w =
+    subst (λ (s : SessionState). Known a.seen.initial a.seen.events s (take (defined a.seen.events) r.seen.tables) v c x f w) (sym near.state) two in
+    subst (λ (ts : List Table). Known a.seen.initial a.seen.events a.state ts v c x f w) (sym near.tables) three
 
 -- the same answer, the same words, and pasts that are near again
 pub record Steps (x y : Answer) (u w : List ℕ) (m n q r : Past) : Type 0 where
@@ -147,7 +150,7 @@ both_answered a b m n q r v u w c x y near alone lone last end to on one two =
     let is = known a m q v u c x one.event left one.happens one.draws in
     let also = known_near a b q r v c y two.event w near (known b n r v w c y two.event right two.happens two.draws) in
     let same : IsOne x y one.event two.event u w =
-    known_one a.seen.events a.seen.level a.state (take (defined a.seen.events) q.seen.tables) v c x y one.event two.event u w is also in
+    known_one a.seen.initial a.seen.events a.state (take (defined a.seen.events) q.seen.tables) v c x y one.event two.event u w is also in
     let events : m.seen.events ≡ n.seen.events =
     left.made.seen ∙ ap (λ (es : List Event). es ++ one.event ∷ []) near.events
     ∙ ap (λ (e : Event). b.seen.events ++ e ∷ []) same.events ∙ sym right.made.seen in
@@ -156,6 +159,7 @@ both_answered a b m n q r v u w c x y near alone lone last end to on one two =
       words = same.words;
       near = record {
         level = left.level ∙ near.level ∙ sym right.level;
+        initial = left.initial ∙ near.initial ∙ sym right.initial;
         events = events;
         state = state_same c x a.state m.state n.state one.state
             (subst (λ (s : SessionState). StateAfter c x s n.state) (sym near.state) (subst (λ (z : Answer). StateAfter c z b.state n.state) (sym same.answers) two.state));
@@ -179,12 +183,14 @@ both_stopped : (a b m n q r : Past) (v u w : List ℕ) (c : Call) (x y : Answer)
 both_stopped a b m n q r v u w c x y near alone lone after behind one two =
     let left : m.seen.events ≡ a.seen.events = goes_alone a m alone after one.declines.1 in
     let right : n.seen.events ≡ a.seen.events = goes_alone b n lone behind two.declines.1 ∙ sym near.events in
-    let limits : one.limit ≡ two.limit = one_refusal a.seen.events a b m n c one.limit two.limit left right one.declines.2 two.declines.2 in
+    let begun : m.seen.initial ≡ n.seen.initial = one.declines.1.initial ∙ near.initial ∙ sym two.declines.1.initial in
+    let limits : one.limit ≡ two.limit = one_refusal m n c one.limit two.limit begun (left ∙ sym right) one.declines.2 two.declines.2 in
     record {
       answers = one.is ∙ ap (λ (l : Limit). answers.Refused (faults.Full l)) limits ∙ sym two.is;
       words = refused_words a b v u w c (faults.Full one.limit) (faults.Full two.limit) near.state one.draws two.draws;
       near = record {
         level = one.declines.1.level ∙ near.level ∙ sym two.declines.1.level;
+        initial = begun;
         events = left ∙ sym right;
         state = one.declines.1.state ∙ near.state ∙ sym two.declines.1.state;
         tables = ap (λ (es : List Event). take (defined es) q.seen.tables) left ∙ near.tables
@@ -192,13 +198,13 @@ both_stopped a b m n q r v u w c x y near alone lone after behind one two =
       };
     }
 
-never_apart : (a b m n q r : Past) (v u w : List ℕ) (c : Call) (x y : Answer) → a.seen.events ≡ b.seen.events → length a.seen.events ≡ length a.own →
+never_apart : (a b m n q r : Past) (v u w : List ℕ) (c : Call) (x y : Answer) → a.seen.initial ≡ b.seen.initial → a.seen.events ≡ b.seen.events → length a.seen.events ≡ length a.own →
     length b.seen.events ≡ length b.own → length n.seen.events ≡ length n.own → IsLast q → Leads m q →
     Answered a v c x m u → Stopped b v c y n w → ⊥
-never_apart a b m n q r v u w c x y same alone lone behind last to one two =
+never_apart a b m n q r v u w c x y begun same alone lone behind last to one two =
     let left : Way a m q one.event = way_of a m q v c x u alone last to one in
-    not_refused a.seen.events a.seen.level a.state (take (defined a.seen.events) q.seen.tables) v u c x one.event
-    (known a m q v u c x one.event left one.happens one.draws) left.made.may.fits b n two.limit
+    not_refused a.seen.initial a.seen.events a.state (take (defined a.seen.events) q.seen.tables) v u c x one.event
+    (known a m q v u c x one.event left one.happens one.draws) left.made.may.fits b n two.limit (two.declines.1.initial ∙ sym begun)
     (goes_alone b n lone behind two.declines.1 ∙ sym same) two.declines
 
 one_step : (a b m n q r : Past) (v u w : List ℕ) (c : Call) (x y : Answer) → IsNear a b q r → length a.seen.events ≡ length a.own →
@@ -207,9 +213,9 @@ one_step : (a b m n q r : Past) (v u w : List ℕ) (c : Call) (x y : Answer) →
 one_step a b m n q r v u w c x y near alone lone after behind last end to on (inl one) (inl two) =
     both_answered a b m n q r v u w c x y near alone lone last end to on one two
 one_step a b m n q r v u w c x y near alone lone after behind last end to on (inl one) (inr two) =
-    absurd (never_apart a b m n q r v u w c x y near.events alone lone behind last to one two)
+    absurd (never_apart a b m n q r v u w c x y near.initial near.events alone lone behind last to one two)
 one_step a b m n q r v u w c x y near alone lone after behind last end to on (inr one) (inl two) =
-    absurd (never_apart b a n m r q v w u c y x (sym near.events) lone alone after end on two one)
+    absurd (never_apart b a n m r q v w u c y x (sym near.initial) (sym near.events) lone alone after end on two one)
 one_step a b m n q r v u w c x y near alone lone after behind last end to on (inr one) (inr two) =
     both_stopped a b m n q r v u w c x y near alone lone after behind one two
 

@@ -1,18 +1,24 @@
 -- What is read is one value, and what was written last is one.
-use Rattle.std.proofs.Common.{◌≡◌, ◌≢◌, ℕ, ◌<◌, ◌≤◌, suc, List, [], ◌∷◌, ◌++◌, Some, length, arith, refl, ap, sym, ◌∙◌, subst, inl, inr, ◌%◌}
-use Rattle.std.specs.List.{All, slice_get}
+use Rattle.std.proofs.Common.{◌≡◌, ◌≢◌, ℕ, ◌<◌, ◌≤◌, suc, List, [], ◌∷◌, ◌++◌, Option, Some, length, arith, refl, ap, sym, ◌∙◌, subst, inl, inr, ◌%◌}
+use Rattle.std.specs.List.{All, slice_get, Contains}
+use Rattle.std.specs.declared.cmp.Ordering.TheVariants.{Less, Equal}
+use Rattle.std.proofs.lemmas.Bool.{cases_order}
+use Rattle.std.proofs.lemmas.Cmp.{tied_itself}
 use Rattle.std.proofs.lemmas.List.Elements.{All-contains}
-use Rattle.cell_base.specs.declared.level.Level.{Level}
 use Rattle.cell_base.specs.declared.cell.Cell.{Cell}
+use Rattle.cell_base.specs.contracts.cell.CellOrd.TheImpl as cell_order
+use Rattle.cell_base.specs.contracts.cell.CellOrd.TheImpl.Laws as cell_laws
 use Rattle.cell_base.specs.declared.key.Key.{Key}
 use Rattle.cell_base.specs.declared.value.Value.{Value}
 use Rattle.history_core.specs.declared.event.Event.{Event}
 use Rattle.history_core.specs.declared.event.Event.TheVariants.{Read, Write}
+use Rattle.history_core.specs.Initial.{WritesInitially, IsInitialState}
 use Rattle.history_core.specs.Transactions.{IsCommitted}
 use Rattle.history_core.specs.Relations.{LastWrites, WritesValue}
 use Rattle.history_core.specs.Legal.{IsOffered, IsOffer, ListsKeys}
 use Rattle.history_core.specs.Book.{SessionState, IsUnwritten, HasWrite, LastWrite, writes_of}
 use Rattle.history_core.proofs.Prefixes.{start_positive}
+use Rattle.txn_buffer.proofs.Lists.{at_contains}
 use Rattle.one_history.proofs.Lists.{one_rising, one_key_list}
 
 -- ---- what a transaction wrote last
@@ -34,18 +40,49 @@ not_initial events number is committed =
     let h : 0 < number = start_positive events number committed.session of.start of.starts in
     omega arith
 
-pub one_value : (events : List Event) (number : ℕ) (cell : Cell) (v w : Value) → WritesValue events number cell v → WritesValue events number cell w →
-    v ≡ w
-one_value events number cell v w (inl a) (inl b) = a.1 ∙ sym b.1
-one_value events number cell v w (inl a) (inr b) = absurd (not_initial events number a.0 b.0)
-one_value events number cell v w (inr a) (inl b) = absurd (not_initial events number b.0 a.0)
-one_value events number cell v w (inr a) (inr b) = one_last events number cell v w a.1 b.1
+-- ---- what the initial state has
+
+-- no cell is below itself
+not_below : (cell : Cell) → (cell_order.ghosts).cmp cell cell ≡ Less → ⊥
+not_below cell below = let same : (cell_order.ghosts).cmp cell cell ≡ Equal = tied_itself cell_laws.total-law cell in cc
+
+-- it has one value in each cell
+one_held : (initial : List (Cell × Value)) (cell : Cell) (v w : Value) → IsInitialState initial → Contains initial (cell, v) →
+    Contains initial (cell, w) → v ≡ w
+one_held initial cell v w is a b =
+    let (i, at) = at_contains initial (cell, v) a in
+    let (j, there) = at_contains initial (cell, w) b in
+    elim (cases_order i j) [
+      | inl same ↦
+          let both : ◌≡◌ {A = Option (Cell × Value)} (Some (cell, v)) (Some (cell, w)) =
+          sym at ∙ ap (λ (k : ℕ). slice_get initial k) same ∙ there in
+          let pair : ◌≡◌ {A = Cell × Value} (cell, v) (cell, w) = cc in
+          ap (λ (x : Cell × Value). x.1) pair
+      | inr apart ↦ elim apart [
+        | inl less ↦ absurd (not_below cell (is.ascending i j (cell, v) (cell, w) less at there))
+        | inr more ↦ absurd (not_below cell (is.ascending j i (cell, w) (cell, v) more there at))
+      ]
+    ]
+
+one_initial : (initial : List (Cell × Value)) (cell : Cell) (v w : Value) → IsInitialState initial → WritesInitially initial cell v →
+    WritesInitially initial cell w → v ≡ w
+one_initial initial cell v w is (inl a) (inl b) = one_held initial cell v w is a b
+one_initial initial cell v w is (inl a) (inr b) = absurd (b.0 v a)
+one_initial initial cell v w is (inr a) (inl b) = absurd (a.0 w b)
+one_initial initial cell v w is (inr a) (inr b) = a.1 ∙ sym b.1
+
+pub one_value : (initial : List (Cell × Value)) (events : List Event) (number : ℕ) (cell : Cell) (v w : Value) → IsInitialState initial →
+    WritesValue initial events number cell v → WritesValue initial events number cell w → v ≡ w
+one_value initial events number cell v w is (inl a) (inl b) = one_initial initial cell v w is a.1 b.1
+one_value initial events number cell v w is (inl a) (inr b) = absurd (not_initial events number a.0 b.0)
+one_value initial events number cell v w is (inr a) (inl b) = absurd (not_initial events number b.0 a.0)
+one_value initial events number cell v w is (inr a) (inr b) = one_last events number cell v w a.1 b.1
 
 -- ---- what is offered
 
-pub one_offer : (level : Level) (events : List Event) (s : ℕ) (cell : Cell) (xs ys : List ℕ) → IsOffer level events s cell xs →
-    IsOffer level events s cell ys → xs ≡ ys
-one_offer level events s cell xs ys a b =
+pub one_offer : (events : List Event) (s : ℕ) (cell : Cell) (xs ys : List ℕ) → IsOffer events s cell xs →
+    IsOffer events s cell ys → xs ≡ ys
+one_offer events s cell xs ys a b =
     one_rising xs ys a.ascending b.ascending (λ z there. (b.exact z).1 ((a.exact z).0 there)) (λ z there. (a.exact z).1 ((b.exact z).0 there))
 
 -- the source and the count of a read, and its value
@@ -54,11 +91,11 @@ pub record OneRead (source other count more : ℕ) (v w : Value) : Type 0 where
   pub counts : count ≡ more
   pub values : v ≡ w
 
-pub one_read : (level : Level) (events : List Event) (s : ℕ) (cell : Cell) (source other count more word : ℕ) (v w : Value) →
-    IsOffered level events (Read s cell source count word v) → IsOffered level events (Read s cell other more word w) →
-    WritesValue events source cell v → WritesValue events other cell w → OneRead source other count more v w
-one_read level events s cell source other count more word v w (xs, a, many, at) (ys, b, many_too, at_too) value value_too =
-    let same : xs ≡ ys = one_offer level events s cell xs ys a b in
+pub one_read : (initial : List (Cell × Value)) (events : List Event) (s : ℕ) (cell : Cell) (source other count more word : ℕ) (v w : Value) → IsInitialState initial →
+    IsOffered events (Read s cell source count word v) → IsOffered events (Read s cell other more word w) →
+    WritesValue initial events source cell v → WritesValue initial events other cell w → OneRead source other count more v w
+one_read initial events s cell source other count more word v w is (xs, a, many, at) (ys, b, many_too, at_too) value value_too =
+    let same : xs ≡ ys = one_offer events s cell xs ys a b in
     let counts : count ≡ more = many ∙ ap length same ∙ sym many_too in
     let here : slice_get ys (word % more) ≡ Some source =
     subst (λ (n : ℕ). slice_get ys (word % n) ≡ Some source) counts (subst (λ (zs : List ℕ). slice_get zs (word % count) ≡ Some source) same at) in
@@ -67,13 +104,14 @@ one_read level events s cell source other count more word v w (xs, a, many, at) 
     record {
       sources = sources;
       counts = counts;
-      values = one_value events other cell v w (subst (λ (n : ℕ). WritesValue events n cell v) sources value) value_too;
+      values = one_value initial events other cell v w is (subst (λ (n : ℕ). WritesValue initial events n cell v) sources value) value_too;
     }
 
 -- ---- what a scan lists
 
-pub one_listing : (events : List Event) (s table : ℕ) (xs ys : List Key) → ListsKeys events s table xs → ListsKeys events s table ys → xs ≡ ys
-one_listing events s table xs ys a b =
+pub one_listing : (initial : List (Cell × Value)) (events : List Event) (s table : ℕ) (xs ys : List Key) → ListsKeys initial events s table xs →
+    ListsKeys initial events s table ys → xs ≡ ys
+one_listing initial events s table xs ys a b =
     one_key_list xs ys a.ascending b.ascending (λ z there. (b.listed z).1 ((a.listed z).0 there)) (λ z there. (a.listed z).1 ((b.listed z).0 there))
 
 -- ---- what the state says

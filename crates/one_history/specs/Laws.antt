@@ -1,7 +1,9 @@
 -- Bytes and words have one history: what two sessions share that took the same bytes and were given the same choice words.
 use Rattle.std.specs.Prelude.{◌≡◌, ◌≢◌, ◌⊎◌, ℕ, ◌<◌, List, [], ◌∷◌, ◌++◌, Some, false}
+use Rattle.cell_base.specs.declared.cell.Cell.{Cell}
 use Rattle.cell_base.specs.declared.level.Level.{Level}
 use Rattle.cell_base.specs.declared.sql_state.SqlState.TheVariants as states
+use Rattle.cell_base.specs.declared.value.Value.{Value}
 use Rattle.history_core.specs.Chronicle.{Chronicle, IsLegalChronicle}
 use Rattle.history_core.specs.Book.{Past, no_session}
 use Rattle.block_machine.specs.Calls.{Call}
@@ -29,20 +31,21 @@ farewell ends.ReadFault = []
 farewell ends.WriteFault = []
 farewell ends.Memory = []
 
--- the past of a book of that level that has no event
-abbrev pub no_past : Level → Past
-no_past level = record { seen = record { level = level; events = []; tables = [] }; own = []; state = no_session }
+-- the past of a book of that level and that initial state that has no event
+abbrev pub no_past : Level → List (Cell × Value) → Past
+no_past level initial =
+    record { seen = record { level = level; initial = initial; events = []; tables = [] }; own = []; state = no_session }
 
--- A session at that level took these bytes and was given these words. It was served to this end, alone with its book from no event on;
--- memory was not wanting, and no write failed. It left this history and these words, and was told these bytes.
-pub record Served (level : Level) (taken words : List ℕ) (history : Chronicle) (left sent : List ℕ) (end : End) : Type 0 where
+-- A session at that level took these bytes and was given these words. It was served to this end, alone with its book from that initial
+-- state and no event on; memory was not wanting, and no write failed. It left this history and these words, and was told these bytes.
+pub record Served (level : Level) (initial : List (Cell × Value)) (taken words : List ℕ) (history : Chronicle) (left sent : List ℕ) (end : End) : Type 0 where
   pub talk : Talk
   pub es : List Entry
   pub asked : List Call
   pub past : Past
   pub talk_is : IsTalk false taken talk
   pub told_is : told level talk es ≡ (record { bytes = sent; calls = asked }, ended end)
-  pub lawful : Lawful DrawsFirst (no_past level) words asked es past left
+  pub lawful : Lawful DrawsFirst (no_past level initial) words asked es past left
   pub history_is : past.seen ≡ history
   pub legal : IsLegalChronicle history
   pub alone : history.events ≡ events_of es
@@ -79,25 +82,25 @@ pub record EndsApart (one other : End) : Type 0 where
 abbrev pub EndsAlike : List ℕ → End → List ℕ → End → Type 0
 EndsAlike sent one told other = ((one ≡ other) × (sent ≡ told)) ⊎ (EndsApart one other × SameBytes sent one told other)
 
--- Two sessions that took the same bytes and were given the same words have the same history: the same events in the same order, with
+-- Two sessions at one level, from one initial state, that took the same bytes and were given the same words have the same history: the same events in the same order, with
 -- source, count, word and value of each read, and the same tables. They leave the same words. They end alike and were told the same bytes,
 -- but where both ended for want of bytes and a failed read or the limit of bytes ended one of them: there the ends may differ, and what
 -- was told differs by what the two ends tell alone. The same holds where the second took more bytes and the first didn't end for want of
 -- them; such two always end alike.
 abbrev pub OneHistory : Type 0
 OneHistory =
-    (level : Level) (taken more words : List ℕ) (first second : Chronicle) (left right sent told : List ℕ) (one other : End) →
-    Served level taken words first left sent one → Served level (taken ++ more) words second right told other →
+    (level : Level) (initial : List (Cell × Value)) (taken more words : List ℕ) (first second : Chronicle) (left right sent told : List ℕ) (one other : End) →
+    Served level initial taken words first left sent one → Served level initial (taken ++ more) words second right told other →
     (more ≡ []) ⊎ (¬ (WantsMore one)) →
     (first ≡ second) × (left ≡ right) × EndsAlike sent one told other
 
--- Two runs of `pipe rc WORDS` over links that tell their bytes and hold the same input, however they cut it into pieces. Where in neither
+-- Two runs of `pipe LEVEL WORDS` over links that tell their bytes and hold the same input, however they cut it into pieces. Where in neither
 -- memory was wanting, or a read or a write failed, the two have the same history, leave the same words, end alike, and were told the same
 -- bytes.
 abbrev pub PipeHasOneHistory : Type 0
 PipeHasOneHistory =
-    (words : List ℕ) (f g h k : Sight) (t u : Traffic) (one other : End) →
-    (a : ServesAlone words f g one false) (b : ServesAlone words h k other false) →
+    (level : Level) (words : List ℕ) (f g h k : Sight) (t u : Traffic) (one other : End) →
+    (a : ServesAlone level words f g one false) (b : ServesAlone level words h k other false) →
     f.traffic ≡ Some t → h.traffic ≡ Some u → t.left ≡ u.left →
     one ≢ ends.WriteFault → other ≢ ends.WriteFault → one ≢ ends.ReadFault → other ≢ ends.ReadFault →
     (a.past.seen ≡ b.past.seen) × (a.rest ≡ b.rest) × (one ≡ other) × (a.sent ≡ b.sent)

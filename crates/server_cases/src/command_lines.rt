@@ -1,5 +1,5 @@
 // Lists of choice words that the command line may have, told by what a session reads with them, and texts that are none.
-use crate::hosts::{answers, prints};
+use crate::hosts::{answers, answers_at, prints};
 use cell_base::Memory;
 use std::alloc::Global;
 use std::test::Fail;
@@ -18,6 +18,9 @@ const TEN: &[u8] =
 // What is sent where it finds the second.
 const ELEVEN: &[u8] =
     b"R\0\0\0\x08\0\0\0\0S\0\0\0\x18server_version\014.0\0S\0\0\0\x19server_encoding\0UTF8\0S\0\0\0\x19client_encoding\0UTF8\0S\0\0\0\x17DateStyle\0ISO, MDY\0S\0\0\0\x19integer_datetimes\0on\0S\0\0\0#standard_conforming_strings\0on\0K\0\0\0\x0c\0\0\0\x01\0\0\0\0Z\0\0\0\x05IC\0\0\0\x11CREATE TABLE\0Z\0\0\0\x05IC\0\0\0\x0fINSERT 0 1\0Z\0\0\0\x05IC\0\0\0\x0fINSERT 0 1\0Z\0\0\0\x05IT\0\0\0\x1a\0\x01v\0\0\0\0\0\0\0\0\0\0\x14\0\x08\xff\xff\xff\xff\0\0D\0\0\0\x0c\0\x01\0\0\0\x0211C\0\0\0\x0dSELECT 1\0Z\0\0\0\x05I";
+// What is sent where the second INSERT finds the first, and so does the SELECT.
+const TAKEN: &[u8] =
+    b"R\0\0\0\x08\0\0\0\0S\0\0\0\x18server_version\014.0\0S\0\0\0\x19server_encoding\0UTF8\0S\0\0\0\x19client_encoding\0UTF8\0S\0\0\0\x17DateStyle\0ISO, MDY\0S\0\0\0\x19integer_datetimes\0on\0S\0\0\0#standard_conforming_strings\0on\0K\0\0\0\x0c\0\0\0\x01\0\0\0\0Z\0\0\0\x05IC\0\0\0\x11CREATE TABLE\0Z\0\0\0\x05IC\0\0\0\x0fINSERT 0 1\0Z\0\0\0\x05IE\0\0\0JSERROR\0VERROR\0C23505\0Mduplicate key value violates unique constraint\0\0Z\0\0\0\x05IT\0\0\0\x1a\0\x01v\0\0\0\0\0\0\0\0\0\0\x14\0\x08\xff\xff\xff\xff\0\0D\0\0\0\x0c\0\x01\0\0\0\x0210C\0\0\0\x0dSELECT 1\0Z\0\0\0\x05I";
 // What is printed where the words are no command.
 const USAGE: &[u8] =
     b"usage: monkeydb pipe LEVEL WORDS | serve [OPTIONS] | check PATH | sim LEVEL SEED SESSIONS QUERIES\n";
@@ -45,9 +48,37 @@ fn takes_numbers_with_commas(rt: HostRuntime) -> Result<(), Fail> {
     Ok(())
 }
 
+// At the levels above, a session that is alone finds what it wrote last, whatever the words are. The first INSERT of the key 1 is found by
+// the second, which fails.
+#[test]
+fn takes_levels(rt: HostRuntime) -> Result<(), Fail> {
+    let alloc = rt.alloc();
+    assert!(rt; answers_at(alloc, b"ra", b"0", TWO_ROWS, 64, 0, TAKEN)?);
+    assert!(rt; answers_at(alloc, b"cc", b"7,8,9", TWO_ROWS, 64, 0, TAKEN)?);
+    assert!(rt; answers_at(alloc, b"rc", b"7", TWO_ROWS, 64, 0, NONE)?);
+    Ok(())
+}
+
+// Whether `pipe LEVEL LIST` is no command.
+fn refuses_at(alloc: Global, level: &[u8], list: &[u8]) -> Result<bool, Memory> {
+    prints(alloc, level, list, USAGE)
+}
+
+#[test]
+fn refuses_other_levels(rt: HostRuntime) -> Result<(), Fail> {
+    let alloc = rt.alloc();
+    assert!(rt; refuses_at(alloc, b"", b"1")?);
+    assert!(rt; refuses_at(alloc, b"RC", b"1")?);
+    assert!(rt; refuses_at(alloc, b"si", b"1")?);
+    assert!(rt; refuses_at(alloc, b"rcc", b"1")?);
+    assert!(rt; refuses_at(alloc, b"default", b"1")?);
+    assert!(rt; refuses_at(alloc, b"cc", b"1,")?);
+    Ok(())
+}
+
 // Whether `pipe rc LIST` is no command.
 fn refuses(alloc: Global, list: &[u8]) -> Result<bool, Memory> {
-    prints(alloc, list, USAGE)
+    refuses_at(alloc, b"rc", list)
 }
 
 #[test]

@@ -3,6 +3,7 @@ ghost use Rattle.std.specs.Prelude.{◌≡◌, ◌<◌};
 
 use cell_base::{Items, Level, Memory, Text};
 use choice_stream::ListWords;
+use history_core::InitialState;
 use link_traits::{MemHost, MemLink, MemPlan, MemSink};
 use monkey_server::monkey_main;
 use session_core::serve_link;
@@ -38,9 +39,10 @@ fn text(alloc: Global, bytes: &[u8]) -> Result<Text, Memory> {
     }
 }
 
-// Whether `pipe rc LIST` ends with this status and has sent these bytes, for an input that comes in pieces of this length.
-pub fn answers(
+// Whether `pipe LEVEL LIST` ends with this status and has sent these bytes, for an input that comes in pieces of this length.
+pub fn answers_at(
     alloc: Global,
+    level: &[u8],
     list: &[u8],
     input: &[u8],
     piece: u32,
@@ -54,7 +56,7 @@ pub fn answers(
     let mut host = MemHost::new(alloc, Some(link), out, Items::new(alloc))?;
     let words = [
         text(alloc, b"pipe")?,
-        text(alloc, b"rc")?,
+        text(alloc, level)?,
         text(alloc, list)?,
     ];
     let status = monkey_main(alloc, &mut host, words.as_slice());
@@ -64,14 +66,28 @@ pub fn answers(
     })
 }
 
-// Whether `pipe rc LIST` ends with status 2, takes no link, and prints these bytes.
-pub fn prints(alloc: Global, list: &[u8], line: &[u8]) -> Result<bool, Memory> {
+// The same for `pipe rc LIST`.
+pub fn answers(
+    alloc: Global,
+    list: &[u8],
+    input: &[u8],
+    piece: u32,
+    code: u8,
+    sent: &[u8],
+) -> Result<bool, Memory>
+    requires { 0 < piece }
+{
+    answers_at(alloc, b"rc", list, input, piece, code, sent)
+}
+
+// Whether `pipe LEVEL LIST` ends with status 2, takes no link, and prints these bytes.
+pub fn prints(alloc: Global, level: &[u8], list: &[u8], line: &[u8]) -> Result<bool, Memory> {
     let link = link(alloc, b"", 64)?;
     let out = MemSink::new(alloc, plan(alloc, 64))?;
     let mut host = MemHost::new(alloc, Some(link), out, Items::new(alloc))?;
     let words = [
         text(alloc, b"pipe")?,
-        text(alloc, b"rc")?,
+        text(alloc, level)?,
         text(alloc, list)?,
     ];
     let status = monkey_main(alloc, &mut host, words.as_slice());
@@ -81,9 +97,9 @@ pub fn prints(alloc: Global, list: &[u8], line: &[u8]) -> Result<bool, Memory> {
     })
 }
 
-// The number of events of a session with these words.
+// The number of events of a session with these words at Read Committed.
 pub fn events(alloc: Global, words: &[u32], input: &[u8]) -> Result<usize, Memory> {
-    let mut book = SoloBook::new(alloc);
+    let mut book = SoloBook::new(alloc, Level::Rc, InitialState::empty(alloc))?;
     let mut link = link(alloc, input, 64)?;
     let mut words = ListWords::new(Items::from_slice(alloc, words)?);
     serve_link(alloc, Level::Rc, &mut book, &mut link, &mut words);

@@ -1,6 +1,6 @@
-// Events as text, one a line: `read 1 p.0.1 0 2 1 true` is a read in session 1 of the presence of key 1 in table 0, from transaction 0,
+// Events as text, one a line: `begin 1 cc` begins a transaction of session 1 at Causal Consistency; `read 1 p.0.1 0 2 1 true` is a read in session 1 of the presence of key 1 in table 0, from transaction 0,
 // of 2 that were offered, by the word 1, which found true; `f.0.1.1` is column 1 of that row. Text is shown in hexadecimal behind an `x`.
-use cell_base::{Cell, Items, Key, Text, Value};
+use cell_base::{Cell, Items, Key, Level, Text, Value};
 use history_core::Event;
 use std::alloc::{AllocError, Global};
 
@@ -78,45 +78,83 @@ fn push_read(
     push_value(alloc, out, value)
 }
 
+fn level_word(level: Level) -> &'static str {
+    match level {
+        Level::Rc => "rc",
+        Level::Ra => "ra",
+        Level::Cc => "cc",
+    }
+}
+
+fn push_begin(
+    alloc: Global,
+    out: &mut String,
+    session: u32,
+    level: Level,
+) -> Result<(), AllocError> {
+    push_name(alloc, out, "begin", session)?;
+    out.push_str(" ")?;
+    out.push_str(level_word(level))
+}
+
 /// The event as one line.
 pub fn push_event(alloc: Global, out: &mut String, event: &Event) -> Result<(), AllocError> {
     match event {
-        Event::Open(s) => push_name(alloc, out, "open", *s)?,
-        Event::Close(s) => push_name(alloc, out, "close", *s)?,
-        Event::Define(s, name) => {
-            push_name(alloc, out, "define", *s)?;
+        Event::Open { session } => push_name(alloc, out, "open", *session)?,
+        Event::Close { session } => push_name(alloc, out, "close", *session)?,
+        Event::Define { session, name } => {
+            push_name(alloc, out, "define", *session)?;
             out.push_str(" ")?;
             push_text(alloc, out, name)?;
         }
-        Event::Look(s, n) => {
-            push_name(alloc, out, "look", *s)?;
-            push_number(alloc, out, *n)?;
+        Event::Look { session, tables } => {
+            push_name(alloc, out, "look", *session)?;
+            push_number(alloc, out, *tables)?;
         }
-        Event::Begin(s) => push_name(alloc, out, "begin", *s)?,
-        Event::Scan(s, table, keys) => {
-            push_name(alloc, out, "scan", *s)?;
+        Event::Begin { session, level } => push_begin(alloc, out, *session, *level)?,
+        Event::Scan {
+            session,
+            table,
+            keys,
+        } => {
+            push_name(alloc, out, "scan", *session)?;
             push_number(alloc, out, *table)?;
             push_keys(alloc, out, keys)?;
         }
-        Event::Read(s, cell, source, count, word, value) => {
-            push_name(alloc, out, "read", *s)?;
+        Event::Read {
+            session,
+            cell,
+            source,
+            count,
+            word,
+            value,
+        } => {
+            push_name(alloc, out, "read", *session)?;
             push_read(alloc, out, cell, [*source, *count, *word], value)?;
         }
-        Event::Own(s, cell, value) => {
-            push_name(alloc, out, "own", *s)?;
+        Event::Own {
+            session,
+            cell,
+            value,
+        } => {
+            push_name(alloc, out, "own", *session)?;
             push_cell(alloc, out, cell)?;
             push_value(alloc, out, value)?;
         }
-        Event::Write(s, cell, value) => {
-            push_name(alloc, out, "write", *s)?;
+        Event::Write {
+            session,
+            cell,
+            value,
+        } => {
+            push_name(alloc, out, "write", *session)?;
             push_cell(alloc, out, cell)?;
             push_value(alloc, out, value)?;
         }
-        Event::Commit(s) => push_name(alloc, out, "commit", *s)?,
-        Event::Rollback(s) => push_name(alloc, out, "rollback", *s)?,
-        Event::Show(s, n) => {
-            push_name(alloc, out, "show", *s)?;
-            push_number(alloc, out, *n)?;
+        Event::Commit { session } => push_name(alloc, out, "commit", *session)?,
+        Event::Rollback { session } => push_name(alloc, out, "rollback", *session)?,
+        Event::Show { session, number } => {
+            push_name(alloc, out, "show", *session)?;
+            push_number(alloc, out, *number)?;
         }
     }
     Ok(())

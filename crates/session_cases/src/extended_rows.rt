@@ -60,7 +60,7 @@ const BIND_FAILS_A_BLOCK: Row = Row {
         ROLLED_BACK,
         READY,
     ],
-    events: &["open 1", "begin 1", "rollback 1", "close 1"],
+    events: &["open 1", "begin 1 rc", "rollback 1", "close 1"],
     end: End::Terminated,
     session: Some(1),
 };
@@ -86,7 +86,7 @@ const ENDS_WHILE_DISCARDING: Row = Row {
         IN_FAILED,
         UNSUPPORTED,
     ],
-    events: &["open 1", "begin 1", "rollback 1", "close 1"],
+    events: &["open 1", "begin 1 rc", "rollback 1", "close 1"],
     end: End::Terminated,
     session: Some(1),
 };
@@ -116,7 +116,7 @@ const FUNCTION_FAILS_A_BLOCK: Row = Row {
         ROLLED_BACK,
         READY,
     ],
-    events: &["open 1", "begin 1", "rollback 1", "close 1"],
+    events: &["open 1", "begin 1 rc", "rollback 1", "close 1"],
     end: End::Terminated,
     session: Some(1),
 };
@@ -135,7 +135,7 @@ const COPY_TELLS_NOTHING: Row = Row {
         SYNC,
     ],
     sent: &[STARTED, READY, BEGUN, IN_BLOCK, IN_BLOCK],
-    events: &["open 1", "begin 1", "rollback 1", "close 1"],
+    events: &["open 1", "begin 1 rc", "rollback 1", "close 1"],
     end: End::Closed,
     session: Some(1),
 };
@@ -155,7 +155,7 @@ const FAULT_WHILE_DISCARDING: Row = Row {
     words: &[],
     input: &[STARTUP, BEGIN, b"P\0\0\0\x04", b"z"],
     sent: &[STARTED, BEGUN, IN_BLOCK, UNSUPPORTED, VIOLATION],
-    events: &["open 1", "begin 1", "rollback 1", "close 1"],
+    events: &["open 1", "begin 1 rc", "rollback 1", "close 1"],
     end: End::Protocol(FrameFault::UnknownType(122)),
     session: Some(1),
 };
@@ -165,7 +165,7 @@ const FAULT_INSIDE_A_BLOCK: Row = Row {
     words: &[],
     input: &[STARTUP, BEGIN, b"X\0\0\0\x05"],
     sent: &[STARTED, BEGUN, IN_BLOCK, VIOLATION],
-    events: &["open 1", "begin 1", "rollback 1", "close 1"],
+    events: &["open 1", "begin 1 rc", "rollback 1", "close 1"],
     end: End::Protocol(FrameFault::BadLength(5)),
     session: Some(1),
 };
@@ -175,7 +175,7 @@ const ENDS_INSIDE_A_BLOCK: Row = Row {
     words: &[],
     input: &[STARTUP, BEGIN, TERMINATE],
     sent: &[STARTED, BEGUN, IN_BLOCK],
-    events: &["open 1", "begin 1", "rollback 1", "close 1"],
+    events: &["open 1", "begin 1 rc", "rollback 1", "close 1"],
     end: End::Terminated,
     session: Some(1),
 };

@@ -1,5 +1,5 @@
 //! Tests of sessions as a whole: all bytes that they are sent and all events of their histories, worked out by hand from the protocol,
-//! the SQL and the rules of Read Committed.
+//! the SQL and the rules of the levels.
 //!
 //! The contracts of `session_core` say what a session is told. No clause says that it is served where there is memory: these tests show
 //! it. The crate has nothing but tests.
@@ -17,6 +17,8 @@ mod extended_rows;
 mod first_rows;
 #[cfg(test)]
 mod key_rows;
+#[cfg(test)]
+mod level_rows;
 #[cfg(test)]
 mod links;
 #[cfg(test)]

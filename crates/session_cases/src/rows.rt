@@ -1,7 +1,7 @@
 // What a session over a new history comes to, and the messages that many of them have.
 use session_core::End;
 
-/// One session over a new history at Read Committed.
+/// One session over a new history.
 #[derive(Clone, Copy, Debug)]
 pub struct Row {
     pub words: &'static [u32],
@@ -52,7 +52,18 @@ pub const FLUSH: &[u8] = b"H\0\0\0\x04";
 
 pub const BEGUN: &[u8] = b"C\0\0\0\x0aBEGIN\0";
 
+pub const COMMITTED: &[u8] = b"C\0\0\0\x0bCOMMIT\0";
+
 pub const ROLLED_BACK: &[u8] = b"C\0\0\0\x0dROLLBACK\0";
+
+/// SET had its effect.
+pub const SET: &[u8] = b"C\0\0\0\x08SET\0";
+
+/// The column of `SHOW monkey.level`.
+pub const LEVEL_COLUMN: &[u8] =
+    b"T\0\0\0%\0\x01monkey.level\0\0\0\0\0\0\0\0\0\0\x19\xff\xff\xff\xff\xff\xff\0\0";
+
+pub const SHOWN: &[u8] = b"C\0\0\0\x09SHOW\0";
 
 /// A query of 257 statements.
 pub const MANY: &[u8] =

@@ -1,5 +1,6 @@
 // Sessions over links in memory, in pieces of several lengths.
-ghost use Rattle.std.specs.Prelude.{◌<◌};
+ghost use Rattle.std.specs.Prelude.{◌≡◌, ◌<◌, IfOk};
+ghost use Rattle.history_core.specs.Book.{no_session};
 
 use crate::block_rows::block_row;
 use crate::delete_rows::delete_row;
@@ -7,14 +8,15 @@ use crate::events::push_event;
 use crate::extended_rows::extended_row;
 use crate::first_rows::first_row;
 use crate::key_rows::key_row;
+use crate::level_rows::{causal_row, level_row};
 use crate::links::{failing_link, joined, link};
 use crate::message_rows::message_row;
 use crate::rows::{BEGIN, BEGUN, IN_BLOCK, Row, STARTED, STARTUP};
 use crate::text_rows::text_row;
 use crate::told::{asked, expected, words};
-use cell_base::{Items, Level};
+use cell_base::{Items, Level, Memory};
 use choice_stream::ListWords;
-use history_core::Event;
+use history_core::{Event, InitialState};
 use link_traits::MemLink;
 use session_core::{End, Served, serve_link};
 use solo_book::SoloBook;
@@ -36,11 +38,18 @@ fn are_shown(alloc: Global, events: &[Event], lines: &[&str]) -> Result<bool, Al
     Ok(events.len() == lines.len())
 }
 
-// Serves the row's client over a new history, and answers whether its events and its end are the row's.
-fn has_events(alloc: Global, row: &Row, link: &mut MemLink) -> Result<bool, Fail> {
-    let mut book = SoloBook::new(alloc);
+// The book of a new history without a row.
+fn new_book(alloc: Global, level: Level) -> Result<SoloBook, Memory>
+    ensures { IfOk result (λ book. book.state ≡ no_session) }
+{
+    SoloBook::new(alloc, level, InitialState::empty(alloc))
+}
+
+// Serves the row's client at a level over a new history, and answers whether its events and its end are the row's.
+fn has_events(alloc: Global, level: Level, row: &Row, link: &mut MemLink) -> Result<bool, Fail> {
+    let mut book = new_book(alloc, level)?;
     let mut words = ListWords::new(Items::from_slice(alloc, row.words)?);
-    let served = serve_link(alloc, Level::Rc, &mut book, link, &mut words);
+    let served = serve_link(alloc, level, &mut book, link, &mut words);
     let expected = Served {
         session: row.session,
         end: row.end,
@@ -49,14 +58,14 @@ fn has_events(alloc: Global, row: &Row, link: &mut MemLink) -> Result<bool, Fail
     Ok(served == expected && are_shown(alloc, book.history().events(), row.events)?)
 }
 
-// Whether the row's client is sent these bytes and the history has these events, for an input in pieces of this length.
-fn holds(alloc: Global, row: &Row, piece: u32) -> Result<bool, Fail>
+// Whether the row's client is sent these bytes and the history has these events, at this level, for an input in pieces of this length.
+fn holds(alloc: Global, level: Level, row: &Row, piece: u32) -> Result<bool, Fail>
     requires { 0 < piece }
 {
     let input = joined(alloc, row.input)?;
     let sent = joined(alloc, row.sent)?;
     let mut link = link(alloc, &input, piece)?;
-    let events = has_events(alloc, row, &mut link)?;
+    let events = has_events(alloc, level, row, &mut link)?;
     Ok(events && link.written() == sent.as_slice())
 }
 
@@ -70,6 +79,8 @@ enum Group {
     Texts,
     Deletes,
     Extended,
+    Levels,
+    Causal,
 }
 
 // The session of this number, from 0 on; none behind the last.
@@ -82,6 +93,16 @@ fn row_at(group: Group, number: usize) -> Option<&'static Row> {
         Group::Texts => text_row(number),
         Group::Deletes => delete_row(number),
         Group::Extended => extended_row(number),
+        Group::Levels => level_row(number),
+        Group::Causal => causal_row(number),
+    }
+}
+
+// The level at which the group's sessions are served.
+fn level_of(group: Group) -> Level {
+    match group {
+        Group::Causal => Level::Cc,
+        _ => Level::Rc,
     }
 }
 
@@ -96,7 +117,7 @@ fn held(alloc: Global, group: Group, piece: u32) -> Result<usize, Fail>
     for number in 0..MOST {
         match row_at(group, number) {
             Some(row) => {
-                if !holds(alloc, row, piece)? {
+                if !holds(alloc, level_of(group), row, piece)? {
                     return Ok(number);
                 }
             }
@@ -166,12 +187,22 @@ fn refuses_what_is_not_supported(rt: HostRuntime) -> Result<(), Fail> {
     Ok(())
 }
 
+#[test]
+fn chooses_levels(rt: HostRuntime) -> Result<(), Fail> {
+    let alloc = rt.alloc();
+    assert_eq!(rt; held(alloc, Group::Levels, 64)?, 3);
+    assert!(rt; all_hold(alloc, Group::Levels, 3)?);
+    assert_eq!(rt; held(alloc, Group::Causal, 64)?, 1);
+    assert!(rt; all_hold(alloc, Group::Causal, 1)?);
+    Ok(())
+}
+
 // How many piece lengths, from 1 on and below the bound, the session holds in, up to the first in which it doesn't.
 fn lengths_held(alloc: Global, group: Group, number: usize, bound: u32) -> Result<u32, Fail> {
     for piece in 1..bound {
         match row_at(group, number) {
             Some(row) => {
-                if !holds(alloc, row, piece)? {
+                if !holds(alloc, level_of(group), row, piece)? {
                     return Ok(piece);
                 }
             }
@@ -195,7 +226,7 @@ fn serves_pieces_of_each_length(rt: HostRuntime) -> Result<(), Fail> {
 fn told_words(alloc: Global) -> Result<Vec<u8>, Fail> {
     let input = asked(alloc)?;
     let mut link = link(alloc, &input, 64)?;
-    let mut book = SoloBook::new(alloc);
+    let mut book = new_book(alloc, Level::Rc)?;
     let mut ones = ListWords::new(Items::from_slice(alloc, &[1; 40])?);
     serve_link(alloc, Level::Rc, &mut book, &mut link, &mut ones);
     Ok(words(alloc, link.written())?)
@@ -221,7 +252,7 @@ fn is_broken_off(
     let input = joined(alloc, &[STARTUP, BEGIN])?;
     let sent = joined(alloc, sent)?;
     let mut link = failing_link(alloc, &input, 16, reads, writes)?;
-    let mut book = SoloBook::new(alloc);
+    let mut book = new_book(alloc, Level::Rc)?;
     let mut words = ListWords::new(Items::new(alloc));
     let served = serve_link(alloc, Level::Rc, &mut book, &mut link, &mut words);
     let expected = Served {
@@ -232,7 +263,7 @@ fn is_broken_off(
     let events = are_shown(
         alloc,
         book.history().events(),
-        &["open 1", "begin 1", "rollback 1", "close 1"],
+        &["open 1", "begin 1 rc", "rollback 1", "close 1"],
     )?;
     Ok(served == expected && events && link.written() == sent.as_slice())
 }

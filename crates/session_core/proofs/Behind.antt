@@ -9,7 +9,7 @@ use Rattle.block_machine.specs.Script.{Entry, Said, with_call}
 use Rattle.block_machine.specs.Stages.{IsFrom, entry_for, with_short}
 use Rattle.block_machine.specs.Stages as running
 use Rattle.block_machine.specs.Messages.{Outside}
-use Rattle.block_machine.specs.Runners.{behind, follows, level_of, known_of, wanted}
+use Rattle.block_machine.specs.Runners.{behind, follows, knowledge_of, wanted}
 use Rattle.block_machine.specs.declared.call.Answer.{Answer}
 use Rattle.block_machine.specs.declared.runner.Runner.{Runner}
 use Rattle.block_machine.specs.declared.stage.Stage.{Stage as Inner}
@@ -23,7 +23,7 @@ use Rattle.session_core.specs.Wants.{of_message}
 use Rattle.session_core.specs.Told.{outside_of}
 use Rattle.session_core.specs.Stands.{on}
 use Rattle.session_core.specs.Steps.{Advances, Sends}
-use Rattle.session_core.proofs.Meeting.{level_same, with_passing}
+use Rattle.session_core.proofs.Meeting.{with_passing}
 
 -- ---- a message that runs
 
@@ -37,48 +37,45 @@ book_message calls.Send c is = cc
 book_message calls.Nothing c is = cc
 
 -- the message goes on behind its reply
-pub sends_on : (old new : Runner) (short : Bool) (w : Option Shortage) → level_of new ≡ level_of old → running.IsBusy new.stage →
+pub sends_on : (old new : Runner) (short : Bool) (w : Option Shortage) → running.IsBusy new.stage →
     (short ≡ false → w ≡ None) → (short ≡ true → w ≡ Some shortages.Passing) →
-    ((outside : Outside) (said : Said) (es : List Entry) → outside.level ≡ level_of old →
+    ((outside : Outside) (said : Said) (es : List Entry) →
     IsFrom (running.least new.stage) (length said.bytes) es →
     behind old outside said (with_short short said.bytes es) ≡ follows new outside said es) → Sends stages.Running old stages.Running new w
-sends_on old new short w level busy calm shorts goes startup talk said es from =
-    ap (λ (x : List Entry). behind old (outside_of (level_of old) (on old talk)) said x)
+sends_on old new short w busy calm shorts goes startup talk said es from =
+    ap (λ (x : List Entry). behind old (outside_of (on talk)) said x)
     (sym (with_passing short w said.bytes es calm shorts))
-    ∙ goes (outside_of (level_of old) (on old talk)) said es refl
+    ∙ goes (outside_of (on talk)) said es
     (subst (λ (n : ℕ). IsFrom n (length said.bytes) es) (sym (least_busy new.stage busy)) from)
-    ∙ level_same old new talk said es level
 
 -- the message is done
-pub sends_done : (old new : Runner) (state : TransactionState) (short : Bool) (w : Option Shortage) → level_of new ≡ level_of old →
+pub sends_done : (old new : Runner) (state : TransactionState) (short : Bool) (w : Option Shortage) →
     new.stage ≡ inners.Over state →
     (short ≡ false → w ≡ None) → (short ≡ true → w ≡ Some shortages.Passing) →
-    ((outside : Outside) (said : Said) (es : List Entry) → outside.level ≡ level_of old →
+    ((outside : Outside) (said : Said) (es : List Entry) →
     IsFrom (running.least new.stage) (length said.bytes) es →
     behind old outside said (with_short short said.bytes es) ≡ follows new outside said es) →
     Sends stages.Running old (stages.Taking (phases.Normal state)) new w
-sends_done old new state short w level over calm shorts goes startup talk said es from =
-    ap (λ (x : List Entry). behind old (outside_of (level_of old) (on old talk)) said x)
+sends_done old new state short w over calm shorts goes startup talk said es from =
+    ap (λ (x : List Entry). behind old (outside_of (on talk)) said x)
     (sym (with_passing short w said.bytes es calm shorts))
-    ∙ goes (outside_of (level_of old) (on old talk)) said es refl
+    ∙ goes (outside_of (on talk)) said es
     (subst (λ (s : Inner). IsFrom (running.least s) (length said.bytes) es) (sym over) from)
-    ∙ level_same old new talk said es level
-    ∙ ap (λ (s : Inner). running.goes_on s new.built.items (known_of new) (into_iter_items new.rest)
-    (outside_of (level_of new) (on new talk)) said es) over
+    ∙ ap (λ (s : Inner). running.goes_on s new.built.items (knowledge_of new) (into_iter_items new.rest)
+    (outside_of (on talk)) said es) over
 
 -- an answer to the call of a message
 pub advances_running : (old new : Runner) (answer : Answer) (short : Bool) (w : Option Shortage) (startup : List ℕ) →
-    level_of new ≡ level_of old → (short ≡ false → w ≡ None) → (short ≡ true → w ≡ Some shortages.Passing) →
+    (short ≡ false → w ≡ None) → (short ≡ true → w ≡ Some shortages.Passing) →
     ((c : Call) (outside : Outside) (said : Said) (es : List Entry) (e : Event) → wanted old ≡ calls.Book c →
     IsFrom 1 (length said.bytes) es →
     follows old outside said (entry_for answer e ∷ with_short short said.bytes es) ≡ follows new outside (with_call said c) es) →
     Advances stages.Running old answer stages.Running new w startup
-advances_running old new answer short w startup level calm shorts goes = record {
+advances_running old new answer short w startup calm shorts goes = record {
   goes = λ c before talk said es e is from.
-      ap (λ (x : List Entry). follows old (outside_of (level_of old) (on old talk)) said (entry_for answer e ∷ x))
+      ap (λ (x : List Entry). follows old (outside_of (on talk)) said (entry_for answer e ∷ x))
       (sym (with_passing short w said.bytes es calm shorts))
-      ∙ goes c (outside_of (level_of old) (on old talk)) said es e (book_message (wanted old) c is) from
-      ∙ level_same old new talk (with_call said c) es level;
+      ∙ goes c (outside_of (on talk)) said es e (book_message (wanted old) c is) from;
   busy = tt;
   last = λ h. absurd h;
 }

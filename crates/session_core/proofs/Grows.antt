@@ -5,17 +5,17 @@ use Rattle.std.specs.Prelude.{◌==◌}
 use Rattle.cell_base.specs.declared.level.Level.{Level}
 use Rattle.history_core.specs.declared.event.Event.{Event}
 use Rattle.sql_tree.specs.declared.statement.Statement.{Statement}
-use Rattle.sql_tree.specs.declared.table.Table.{Table}
 use Rattle.client_framing.specs.declared.frontend_message.FrameFault.{FrameFault}
 use Rattle.client_framing.specs.declared.frontend_message.FrameFault.TheVariants.{BadLength, BadStartup, TooLong, UnknownType, NoTerminator, Memory}
 use Rattle.client_framing.specs.Fronts.{Held, HasFault, IsPartial}
 use Rattle.block_machine.specs.Calls.{Call}
 use Rattle.block_machine.specs.Calls as calls
 use Rattle.block_machine.specs.Script.{Entry, short, unsent, stop, Said, Next, more, call, ended, tell}
+use Rattle.block_machine.specs.Knowledge.{Knowledge, at_start}
 use Rattle.block_machine.specs.Messages.{Outside}
 use Rattle.block_machine.specs.Stages.{IsFrom, entry_for}
 use Rattle.block_machine.specs.Stages as message_stages
-use Rattle.block_machine.specs.Runners.{follows, wanted, held, level_of, known_of, statements_of}
+use Rattle.block_machine.specs.Runners.{follows, wanted, held, knowledge_of, statements_of}
 use Rattle.block_machine.specs.declared.call.Answer.{Answer}
 use Rattle.block_machine.specs.declared.call.Answer.TheVariants as answers
 use Rattle.block_machine.specs.declared.end.End.{End}
@@ -33,7 +33,7 @@ use Rattle.session_core.specs.Wants.{Want, of_message}
 use Rattle.session_core.specs.Wants as wishes
 use Rattle.session_core.specs.Talk.{Talk, partial, unread, IsTalk}
 use Rattle.session_core.specs.Told.{ending, broken, owed_by, outside_of, stop_end, told}
-use Rattle.session_core.specs.Stands.{on, goes_on, least, StandsFor, IsAwake, IsBusy, Shows, Tells, HasReply, wants, reply_of, after_reply, IsHolding, IsLast, owed_at, end_of}
+use Rattle.session_core.specs.Stands.{on, goes_on, least, StandsFor, IsAwake, IsBusy, Shows, Tells, HasReply, wants, reply_of, after_reply, IsHolding, IsLast, owed_at, end_of, served_of}
 use Rattle.session_core.specs.Steps.{LeadsTo, Feeds, Sends, Steps, Advances, with_wanting}
 use Rattle.session_core.proofs.Entering.{takes_some}
 use Rattle.session_core.proofs.Passes.{eqb-ne, busy-last, least-busy, unless_unsent-passes, unless_unsent-takes, with_wanting-append, IsFrom-with_wanting, IsFrom-read, IsFed-last, IsFed-nothing, IsFed-back}
@@ -45,19 +45,19 @@ use Rattle.session_core.proofs.Stepping.{session-short}
 at_end : (stage : Stage) (r : Runner) (startup : List ℕ) (held : Held) (taken : List ℕ) (es : List Entry) (asked : List Call)
     (sent : List ℕ) (talk : Talk) →
     (s : StandsFor stage r startup held taken es asked sent) → IsTalk held.started held.rest talk →
-    IsTalk false taken (s.whole talk) × (told (level_of r) (s.whole talk) es ≡
+    IsTalk false taken (s.whole talk) × (told (served_of r) (s.whole talk) es ≡
     goes_on stage r startup talk (record { bytes = sent; calls = asked }) [])
 at_end stage r startup held taken es asked sent talk s h = (
   subst (λ (x : List ℕ). IsTalk false x (s.whole talk)) (append-nil taken)
       (s.heard [] talk (IsFed-nothing stage) (subst (λ (x : List ℕ). IsTalk held.started x talk) (sym (append-nil held.rest)) h)),
-  ap (told (level_of r) (s.whole talk)) (sym (append-nil es)) ∙ s.goes talk [] tt,
+  ap (told (served_of r) (s.whole talk)) (sym (append-nil es)) ∙ s.goes talk [] tt,
 )
 
 shown : (stage : Stage) (r : Runner) (startup : List ℕ) (held : Held) (taken : List ℕ) (es : List Entry) (asked : List Call)
     (sent : List ℕ) (talk : Talk) (next : Next) →
     StandsFor stage r startup held taken es asked sent → IsTalk held.started held.rest talk →
     goes_on stage r startup talk (record { bytes = sent; calls = asked }) [] ≡ (record { bytes = sent; calls = asked }, next) →
-    (t : Talk) × IsTalk false taken t × (told (level_of r) t es ≡ (record { bytes = sent; calls = asked }, next))
+    (t : Talk) × IsTalk false taken t × (told (served_of r) t es ≡ (record { bytes = sent; calls = asked }, next))
 shown stage r startup held taken es asked sent talk next s h e =
     let (a, b) = at_end stage r startup held taken es asked sent talk s h in (s.whole talk, a, b ∙ e)
 
@@ -69,16 +69,16 @@ IsAsked r = (c : Call) (outside : Outside) (said : Said) → wants stages.Runnin
 Shows-message : (r : Runner) (w : calls.Want) (startup : List ℕ) (held : Held) (taken : List ℕ) (es : List Entry) (asked : List Call)
     (sent : List ℕ) →
     ((c : Call) (outside : Outside) (said : Said) → of_message w ≡ wishes.Book c → follows r outside said [] ≡ (said, call c)) →
-    StandsFor stages.Running r startup held taken es asked sent → Shows (level_of r) (of_message w) taken es asked sent
+    StandsFor stages.Running r startup held taken es asked sent → Shows (served_of r) (of_message w) taken es asked sent
 Shows-message r (calls.Book c) startup held taken es asked sent asks s =
     shown stages.Running r startup held taken es asked sent unread (call c) s tt
-    (asks c (outside_of (level_of r) (on r unread)) (record { bytes = sent; calls = asked }) refl)
+    (asks c (outside_of (on unread)) (record { bytes = sent; calls = asked }) refl)
 Shows-message r calls.Send startup held taken es asked sent asks s = tt
 Shows-message r calls.Nothing startup held taken es asked sent asks s = tt
 
 pub Shows-stands : (stage : Stage) (r : Runner) (startup : List ℕ) (held : Held) (taken : List ℕ) (es : List Entry) (asked : List Call)
     (sent : List ℕ) → (stage ≡ stages.Running → IsAsked r) →
-    StandsFor stage r startup held taken es asked sent → Shows (level_of r) (wants stage r) taken es asked sent
+    StandsFor stage r startup held taken es asked sent → Shows (served_of r) (wants stage r) taken es asked sent
 Shows-stands (stages.Waiting phase) r startup held taken es asked sent asks s =
     shown (stages.Waiting phase) r startup held taken es asked sent (partial held.rest) more s (refl, s.waits phase refl) refl
 Shows-stands (stages.Taking phase) r startup held taken es asked sent asks s = tt
@@ -102,14 +102,14 @@ Shows-stands (stages.Ended f) r startup held taken es asked sent asks s = shown 
 pub StandsFor-taken : (phase : Phase) (r next : Runner) (startup : List ℕ) (before after : Held) (taken : List ℕ) (es : List Entry)
     (asked : List Call) (sent : List ℕ) (stage : Stage) (w : Option Shortage) →
     StandsFor (stages.Taking phase) r startup before taken es asked sent → Steps phase r before stage next w after →
-    level_of next ≡ level_of r → HasReply stage next startup →
+    served_of next ≡ served_of r → HasReply stage next startup →
     StandsFor stage next startup after taken (es ++ with_wanting w sent []) asked sent
 StandsFor-taken phase r next startup before after taken es asked sent stage w s steps same some = record {
   whole = λ talk. s.whole (steps.turns talk);
   heard = λ bytes talk fed h. s.heard bytes (steps.turns talk) tt (steps.heard bytes talk fed h);
   goes = λ talk more_es from.
       ap (λ (l : Level). told l (s.whole (steps.turns talk)) ((es ++ with_wanting w sent []) ++ more_es)) same
-      ∙ ap (told (level_of r) (s.whole (steps.turns talk))) (append_assoc es (with_wanting w sent []) more_es
+      ∙ ap (told (served_of r) (s.whole (steps.turns talk))) (append_assoc es (with_wanting w sent []) more_es
       ∙ ap (λ x. es ++ x) (with_wanting-append w sent more_es))
       ∙ s.goes (steps.turns talk) (with_wanting w sent more_es) (IsFrom-with_wanting w sent (least stage) more_es from)
       ∙ steps.goes startup talk (record { bytes = sent; calls = asked }) more_es from;
@@ -125,7 +125,7 @@ StandsFor-fed phase r startup held piece taken es asked sent s = record {
   whole = s.whole;
   heard = λ bytes talk fed h. subst (λ (x : List ℕ). IsTalk false x (s.whole talk)) (sym (append_assoc taken piece bytes))
       (s.heard (piece ++ bytes) talk tt (subst (λ (x : List ℕ). IsTalk held.started x talk) (append_assoc held.rest piece bytes) h));
-  goes = λ talk more_es from. ap (λ (x : List Entry). told (level_of r) (s.whole talk) (x ++ more_es)) (append-nil es)
+  goes = λ talk more_es from. ap (λ (x : List Entry). told (served_of r) (s.whole talk) (x ++ more_es)) (append-nil es)
       ∙ s.goes talk more_es from;
   waits = λ other is. absurd (cc is);
   some = λ h. absurd h;
@@ -142,9 +142,9 @@ StandsFor-no_memory phase r startup held piece taken es asked sent stage s some 
   heard = λ bytes talk fed h. subst (λ (x : List ℕ). IsTalk false x (s.whole unread)) (sym (append_assoc taken piece bytes))
       (s.heard (piece ++ bytes) unread tt tt);
   goes = λ talk more_es from.
-      ap (told (level_of r) (s.whole unread)) (append_assoc es (short true (length sent) ∷ []) more_es)
+      ap (told (served_of r) (s.whole unread)) (append_assoc es (short true (length sent) ∷ []) more_es)
       ∙ s.goes unread (short true (length sent) ∷ more_es) (omega arith)
-      ∙ session-short (level_of r) phase (known_of r) unread (record { bytes = sent; calls = asked }) more_es
+      ∙ session-short phase (knowledge_of r) unread (record { bytes = sent; calls = asked }) more_es
       ∙ leads.1 r startup talk (record { bytes = sent; calls = asked }) more_es;
   waits = λ other is. absurd (subst IsBusy is (busy-last stage leads.0));
   some = some;
@@ -177,14 +177,14 @@ IsFrom-entry l n _ e es = tt
 pub StandsFor-answered : (stage next : Stage) (r after : Runner) (startup now_startup : List ℕ) (held : Held) (taken : List ℕ)
     (es : List Entry) (asked : List Call) (sent : List ℕ) (c : Call) (a : Answer) (e : Event) (w : Option Shortage) →
     StandsFor stage r startup held taken es asked sent → Advances stage r a next after w now_startup → wants stage r ≡ wishes.Book c →
-    level_of after ≡ level_of r → HasReply next after now_startup →
+    served_of after ≡ served_of r → HasReply next after now_startup →
     StandsFor next after now_startup held taken ((es ++ entry_for a e ∷ []) ++ with_wanting w sent []) (asked ++ c ∷ []) sent
 StandsFor-answered stage next r after startup now_startup held taken es asked sent c a e w s adv wants_c same some = record {
   whole = s.whole;
   heard = λ bytes talk fed h. s.heard bytes talk (IsFed-back stage next bytes adv.last fed) h;
   goes = λ talk more_es from.
       ap (λ (l : Level). told l (s.whole talk) (((es ++ entry_for a e ∷ []) ++ with_wanting w sent []) ++ more_es)) same
-      ∙ ap (told (level_of r) (s.whole talk)) (append_assoc (es ++ entry_for a e ∷ []) (with_wanting w sent []) more_es
+      ∙ ap (told (served_of r) (s.whole talk)) (append_assoc (es ++ entry_for a e ∷ []) (with_wanting w sent []) more_es
       ∙ append_assoc es (entry_for a e ∷ []) (with_wanting w sent [] ++ more_es)
       ∙ ap (λ x. es ++ entry_for a e ∷ x) (with_wanting-append w sent more_es))
       ∙ s.goes talk (entry_for a e ∷ with_wanting w sent more_es)
@@ -198,7 +198,7 @@ StandsFor-answered stage next r after startup now_startup held taken es asked se
 -- ---- replies
 
 -- a reply that a message holds is what its script tells next
-message_tells : (stage : MessageStage) (built : List ℕ) (known : List Table) (rest : List Statement) (outside : Outside) (said : Said)
+message_tells : (stage : MessageStage) (built : List ℕ) (known : Knowledge) (rest : List Statement) (outside : Outside) (said : Said)
     (es : List Entry) → message_stages.IsHolding stage →
     message_stages.goes_on stage built known rest outside said es
     ≡ tell (message_stages.reply_of built stage) (outside.broken (message_stages.owed_at stage))
@@ -211,8 +211,8 @@ message_tells _ built known rest outside said es h = absurd h
 -- a reply that is held is what the script tells next
 holding_tells : (stage : Stage) (r : Runner) (startup : List ℕ) (talk : Talk) (said : Said) (es : List Entry) → IsHolding stage r →
     goes_on stage r startup talk said es ≡ tell (reply_of stage r startup) (broken (owed_at stage r)) (after_reply stage r talk) said es
-holding_tells stages.Running r startup talk said es h = message_tells r.stage r.built.items r.known.items (statements_of r)
-    (outside_of (level_of r) (on r talk)) said es h
+holding_tells stages.Running r startup talk said es h = message_tells r.stage r.built.items (knowledge_of r) (statements_of r)
+    (outside_of (on talk)) said es h
 holding_tells (stages.Telling reply) r startup talk said es h = refl
 holding_tells (stages.Parting fatal) r startup talk said es h = refl
 holding_tells _ r startup talk said es h = absurd h
@@ -231,7 +231,7 @@ from_holding stage r sent es h from = subst (λ (n : ℕ). IsFrom n (length sent
 pub Tells-stands : (stage : Stage) (r : Runner) (startup : List ℕ) (held : Held) (taken : List ℕ) (es : List Entry) (asked : List Call)
     (sent reply : List ℕ) →
     StandsFor stage r startup held taken es asked sent → IsHolding stage r → reply ≡ reply_of stage r startup →
-    Tells (level_of r) (owed_at stage r) reply taken es asked sent
+    Tells (served_of r) (owed_at stage r) reply taken es asked sent
 Tells-stands stage r startup held taken es asked sent reply s holds is =
     let at : Said = record { bytes = sent; calls = asked } in
     let now : Said = record { bytes = sent ++ reply_of stage r startup; calls = asked } in
@@ -247,7 +247,7 @@ Tells-stands stage r startup held taken es asked sent reply s holds is =
 -- a reply that was sent
 pub StandsFor-sent : (stage next : Stage) (r after : Runner) (startup : List ℕ) (held : Held) (taken : List ℕ) (es : List Entry)
     (asked : List Call) (sent : List ℕ) (w : Option Shortage) →
-    Sends stage r next after w → IsHolding stage r → (IsLast stage → IsLast next) → IsAwake next → level_of after ≡ level_of r →
+    Sends stage r next after w → IsHolding stage r → (IsLast stage → IsLast next) → IsAwake next → served_of after ≡ served_of r →
     HasReply next after startup →
     StandsFor stage r startup held taken es asked sent →
     StandsFor next after startup held taken (es ++ with_wanting w (sent ++ reply_of stage r startup) []) asked
@@ -261,7 +261,7 @@ StandsFor-sent stage next r after startup held taken es asked sent w sends holds
       heard = λ bytes talk fed h. s.heard bytes talk (IsFed-back stage next bytes last fed) h;
       goes = λ talk more_es from.
           ap (λ (l : Level). told l (s.whole talk) ((es ++ with_wanting w now []) ++ more_es)) same
-          ∙ ap (told (level_of r) (s.whole talk)) (append_assoc es (with_wanting w now []) more_es
+          ∙ ap (told (served_of r) (s.whole talk)) (append_assoc es (with_wanting w now []) more_es
           ∙ ap (λ x. es ++ x) (with_wanting-append w now more_es))
           ∙ s.goes talk (with_wanting w now more_es)
           (from_holding stage r sent (with_wanting w now more_es) holds (IsFrom-read w sent reply (least next) more_es (s.some holds) from))
@@ -287,7 +287,7 @@ StandsFor-unsent stage next r startup held taken es asked sent s holds leads som
       whole = s.whole;
       heard = λ bytes talk fed h. s.heard bytes talk (IsFed-back stage next bytes (λ l. leads.0) fed) h;
       goes = λ talk more_es from.
-          ap (told (level_of r) (s.whole talk)) (append_assoc es (unsent (length sent) ∷ []) more_es)
+          ap (told (served_of r) (s.whole talk)) (append_assoc es (unsent (length sent) ∷ []) more_es)
           ∙ s.goes talk (unsent (length sent) ∷ more_es) (omega arith)
           ∙ holding_tells stage r startup talk (record { bytes = sent; calls = asked }) (unsent (length sent) ∷ more_es) holds
           ∙ unless_unsent-takes (length sent) (broken (owed_at stage r)) (after_reply stage r talk) said more_es
@@ -311,7 +311,7 @@ StandsFor-stopped phase r startup held taken es asked sent stage cause end s lea
       (s.heard [] (partial held.rest) tt (subst (λ (x : List ℕ). IsTalk held.started x (partial held.rest)) (sym (append-nil held.rest))
       (refl, s.waits phase refl)));
   goes = λ talk more_es from.
-      ap (told (level_of r) (s.whole (partial held.rest))) (append_assoc es (stop cause ∷ []) more_es)
+      ap (told (served_of r) (s.whole (partial held.rest))) (append_assoc es (stop cause ∷ []) more_es)
       ∙ s.goes (partial held.rest) (stop cause ∷ more_es) tt
       ∙ ap (λ x. ending (owed_by phase) x (record { bytes = sent; calls = asked }) more_es) right
       ∙ leads.1 r startup talk (record { bytes = sent; calls = asked }) more_es;
@@ -344,13 +344,14 @@ nothing_waits = record {
   no_fault = λ fault has. no_fault fault has;
 }
 
-pub StandsFor-new : (r : Runner) (startup : List ℕ) → known_of r ≡ [] →
+pub StandsFor-new : (level : Level) (r : Runner) (startup : List ℕ) → knowledge_of r ≡ at_start level →
     StandsFor (stages.Waiting phases.Startup) r startup (record { started = false; rest = []; fault = None }) [] [] [] []
 unfolding told
-StandsFor-new r startup none = record {
+StandsFor-new level r startup is = record {
   whole = λ talk. talk;
   heard = λ bytes talk fed h. h;
-  goes = λ talk es from. ap (λ (known : List Table). on r talk phases.Startup known (record { bytes = []; calls = [] }) es) (sym none);
-  waits = λ other is. nothing_waits;
+  goes = λ talk es from. ap (λ (known : Knowledge). on talk phases.Startup known (record { bytes = []; calls = [] }) es)
+      (ap (λ (k : Knowledge). at_start k.served) is ∙ sym is);
+  waits = λ other waiting. nothing_waits;
   some = λ h. absurd h;
 }

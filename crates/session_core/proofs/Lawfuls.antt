@@ -136,13 +136,17 @@ Lawful-plays gives p v cs es q w c answers.Committed e r u l h k = Lawful-did gi
 Lawful-plays gives p v cs es q w c answers.RolledBack e r u l h k = Lawful-did gives p v cs es q w c answers.RolledBack e r u l h.0 h.1 k
 Lawful-plays gives p v cs es q w c (answers.Shown n) e r u l h k = Lawful-did gives p v cs es q w c (answers.Shown n) e r u l h.0 h.1 k
 
--- what an answered call leaves of the own events, and of the tables
+-- what an answered call leaves of the level, the initial state, the own events and the tables
 pub record Leaves (p q : Past) (e : Event) : Type 0 where
+  pub level : q.seen.level ≡ p.seen.level
+  pub initial : q.seen.initial ≡ p.seen.initial
   pub own : q.own ≡ p.own ++ e ∷ []
   pub tables : length p.seen.tables ≤ length q.seen.tables
 
 leaves_of : (p q : Past) (x e : Event) → e ≡ x → Adds p x q → Leaves p q e
 leaves_of p q x e is adds = record {
+  level = adds.level;
+  initial = adds.initial;
   own = adds.own ∙ ap (λ y. p.own ++ y ∷ []) (sym is);
   tables = omega (arith, ap length adds.tables, length-append p.seen.tables adds.more);
 }
@@ -153,7 +157,7 @@ Happens-leaves p calls.Close answers.Closed e q h = leaves_of p q e e refl h.1
 Happens-leaves p (calls.Look known) (answers.Looked tables) e q h = leaves_of p q _ e h.0 h.1.adds
 Happens-leaves p (calls.Define t) (answers.Defined (defines.Defined n)) e q h = leaves_of p q _ e h.0 h.1.3
 Happens-leaves p (calls.Define t) (answers.Defined (defines.Taken n)) e q h = leaves_of p q _ e h.0 h.1.2
-Happens-leaves p calls.Begin (answers.Begun n) e q h = leaves_of p q e e refl h.1
+Happens-leaves p (calls.Begin level) (answers.Begun n) e q h = leaves_of p q e e refl h.1
 Happens-leaves p (calls.Scan table) (answers.Listed keys) e q h = leaves_of p q e e refl h.1
 Happens-leaves p (calls.Touch cell) (answers.Found value) e q h = leaves_of p q e e refl h.1
 Happens-leaves p (calls.Write cell value) answers.Written e q h = leaves_of p q e e refl h.1
@@ -183,3 +187,30 @@ own_events gives p v (c ∷ cs) (refused why ∷ es) q w l =
 own_events gives p v (c ∷ cs) (short final n ∷ es) q w l = own_events gives p v (c ∷ cs) es q w l
 own_events gives p v (c ∷ cs) (unsent n ∷ es) q w l = own_events gives p v (c ∷ cs) es q w l
 own_events gives p v (c ∷ cs) (stop cause ∷ es) q w l = own_events gives p v (c ∷ cs) es q w l
+
+-- a history keeps its level and its initial state
+pub record KeepsStart (p q : Past) : Type 0 where
+  pub level : q.seen.level ≡ p.seen.level
+  pub initial : q.seen.initial ≡ p.seen.initial
+
+keeps_on : (p m q : Past) → m.seen.level ≡ p.seen.level → m.seen.initial ≡ p.seen.initial → KeepsStart m q → KeepsStart p q
+keeps_on p m q level initial keeps = record { level = keeps.level ∙ level; initial = keeps.initial ∙ initial }
+
+pub keeps_start : {W : Type 0} (gives : W → ℕ → W → Type 0) (p : Past) (v : W) (cs : List Call) (es : List Entry) (q : Past) (w : W) →
+    Lawful gives p v cs es q w → KeepsStart p q
+keeps_start gives p v [] [] q w l =
+    record { level = ap (λ (x : Past). x.seen.level) l.0; initial = ap (λ (x : Past). x.seen.initial) l.0 }
+keeps_start gives p v (c ∷ cs) [] q w l = absurd l
+keeps_start gives p v [] (did a e ∷ es) q w l = absurd l
+keeps_start gives p v [] (refused why ∷ es) q w l = absurd l
+keeps_start gives p v [] (short final n ∷ es) q w l = keeps_start gives p v [] es q w l
+keeps_start gives p v [] (unsent n ∷ es) q w l = keeps_start gives p v [] es q w l
+keeps_start gives p v [] (stop cause ∷ es) q w l = keeps_start gives p v [] es q w l
+keeps_start gives p v (c ∷ cs) (did a e ∷ es) q w l =
+    let leaves = Happens-leaves p c a e l.0 l.2 in
+    keeps_on p l.0 q leaves.level leaves.initial (keeps_start gives l.0 l.1 cs es q w l.4)
+keeps_start gives p v (c ∷ cs) (refused why ∷ es) q w l =
+    let goes = Declines-goes p c why l.0 l.2 in keeps_on p l.0 q goes.level goes.initial (keeps_start gives l.0 l.1 cs es q w l.4)
+keeps_start gives p v (c ∷ cs) (short final n ∷ es) q w l = keeps_start gives p v (c ∷ cs) es q w l
+keeps_start gives p v (c ∷ cs) (unsent n ∷ es) q w l = keeps_start gives p v (c ∷ cs) es q w l
+keeps_start gives p v (c ∷ cs) (stop cause ∷ es) q w l = keeps_start gives p v (c ∷ cs) es q w l

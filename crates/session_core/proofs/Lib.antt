@@ -1,4 +1,5 @@
 pub mod Passes
+pub mod Knowing
 pub mod Somes
 pub mod Entering
 pub mod Stepping

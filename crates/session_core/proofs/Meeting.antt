@@ -1,6 +1,5 @@
 -- What the messages of a client lead to.
 use Rattle.std.proofs.Common.{◌≡◌, Bool, true, false, ℕ, List, [], length, refl, sym, ◌∙◌, ap, Option, Some, None, inl, inr}
-use Rattle.cell_base.specs.declared.level.Level.{Level}
 use Rattle.cell_base.specs.declared.sql_state.SqlState.TheVariants as states
 use Rattle.pg_framing.specs.declared.replies.TransactionState.{TransactionState}
 use Rattle.client_framing.specs.declared.frontend_message.FrontendMessage.TheVariants as fronts
@@ -9,7 +8,7 @@ use Rattle.client_framing.specs.declared.frontend_message.CopyMessage.{CopyMessa
 use Rattle.block_machine.specs.Script.{Entry, Said, lost}
 use Rattle.block_machine.specs.Stages.{IsFrom, with_short}
 use Rattle.block_machine.specs.Messages.{Outside, IsMessage, message, owed_between}
-use Rattle.block_machine.specs.Runners.{follows, level_of, known_of}
+use Rattle.block_machine.specs.Runners.{follows, knowledge_of}
 use Rattle.block_machine.specs.declared.block.Owed.{Owed}
 use Rattle.block_machine.specs.declared.end.End.TheVariants as ends
 use Rattle.block_machine.specs.declared.message.Message.{Message}
@@ -25,19 +24,13 @@ use Rattle.session_core.specs.declared.turns.Shortage.{Shortage}
 use Rattle.session_core.specs.declared.turns.Shortage.TheVariants as shortages
 use Rattle.session_core.specs.Users.{HasUser}
 use Rattle.session_core.specs.Talk.{Talk, encryption, cancel, start, userless, version, query, unread_query, terminate, sync, nothing, extended, function}
-use Rattle.session_core.specs.Told.{ending, outside_of, refuses, session}
+use Rattle.session_core.specs.Told.{ending, outside_of, refuses}
 use Rattle.session_core.specs.Stands.{IsFit, IsUnder, IsBusy, Lacks, NoBuilt, goes_on, on, outer, owed_at}
 use Rattle.session_core.specs.Steps.{Meets, Leads, LeadsTo, IsPassing, with_wanting}
 use Rattle.session_core.proofs.Passes.{busy-last, unless_short-takes}
 use Rattle.session_core.proofs.Somes.{plain_some}
 
 -- ---- a message that runs
-
--- what a runner goes on with at a level that is the same
-pub level_same : (old new : Runner) (talk : Talk) (said : Said) (es : List Entry) → level_of new ≡ level_of old →
-    follows new (outside_of (level_of old) (on old talk)) said es ≡ follows new (outside_of (level_of new) (on new talk)) said es
-level_same old new talk said es same =
-    ap (λ (l : Level). follows new (outside_of l (λ phase known. session l phase known talk)) said es) (sym same)
 
 -- a want of memory that doesn't end the session
 pub with_passing : (short : Bool) (w : Option Shortage) (sent : List ℕ) (es : List Entry) → (short ≡ false → w ≡ None) →
@@ -48,26 +41,16 @@ with_passing true w sent es calm short = ap (λ (x : Option Shortage). with_want
 
 -- a message begins
 pub message_begins : (asked : Message) (state : TransactionState) (old new : Runner) (short : Bool) (w : Option Shortage) →
-    level_of new ≡ level_of old → (short ≡ false → w ≡ None) → (short ≡ true → w ≡ Some shortages.Passing) →
-    ((outside : Outside) (said : Said) (es : List Entry) → outside.level ≡ level_of old → IsFrom 1 (length said.bytes) es →
-    message asked state (known_of old) outside said (with_short short said.bytes es) ≡ follows new outside said es) →
+    (short ≡ false → w ≡ None) → (short ≡ true → w ≡ Some shortages.Passing) →
+    ((outside : Outside) (said : Said) (es : List Entry) → IsFrom 1 (length said.bytes) es →
+    message asked state (knowledge_of old) outside said (with_short short said.bytes es) ≡ follows new outside said es) →
     (startup : List ℕ) (talk : Talk) (said : Said) (es : List Entry) → IsFrom 1 (length said.bytes) es →
-    message asked state (known_of old) (outside_of (level_of old) (on old talk)) said
+    message asked state (knowledge_of old) (outside_of (on talk)) said
     (with_wanting w said.bytes es) ≡ goes_on stages.Running new startup talk said es
-message_begins asked state old new short w level calm shorts goes startup talk said es from =
-    ap (λ (x : List Entry). message asked state (known_of old) (outside_of (level_of old) (on old talk)) said x)
+message_begins asked state old new short w calm shorts goes startup talk said es from =
+    ap (λ (x : List Entry). message asked state (knowledge_of old) (outside_of (on talk)) said x)
     (sym (with_passing short w said.bytes es calm shorts))
-    ∙ goes (outside_of (level_of old) (on old talk)) said es refl from
-    ∙ level_same old new talk said es level
-
--- a message fails before its first statement
-pub message_fails : (asked : Message) (state : TransactionState) (old new : Runner) → level_of new ≡ level_of old →
-    ((outside : Outside) (said : Said) (es : List Entry) → message asked state
-    (known_of old) outside said es ≡ follows new outside said es) →
-    (startup : List ℕ) (talk : Talk) (said : Said) (es : List Entry) →
-    message asked state (known_of old) (outside_of (level_of old) (on old talk)) said es ≡ goes_on stages.Running new startup talk said es
-message_fails asked state old new level goes startup talk said es =
-    goes (outside_of (level_of old) (on old talk)) said es ∙ level_same old new talk said es level
+    ∙ goes (outside_of (on talk)) said es from
 
 -- ---- what a message leads to
 
@@ -76,8 +59,7 @@ pub leads_own : (owed : Owed) (stage : Stage) (r : Runner) → owed_at stage r �
     Lacks stage [] → NoBuilt stage → IsFit r → Leads owed r stage r
 leads_own owed stage r is under inner lacks constant fit = record {
   owed_is = is;
-  level_is = refl;
-  known_is = refl;
+  known = refl;
   fit = fit;
   under = under;
   inner = inner;
@@ -129,23 +111,23 @@ meets_sync state r = inl (record { asked = sync; says = tt; busy = tt; passing =
 
 pub meets_extended : (step : Extended) (state : TransactionState) (stage : Stage) (r : Runner) → IsBusy stage →
     ((startup : List ℕ) (talk : Talk) (said : Said) (es : List Entry) →
-    refuses (level_of r) state (known_of r) (on r talk) said es ≡ goes_on stage r startup talk said es) →
+    refuses state (knowledge_of r) (on talk) said es ≡ goes_on stage r startup talk said es) →
     Meets (fronts.Extended step) (phases.Normal state) r stage r None
 meets_extended step state stage r busy goes =
     inl (record { asked = extended; says = tt; busy = busy; passing = tt; goes = λ startup talk said es from. goes startup talk said es })
 
 pub meets_flush : (state : TransactionState) (r : Runner) → Meets fronts.Flush (phases.Normal state) r (stages.Taking
     (phases.Normal state)) r None
-meets_flush state r = inr (record { asked = nothing; says = tt; goes = λ level known rest. refl }, refl, refl, refl)
+meets_flush state r = inr (record { asked = nothing; says = tt; goes = λ known rest. refl }, refl, refl, refl)
 
 pub meets_copy : (part : CopyMessage) (state : TransactionState) (r : Runner) →
     Meets (fronts.Copy part) (phases.Normal state) r (stages.Taking (phases.Normal state)) r None
-meets_copy part state r = inr (record { asked = nothing; says = tt; goes = λ level known rest. refl }, refl, refl, refl)
+meets_copy part state r = inr (record { asked = nothing; says = tt; goes = λ known rest. refl }, refl, refl, refl)
 
 pub meets_query : (text : List ℕ) (asked : Message) (state : TransactionState) (old new : Runner) (w : Option Shortage) → IsMessage text asked →
     IsPassing w →
     ((startup : List ℕ) (talk : Talk) (said : Said) (es : List Entry) → IsFrom 1 (length said.bytes) es →
-    message asked state (known_of old) (outside_of (level_of old) (on old talk)) said
+    message asked state (knowledge_of old) (outside_of (on talk)) said
     (with_wanting w said.bytes es) ≡ goes_on stages.Running new startup talk said es) →
     Meets (fronts.Query text) (phases.Normal state) old stages.Running new w
 meets_query text asked state old new w is passing goes =
@@ -154,8 +136,8 @@ meets_query text asked state old new w is passing goes =
 -- memory is wanting for what a query asks
 pub meets_unread : (text : List ℕ) (state : TransactionState) (old new : Runner) →
     ((startup : List ℕ) (talk : Talk) (said : Said) (es : List Entry) →
-    message (messages.Unread states.S53200) state (known_of old)
-    (outside_of (level_of old) (on old talk)) said es ≡ goes_on stages.Running new startup talk said es) →
+    message (messages.Unread states.S53200) state (knowledge_of old)
+    (outside_of (on talk)) said es ≡ goes_on stages.Running new startup talk said es) →
     Meets (fronts.Query text) (phases.Normal state) old stages.Running new (Some shortages.Passing)
 meets_unread text state old new goes =
     inl (record {
@@ -164,14 +146,14 @@ meets_unread text state old new goes =
       busy = tt;
       passing = tt;
       goes = λ startup talk said es from.
-          unless_short-takes false (message (messages.Unread states.S53200) state (known_of old)
-          (outside_of (level_of old) (on old talk))) lost said es ∙ goes startup talk said es;
+          unless_short-takes false (message (messages.Unread states.S53200) state (knowledge_of old)
+          (outside_of (on talk))) lost said es ∙ goes startup talk said es;
     })
 
 pub meets_function : (state : TransactionState) (old new : Runner) →
     ((startup : List ℕ) (talk : Talk) (said : Said) (es : List Entry) →
-    message (messages.Unread states.S0A000) state (known_of old)
-    (outside_of (level_of old) (on old talk)) said es ≡ goes_on stages.Running new startup talk said es) →
+    message (messages.Unread states.S0A000) state (knowledge_of old)
+    (outside_of (on talk)) said es ≡ goes_on stages.Running new startup talk said es) →
     Meets fronts.FunctionCall (phases.Normal state) old stages.Running new None
 meets_function state old new goes =
     inl (record { asked = function; says = tt; busy = tt; passing = tt; goes = λ startup talk said es from. goes startup talk said es })
@@ -196,20 +178,20 @@ drops_sync state r = inl (record { asked = sync; says = tt; busy = tt; passing =
 
 pub drops_query : (text : List ℕ) (state : TransactionState) (r : Runner) →
     Meets (fronts.Query text) (phases.Discarding state) r (stages.Taking (phases.Discarding state)) r None
-drops_query text state r = inr (record { asked = unread_query; says = tt; goes = λ level known rest. refl }, refl, refl, refl)
+drops_query text state r = inr (record { asked = unread_query; says = tt; goes = λ known rest. refl }, refl, refl, refl)
 
 pub drops_flush : (state : TransactionState) (r : Runner) → Meets fronts.Flush (phases.Discarding state) r (stages.Taking
     (phases.Discarding state)) r None
-drops_flush state r = inr (record { asked = nothing; says = tt; goes = λ level known rest. refl }, refl, refl, refl)
+drops_flush state r = inr (record { asked = nothing; says = tt; goes = λ known rest. refl }, refl, refl, refl)
 
 pub drops_extended : (step : Extended) (state : TransactionState) (r : Runner) →
     Meets (fronts.Extended step) (phases.Discarding state) r (stages.Taking (phases.Discarding state)) r None
-drops_extended step state r = inr (record { asked = extended; says = tt; goes = λ level known rest. refl }, refl, refl, refl)
+drops_extended step state r = inr (record { asked = extended; says = tt; goes = λ known rest. refl }, refl, refl, refl)
 
 pub drops_function : (state : TransactionState) (r : Runner) →
     Meets fronts.FunctionCall (phases.Discarding state) r (stages.Taking (phases.Discarding state)) r None
-drops_function state r = inr (record { asked = function; says = tt; goes = λ level known rest. refl }, refl, refl, refl)
+drops_function state r = inr (record { asked = function; says = tt; goes = λ known rest. refl }, refl, refl, refl)
 
 pub drops_copy : (part : CopyMessage) (state : TransactionState) (r : Runner) →
     Meets (fronts.Copy part) (phases.Discarding state) r (stages.Taking (phases.Discarding state)) r None
-drops_copy part state r = inr (record { asked = nothing; says = tt; goes = λ level known rest. refl }, refl, refl, refl)
+drops_copy part state r = inr (record { asked = nothing; says = tt; goes = λ known rest. refl }, refl, refl, refl)

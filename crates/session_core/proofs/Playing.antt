@@ -26,10 +26,11 @@ use Rattle.statement_course.specs.declared.demand.Demand.TheVariants as demands
 use Rattle.cell_compile.specs.Plans.{rest_of}
 use Rattle.block_machine.specs.Calls.{Call, asks_cells, call_for}
 use Rattle.block_machine.specs.Calls as calls
+use Rattle.block_machine.specs.Knowledge.{Knowledge, with_tables}
 use Rattle.block_machine.specs.Script.{Entry, did, refused}
 use Rattle.block_machine.specs.Stages.{Fits, IsKnownAfter, IsSoundStage, KnowsTables, owed_after}
 use Rattle.block_machine.specs.Stages as message_stages
-use Rattle.block_machine.specs.Runners.{known_of, wanted}
+use Rattle.block_machine.specs.Runners.{knowledge_of, tables_of, wanted}
 use Rattle.block_machine.specs.declared.block.Block.{Block}
 use Rattle.block_machine.specs.declared.block.Block.TheVariants.{Implicit, Regular, Failed}
 use Rattle.block_machine.specs.declared.block.Owed.TheVariants as owed_kinds
@@ -74,6 +75,7 @@ declined gives p v c d faults.Memory q w is may goes full fresh draws =
 goes_same : (p : Past) → GoesOn p p
 goes_same p = record {
   level = refl;
+  initial = refl;
   others = [];
   seen = sym (append-nil p.seen.events);
   foreign = All-nil (λ (e : Event). session_in e ≢ session_of p.state);
@@ -119,6 +121,7 @@ All-both P xs ys h k = All-append P xs ys h k
 goes_on_later : (p m q : Past) → GoesOn p m → GoesOn m q → GoesOn p q
 goes_on_later p m q g h = record {
   level = h.level ∙ g.level;
+  initial = h.initial ∙ g.initial;
   others = g.others ++ h.others;
   seen = h.seen ∙ ap (λ (x : List Event). x ++ h.others) g.seen ∙ append_assoc p.seen.events g.others h.others;
   foreign = All-both (λ (x : Event). session_in x ≢ session_of p.state) g.others h.others g.foreign
@@ -132,6 +135,7 @@ goes_on_later p m q g h = record {
 adds_later : (p m q : Past) (e : Event) → GoesOn p m → session_in e ≡ session_of p.state → Adds m e q → Adds p e q
 adds_later p m q e g same h = record {
   level = h.level ∙ g.level;
+  initial = h.initial ∙ g.initial;
   others = g.others ++ h.others;
   seen = h.seen ∙ ap (λ (x : List Event). x ++ h.others ++ e ∷ []) g.seen
       ∙ ap (λ (x : List Event). x ++ e ∷ []) (append_assoc p.seen.events g.others h.others);
@@ -232,20 +236,20 @@ in_session_of block (in_session s) h = tt
 in_session_of block (pending s ws) h = tt
 
 -- what a message asks may be asked where the book sits
-may_ask_message : (stage : MessageStage) (known : List Table) (past : Past) (c : Call) → owed_of past.state ≡ message_stages.owed_at stage →
-    length known ≤ length past.seen.tables → KnowsTables stage known → IsSoundStage stage →
+may_ask_message : (stage : MessageStage) (known : Knowledge) (past : Past) (c : Call) → owed_of past.state ≡ message_stages.owed_at stage →
+    length known.tables ≤ length past.seen.tables → KnowsTables stage known.tables → IsSoundStage stage →
     message_stages.wants stage known ≡ calls.Book c → MayAsk c past
 may_ask_message (message_stage.Over state) known past c o k t s w = absurd (cc w)
 may_ask_message (message_stage.Defining table block) known past c o k t s w = subst (λ (x : Call). MayAsk x past)
     (book_of (calls.Define table) c w) (in_session_of block past.state o, s)
 may_ask_message (message_stage.Looking statement block) known past c o k t s w = subst (λ (x : Call). MayAsk x past)
-    (book_of (calls.Look (length known)) c w) (in_session_of block past.state o, k)
-may_ask_message (message_stage.Beginning plan) known past c o k t s w = subst (λ (x : Call). MayAsk x past) (book_of calls.Begin c w)
+    (book_of (calls.Look (length known.tables)) c w) (in_session_of block past.state o, k)
+may_ask_message (message_stage.Beginning plan) known past c o k t s w = subst (λ (x : Call). MayAsk x past) (book_of (calls.Begin known.level) c w)
     (idle past.state o)
 may_ask_message (message_stage.Running run p) known past c o k t s w =
     subst (λ (x : Call). MayAsk x past) (book_of (call_for (first_demand (rest_of run.plan))) c w)
-    (may_ask_cells (rest_of run.plan) (length known) past (in_transaction past.state o) t k run.asks)
-may_ask_message (message_stage.Starting start) known past c o k t s w = subst (λ (x : Call). MayAsk x past) (book_of calls.Begin c w)
+    (may_ask_cells (rest_of run.plan) (length known.tables) past (in_transaction past.state o) t k run.asks)
+may_ask_message (message_stage.Starting start) known past c o k t s w = subst (λ (x : Call). MayAsk x past) (book_of (calls.Begin known.level) c w)
     (idle past.state o)
 may_ask_message (message_stage.Showing block) known past c o k t s w = subst (λ (x : Call). MayAsk x past) (book_of calls.Show c w)
     (in_session_of block past.state o)
@@ -270,11 +274,11 @@ message_wish calls.Send c h = absurd (cc h)
 message_wish calls.Nothing c h = absurd (cc h)
 
 may_ask_stage : (stage : Stage) (r : Runner) (past : Past) (c : Call) → owed_of past.state ≡ owed_at stage r →
-    length (known_of r) ≤ length past.seen.tables → IsFit r → wants stage r ≡ wishes.Book c → MayAsk c past
+    length (tables_of r) ≤ length past.seen.tables → IsFit r → wants stage r ≡ wishes.Book c → MayAsk c past
 may_ask_stage (stages.Waiting phase) r past c o k f w = absurd (cc w)
 may_ask_stage (stages.Taking phase) r past c o k f w = absurd (cc w)
 may_ask_stage stages.Opening r past c o k f w = subst (λ (x : Call). MayAsk x past) (wish_of calls.Open c w) (none_away past.state o)
-may_ask_stage stages.Running r past c o k f w = may_ask_message r.stage r.known.items past c o k f.knows f.sound.stage
+may_ask_stage stages.Running r past c o k f w = may_ask_message r.stage (knowledge_of r) past c o k f.knows f.sound.stage
     (message_wish (wanted r) c w)
 may_ask_stage stages.Undoing r past c o k f w = subst (λ (x : Call). MayAsk x past) (wish_of calls.Rollback c w)
     (in_transaction past.state o)
@@ -300,8 +304,8 @@ state_owed p (calls.Look k) (answers.Looked ts) t m f h = ap owed_of h
 state_owed p (calls.Look k) (answers.Refused why) t m f h = ap owed_of h
 state_owed p (calls.Define n) (answers.Defined d) t m f h = ap owed_of h
 state_owed p (calls.Define n) (answers.Refused why) t m f h = ap owed_of h
-state_owed p calls.Begin (answers.Begun n) t m f h = ap owed_of h
-state_owed p calls.Begin (answers.Refused why) t m f h = ap owed_of h
+state_owed p (calls.Begin level) (answers.Begun n) t m f h = ap owed_of h
+state_owed p (calls.Begin level) (answers.Refused why) t m f h = ap owed_of h
 state_owed p (calls.Scan n) (answers.Listed ks) t m f h = ap owed_of h
 state_owed p (calls.Scan n) (answers.Refused why) t m f h = ap owed_of h
 state_owed p (calls.Touch cell) (answers.Found v) t m f h = ap owed_of h
@@ -325,36 +329,36 @@ cells_look (demands.Touch cell) known = tt
 cells_look (demands.Write cell value) known = tt
 cells_look (demands.Reply outcome) known = tt
 
-message_look : (stage : MessageStage) (known : List Table) (c : Call) → message_stages.wants stage known ≡ calls.Book c →
-    LooksFrom c (length known)
+message_look : (stage : MessageStage) (known : Knowledge) (c : Call) → message_stages.wants stage known ≡ calls.Book c →
+    LooksFrom c (length known.tables)
 message_look (message_stage.Over state) known c w = absurd (cc w)
-message_look (message_stage.Defining table block) known c w = subst (λ (x : Call). LooksFrom x (length known))
+message_look (message_stage.Defining table block) known c w = subst (λ (x : Call). LooksFrom x (length known.tables))
     (book_of (calls.Define table) c w) tt
-message_look (message_stage.Looking statement block) known c w = subst (λ (x : Call). LooksFrom x (length known))
-    (book_of (calls.Look (length known)) c w) refl
-message_look (message_stage.Beginning plan) known c w = subst (λ (x : Call). LooksFrom x (length known)) (book_of calls.Begin c w) tt
+message_look (message_stage.Looking statement block) known c w = subst (λ (x : Call). LooksFrom x (length known.tables))
+    (book_of (calls.Look (length known.tables)) c w) refl
+message_look (message_stage.Beginning plan) known c w = subst (λ (x : Call). LooksFrom x (length known.tables)) (book_of (calls.Begin known.level) c w) tt
 message_look (message_stage.Running run p) known c w =
-    subst (λ (x : Call). LooksFrom x (length known)) (book_of (call_for (first_demand (rest_of run.plan))) c w)
-    (cells_look (first_demand (rest_of run.plan)) (length known))
-message_look (message_stage.Starting start) known c w = subst (λ (x : Call). LooksFrom x (length known)) (book_of calls.Begin c w) tt
-message_look (message_stage.Showing block) known c w = subst (λ (x : Call). LooksFrom x (length known)) (book_of calls.Show c w) tt
-message_look (message_stage.Committing reply) known c w = subst (λ (x : Call). LooksFrom x (length known)) (book_of calls.Commit c w) tt
-message_look (message_stage.RollingBack reply) known c w = subst (λ (x : Call). LooksFrom x (length known)) (book_of calls.Rollback c w) tt
+    subst (λ (x : Call). LooksFrom x (length known.tables)) (book_of (call_for (first_demand (rest_of run.plan))) c w)
+    (cells_look (first_demand (rest_of run.plan)) (length known.tables))
+message_look (message_stage.Starting start) known c w = subst (λ (x : Call). LooksFrom x (length known.tables)) (book_of (calls.Begin known.level) c w) tt
+message_look (message_stage.Showing block) known c w = subst (λ (x : Call). LooksFrom x (length known.tables)) (book_of calls.Show c w) tt
+message_look (message_stage.Committing reply) known c w = subst (λ (x : Call). LooksFrom x (length known.tables)) (book_of calls.Commit c w) tt
+message_look (message_stage.RollingBack reply) known c w = subst (λ (x : Call). LooksFrom x (length known.tables)) (book_of calls.Rollback c w) tt
 message_look (message_stage.Telling reply block) known c w = absurd (cc w)
-message_look (message_stage.Undoing code p) known c w = subst (λ (x : Call). LooksFrom x (length known)) (book_of calls.Rollback c w) tt
+message_look (message_stage.Undoing code p) known c w = subst (λ (x : Call). LooksFrom x (length known.tables)) (book_of calls.Rollback c w) tt
 message_look (message_stage.Failing code state) known c w = absurd (cc w)
-message_look message_stage.Finishing known c w = subst (λ (x : Call). LooksFrom x (length known)) (book_of calls.Commit c w) tt
+message_look message_stage.Finishing known c w = subst (λ (x : Call). LooksFrom x (length known.tables)) (book_of calls.Commit c w) tt
 message_look (message_stage.Readying state) known c w = absurd (cc w)
 
-stage_look : (stage : Stage) (r : Runner) (c : Call) → wants stage r ≡ wishes.Book c → LooksFrom c (length (known_of r))
+stage_look : (stage : Stage) (r : Runner) (c : Call) → wants stage r ≡ wishes.Book c → LooksFrom c (length (tables_of r))
 stage_look (stages.Waiting phase) r c w = absurd (cc w)
 stage_look (stages.Taking phase) r c w = absurd (cc w)
-stage_look stages.Opening r c w = subst (λ (x : Call). LooksFrom x (length (known_of r))) (wish_of calls.Open c w) tt
-stage_look stages.Running r c w = message_look r.stage r.known.items c (message_wish (wanted r) c w)
-stage_look stages.Undoing r c w = subst (λ (x : Call). LooksFrom x (length (known_of r))) (wish_of calls.Rollback c w) tt
+stage_look stages.Opening r c w = subst (λ (x : Call). LooksFrom x (length (tables_of r))) (wish_of calls.Open c w) tt
+stage_look stages.Running r c w = message_look r.stage (knowledge_of r) c (message_wish (wanted r) c w)
+stage_look stages.Undoing r c w = subst (λ (x : Call). LooksFrom x (length (tables_of r))) (wish_of calls.Rollback c w) tt
 stage_look (stages.Telling reply) r c w = absurd (cc w)
-stage_look (stages.Leaving finish) r c w = subst (λ (x : Call). LooksFrom x (length (known_of r))) (wish_of calls.Rollback c w) tt
-stage_look (stages.Closing finish) r c w = subst (λ (x : Call). LooksFrom x (length (known_of r))) (wish_of calls.Close c w) tt
+stage_look (stages.Leaving finish) r c w = subst (λ (x : Call). LooksFrom x (length (tables_of r))) (wish_of calls.Rollback c w) tt
+stage_look (stages.Closing finish) r c w = subst (λ (x : Call). LooksFrom x (length (tables_of r))) (wish_of calls.Close c w) tt
 stage_look (stages.Parting fatal) r c w = absurd (cc w)
 stage_look (stages.Ended finish) r c w = absurd (cc w)
 
@@ -363,23 +367,24 @@ looked_tables : (p : Past) (c : Call) (tables : List Table) (e : Event) (q : Pas
 looked_tables p (calls.Look n) tables e q known h l = omega (arith, known_all p q n tables h.1, l)
 looked_tables p _ tables e q known h l = absurd h
 
-grown_tables : (known tables after : List Table) (m : ℕ) → length known + length tables ≤ m → (after ≡ known) ⊎ (after ≡ known ++ tables) →
-    length after ≤ m
-grown_tables known tables after m le (inl e) = omega (arith, le, ap length e)
-grown_tables known tables after m le (inr e) = omega (arith, le, ap length e, length-append known tables)
+grown_tables : (known : Knowledge) (tables : List Table) (after : Knowledge) (m : ℕ) → length known.tables + length tables ≤ m →
+    (after ≡ known) ⊎ (after ≡ with_tables known tables) → length after.tables ≤ m
+grown_tables known tables after m le (inl e) = omega (arith, le, ap (λ (k : Knowledge). length k.tables) e)
+grown_tables known tables after m le (inr e) =
+    omega (arith, le, ap (λ (k : Knowledge). length k.tables) e, length-append known.tables tables)
 
-same_tables : (known after : List Table) (m n : ℕ) → length known ≤ m → m ≤ n → after ≡ known → length after ≤ n
-same_tables known after m n le more e = omega (arith, le, more, ap length e)
+same_tables : (known after : Knowledge) (m n : ℕ) → length known.tables ≤ m → m ≤ n → after ≡ known → length after.tables ≤ n
+same_tables known after m n le more e = omega (arith, le, more, ap (λ (k : Knowledge). length k.tables) e)
 
 tables_after : {W : Type 0} (gives : W → ℕ → W → Type 0) (p : Past) (v : W) (c : Call) (a : Answer) (e : Event) (q : Past) (w : W)
-    (known after : List Table) →
+    (known after : Knowledge) →
     Plays gives p v c a e q w →
-    length known ≤ length p.seen.tables → LooksFrom c (length known) → IsKnownAfter known a after → length after ≤ length q.seen.tables
+    length known.tables ≤ length p.seen.tables → LooksFrom c (length known.tables) → IsKnownAfter known a after → length after.tables ≤ length q.seen.tables
 tables_after gives p v c (answers.Looked tables) e q w known after h k l is = grown_tables known tables after (length q.seen.tables)
-    (looked_tables p c tables e q (length known) h.0 l) is
+    (looked_tables p c tables e q (length known.tables) h.0 l) is
 tables_after gives p v c (answers.Refused why) e q w known after h k l is =
     let goes : GoesOn p q = Declines-goes p c why q h.0 in omega
-    (arith, k, ap length is, ap length goes.tables, length-append p.seen.tables goes.more)
+    (arith, k, ap (λ (x : Knowledge). length x.tables) is, ap length goes.tables, length-append p.seen.tables goes.more)
 tables_after gives p v c (answers.Opened n) e q w known after h k l is = same_tables known after (length p.seen.tables)
     (length q.seen.tables) k (Happens-leaves p c (answers.Opened n) e q h.0).tables is
 tables_after gives p v c answers.Closed e q w known after h k l is = same_tables known after (length p.seen.tables) (length q.seen.tables) k
@@ -404,11 +409,11 @@ tables_after gives p v c (answers.Shown n) e q w known after h k l is = same_tab
 pub sits_after : {W : Type 0} (gives : W → ℕ → W → Type 0) (s next : Session) (p : Past) (v : W) (c : Call) (a : Answer) (e : Event)
     (q : Past) (w : W) →
     Sits s p → wants s.stage s.runner ≡ wishes.Book c → MayAsk c p → Fits c a → Plays gives p v c a e q w → StateAfter c a p.state q.state →
-    owed_at next.stage next.runner ≡ owed_after c a (owed_at s.stage s.runner) → IsKnownAfter (known_of s.runner) a (known_of next.runner) →
+    owed_at next.stage next.runner ≡ owed_after c a (owed_at s.stage s.runner) → IsKnownAfter (knowledge_of s.runner) a (knowledge_of next.runner) →
     IsFit next.runner → Sits next q
 sits_after gives s next p v c a e q w sits wants_c may fits plays state owed after_is fit = record {
   owed = state_owed p c a q.state may fits state ∙ ap (owed_after c a) sits.owed ∙ sym owed;
-  known_tables = tables_after gives p v c a e q w (known_of s.runner) (known_of next.runner) plays sits.known_tables
+  known_tables = tables_after gives p v c a e q w (knowledge_of s.runner) (knowledge_of next.runner) plays sits.known_tables
       (stage_look s.stage s.runner c wants_c) after_is;
   fit = fit;
 }

@@ -12,7 +12,7 @@ use Rattle.block_machine.specs.Calls.{Call}
 use Rattle.block_machine.specs.Calls as calls
 use Rattle.block_machine.specs.Script.{Entry, ended, short, unsent, stop, more, has_short}
 use Rattle.block_machine.specs.Stages.{entry_for}
-use Rattle.block_machine.specs.Runners.{level_of, known_of, wanted}
+use Rattle.block_machine.specs.Runners.{tables_of, wanted}
 use Rattle.block_machine.specs.declared.block.Owed.TheVariants as owes
 use Rattle.block_machine.specs.declared.call.Answer.{Answer}
 use Rattle.block_machine.specs.declared.end.End.{End}
@@ -33,7 +33,7 @@ use Rattle.session_core.specs.Told.{told, opened_in}
 use Rattle.session_core.specs.Sessions.{Stands, StandsShort}
 use Rattle.session_core.specs.Record.{StateAfter}
 use Rattle.session_core.specs.Plays.{Plays, owed_of}
-use Rattle.session_core.specs.Stands.{IsFit, Lacks, LacksBy, owed_at, outer_end, IsStopped, outer, end_of, wants, IsHolding, Shows, IsLast}
+use Rattle.session_core.specs.Stands.{IsFit, Lacks, LacksBy, served_of, owed_at, outer_end, IsStopped, outer, end_of, wants, IsHolding, Shows, IsLast}
 use Rattle.session_core.specs.Serve.{IsOfLast, Carries, IsAtEnd, Blames, Ran, Serves, Sits, most_read}
 use Rattle.session_core.proofs.Grows.{IsAsked, Shows-stands}
 use Rattle.session_core.proofs.Lawfuls.{Lawful-plays, Lawful-short, Lawful-quiet, own_events}
@@ -77,14 +77,14 @@ Lacks-taking : (stage : Stage) (r : Runner) (lost : List ℕ) → wants stage r 
 Lacks-taking stage r lost w l = let (phase, is) = stage_taking stage r w in subst (λ (x : Stage). Lacks x lost) is l
 
 shows_more : (s : Session) (level : Level) (taken : List ℕ) (es : List Entry) (asked : List Call) (sent : List ℕ) →
-    level_of s.runner ≡ level → wants s.stage s.runner ≡ wishes.Bytes → Stands s taken es asked sent →
+    served_of s.runner ≡ level → wants s.stage s.runner ≡ wishes.Bytes → Stands s taken es asked sent →
     (talk : Talk) × IsTalk false taken talk × (told level talk es ≡ (record { bytes = sent; calls = asked }, more))
 shows_more s level taken es asked sent served w st =
     let (phase, is) = stage_waiting s.stage s.runner w in
     let not_running : s.stage ≡ stages.Running →
     IsAsked s.runner = λ e. absurd (let clash : stages.Waiting phase ≡ stages.Running = sym is ∙ e in cc clash) in
     subst (λ (l : Level). Shows l wishes.Bytes taken es asked sent) served
-    (subst (λ (x : Want). Shows (level_of s.runner) x taken es asked sent) w
+    (subst (λ (x : Want). Shows (served_of s.runner) x taken es asked sent) w
     (Shows-stands s.stage s.runner s.startup.items s.frames taken es asked sent not_running st.stage))
 
 -- ---- one step more
@@ -100,7 +100,7 @@ pub Ran-answered : {W : Type 0} (gives : W → ℕ → W → Type 0) (level : Le
     (a : Answer) (e : Event) →
     ((taken : List ℕ) (es : List Entry) (asked : List Call) (sent : List ℕ) → Stands s taken es asked sent →
     StandsShort r taken (es ++ entry_for a e ∷ []) (asked ++ c ∷ []) sent) →
-    level_of r.runner ≡ level_of s.runner → outer r.stage ≡ outer s.stage → ((lost : List ℕ) → Lacks s.stage lost → Lacks r.stage lost) →
+    served_of r.runner ≡ served_of s.runner → outer r.stage ≡ outer s.stage → ((lost : List ℕ) → Lacks s.stage lost → Lacks r.stage lost) →
     Plays gives q w c a e q' w' → StateAfter c a q.state q'.state → Ran gives level p v f s q w g many → Ran gives level p v f r q' w' g many
 Ran-answered gives level p v f s r q q' w w' g many c a e grown same outer_is lacks plays state ran =
     let (taken, es, asked, sent, lost, many_is, run) = ran in
@@ -132,7 +132,7 @@ pub Ran-taken : {W : Type 0} (gives : W → ℕ → W → Type 0) (level : Level
     (g : Sight) (many : ℕ) →
     ((taken : List ℕ) (es : List Entry) (asked : List Call) (sent : List ℕ) → Stands s taken es asked sent →
     StandsShort r taken es asked sent) →
-    wants s.stage s.runner ≡ wishes.Message → level_of r.runner ≡ level_of s.runner → outer r.stage ≡ None → Lacks r.stage [] →
+    wants s.stage s.runner ≡ wishes.Message → served_of r.runner ≡ served_of s.runner → outer r.stage ≡ None → Lacks r.stage [] →
     Ran gives level p v f s q w g many → Ran gives level p v f r q w g many
 Ran-taken gives level p v f s r q w g many grown taking same outer_is lacks ran =
     let (taken, es, asked, sent, lost, many_is, run) = ran in
@@ -162,7 +162,7 @@ pub Ran-sent : {W : Type 0} (gives : W → ℕ → W → Type 0) (level : Level)
     (g h : Sight) (many : ℕ) (reply : List ℕ) →
     ((taken : List ℕ) (es : List Entry) (asked : List Call) (sent : List ℕ) → Stands s taken es asked sent →
     StandsShort r taken es asked (sent ++ reply)) →
-    IsHolding s.stage s.runner → level_of r.runner ≡ level_of s.runner → outer r.stage ≡ outer s.stage → Lacks r.stage [] →
+    IsHolding s.stage s.runner → served_of r.runner ≡ served_of s.runner → outer r.stage ≡ outer s.stage → Lacks r.stage [] →
     Both (Wrote reply) g.traffic h.traffic → h.read_faults ≡ g.read_faults → g.write_faults ≤ h.write_faults →
     Ran gives level p v f s q w g many → Ran gives level p v f r q w h many
 Ran-sent gives level p v f s r q w g h many reply grown holds same outer_is lacks wrote same_reads more_writes ran =
@@ -197,7 +197,7 @@ pub Ran-unsent : {W : Type 0} (gives : W → ℕ → W → Type 0) (level : Leve
     (reply part lost : List ℕ) →
     ((taken : List ℕ) (es : List Entry) (asked : List Call) (sent : List ℕ) → Stands s taken es asked sent →
     Stands r taken (es ++ unsent (length sent) ∷ []) asked (sent ++ reply)) →
-    IsHolding s.stage s.runner → level_of r.runner ≡ level_of s.runner → outer r.stage ≡ Some ends.WriteFault →
+    IsHolding s.stage s.runner → served_of r.runner ≡ served_of s.runner → outer r.stage ≡ Some ends.WriteFault →
     ((l : List ℕ) → Lacks r.stage l) →
     reply ≡ part ++ lost → Both (Wrote part) g.traffic h.traffic → h.read_faults ≡ g.read_faults → Rose g.write_faults h.write_faults →
     g.write_faults ≤ h.write_faults →
@@ -269,7 +269,7 @@ Ran-stopped gives level p v f s r q w g h many cause grown bytes same outer_is l
       omega (arith, many_is),
       record {
         stands = grown taken es asked sent run.stands;
-        served_level = ap level_of same ∙ run.served_level;
+        served_level = ap served_of same ∙ run.served_level;
         lawful = Lawful-quiet gives p v asked es q w (stop cause) tt run.lawful;
         carries = Both-then f.traffic g.traffic h.traffic
             (λ x y z k l. subst (λ (o : List ℕ). Carries level o (es ++ stop cause ∷ []) sent [] x z) (append-nil taken)
@@ -303,7 +303,7 @@ Ran-halted gives level p v f s r q w g h many cause grown bytes same outer_is la
       omega (arith, many_is),
       record {
         stands = grown taken es asked sent run.stands;
-        served_level = ap level_of same ∙ run.served_level;
+        served_level = ap served_of same ∙ run.served_level;
         lawful = Lawful-quiet gives p v asked es q w (stop cause) tt run.lawful;
         carries = subst (λ (o : Option Traffic). Both (Carries level taken (es ++ stop cause ∷ []) sent []) f.traffic o) (sym told_same)
             (Both-weaker f.traffic g.traffic (λ x y k.
@@ -339,7 +339,7 @@ Ran-fed gives level p v f s r q w g h many piece n grown bytes same outer_is lac
       omega (arith, many_is, size, length-append taken piece),
       record {
         stands = stands;
-        served_level = ap level_of same ∙ run.served_level;
+        served_level = ap served_of same ∙ run.served_level;
         lawful = Lawful-short gives p v asked es q w sent added is_short run.lawful;
         carries = Both-then f.traffic g.traffic h.traffic
             (λ x y z k l. Carries-took level taken piece es added asked sent x y z talk is shows
@@ -381,7 +381,7 @@ Serves-ran gives level p v f s number end wanting q w g many within over opened 
     IsAsked s.runner = λ e. absurd (let clash : stages.Ended finish ≡ stages.Running = sym is ∙ e in cc clash) in
     let shows : Shows level (wishes.Ended end) taken es asked sent =
     subst (λ (l : Level). Shows l (wishes.Ended end) taken es asked sent) run.served_level
-    (subst (λ (x : Want). Shows (level_of s.runner) x taken es asked sent) over
+    (subst (λ (x : Want). Shows (served_of s.runner) x taken es asked sent) over
     (Shows-stands s.stage s.runner s.startup.items s.frames taken es asked sent not_running run.stands.stage)) in (
       shows.0,
       taken,
@@ -417,7 +417,7 @@ carries_nothing level es (Some t) = record {
 
 -- at the start
 pub Ran-new : {W : Type 0} (gives : W → ℕ → W → Type 0) (level : Level) (p : Past) (v : W) (f : Sight) (s : Session) →
-    Stands s [] [] [] [] → level_of s.runner ≡ level → s.stage ≡ stages.Waiting phases.Startup → Ran gives level p v f s p v f 0
+    Stands s [] [] [] [] → served_of s.runner ≡ level → s.stage ≡ stages.Waiting phases.Startup → Ran gives level p v f s p v f 0
 Ran-new gives level p v f s st served is = (
   [],
   [],
@@ -457,7 +457,7 @@ is_over stages.Running r h l = absurd l
 is_over _ r h l = absurd h
 
 -- a session at its beginning sits by a book that has none
-pub sits_new : (s : Session) (p : Past) → s.stage ≡ stages.Waiting phases.Startup → known_of s.runner ≡ [] → IsFit s.runner →
+pub sits_new : (s : Session) (p : Past) → s.stage ≡ stages.Waiting phases.Startup → tables_of s.runner ≡ [] → IsFit s.runner →
     p.state ≡ no_session → Sits s p
 sits_new s p is none fit state = record {
   owed = ap owed_of state ∙ sym (ap (λ (x : Stage). owed_at x s.runner) is);
@@ -467,7 +467,7 @@ sits_new s p is none fit state = record {
 
 -- where no call was made the book sits as before
 pub sits_same : (s next : Session) (p : Past) → Sits s p → owed_at next.stage next.runner ≡ owed_at s.stage s.runner →
-    known_of next.runner ≡ known_of s.runner → IsFit next.runner → Sits next p
+    tables_of next.runner ≡ tables_of s.runner → IsFit next.runner → Sits next p
 sits_same s next p sits owed same fit = record {
   owed = sits.owed ∙ sym owed;
   known_tables = omega (arith, sits.known_tables, ap length same);
@@ -477,7 +477,7 @@ sits_same s next p sits owed same fit = record {
 -- the same, where the runner was left alone
 pub sits_kept : (s next : Session) (p : Past) → Sits s p → owed_at next.stage next.runner ≡ owed_at s.stage s.runner →
     next.runner ≡ s.runner → Sits next p
-sits_kept s next p sits owed same = sits_same s next p sits owed (ap known_of same) (subst IsFit (sym same) sits.fit)
+sits_kept s next p sits owed same = sits_same s next p sits owed (ap tables_of same) (subst IsFit (sym same) sits.fit)
 
 is_away : (state : SessionState) → owed_of state ≡ owes.Nothing → state ≡ no_session
 is_away no_session h = refl

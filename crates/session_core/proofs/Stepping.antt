@@ -1,8 +1,6 @@
 -- The steps of a session over the bytes that it holds.
 use Rattle.std.proofs.Common.{◌≡◌, ◌≢◌, ◌⊎◌, inl, inr, Bool, true, ℕ, List, [], ◌∷◌, ◌++◌, length, refl, sym, ◌∙◌, ap, subst, append_assoc, Option, Some, None}
 use Rattle.std.proofs.lemmas.List.{append-nil}
-use Rattle.cell_base.specs.declared.level.Level.{Level}
-use Rattle.sql_tree.specs.declared.table.Table.{Table}
 use Rattle.client_framing.specs.declared.frontend_message.FrontendMessage.{FrontendMessage}
 use Rattle.client_framing.specs.declared.frontend_message.FrameFault.{FrameFault}
 use Rattle.client_framing.specs.declared.frontend_message.FrameFault.TheVariants as frame_faults
@@ -10,7 +8,8 @@ use Rattle.client_framing.specs.Spelling.{phase_after}
 use Rattle.client_framing.specs.Fronts.{Held, TakesFront, IsPartial, HasFault}
 use Rattle.block_machine.specs.Script.{Entry, Script, Said, short, lost, unless_short}
 use Rattle.block_machine.specs.Stages.{IsFrom}
-use Rattle.block_machine.specs.Runners.{level_of, known_of}
+use Rattle.block_machine.specs.Knowledge.{Knowledge}
+use Rattle.block_machine.specs.Runners.{knowledge_of}
 use Rattle.block_machine.specs.declared.end.End.TheVariants as ends
 use Rattle.block_machine.specs.declared.runner.Runner.{Runner}
 use Rattle.session_core.specs.declared.phase.Phase.{Phase}
@@ -25,26 +24,26 @@ use Rattle.session_core.specs.Steps.{LeadsTo, Enters, Skips, Meets, Steps}
 use Rattle.session_core.proofs.Passes.{busy-last, least-busy, unless_short-passes, unless_short-over, unless_short-takes, unless_short-twice, IsFed-last}
 
 -- a want of memory where a message or bytes are wanted
-pub session-short : (level : Level) (phase : Phase) (known : List Table) (talk : Talk) (said : Said) (es : List Entry) →
-    session level phase known talk said (short true (length said.bytes) ∷ es) ≡ ending (owed_by phase) ends.Memory said es
-session-short level phase known (asks a talk) said es =
-    unless_short-takes true (ending (owed_by phase) ends.Memory) (handled level a phase known (λ p k. session level p k talk)) said es
-session-short level phase known (partial r) said es =
+pub session-short : (phase : Phase) (known : Knowledge) (talk : Talk) (said : Said) (es : List Entry) →
+    session phase known talk said (short true (length said.bytes) ∷ es) ≡ ending (owed_by phase) ends.Memory said es
+session-short phase known (asks a talk) said es =
+    unless_short-takes true (ending (owed_by phase) ends.Memory) (handled a phase known (λ p k. session p k talk)) said es
+session-short phase known (partial r) said es =
     unless_short-takes true (ending (owed_by phase) ends.Memory) (waiting phase (length r)) said es
-session-short level phase known (faulty f) said es =
+session-short phase known (faulty f) said es =
     unless_short-takes true (ending (owed_by phase) ends.Memory) (ending (owed_by phase) (ends.Protocol f)) said es
-session-short level phase known unread said es = unless_short-takes true (ending (owed_by phase) ends.Memory) lost said es
+session-short phase known unread said es = unless_short-takes true (ending (owed_by phase) ends.Memory) lost said es
 
 -- what stands before a message that is passed over may stand behind it
-session-again : (level : Level) (phase : Phase) (known : List Table) (talk : Talk) (said : Said) (es : List Entry) →
-    unless_short true (ending (owed_by phase) ends.Memory) (session level phase known talk) said es ≡ session level phase known talk said es
-session-again level phase known (asks a talk) said es =
-    unless_short-twice true (ending (owed_by phase) ends.Memory) (handled level a phase known (λ p k. session level p k talk)) said es
-session-again level phase known (partial r) said es =
+session-again : (phase : Phase) (known : Knowledge) (talk : Talk) (said : Said) (es : List Entry) →
+    unless_short true (ending (owed_by phase) ends.Memory) (session phase known talk) said es ≡ session phase known talk said es
+session-again phase known (asks a talk) said es =
+    unless_short-twice true (ending (owed_by phase) ends.Memory) (handled a phase known (λ p k. session p k talk)) said es
+session-again phase known (partial r) said es =
     unless_short-twice true (ending (owed_by phase) ends.Memory) (waiting phase (length r)) said es
-session-again level phase known (faulty f) said es =
+session-again phase known (faulty f) said es =
     unless_short-twice true (ending (owed_by phase) ends.Memory) (ending (owed_by phase) (ends.Protocol f)) said es
-session-again level phase known unread said es = unless_short-twice true (ending (owed_by phase) ends.Memory) lost said es
+session-again phase known unread said es = unless_short-twice true (ending (owed_by phase) ends.Memory) lost said es
 
 pub Steps-partial : (phase : Phase) (r : Runner) (before after : Held) → after ≡ before → IsPartial before.started before.rest →
     Steps phase r before (stages.Waiting phase) r None after
@@ -82,7 +81,7 @@ Steps-entered phase r before after front stage next wanting takes started enters
   );
   goes = λ startup talk said es from.
       unless_short-over wanting (ending (owed_by phase) ends.Memory)
-      (handled (level_of r) enters.asked phase (known_of r) (on r talk)) said es enters.passing
+      (handled enters.asked phase (knowledge_of r) (on talk)) said es enters.passing
       (at_one stage (length said.bytes) es enters.busy from)
       ∙ enters.goes startup talk said es (at_one stage (length said.bytes) es enters.busy from);
   waits = λ other is. absurd (subst IsBusy is enters.busy);
@@ -102,8 +101,8 @@ Steps-skipped phase r before after front takes started skips = record {
   );
   goes = λ startup talk said es from.
       ap (λ (x : Script). unless_short true (ending (owed_by phase) ends.Memory) x said es)
-      (skips.goes (level_of r) (known_of r) (on r talk))
-      ∙ session-again (level_of r) phase (known_of r) talk said es;
+      (skips.goes (knowledge_of r) (on talk))
+      ∙ session-again phase (knowledge_of r) talk said es;
   waits = λ other is. absurd (cc is);
 }
 
@@ -141,7 +140,7 @@ pub Steps-memory : (phase : Phase) (r : Runner) (before after : Held) (stage : S
 Steps-memory phase r before after stage is leads = record {
   turns = λ talk. talk;
   heard = λ bytes talk fed h. subst (λ (x : Held). IsTalk x.started (x.rest ++ bytes) talk) is h;
-  goes = λ startup talk said es from. session-short (level_of r) phase (known_of r) talk said es ∙ leads.1 r startup talk said es;
+  goes = λ startup talk said es from. session-short phase (knowledge_of r) talk said es ∙ leads.1 r startup talk said es;
   waits = λ other e. absurd (subst IsBusy e (busy-last stage leads.0));
 }
 

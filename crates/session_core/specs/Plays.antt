@@ -3,7 +3,8 @@ use Rattle.std.specs.Prelude.{◌≡◌, ℕ, ◌≤◌, length}
 use Rattle.sound_table.specs.Sound.{IsSound}
 use Rattle.history_core.specs.declared.event.Event.{Event}
 use Rattle.history_core.specs.Events.{table_of}
-use Rattle.history_core.specs.Book.{SessionState, no_session, in_session, pending, Past, HasSession, IsIdle, IsInTransaction, IsStorable, HasTable}
+use Rattle.history_core.specs.Initial.{IsStorable}
+use Rattle.history_core.specs.Book.{SessionState, no_session, in_session, pending, Past, HasSession, IsIdle, IsInTransaction, HasTable}
 use Rattle.block_machine.specs.Calls.{Call}
 use Rattle.block_machine.specs.Calls as calls
 use Rattle.block_machine.specs.Script.{did, refused}
@@ -19,7 +20,7 @@ MayAsk calls.Open past = past.state ≡ no_session
 MayAsk calls.Close past = IsIdle past.state
 MayAsk (calls.Look known) past = HasSession past.state × (known ≤ length past.seen.tables)
 MayAsk (calls.Define table) past = HasSession past.state × IsSound table
-MayAsk calls.Begin past = IsIdle past.state
+MayAsk (calls.Begin level) past = IsIdle past.state
 MayAsk (calls.Scan table) past = IsInTransaction past.state × HasTable past table
 MayAsk (calls.Touch cell) past = IsInTransaction past.state × HasTable past (table_of cell)
 MayAsk (calls.Write cell value) past = IsInTransaction past.state × IsStorable value × HasTable past (table_of cell)

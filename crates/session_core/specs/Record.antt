@@ -20,10 +20,10 @@ use Rattle.block_machine.specs.Script.{Entry, did, refused, short, unsent, stop}
 
 -- the limit that keeps a call out
 abbrev pub limit_for : Past → Call → Option Limit
-limit_for past calls.Open = full_for past.seen.events (Open 0)
-limit_for past (calls.Define table) = full_for past.seen.events (Define 0 table.name)
-limit_for past calls.Begin = full_for past.seen.events (Begin 0)
-limit_for past _ = full_load past.seen.events
+limit_for past calls.Open = full_for past.seen.initial past.seen.events (Open 0)
+limit_for past (calls.Define table) = full_for past.seen.initial past.seen.events (Define 0 table.name)
+limit_for past (calls.Begin level) = full_for past.seen.initial past.seen.events (Begin 0 level)
+limit_for past _ = full_load past.seen.initial past.seen.events
 
 abbrev pub may_be_refused : Call → Type 0
 may_be_refused calls.Close = ⊥
@@ -65,7 +65,7 @@ Happens old (calls.Define table) (answers.Defined (defines.Defined n)) e new = (
     AnswersDefine old table (defines.Defined n) new
 Happens old (calls.Define table) (answers.Defined (defines.Taken n)) e new = (e ≡ Look (session_of old.state) n) ×
     AnswersDefine old table (defines.Taken n) new
-Happens old calls.Begin (answers.Begun n) e new = (e ≡ Begin (session_of old.state)) × Adds old e new × (n ≡ begun new.seen.events)
+Happens old (calls.Begin level) (answers.Begun n) e new = (e ≡ Begin (session_of old.state) level) × Adds old e new × (n ≡ begun new.seen.events)
 Happens old (calls.Scan table) (answers.Listed keys) e new = (e ≡ Scan (session_of old.state) table keys) × Adds old e new
 Happens old (calls.Touch cell) (answers.Found value) e new = (ReadsBack old cell value e ⊎ ReadsFrom old cell value e) × Adds old e new
 Happens old (calls.Write cell value) answers.Written e new = (e ≡ Write (session_of old.state) cell value) × Adds old e new
@@ -91,7 +91,7 @@ Draws gives old before _ entry after = after ≡ before
 abbrev pub StateAfter : Call → Answer → SessionState → SessionState → Type 0
 StateAfter calls.Open (answers.Opened s) old new = new ≡ in_session s
 StateAfter calls.Close answers.Closed old new = new ≡ no_session
-StateAfter calls.Begin (answers.Begun n) old new = new ≡ pending (session_of old) []
+StateAfter (calls.Begin level) (answers.Begun n) old new = new ≡ pending (session_of old) []
 StateAfter (calls.Write cell value) answers.Written old new = new ≡ pending (session_of old) (writes_of old ++ (cell, value) ∷ [])
 StateAfter calls.Commit answers.Committed old new = new ≡ in_session (session_of old)
 StateAfter calls.Rollback answers.RolledBack old new = new ≡ in_session (session_of old)

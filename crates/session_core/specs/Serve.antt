@@ -14,7 +14,7 @@ use Rattle.session_core.specs.Talk.{Talk, IsTalk}
 use Rattle.session_core.specs.Told.{told, opened_in}
 use Rattle.session_core.specs.Record.{Lawful, events_of}
 use Rattle.session_core.specs.Plays.{owed_of}
-use Rattle.session_core.specs.Stands.{IsFit, Lacks, LacksBy, outer, outer_end, owed_at}
+use Rattle.session_core.specs.Stands.{served_of, IsFit, Lacks, LacksBy, outer, outer_end, owed_at}
 use Rattle.session_core.specs.Sessions.{Stands}
 
 -- the greatest number of bytes that are read from a link
@@ -24,7 +24,7 @@ most_read = 1073741824
 -- The book is where the session's stage has it, and has defined the tables that the session knows.
 pub record Sits (s : Session) (past : Past) : Type 0 where
   pub owed : owed_of past.state ≡ owed_at s.stage s.runner
-  pub known_tables : length (runners.known_of s.runner) ≤ length past.seen.tables
+  pub known_tables : length (runners.tables_of s.runner) ≤ length past.seen.tables
   pub fit : IsFit s.runner
 
 -- A mark, counted from where the link was: what had been sent before the read is told of what had been taken and of a prefix of the
@@ -78,7 +78,7 @@ pub record Runs {W : Type 0} (gives : W → ℕ → W → Type 0) (level : Level
     (s : Session) (q : Past) (w : W) (g : Sight)
     (taken : List ℕ) (es : List Entry) (asked : List Call) (sent lost : List ℕ) : Type 0 where
   pub stands : Stands s taken es asked sent
-  pub served_level : runners.level_of s.runner ≡ level
+  pub served_level : served_of s.runner ≡ level
   pub lawful : Lawful gives p v asked es q w
   pub carries : Both (Carries level taken es sent lost) f.traffic g.traffic
   pub lacks : Lacks s.stage lost

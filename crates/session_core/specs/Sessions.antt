@@ -1,10 +1,8 @@
 -- When the state of a session stands for the bytes that it was fed, the record of what it was answered, the calls that it asked, and
 -- the bytes taken from it.
 use Rattle.std.specs.Prelude.{◌≡◌, ℕ, ◌+◌, ◌*◌, List, ◌++◌, length}
-use Rattle.cell_base.specs.declared.level.Level.{Level}
 use Rattle.block_machine.specs.Calls.{Call}
 use Rattle.block_machine.specs.Script.{Entry, has_short}
-use Rattle.block_machine.specs.Runners as runners
 use Rattle.session_core.specs.declared.session.Session.{Session}
 use Rattle.session_core.specs.Told.{opened_in}
 use Rattle.session_core.specs.Wants.{Want}
@@ -20,9 +18,6 @@ pub record Stands (s : Session) (taken : List ℕ) (es : List Entry) (asked : Li
 -- the state stands for these lists, with a want of memory added where the call met one
 abbrev pub StandsShort : Session → List ℕ → List Entry → List Call → List ℕ → Type 0
 StandsShort s taken es asked sent = (added : List Entry) × IsShort sent added × Stands s taken (es ++ added) asked sent
-
-abbrev pub level_of : Session → Level
-level_of s = runners.level_of s.runner
 
 abbrev pub wanted : Session → Want
 wanted s = stands.wants s.stage s.runner

@@ -4,14 +4,14 @@ use Rattle.std.specs.Prelude.{◌≡◌, ℕ, ◌+◌, ◌<◌, All, List, [], �
 use Rattle.cell_base.specs.declared.level.Level.{Level}
 use Rattle.cell_base.specs.declared.sql_state.SqlState.TheVariants as states
 use Rattle.pg_framing.specs.declared.replies.TransactionState.TheVariants as block_states
-use Rattle.sql_tree.specs.declared.table.Table.{Table}
 use Rattle.sound_table.specs.Sound.{IsSound}
 use Rattle.client_framing.specs.Fronts.{Held, IsPartial}
 use Rattle.block_machine.specs.Calls.{Call}
 use Rattle.block_machine.specs.Calls as calls
+use Rattle.block_machine.specs.Knowledge.{Knowledge}
 use Rattle.block_machine.specs.Script.{Entry, unsent, Script, more, call, ended, tell}
 use Rattle.block_machine.specs.Stages.{IsFrom, Fits}
-use Rattle.block_machine.specs.Runners.{follows, behind, wanted, held, work_of, left_of, running_of, owes, level_of, known_of, Holds, Knows, IsSoundRunner, is_under_way}
+use Rattle.block_machine.specs.Runners.{follows, behind, wanted, held, work_of, left_of, running_of, owes, knowledge_of, tables_of, Holds, Knows, IsSoundRunner, is_under_way}
 use Rattle.block_machine.specs.declared.block.Owed.{Owed}
 use Rattle.block_machine.specs.declared.block.Owed.TheVariants as owed_kinds
 use Rattle.block_machine.specs.declared.call.Answer.{Answer}
@@ -54,19 +54,23 @@ end_of finishes.WriteFault = ends.WriteFault
 end_of finishes.Memory = ends.Memory
 end_of (finishes.Fatal fatal) = fatal_end fatal
 
--- the messages from here on, by the phase and the tables known
-abbrev pub on : Runner → Talk → Phase → List Table → Script
-on r talk phase known = session (level_of r) phase known talk
+-- the level of the server
+abbrev pub served_of : Runner → Level
+served_of r = (knowledge_of r).served
+
+-- the messages from here on, by the phase and what the session knows
+abbrev pub on : Talk → Phase → Knowledge → Script
+on talk phase known = session phase known talk
 
 -- What a stage goes on with, given what its runner goes on with, the startup reply that was built, and what the client says from here on.
 abbrev pub goes_on : Stage → Runner → List ℕ → Talk → Script
-goes_on (stages.Waiting phase) r startup talk = on r talk phase (known_of r)
-goes_on (stages.Taking phase) r startup talk = on r talk phase (known_of r)
-goes_on stages.Opening r startup talk = opens (on r talk (phases.Normal block_states.Idle) (known_of r))
-goes_on stages.Running r startup talk = follows r (outside_of (level_of r) (on r talk))
-goes_on stages.Undoing r startup talk = refuses (level_of r) block_states.Block (known_of r) (on r talk)
+goes_on (stages.Waiting phase) r startup talk = on talk phase (knowledge_of r)
+goes_on (stages.Taking phase) r startup talk = on talk phase (knowledge_of r)
+goes_on stages.Opening r startup talk = opens (on talk (phases.Normal block_states.Idle) (knowledge_of r))
+goes_on stages.Running r startup talk = follows r (outside_of (on talk))
+goes_on stages.Undoing r startup talk = refuses block_states.Block (knowledge_of r) (on talk)
 goes_on (stages.Telling reply) r startup talk = tell (bytes_of startup reply) (broken (owed_by (phase_behind reply)))
-    (on r talk (phase_behind reply) (known_of r))
+    (on talk (phase_behind reply) (knowledge_of r))
 goes_on (stages.Leaving finish) r startup talk = ending owed_kinds.Rollback (end_of finish)
 goes_on (stages.Closing finish) r startup talk = closing (end_of finish)
 goes_on (stages.Parting fatal) r startup talk = tell (fatal_reply (fatal_state fatal)) (broken owed_kinds.Nothing) (done (fatal_end fatal))
@@ -126,8 +130,8 @@ reply_of _ r startup = []
 
 -- what follows a reply that was sent
 abbrev pub after_reply : Stage → Runner → Talk → Script
-after_reply stages.Running r talk = behind r (outside_of (level_of r) (on r talk))
-after_reply (stages.Telling reply) r talk = on r talk (phase_behind reply) (known_of r)
+after_reply stages.Running r talk = behind r (outside_of (on talk))
+after_reply (stages.Telling reply) r talk = on talk (phase_behind reply) (knowledge_of r)
 after_reply (stages.Parting fatal) r talk = done (fatal_end fatal)
 after_reply _ r talk = broken owed_kinds.Nothing
 
@@ -200,7 +204,7 @@ NoBuilt _ = Unit {0}
 pub record IsFit (r : Runner) : Type 0 where
   pub knows : Knows r
   pub sound : IsSoundRunner r
-  pub tables : All IsSound (known_of r)
+  pub tables : All IsSound (tables_of r)
 
 -- nothing more is fed once the session is about to end
 abbrev pub IsFed : Stage → List ℕ → Type 0
@@ -262,7 +266,7 @@ pub record StandsFor (stage : Stage) (r : Runner) (startup : List ℕ) (held : H
   pub heard : (bytes : List ℕ) (talk : Talk) → IsFed stage bytes → IsTalk held.started (held.rest ++ bytes) talk →
       IsTalk false (taken ++ bytes) (whole talk)
   pub goes : (talk : Talk) (es : List Entry) → IsFrom (least stage) (length sent) es →
-      told (level_of r) (whole talk) (entries ++ es) ≡ goes_on stage r startup talk (record { bytes = sent; calls = asked }) es
+      told (served_of r) (whole talk) (entries ++ es) ≡ goes_on stage r startup talk (record { bytes = sent; calls = asked }) es
   pub waits : (phase : Phase) → stage ≡ stages.Waiting phase → IsPartial held.started held.rest
   pub some : HasReply stage r startup
 

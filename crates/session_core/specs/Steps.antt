@@ -1,16 +1,15 @@
 -- What a step of a session from one stage to the next comes to.
 use Rattle.std.specs.Prelude.{◌≡◌, ℕ, ◌<◌, ◌⊎◌, List, [], ◌∷◌, ◌++◌, length, Option, Some, None, Bool, true, false}
-use Rattle.cell_base.specs.declared.level.Level.{Level}
 use Rattle.history_core.specs.declared.event.Event.{Event}
-use Rattle.sql_tree.specs.declared.table.Table.{Table}
 use Rattle.client_framing.specs.declared.frontend_message.FrontendMessage.{FrontendMessage}
 use Rattle.client_framing.specs.declared.frontend_message.FrontendMessage.TheVariants.{Ssl, Gss, Cancel, Startup, Version, Query, FunctionCall}
 use Rattle.cell_base.specs.Texts.{HasNoZero}
 use Rattle.client_framing.specs.Fronts.{Held, TakesFront, IsPartial}
 use Rattle.block_machine.specs.Calls.{Call}
 use Rattle.block_machine.specs.Script.{Entry, did, refused, short, unsent, stop, Said, Script, with_call}
-use Rattle.block_machine.specs.Stages.{IsFrom, entry_for}
-use Rattle.block_machine.specs.Runners.{level_of, known_of}
+use Rattle.block_machine.specs.Knowledge.{Knowledge}
+use Rattle.block_machine.specs.Stages.{IsFrom, IsSameButLevel, entry_for}
+use Rattle.block_machine.specs.Runners.{knowledge_of}
 use Rattle.block_machine.specs.declared.block.Owed.{Owed}
 use Rattle.block_machine.specs.declared.call.Answer.{Answer}
 use Rattle.block_machine.specs.declared.call.Answer.TheVariants as answers
@@ -90,21 +89,20 @@ pub record Enters (front : FrontendMessage) (phase : Phase) (r : Runner) (stage 
   pub busy : IsBusy stage
   pub passing : IsPassing wanting
   pub goes : (startup : List ℕ) (talk : Talk) (said : Said) (es : List Entry) → IsFrom 1 (length said.bytes) es →
-      handled (level_of r) asked phase (known_of r) (on r talk) said (with_wanting wanting said.bytes es) ≡
+      handled asked phase (knowledge_of r) (on talk) said (with_wanting wanting said.bytes es) ≡
       goes_on stage next startup talk said es
 
 -- A message of a client tells nothing and changes nothing.
 pub record Skips (front : FrontendMessage) (phase : Phase) : Type 0 where
   pub asked : Ask
   pub says : Says front asked
-  pub goes : (level : Level) (known : List Table) (rest : Phase → List Table → Script) →
-      handled level asked phase known rest ≡ rest phase known
+  pub goes : (known : Knowledge) (rest : Phase → Knowledge → Script) →
+      handled asked phase known rest ≡ rest phase known
 
--- What a message leads to, given what was owed: the end isn't there yet, and the tables are as they were.
+-- What a message leads to, given what was owed: the end isn't there yet, and no more of what is known has changed than the level.
 pub record Leads (owed : Owed) (r : Runner) (stage : Stage) (next : Runner) : Type 0 where
   pub owed_is : owed_at stage next ≡ owed
-  pub level_is : level_of next ≡ level_of r
-  pub known_is : known_of next ≡ known_of r
+  pub known : IsSameButLevel (knowledge_of r) (knowledge_of next)
   pub fit : IsFit next
   pub under : IsUnder stage next
   pub inner : outer stage ≡ None
@@ -124,7 +122,7 @@ pub record Steps (phase : Phase) (r : Runner) (before : Held) (stage : Stage) (n
   pub heard : (bytes : List ℕ) (talk : Talk) → IsFed stage bytes → IsTalk after.started (after.rest ++ bytes) talk →
       IsTalk before.started (before.rest ++ bytes) (turns talk)
   pub goes : (startup : List ℕ) (talk : Talk) (said : Said) (es : List Entry) → IsFrom (least stage) (length said.bytes) es →
-      on r (turns talk) phase (known_of r) said (with_wanting wanting said.bytes es) ≡ goes_on stage next startup talk said es
+      on (turns talk) phase (knowledge_of r) said (with_wanting wanting said.bytes es) ≡ goes_on stage next startup talk said es
   pub waits : (other : Phase) → stage ≡ stages.Waiting other → IsPartial after.started after.rest
 
 -- A piece that comes in where bytes are wanted is held, or memory for it is wanting and the session ends.

@@ -8,8 +8,8 @@ use Rattle.history_core.specs.declared.fault.BookFault.{BookFault}
 use Rattle.history_core.specs.declared.fault.BookFault.TheVariants as faults
 use Rattle.pg_framing.specs.declared.replies.TransactionState.{TransactionState}
 use Rattle.pg_framing.specs.declared.replies.TransactionState.TheVariants as block_states
-use Rattle.sql_tree.specs.declared.table.Table.{Table}
 use Rattle.block_machine.specs.Calls as calls
+use Rattle.block_machine.specs.Knowledge.{Knowledge, at_start}
 use Rattle.block_machine.specs.Script.{Entry, did, refused, short, unsent, stop, Said, Next, more, ended, astray, Script, lost, ask, on_opened, tell, unless_short}
 use Rattle.block_machine.specs.Statements.{fails}
 use Rattle.block_machine.specs.Messages.{Outside, owed_between, readied, block_at, message}
@@ -95,8 +95,8 @@ tells_startup session rest = unless_short true (closing ends.Memory) (tell (star
 abbrev pub opens : Script → Script
 opens rest = ask calls.Open (λ a. on_opened a (λ session. tells_startup session rest) (λ why. closed (refusal_end why)))
 
--- rest is what follows, by the phase and the tables known
-abbrev pub starting : Ask → List Table → (Phase → List Table → Script) → Script
+-- rest is what follows, by the phase and what is then known
+abbrev pub starting : Ask → Knowledge → (Phase → Knowledge → Script) → Script
 starting encryption known rest = tell no_encryption (broken owes.Nothing) (rest phases.Startup known)
 starting cancel known rest = closed ends.Cancelled
 starting start known rest = opens (rest (phases.Normal block_states.Idle) known)
@@ -107,40 +107,39 @@ starting _ known rest = lost
 -- ---- messages after the startup
 
 -- what stands around a message
-abbrev pub outside_of : Level → (Phase → List Table → Script) → Outside
-outside_of level rest = record { level = level; next = λ state known. rest (phases.Normal state) known; broken = broken }
+abbrev pub outside_of : (Phase → Knowledge → Script) → Outside
+outside_of rest = record { next = λ state known. rest (phases.Normal state) known; broken = broken }
 
 -- A message of the extended query fails without the reply that the next one may come: what follows it is discarded.
-abbrev pub refuses : Level → TransactionState → List Table → (Phase → List Table → Script) → Script
-refuses level state known rest =
+abbrev pub refuses : TransactionState → Knowledge → (Phase → Knowledge → Script) → Script
+refuses state known rest =
     fails states.S0A000 (block_at state) known (record {
-      level = level;
       succeeded = λ block k. lost;
       failed = λ after k. rest (phases.Discarding after) k;
       broken = broken;
     })
 
-abbrev pub serving : Level → Ask → TransactionState → List Table → (Phase → List Table → Script) → Script
-serving level (query asked) state known rest = message asked state known (outside_of level rest)
-serving level unread_query state known rest = unless_short false
-    (message (messages.Unread states.S53200) state known (outside_of level rest)) lost
-serving level terminate state known rest = ending (owed_between state) ends.Terminated
-serving level sync state known rest = readied state known (outside_of level rest)
-serving level nothing state known rest = rest (phases.Normal state) known
-serving level extended state known rest = refuses level state known rest
-serving level function state known rest = message (messages.Unread states.S0A000) state known (outside_of level rest)
-serving level _ state known rest = lost
+abbrev pub serving : Ask → TransactionState → Knowledge → (Phase → Knowledge → Script) → Script
+serving (query asked) state known rest = message asked state known (outside_of rest)
+serving unread_query state known rest = unless_short false
+    (message (messages.Unread states.S53200) state known (outside_of rest)) lost
+serving terminate state known rest = ending (owed_between state) ends.Terminated
+serving sync state known rest = readied state known (outside_of rest)
+serving nothing state known rest = rest (phases.Normal state) known
+serving extended state known rest = refuses state known rest
+serving function state known rest = message (messages.Unread states.S0A000) state known (outside_of rest)
+serving _ state known rest = lost
 
 -- A Sync ends the discarding.
-abbrev pub discarding : Level → Ask → TransactionState → List Table → (Phase → List Table → Script) → Script
-discarding level terminate state known rest = ending (owed_between state) ends.Terminated
-discarding level sync state known rest = readied state known (outside_of level rest)
-discarding level _ state known rest = rest (phases.Discarding state) known
+abbrev pub discarding : Ask → TransactionState → Knowledge → (Phase → Knowledge → Script) → Script
+discarding terminate state known rest = ending (owed_between state) ends.Terminated
+discarding sync state known rest = readied state known (outside_of rest)
+discarding _ state known rest = rest (phases.Discarding state) known
 
-abbrev pub handled : Level → Ask → Phase → List Table → (Phase → List Table → Script) → Script
-handled level asked phases.Startup known rest = starting asked known rest
-handled level asked (phases.Normal state) known rest = serving level asked state known rest
-handled level asked (phases.Discarding state) known rest = discarding level asked state known rest
+abbrev pub handled : Ask → Phase → Knowledge → (Phase → Knowledge → Script) → Script
+handled asked phases.Startup known rest = starting asked known rest
+handled asked (phases.Normal state) known rest = serving asked state known rest
+handled asked (phases.Discarding state) known rest = discarding asked state known rest
 
 -- ---- the whole stream
 
@@ -162,13 +161,14 @@ waiting phase held said (unsent n ∷ entries) = (said, astray)
 abbrev pub unless_memory_ends : Phase → Script → Script
 unless_memory_ends phase rest = unless_short true (ending (owed_by phase) ends.Memory) rest
 
--- the messages one after another, given the phase and the tables known
-abbrev pub session : Level → Phase → List Table → Talk → Script
-session level phase known (asks asked talk) = unless_memory_ends phase (handled level asked phase known (λ p k. session level p k talk))
-session level phase known (partial rest) = unless_memory_ends phase (waiting phase (length rest))
-session level phase known (faulty fault) = unless_memory_ends phase (ending (owed_by phase) (ends.Protocol fault))
-session level phase known unread = unless_memory_ends phase lost
+-- the messages one after another, given the phase and what the session knows
+abbrev pub session : Phase → Knowledge → Talk → Script
+session phase known (asks asked talk) = unless_memory_ends phase (handled asked phase known (λ p k. session p k talk))
+session phase known (partial rest) = unless_memory_ends phase (waiting phase (length rest))
+session phase known (faulty fault) = unless_memory_ends phase (ending (owed_by phase) (ends.Protocol fault))
+session phase known unread = unless_memory_ends phase lost
 
--- what a session is told of all that its client says and of its whole record, the calls that it asked, and what comes next
+-- what a session of a server at this level is told of all that its client says and of its whole record, the calls that it asked, and what
+-- comes next
 unfoldable pub told : Level → Talk → List Entry → Said × Next
-told level talk entries = session level phases.Startup [] talk (record { bytes = []; calls = [] }) entries
+told level talk entries = session phases.Startup (at_start level) talk (record { bytes = []; calls = [] }) entries

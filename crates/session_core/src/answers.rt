@@ -1,12 +1,12 @@
 // What stands behind the answers that a session gets, and behind the replies that it has sent.
 ghost use Rattle.std.specs.Prelude.{◌≡◌, ℕ, ◌+◌, ◌<◌, List, [], Bool, true, None, Option};
 ghost use Rattle.block_machine.specs.Calls.{Call as Asked};
-ghost use Rattle.block_machine.specs.Stages.{IsKnownAfter, owed_after, wants_memory};
-ghost use Rattle.block_machine.specs.Runners.{Runs, level_of, known_of};
+ghost use Rattle.block_machine.specs.Stages.{IsKnownAfter, IsSameButLevel, owed_after, wants_memory};
+ghost use Rattle.block_machine.specs.Runners.{Runs, knowledge_of};
 ghost use Rattle.block_machine.specs.declared.runner.Runner.{Runner as Machine};
 ghost use Rattle.session_core.specs.Told.{opened_after};
 ghost use Rattle.session_core.specs.Wants as wishes;
-ghost use Rattle.session_core.specs.Stands.{FitsWant, HasReply, InPhase, IsAwake, IsFit, IsHolding, IsLast, IsUnder, Lacks, NoBuilt, left_at, message_at, message_work, outer, own_want, owed_at, statement_at, wants, work_at};
+ghost use Rattle.session_core.specs.Stands.{FitsWant, HasReply, InPhase, IsAwake, IsFit, IsHolding, IsLast, IsUnder, Lacks, left_at, message_at, message_work, outer, own_want, owed_at, statement_at, wants, work_at};
 ghost use Rattle.session_core.specs.Steps.{Advances, Sends};
 
 use crate::messages::passing;
@@ -29,8 +29,7 @@ fn run_on(runner: &mut Runner) -> Step
     ensures lacks { Lacks result.stage [] }
     ensures work { work_at result.stage < work_at Stage.Running + message_at result.stage }
     ensures message { message_work result.stage runner.new < message_work Stage.Running runner.old }
-    ensures level { level_of runner.new ≡ level_of runner.old }
-    ensures known { known_of runner.new ≡ known_of runner.old }
+    ensures known { IsSameButLevel (knowledge_of runner.old) (knowledge_of runner.new) }
     ensures fit { IsFit runner.new }
     ensures under { IsUnder result.stage runner.new }
     ensures awake { IsAwake result.stage }
@@ -60,8 +59,7 @@ pub fn after_sent(stage: Stage, runner: &mut Runner) -> Step
     ensures lacks { Lacks result.stage [] }
     ensures work { work_at result.stage < work_at stage + message_at result.stage }
     ensures message { stage ≡ Stage.Running → message_work result.stage runner.new < message_work stage runner.old }
-    ensures level { level_of runner.new ≡ level_of runner.old }
-    ensures known { known_of runner.new ≡ known_of runner.old }
+    ensures known { IsSameButLevel (knowledge_of runner.old) (knowledge_of runner.new) }
     ensures fit { IsFit runner.new }
     ensures under { IsUnder result.stage runner.new }
     ensures awake { IsAwake result.stage }
@@ -124,7 +122,7 @@ fn answer_own(alloc: Global, stage: Stage, answer: Answer, startup: &mut Vec<u8>
     ensures work { work_at result.stage < work_at stage }
     ensures phase { (started : Bool) → InPhase stage started → InPhase result.stage started }
     ensures under { (r : Machine) → IsUnder result.stage r }
-    ensures known { (r : Machine) → IsKnownAfter (known_of r) answer (known_of r) }
+    ensures known { (r : Machine) → IsKnownAfter (knowledge_of r) answer (knowledge_of r) }
     ensures some { (r : Machine) → HasReply result.stage r startup.new.items }
 {
     match (stage, answer) {
@@ -144,8 +142,7 @@ fn answer_message(runner: &mut Runner, answer: Answer) -> Step
     ensures message { message_work Stage.Running runner.new <
         message_work Stage.Running runner.old + statement_at Stage.Running runner.new }
     ensures left { Runs runner.old → left_at Stage.Running runner.new < left_at Stage.Running runner.old }
-    ensures level { level_of runner.new ≡ level_of runner.old }
-    ensures known { IsKnownAfter (known_of runner.old) answer (known_of runner.new) }
+    ensures known { IsKnownAfter (knowledge_of runner.old) answer (knowledge_of runner.new) }
     ensures fit { IsFit runner.new }
     ensures under { IsUnder Stage.Running runner.new }
     ensures some { (startup : List ℕ) → HasReply Stage.Running runner.new startup }
@@ -176,8 +173,7 @@ pub fn answered(
     ensures message { stage ≡ Stage.Running →
         message_work result.stage runner.new < message_work stage runner.old + statement_at result.stage runner.new }
     ensures left { stage ≡ Stage.Running → Runs runner.old → left_at result.stage runner.new < left_at stage runner.old }
-    ensures level { level_of runner.new ≡ level_of runner.old }
-    ensures known { IsKnownAfter (known_of runner.old) answer (known_of runner.new) }
+    ensures known { IsKnownAfter (knowledge_of runner.old) answer (knowledge_of runner.new) }
     ensures fit { IsFit runner.new }
     ensures under { IsUnder result.stage runner.new }
     ensures phase { (started : Bool) → InPhase stage started → InPhase result.stage started }

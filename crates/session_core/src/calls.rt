@@ -56,7 +56,7 @@ pub fn call<B: Book, W: Words>(book: &mut B, words: &W, c: Call) -> Answer
             Ok(tables) => Answer::Looked(tables),
             Err(why) => Answer::Refused(why),
         },
-        Call::Begin => match book.begin() {
+        Call::Begin(level) => match book.begin(level) {
             Ok(number) => Answer::Begun(number),
             Err(why) => Answer::Refused(why),
         },

@@ -1,11 +1,11 @@
 // The stages that messages lead to.
-ghost use Rattle.std.specs.Prelude.{◌≡◌, ◌≢◌, ℕ, ◌+◌, ◌*◌, ◌<◌, ◌≤◌, ◌^◌, List, [], length, Bool, true, false, None, Some};
+ghost use Rattle.std.specs.Prelude.{◌≡◌, ◌≢◌, ℕ, ◌+◌, ◌*◌, ◌<◌, ◌≤◌, ◌^◌, List, length, Bool, true, false, None, Some};
 ghost use Rattle.cell_base.specs.Texts.{HasNoZero};
 ghost use Rattle.client_framing.specs.Spelling.{phase_after};
 ghost use Rattle.block_machine.specs.Messages as blocks;
 ghost use Rattle.block_machine.specs.Script.{Said, Entry};
 ghost use Rattle.block_machine.specs.Stages.{IsFrom, IsSoundMessage};
-ghost use Rattle.block_machine.specs.Runners.{level_of, known_of};
+ghost use Rattle.block_machine.specs.Runners.{knowledge_of};
 ghost use Rattle.block_machine.specs.declared.runner.Runner.{Runner as Machine};
 ghost use Rattle.session_core.specs.Talk.{Talk};
 ghost use Rattle.session_core.specs.Told as told_spec;
@@ -41,7 +41,7 @@ fn run(message: Message, state: TransactionState, runner: &mut Runner) -> Step
     requires sound { IsSoundMessage message }
     requires fit { IsFit runner.old }
     ensures goes { (startup : List ℕ) (talk : Talk) (said : Said) (es : List Entry) → IsFrom 1 (length said.bytes) es →
-        blocks.message message state (known_of runner.old) (outside_of (level_of runner.old) (on runner.old talk)) said
+        blocks.message message state (knowledge_of runner.old) (outside_of (on talk)) said
         (with_wanting result.wanting said.bytes es) ≡ goes_on Stage.Running runner.new startup talk said es }
     ensures stage { result.stage ≡ Stage.Running }
     ensures passing { IsPassing result.wanting }
@@ -58,7 +58,7 @@ fn run(message: Message, state: TransactionState, runner: &mut Runner) -> Step
 fn fail(code: SqlState, state: TransactionState, runner: &mut Runner)
     requires fit { IsFit runner.old }
     ensures goes { (startup : List ℕ) (talk : Talk) (said : Said) (es : List Entry) →
-        blocks.message (Message.Unread code) state (known_of runner.old) (outside_of (level_of runner.old) (on runner.old talk)) said es ≡
+        blocks.message (Message.Unread code) state (knowledge_of runner.old) (outside_of (on talk)) said es ≡
         goes_on Stage.Running runner.new startup talk said es }
     ensures leads { Leads (blocks.owed_between state) runner.old Stage.Running runner.new }
 {

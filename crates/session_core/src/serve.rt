@@ -4,15 +4,16 @@ ghost use Rattle.history_core.specs.Chronicle.{IsLegalChronicle};
 ghost use Rattle.history_core.specs.Book.{Past, no_session};
 ghost use Rattle.link_traits.specs.Traffic.{Sight, sight_of};
 ghost use Rattle.block_machine.specs.Calls.{Call as Asked};
+ghost use Rattle.block_machine.specs.Knowledge.{at_start};
 ghost use Rattle.block_machine.specs.Script.{Entry, has_short};
-ghost use Rattle.block_machine.specs.Runners.{level_of, known_of};
+ghost use Rattle.block_machine.specs.Runners.{knowledge_of, tables_of};
 ghost use Rattle.session_core.specs.declared.phase.Phase.TheVariants as phases;
 ghost use Rattle.session_core.specs.declared.stage.Stage.TheVariants as stages;
 ghost use Rattle.session_core.specs.Wants as wishes;
 ghost use Rattle.session_core.specs.Wants.{IsOver};
 ghost use Rattle.session_core.specs.Talk.{Talk};
 ghost use Rattle.session_core.specs.Told.{opened_in};
-ghost use Rattle.session_core.specs.Stands.{IsFit, IsLast};
+ghost use Rattle.session_core.specs.Stands.{IsFit, IsLast, served_of};
 ghost use Rattle.session_core.specs.Sessions.{Stands, wanted};
 ghost use Rattle.session_core.specs.Serve.{Sits, Ran, Serves};
 
@@ -115,8 +116,8 @@ struct Start {
 fn begin(alloc: Global, level: Level) -> Result<Start, Memory>
     ensures empty { IfOk result (λ s. Stands s.session [] [] [] []) }
     ensures stage { IfOk result (λ s. s.session.stage ≡ stages.Waiting phases.Startup) }
-    ensures level { IfOk result (λ s. level_of s.session.runner ≡ level) }
-    ensures known { IfOk result (λ s. known_of s.session.runner ≡ []) }
+    ensures level { IfOk result (λ s. served_of s.session.runner ≡ level) }
+    ensures known { IfOk result (λ s. knowledge_of s.session.runner ≡ at_start level) }
     ensures fit { IfOk result (λ s. IsFit s.session.runner) }
     ensures room { IfOk result (λ s. 0 < length s.room.items) }
 {
@@ -137,12 +138,12 @@ fn run<B: Book, L: Link, W: Words>(
 ) -> Served
     requires empty { Stands session.old [] [] [] [] }
     requires stage { session.old.stage ≡ stages.Waiting phases.Startup }
-    requires known { known_of session.old.runner ≡ [] }
+    requires known { tables_of session.old.runner ≡ [] }
     requires fit { IsFit session.old.runner }
     requires room { 0 < length room.old }
     requires no_session { (B.past book.old).state ≡ no_session }
     ensures served { (talk : Talk) × (taken : List ℕ) × (es : List Entry) × (asked : List Asked) × (sent : List ℕ) × (lost : List ℕ) ×
-        Serves W.gives (level_of session.old.runner) (B.past book.old) words.old (sight_of L.traffic L.read_faults L.write_faults link.old)
+        Serves W.gives (served_of session.old.runner) (B.past book.old) words.old (sight_of L.traffic L.read_faults L.write_faults link.old)
         result.session result.end result.short
         (B.past book.new) words.new (sight_of L.traffic L.read_faults L.write_faults link.new) talk taken es asked sent lost }
     ensures no_session { (B.past book.new).state ≡ no_session }

@@ -1,20 +1,21 @@
 // One session as a machine: bytes and answers come in, calls and replies go out. It keeps neither the bytes that it was fed
 // nor what it was answered, but for the tables that it was shown and what its running message needs.
-ghost use Rattle.std.specs.Prelude.{◌≡◌, ℕ, ◌+◌, ◌*◌, ◌<◌, List, [], ◌∷◌, ◌++◌, length, IfOk, ◌||◌, Some, None, Bool, true, false, IsTrue, ◌↔◌};
+ghost use Rattle.std.specs.Prelude.{◌≡◌, ℕ, ◌+◌, ◌<◌, List, [], ◌∷◌, ◌++◌, length, IfOk, ◌||◌, Some, None, true, false, IsTrue, ◌↔◌};
 ghost use Rattle.sql_tree.specs.declared.table.Table.{Table as Defined};
 ghost use Rattle.sound_table.specs.Sound.{IsSound};
 ghost use Rattle.history_core.specs.declared.event.Event.{Event};
 ghost use Rattle.block_machine.specs.Calls.{Call as Asked, asks_cells, call_for};
 ghost use Rattle.block_machine.specs.Calls as calls;
+ghost use Rattle.block_machine.specs.Knowledge.{at_start};
 ghost use Rattle.block_machine.specs.Script.{Entry, Said, call as asking, unsent, stop as stopped, has_short};
 ghost use Rattle.block_machine.specs.Messages.{Outside};
-ghost use Rattle.block_machine.specs.Stages.{IsKnownAfter, entry_for, owed_after};
-ghost use Rattle.block_machine.specs.Runners.{Runs, follows, level_of, known_of};
+ghost use Rattle.block_machine.specs.Stages.{IsKnownAfter, IsSameButLevel, entry_for, owed_after};
+ghost use Rattle.block_machine.specs.Runners.{Runs, follows, knowledge_of};
 ghost use Rattle.block_machine.specs.declared.runner.Runner.{Runner as Machine};
 ghost use Rattle.session_core.specs.Wants as wishes;
 ghost use Rattle.session_core.specs.Wants.{IsWant};
 ghost use Rattle.session_core.specs.Told.{opened_in};
-ghost use Rattle.session_core.specs.Stands.{FitsWant, InPhase, IsFit, IsHolding, IsLast, IsStopped, IsUnder, Lacks, Shows, Tells, left_at, message_at, message_work, outer, owed_at, reply_of, statement_at, wants, work_at};
+ghost use Rattle.session_core.specs.Stands.{FitsWant, InPhase, IsFit, IsHolding, IsLast, IsStopped, IsUnder, Lacks, Shows, Tells, left_at, message_at, message_work, outer, owed_at, reply_of, served_of, statement_at, wants};
 
 use crate::answers::{after_sent, answered, is_want, number_after, owed_holding};
 use crate::messages::{feed_piece, take_message};
@@ -101,8 +102,8 @@ impl Session {
     pub fn new(alloc: Global, level: Level) -> Result<Session, Memory>
         ensures empty { IfOk result (λ s. Stands s [] [] [] []) }
         ensures stage { IfOk result (λ s. s.stage ≡ Stage.Waiting Phase.Startup) }
-        ensures level { IfOk result (λ s. level_of s.runner ≡ level) }
-        ensures known { IfOk result (λ s. known_of s.runner ≡ []) }
+        ensures level { IfOk result (λ s. served_of s.runner ≡ level) }
+        ensures known { IfOk result (λ s. knowledge_of s.runner ≡ at_start level) }
         ensures fit { IfOk result (λ s. IsFit s.runner) }
     {
         Ok(Session {
@@ -125,7 +126,7 @@ impl Session {
         ensures calm { (result ≡ Want.Cells → ⊥) → statement_at self.now.stage self.now.runner ≡ 0 }
         // Where bytes or a call are wanted, or the end is there, what was sent and what is wanted is told of all that came in.
         ensures told { (taken : List ℕ) (entries : List Entry) (asked : List Asked) (sent : List ℕ) →
-            Stands self.now taken entries asked sent → Shows (level_of self.now.runner) (wanted self.now) taken entries asked sent }
+            Stands self.now taken entries asked sent → Shows (served_of self.now.runner) (wanted self.now) taken entries asked sent }
     {
         match self.stage {
             Stage::Waiting(_) => Want::Bytes,
@@ -175,7 +176,7 @@ impl Session {
         // It is told next of all that came in.
         ensures told { (taken : List ℕ) (entries : List Entry) (asked : List Asked) (sent : List ℕ) →
             Stands self.now taken entries asked sent →
-            Tells (level_of self.now.runner) (owed_at self.now.stage self.now.runner) result.now taken entries asked sent }
+            Tells (served_of self.now.runner) (owed_at self.now.stage self.now.runner) result.now taken entries asked sent }
     {
         match self.stage {
             Stage::Running => self.runner.reply(),
@@ -230,8 +231,7 @@ impl Session {
         ensures outer { outer self.new.stage ≡ None }
         ensures lacks { Lacks self.new.stage [] }
         ensures work { work_of self.new < work_of self.old }
-        ensures level { level_of self.new.runner ≡ level_of self.old.runner }
-        ensures known { known_of self.new.runner ≡ known_of self.old.runner }
+        ensures known { IsSameButLevel (knowledge_of self.old.runner) (knowledge_of self.new.runner) }
         ensures fit { IsFit self.new.runner }
     {
         let phase = phase_taking(self.stage);
@@ -257,8 +257,7 @@ impl Session {
             message_work self.old.stage self.old.runner + statement_at self.new.stage self.new.runner }
         ensures left { self.old.stage ≡ Stage.Running → Runs self.old.runner →
             left_at self.new.stage self.new.runner < left_at self.old.stage self.old.runner }
-        ensures level { level_of self.new.runner ≡ level_of self.old.runner }
-        ensures known { IsKnownAfter (known_of self.old.runner) answer (known_of self.new.runner) }
+        ensures known { IsKnownAfter (knowledge_of self.old.runner) answer (knowledge_of self.new.runner) }
         ensures fit { IsFit self.new.runner }
         ensures last { IsLast self.old.stage → IsLast self.new.stage }
     {
@@ -289,8 +288,7 @@ impl Session {
         ensures work { work_of self.new < work_of self.old + message_at self.new.stage }
         ensures message { self.old.stage ≡ Stage.Running →
             message_work self.new.stage self.new.runner < message_work self.old.stage self.old.runner }
-        ensures level { level_of self.new.runner ≡ level_of self.old.runner }
-        ensures known { known_of self.new.runner ≡ known_of self.old.runner }
+        ensures known { IsSameButLevel (knowledge_of self.old.runner) (knowledge_of self.new.runner) }
         ensures fit { IsFit self.new.runner }
         ensures last { IsLast self.old.stage → IsLast self.new.stage }
     {

@@ -4,7 +4,7 @@ ghost use Rattle.block_machine.specs.Calls.{Call as Asked};
 ghost use Rattle.block_machine.specs.Messages as blocks;
 ghost use Rattle.block_machine.specs.Script.{Said, Entry};
 ghost use Rattle.block_machine.specs.Stages.{owed_after};
-ghost use Rattle.block_machine.specs.Runners.{level_of, known_of};
+ghost use Rattle.block_machine.specs.Runners.{knowledge_of};
 ghost use Rattle.block_machine.specs.declared.runner.Runner.{Runner};
 ghost use Rattle.session_core.specs.Replies as replies_spec;
 ghost use Rattle.session_core.specs.Wants as wishes;
@@ -149,7 +149,7 @@ pub fn finish_of(cause: Stop, nothing: bool) -> Finish
 /// The stage of a message of the extended query outside of discarding.
 pub fn refuse(state: TransactionState) -> Stage
     ensures goes { (r : Runner) (startup : List ℕ) (talk : Talk) (said : Said) (es : List Entry) →
-        refuses (level_of r) state (known_of r) (on r talk) said es ≡ goes_on result r startup talk said es }
+        refuses state (knowledge_of r) (on talk) said es ≡ goes_on result r startup talk said es }
     ensures owed { (r : Runner) → owed_at result r ≡ blocks.owed_between state }
     ensures outer { outer result ≡ None }
     ensures work { work_at result ≤ 7 }

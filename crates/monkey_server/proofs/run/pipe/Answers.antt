@@ -22,12 +22,12 @@ returns-in-Err-Memory-clause-pipes g c = inr (inr record {
 
 pub returns-clause-pipes : goal.returns-clause-pipes
 returns-clause-pipes g c = inl record {
-  given = sight_of g.H.Link.Sides.traffic g.H.Link.Sides.read_faults g.H.Link.Sides.write_faults c.in-Ok.link;
+  given = sight_of g.H.Link.Sides.traffic g.H.Link.Sides.read_faults g.H.Link.Sides.write_faults c.in-Ok-standard_link.link;
   returned = sight_of g.H.Link.Sides.traffic g.H.Link.Sides.read_faults g.H.Link.Sides.write_faults c.serve_alone-served.new.link;
   end = c.serve_alone-served.result.end;
   wanting = c.serve_alone-served.result.short;
-  told = c.in-Ok.ensures.told;
-  calls = c.link_back.ensures.calls ∙ c.in-Ok.ensures.ok;
+  told = c.in-Ok-standard_link.ensures.told;
+  calls = c.link_back.ensures.calls ∙ c.in-Ok-standard_link.ensures.ok;
   back = c.link_back.ensures.back
       ∙ ap (λ (links : List Sight). links ++ sight_of g.H.Link.Sides.traffic g.H.Link.Sides.read_faults g.H.Link.Sides.write_faults c.serve_alone-served.new.link ∷ [])
       c.standard_link.ensures.back;

@@ -6,7 +6,6 @@ use Rattle.session_core.proofs.answers.answer_message.Goals as goal
 pub returns-clause-goes : goal.returns-clause-goes
 returns-clause-goes c = λ startup.
     advances_running c.args.runner.now c.answer-wanting.new.self c.args.answer c.answer-wanting.result c.passing.result startup
-    c.answer-wanting.ensures.level
     c.passing.ensures.calm c.passing.ensures.short c.answer-wanting.ensures.goes
 
 pub returns-clause-owed : goal.returns-clause-owed

@@ -1,5 +1,5 @@
 -- What is left to show of `answered`.
-use Rattle.std.proofs.Common.{refl, sym, subst, arith}
+use Rattle.std.proofs.Common.{sym, subst, arith}
 use Rattle.session_core.specs.declared.stage.Stage.{Stage}
 use Rattle.session_core.specs.Stands.{HasReply}
 use Rattle.session_core.specs.Steps.{Advances}
@@ -27,7 +27,6 @@ returns-in_default c =
       work = omega (arith, own.work);
       message = λ running. absurd (c.in_default.not-Running running);
       left = λ running. absurd (c.in_default.not-Running running);
-      level = refl;
       known = own.known c.args.runner.now;
       fit = c.requires.fit;
       under = own.under c.args.runner.now;

@@ -1,5 +1,5 @@
 use Rattle.std.proofs.Common.{refl, ap, Err}
-use Rattle.block_machine.specs.Calls.{Call, call_for}
+use Rattle.block_machine.specs.Calls.{call_for}
 use Rattle.block_machine.specs.Calls as calls
 use Rattle.session_core.proofs.Playing.{declined}
 use Rattle.session_core.proofs.calls.ask.Goals as goal

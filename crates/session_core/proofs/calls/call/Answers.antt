@@ -34,13 +34,14 @@ returns-in-Err-look-clause-plays g c = declined g.W.Words.gives (g.B.Book.past c
 
 pub returns-in-Ok-begin-clause-plays : goal.returns-in-Ok-begin-clause-plays
 returns-in-Ok-begin-clause-plays g c = played g.W.Words.gives (g.B.Book.past c.args.book.now) c.args.words.now (call_of c.args.c)
-    calls.Begin (answers.Begun c.in-Ok-begin.number) (Begin (session_of (g.B.Book.past c.args.book.now).state))
+    (calls.Begin c.in-Begin.level) (answers.Begun c.in-Ok-begin.number)
+    (Begin (session_of (g.B.Book.past c.args.book.now).state) c.in-Begin.level)
     (g.B.Book.past c.begin.new.self) c.args.words.now (ap call_of c.in-Begin.is)
     ((refl, c.in-Ok-begin.ensures.ok, c.in-Ok-begin.ensures.number), refl)
 
 pub returns-in-Err-begin-clause-plays : goal.returns-in-Err-begin-clause-plays
 returns-in-Err-begin-clause-plays g c = declined g.W.Words.gives (g.B.Book.past c.args.book.now) c.args.words.now (call_of c.args.c)
-    calls.Begin c.in-Err-begin.why (g.B.Book.past c.begin.new.self) c.args.words.now (ap call_of c.in-Begin.is) tt
+    (calls.Begin c.in-Begin.level) c.in-Err-begin.why (g.B.Book.past c.begin.new.self) c.args.words.now (ap call_of c.in-Begin.is) tt
     c.in-Err-begin.ensures.err (λ limit is. c.in-Err-begin.ensures.full limit (ap Err is)) (λ limit is. tt) refl
 
 pub returns-in-Commit-clause-plays : goal.returns-in-Commit-clause-plays

@@ -1,4 +1,6 @@
 use Rattle.block_machine.specs.Calls as defines
+use Rattle.block_machine.specs.Runners.{knowledge_of}
+use Rattle.session_core.proofs.Knowing.{served_answered}
 use Rattle.session_core.proofs.Playing.{may_ask, sits_after}
 use Rattle.session_core.proofs.Serving.{Ran-answered}
 use Rattle.session_core.proofs.drive.answer_define.Goals as goal
@@ -9,7 +11,8 @@ returns-clause-ran g c = λ level p v f seen many ran.
     let (e, plays) = c.define-answer.ensures.plays in
     Ran-answered g.W.Words.gives level p v f c.args.session.now c.answer.new.self (g.B.Book.past c.args.book.now)
     (g.B.Book.past c.define-answer.new.book) c.args.words.now c.args.words.now seen many asked c.define-answer.result e
-    (λ taken es calls sent st. c.answer.ensures.grown taken es calls sent asked e st c.table.ensures.table) c.answer.ensures.level
+    (λ taken es calls sent st. c.answer.ensures.grown taken es calls sent asked e st c.table.ensures.table)
+    (served_answered (knowledge_of c.args.session.now.runner) c.define-answer.result (knowledge_of c.answer.new.self.runner) c.answer.ensures.known)
     c.answer.ensures.outer c.answer.ensures.lacks plays c.define-answer.ensures.state ran
 
 pub returns-clause-sits : goal.returns-clause-sits

@@ -1,11 +1,14 @@
+use Rattle.block_machine.specs.Runners.{knowledge_of}
+use Rattle.session_core.proofs.Knowing.{served_kept, tables_kept}
 use Rattle.session_core.proofs.Serving.{Ran-taken, sits_same}
 use Rattle.session_core.proofs.drive.take.Goals as goal
 
 pub returns-clause-ran : goal.returns-clause-ran
 returns-clause-ran g c = λ level p v f seen many ran.
     Ran-taken g.W.Words.gives level p v f c.args.session.now c.take.new.self (g.B.Book.past c.args.book.now) c.args.words.now seen many
-    c.take.ensures.grown c.requires.wanted c.take.ensures.level c.take.ensures.outer c.take.ensures.lacks ran
+    c.take.ensures.grown c.requires.wanted (served_kept (knowledge_of c.args.session.now.runner) (knowledge_of c.take.new.self.runner) c.take.ensures.known)
+    c.take.ensures.outer c.take.ensures.lacks ran
 
 pub returns-clause-sits : goal.returns-clause-sits
 returns-clause-sits g c = sits_same c.args.session.now c.take.new.self (g.B.Book.past c.args.book.now) c.requires.sits c.take.ensures.owed
-    c.take.ensures.known c.take.ensures.fit
+    (tables_kept (knowledge_of c.args.session.now.runner) (knowledge_of c.take.new.self.runner) c.take.ensures.known) c.take.ensures.fit

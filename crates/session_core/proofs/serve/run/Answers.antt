@@ -1,7 +1,7 @@
 use Rattle.std.proofs.Common.{rules, ◌+◌, ℕ, arith, refl, sym, subst}
 use Rattle.link_traits.specs.Traffic.{Sight, sight_of}
-use Rattle.block_machine.specs.Runners.{level_of}
 use Rattle.session_core.specs.Wants.{IsOver}
+use Rattle.session_core.specs.Stands.{served_of}
 use Rattle.session_core.proofs.Serving.{Ran-new, Serves-ran, is_over, away_over, sits_new}
 use Rattle.session_core.proofs.serve.run.Goals as goal
 
@@ -10,7 +10,7 @@ loop-session-init g c = record {
   ran = (
     0,
     omega arith,
-    Ran-new g.W.Words.gives (level_of c.args.session.now.runner) (g.B.Book.past c.args.book.now) c.args.words.now
+    Ran-new g.W.Words.gives (served_of c.args.session.now.runner) (g.B.Book.past c.args.book.now) c.args.words.now
         (sight_of g.L.Sides.traffic g.L.Sides.read_faults g.L.Sides.write_faults c.args.link.now) c.args.session.now c.requires.empty refl
         c.requires.stage,
   );
@@ -23,11 +23,11 @@ loop-session-init g c = record {
 pub returns-in-Ended-clause-served : goal.returns-in-Ended-clause-served
 returns-in-Ended-clause-served g c =
     let f : Sight = sight_of g.L.Sides.traffic g.L.Sides.read_faults g.L.Sides.write_faults c.args.link.now in
-    Serves-ran g.W.Words.gives (level_of c.args.session.now.runner) (g.B.Book.past c.args.book.now) c.args.words.now f c.drive.new.session
+    Serves-ran g.W.Words.gives (served_of c.args.session.now.runner) (g.B.Book.past c.args.book.now) c.args.words.now f c.drive.new.session
     c.finish.result.session c.finish.result.end c.finish.result.short (g.B.Book.past c.drive.new.book) c.drive.new.words
     (sight_of g.L.Sides.traffic g.L.Sides.read_faults g.L.Sides.write_faults c.drive.new.link) c.loop-session.invariant.ran.0
     (omega (arith, c.loop-session.invariant.ran.1)) c.finish.ensures.end c.finish.ensures.opened c.finish.ensures.short
-    (c.drive.ensures.ran (level_of c.args.session.now.runner) (g.B.Book.past c.args.book.now) c.args.words.now f
+    (c.drive.ensures.ran (served_of c.args.session.now.runner) (g.B.Book.past c.args.book.now) c.args.words.now f
     c.loop-session.invariant.ran.0 c.loop-session.invariant.ran.2)
 
 pub returns-in-Ended-clause-no_session : goal.returns-in-Ended-clause-no_session
@@ -46,16 +46,16 @@ returns-then-n-eq0 g c =
     let many : ℕ = c.loop-session.invariant.ran.0 in
     record {
       served =
-          Serves-ran g.W.Words.gives (level_of c.args.session.now.runner) (g.B.Book.past c.args.book.now) c.args.words.now f
+          Serves-ran g.W.Words.gives (served_of c.args.session.now.runner) (g.B.Book.past c.args.book.now) c.args.words.now f
           c.drive-then-n-eq0.new.session c.finish-then-n-eq0.result.session c.finish-then-n-eq0.result.end c.finish-then-n-eq0.result.short
           (g.B.Book.past c.drive-then-n-eq0.new.book) c.drive-then-n-eq0.new.words
           (sight_of g.L.Sides.traffic g.L.Sides.read_faults g.L.Sides.write_faults c.drive-then-n-eq0.new.link) (many + c.take_in-n.result)
           (omega (arith, c.loop-session.invariant.ran.1, c.take_in-n.ensures.within)) c.finish-then-n-eq0.ensures.end
           c.finish-then-n-eq0.ensures.opened c.finish-then-n-eq0.ensures.short
-          (c.drive-then-n-eq0.ensures.ran (level_of c.args.session.now.runner) (g.B.Book.past c.args.book.now) c.args.words.now f
+          (c.drive-then-n-eq0.ensures.ran (served_of c.args.session.now.runner) (g.B.Book.past c.args.book.now) c.args.words.now f
           (many + c.take_in-n.result)
-          (c.take_in-n.ensures.ran (level_of c.args.session.now.runner) (g.B.Book.past c.args.book.now) c.args.words.now f many
-          c.loop-session.invariant.ran.1 (c.drive.ensures.ran (level_of c.args.session.now.runner) (g.B.Book.past c.args.book.now)
+          (c.take_in-n.ensures.ran (served_of c.args.session.now.runner) (g.B.Book.past c.args.book.now) c.args.words.now f many
+          c.loop-session.invariant.ran.1 (c.drive.ensures.ran (served_of c.args.session.now.runner) (g.B.Book.past c.args.book.now)
           c.args.words.now f many c.loop-session.invariant.ran.2)));
       no_session = away_over c.drive-then-n-eq0.new.session (g.B.Book.past c.drive-then-n-eq0.new.book)
           (is_over c.drive-then-n-eq0.new.session.stage c.drive-then-n-eq0.new.session.runner c.drive-then-n-eq0.ensures.rests
@@ -73,8 +73,8 @@ loop-session-preserved g c =
       ran = (
         many + c.take_in-n.result,
         omega (arith, c.loop-session.invariant.ran.1, c.take_in-n.ensures.within),
-        c.take_in-n.ensures.ran (level_of c.args.session.now.runner) (g.B.Book.past c.args.book.now) c.args.words.now f many
-            c.loop-session.invariant.ran.1 (c.drive.ensures.ran (level_of c.args.session.now.runner) (g.B.Book.past c.args.book.now)
+        c.take_in-n.ensures.ran (served_of c.args.session.now.runner) (g.B.Book.past c.args.book.now) c.args.words.now f many
+            c.loop-session.invariant.ran.1 (c.drive.ensures.ran (served_of c.args.session.now.runner) (g.B.Book.past c.args.book.now)
             c.args.words.now f many c.loop-session.invariant.ran.2),
       );
       sits = c.take_in-n.ensures.sits;

@@ -1,6 +1,8 @@
 use Rattle.std.proofs.Common.{Bool, ap, [], ◌∙◌}
 use Rattle.std.specs.Prelude.{◌||◌}
+use Rattle.block_machine.specs.Runners.{knowledge_of}
 use Rattle.session_core.specs.Steps.{with_wanting}
+use Rattle.session_core.proofs.Knowing.{served_answered}
 use Rattle.session_core.proofs.Passes.{IsShort-with_wanting}
 use Rattle.session_core.proofs.Grows.{StandsFor-answered}
 use Rattle.session_core.proofs.Flags.{flag-answered, number-answered}
@@ -15,7 +17,9 @@ returns-clause-grown c =
         stage =
             StandsFor-answered c.args.self.now.stage c.answered-step.result.stage c.args.self.now.runner c.answered-step.new.runner
             c.args.self.now.startup.items c.answered-step.new.startup.items c.args.self.now.frames taken es asked sent k
-            c.args.answer e c.answered-step.result.wanting s.stage c.answered-step.ensures.goes w c.answered-step.ensures.level
+            c.args.answer e c.answered-step.result.wanting s.stage c.answered-step.ensures.goes w
+            (served_answered (knowledge_of c.args.self.now.runner) c.args.answer (knowledge_of c.answered-step.new.runner)
+            c.answered-step.ensures.known)
             c.answered-step.ensures.some;
         short = flag-answered c.args.self.now.short c.either-self.result c.either.result c.is_want-wants.result
             c.answered-step.result.wanting es c.args.answer e sent s.short c.either-self.ensures

@@ -13,7 +13,7 @@ returns-clause-empty c =
       stage =
           subst (λ (held : Held). StandsFor (stages.Waiting phases.Startup) runner c.new-3.result.items held [] [] [] [])
           (sym c.new.ensures)
-          (StandsFor-new runner c.new-3.result.items c.in_ok-new-2.ensures.known);
+          (StandsFor-new c.args.level runner c.new-3.result.items c.in_ok-new-2.ensures.known);
       short = refl;
       number = refl;
     }

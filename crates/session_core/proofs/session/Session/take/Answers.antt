@@ -1,8 +1,10 @@
 use Rattle.std.proofs.Common.{Bool, ap, [], ◌∙◌, subst}
 use Rattle.std.specs.Prelude.{◌||◌}
+use Rattle.block_machine.specs.Runners.{knowledge_of}
 use Rattle.session_core.specs.declared.stage.Stage.{Stage}
 use Rattle.session_core.specs.Stands.{StandsFor}
 use Rattle.session_core.specs.Steps.{with_wanting}
+use Rattle.session_core.proofs.Knowing.{served_kept}
 use Rattle.session_core.proofs.Passes.{IsShort-with_wanting}
 use Rattle.session_core.proofs.Grows.{StandsFor-taken}
 use Rattle.session_core.proofs.Flags.{flag-fed, number-fed}
@@ -20,7 +22,9 @@ returns-clause-grown c =
             c.take_message-step.result.stage c.take_message-step.result.wanting
             (subst (λ (x : Stage). StandsFor x c.args.self.now.runner c.args.self.now.startup.items c.args.self.now.frames taken es asked
             sent) c.phase_taking-phase.ensures s.stage)
-            c.take_message-step.ensures.goes c.take_message-step.ensures.leads.level_is
+            c.take_message-step.ensures.goes
+            (served_kept (knowledge_of c.args.self.now.runner) (knowledge_of c.take_message-step.new.runner)
+            c.take_message-step.ensures.leads.known)
             (c.take_message-step.ensures.leads.some c.args.self.now.startup.items);
         short = flag-fed c.args.self.now.short c.either-self.result c.take_message-step.result.wanting es sent s.short
             (c.either-self.ensures ∙ ap (λ (b : Bool). c.args.self.now.short || b) c.is_some.ensures);
