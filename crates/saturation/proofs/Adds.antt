@@ -108,9 +108,9 @@ demand_whole events level all marks n old new end adds =
     adds_as (IsDemandBelow events level all marks n) (IsDemandIn events level all marks) old new
     (λ a b is. record { seen = is.seen; is = contains_at all is.place is.seen is.is; demands = is.demands })
     (λ a b is.
-        let at = at_contains all is.seen is.is in
-        let within : at.0 < length all = slice_get_within all at.0 is.seen at.1 in
-        record { place = at.0; below = omega arith; seen = is.seen; is = at.1; demands = is.demands })
+    let at = at_contains all is.seen is.is in
+    let within : at.0 < length all = slice_get_within all at.0 is.seen at.1 in
+    record { place = at.0; below = omega arith; seen = is.seen; is = at.1; demands = is.demands })
     adds
 
 -- ---- the first readers of a history

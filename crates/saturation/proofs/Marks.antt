@@ -65,8 +65,7 @@ predecessors_push events reader n marks mark exact are =
         | inr more ↦
             let at : k ≡ n = omega arith in
             let at_end : length marks ≡ k = omega arith in
-            let new : get_or (marks ++ mark ∷ []) k false ≡ mark = get_or_push marks mark false k at_end in
-            (
+            let new : get_or (marks ++ mark ∷ []) k false ≡ mark = get_or_push marks mark false k at_end in (
               λ marked. subst (λ (m : ℕ). Precedes events m reader) (sym at) (exact.0 (sym new ∙ marked)),
               λ precedes. new ∙ exact.1 (subst (λ (m : ℕ). Precedes events m reader) at precedes),
             )

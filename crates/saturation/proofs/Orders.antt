@@ -50,9 +50,9 @@ free_or_not edges marks n within =
             | inl ready ↦ inl record { unmarked = (within, unmarked); ready = ready }
             | inr blocked ↦
                 inr (λ free.
-                    let marked : IsMarked marks blocked.edge.before =
-                    All-contains (λ f. f.after ≡ n → IsMarked marks f.before) edges blocked.edge free.ready blocked.member blocked.into in
-                    false≢true (sym blocked.from ∙ marked))
+                let marked : IsMarked marks blocked.edge.before =
+                All-contains (λ f. f.after ≡ n → IsMarked marks f.before) edges blocked.edge free.ready blocked.member blocked.into in
+                false≢true (sym blocked.from ∙ marked))
           ]
     ]
 
@@ -67,10 +67,13 @@ least_free :
 least_free edges marks zero i end none = inr (λ m free. let within = free.unmarked.0 in none m (omega arith) free)
 least_free edges marks (suc left) i end none =
     elim (free_or_not edges marks i (omega arith)) [
-      | inl free ↦ inl (i, record {
-        free = free;
-        least = λ m is. elim (cases_lt m i) [ inl less ↦ absurd (none m less is) | inr more ↦ more ];
-      })
+      | inl free ↦ inl (
+        i,
+        record {
+          free = free;
+          least = λ m is. elim (cases_lt m i) [ inl less ↦ absurd (none m less is) | inr more ↦ more ];
+        },
+      )
       | inr busy ↦
           least_free edges marks left (i + 1) (omega arith)
           (λ m less is. elim (cases_lt m i) [
@@ -108,16 +111,19 @@ one_back edges marks met at same blocked within leads =
       | inl marked ↦
           inl (cycle_from_reaches edges e.before
           (reaches_first edges e e.before e.before refl blocked.member (subst (λ (n : ℕ). Leads edges n e.before) into (leads e.before marked))))
-      | inr unmarked ↦ inr (e.before, record {
-        is_open = (within, blocked.from);
-        less = open_less met e.before within_met unmarked;
-        leads = λ m marked. elim (cases_eq m e.before) [
-          | inl here ↦ subst (λ (n : ℕ). Leads edges e.before n) (sym here) (leads_none edges e.before)
-          | inr other ↦
-              let before : IsMarked met m = sym (get_or-set_other met e.before m true false other) ∙ marked in
-              leads_first edges e e.before m refl blocked.member (subst (λ (n : ℕ). Leads edges n m) into (leads m before))
-        ];
-      })
+      | inr unmarked ↦ inr (
+        e.before,
+        record {
+          is_open = (within, blocked.from);
+          less = open_less met e.before within_met unmarked;
+          leads = λ m marked. elim (cases_eq m e.before) [
+            | inl here ↦ subst (λ (n : ℕ). Leads edges e.before n) (sym here) (leads_none edges e.before)
+            | inr other ↦
+                let before : IsMarked met m = sym (get_or-set_other met e.before m true false other) ∙ marked in
+                leads_first edges e e.before m refl blocked.member (subst (λ (n : ℕ). Leads edges n m) into (leads m before))
+          ];
+        },
+      )
     ]
 
 abbrev AllBlocked : List Edge → List Bool → Type 0

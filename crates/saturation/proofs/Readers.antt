@@ -74,8 +74,7 @@ seen_from_demand events now reader level all marks view a b positive (d, same) =
     let level_is : d.visible.level ≡ level = runs_unique now reader d.visible.level level runs view.runs in
     let visible : IsVisibleAt level now reader d.place a =
     subst (λ (l : Level). IsVisibleAt l now reader d.place a) level_is (subst (λ (r : ℕ). IsVisibleAt d.visible.level now r d.place a) same d.visible.sees) in
-    let sees : Sees level all marks (d.place + 1) a = view.seen d.place a within positive visible in
-    (
+    let sees : Sees level all marks (d.place + 1) a = view.seen d.place a within positive visible in (
       some.0,
       (
         record {

@@ -58,7 +58,12 @@ fn add_link(marks: &[bool], number: u32, reader: u32, edges: &mut Vec<Edge>) -> 
 }
 
 /// Adds the pairs of the marked transactions and the reader.
-fn add_links(history: &History, marks: &[bool], reader: u32, edges: &mut Vec<Edge>) -> Result<(), Memory>
+fn add_links(
+    history: &History,
+    marks: &[bool],
+    reader: u32,
+    edges: &mut Vec<Edge>,
+) -> Result<(), Memory>
     requires { length marks.now ≡ begun history.now.events + 1 }
     ensures { OnOk result (AddsPairs (λ a b. (b ≡ reader) × IsMarked marks.now a) edges.old.items edges.new.items) }
 {

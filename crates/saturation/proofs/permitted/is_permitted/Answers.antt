@@ -27,8 +27,7 @@ returns c =
     let x = c.args.cell.now in
     let list = λ (n u : ℕ) (v : Value).
     subst (λ (m : ℕ). IsPairList (IsForced (with_read events c.args.session x c.args.source n u v)) (m + 1) c.in_ok-graph.graph.edges.items)
-    (sym (size_after events c.args.session x c.args.source n u v)) (c.in_ok-graph.ensures.pairs n u v) in
-    (
+    (sym (size_after events c.args.session x c.args.source n u v)) (c.in_ok-graph.ensures.pairs n u v) in (
       λ permitted. (
         c.is_writer.ensures.0 c.if-not-is_writer.false,
         λ n u v. consistent_from_no_cycle (with_read events c.args.session x c.args.source n u v) c.in_ok-graph.graph.edges.items (list n u v)
@@ -36,6 +35,6 @@ returns c =
       ),
       λ permitted. not_from_false c.in_ok-cyclic.cyclic
           (false_from_ne_true c.in_ok-cyclic.cyclic (λ cyclic.
-              consistent_no_cycle (with_read events c.args.session x c.args.source 0 0 Unset) c.in_ok-graph.graph.edges.items (list 0 0 Unset) (permitted.1 0 0 Unset)
-              (c.in_ok-cyclic.ensures.0 cyclic))),
+          consistent_no_cycle (with_read events c.args.session x c.args.source 0 0 Unset) c.in_ok-graph.graph.edges.items (list 0 0 Unset) (permitted.1 0 0 Unset)
+          (c.in_ok-cyclic.ensures.0 cyclic))),
     )
