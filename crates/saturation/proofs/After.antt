@@ -4,7 +4,7 @@ use Rattle.std.specs.List.{slice_get}
 use Rattle.std.proofs.lemmas.List.{length_push, take-append-le, take_all}
 use Rattle.std.proofs.lemmas.Option.{slice_get_within}
 use Rattle.std.proofs.lemmas.Bool.{cases_eq}
-use Rattle.graph_base.specs.Closure.{IsChain, Chained}
+use Rattle.graph_base.specs.Chain.{IsChain, Chained}
 use Rattle.cell_base.specs.declared.level.Level.{Level}
 use Rattle.cell_base.specs.declared.level.Level.TheVariants.{Rc, Ra, Cc}
 use Rattle.cell_base.specs.declared.cell.Cell.{Cell}
@@ -108,16 +108,16 @@ nothing_after events sound s k x w n u v pending writes b precedes =
 -- so no other transaction sees more
 chain_before :
     (events : List Event) → IsSound events → (s k : ℕ) (x : Cell) (w n u : ℕ) (v : Value) → IsPending events k s → Writes events w x →
-    (a : ℕ) (middles : List ℕ) (b : ℕ) → (b ≡ k → ⊥) → IsChain (Precedes (with_read events s x w n u v)) a middles b → IsChain (Precedes events) a middles b
+    (a : ℕ) (between : List ℕ) (b : ℕ) → (b ≡ k → ⊥) → IsChain (Precedes (with_read events s x w n u v)) a between b → IsChain (Precedes events) a between b
 chain_before events sound s k x w n u v pending writes a [] b other link =
     elim (precedes_read events sound s k x w n u v pending a b link) [ inl old ↦ old | inr new ↦ absurd (other new.1) ]
-chain_before events sound s k x w n u v pending writes a (m ∷ middles) b other (link, rest) =
+chain_before events sound s k x w n u v pending writes a (m ∷ between) b other (link, rest) =
     elim (precedes_read events sound s k x w n u v pending a m link) [
-      | inl old ↦ (old, chain_before events sound s k x w n u v pending writes m middles b other rest)
-      | inr new ↦ absurd (none middles (subst (λ (c : ℕ). IsChain (Precedes (with_read events s x w n u v)) c middles b) new.1 rest))
+      | inl old ↦ (old, chain_before events sound s k x w n u v pending writes m between b other rest)
+      | inr new ↦ absurd (none between (subst (λ (c : ℕ). IsChain (Precedes (with_read events s x w n u v)) c between b) new.1 rest))
     ]
   where
-    none : (middles : List ℕ) → IsChain (Precedes (with_read events s x w n u v)) k middles b → ⊥
+    none : (between : List ℕ) → IsChain (Precedes (with_read events s x w n u v)) k between b → ⊥
     none [] link = nothing_after events sound s k x w n u v pending writes b link
     none (c ∷ more) (link, rest) = nothing_after events sound s k x w n u v pending writes c link
 
@@ -128,17 +128,17 @@ visible_before Rc events sound s k x w n u v pending writes r p a other within s
 visible_before Ra events sound s k x w n u v pending writes r p a other within sees =
     elim (precedes_read events sound s k x w n u v pending a r sees) [ inl old ↦ old | inr new ↦ absurd (other new.1) ]
 visible_before Cc events sound s k x w n u v pending writes r p a other within sees =
-    record { middles = sees.middles; is = chain_before events sound s k x w n u v pending writes a sees.middles r other sees.is }
+    record { between = sees.between; is = chain_before events sound s k x w n u v pending writes a sees.between r other sees.is }
 
 visible_after :
     (level : Level) (events : List Event) (e : Event) (r p a : ℕ) → IsVisibleAt level events r p a → IsVisibleAt level (events ++ e ∷ []) r p a
 visible_after Rc events e r p a sees = before_kept events e r p a sees
 visible_after Ra events e r p a sees = precedes_kept events e a r sees
-visible_after Cc events e r p a sees = record { middles = sees.middles; is = chain_kept a sees.middles r sees.is }
+visible_after Cc events e r p a sees = record { between = sees.between; is = chain_kept a sees.between r sees.is }
   where
-    chain_kept : (a : ℕ) (middles : List ℕ) (b : ℕ) → IsChain (Precedes events) a middles b → IsChain (Precedes (events ++ e ∷ [])) a middles b
+    chain_kept : (a : ℕ) (between : List ℕ) (b : ℕ) → IsChain (Precedes events) a between b → IsChain (Precedes (events ++ e ∷ [])) a between b
     chain_kept a [] b link = precedes_kept events e a b link
-    chain_kept a (m ∷ middles) b (link, rest) = (precedes_kept events e a m link, chain_kept m middles b rest)
+    chain_kept a (m ∷ between) b (link, rest) = (precedes_kept events e a m link, chain_kept m between b rest)
 
 pub demands_kept : (events : List Event) (e : Event) (a b : ℕ) → Demands events a b → Demands (events ++ e ∷ []) a b
 demands_kept events e a b d = record {

@@ -10,7 +10,7 @@ use Rattle.graph_base.specs.Walk.{IsInRange, HasCycle, Leads}
 use Rattle.history_core.specs.Forced.{HasOrder}
 use Rattle.graph_base.proofs.Walks.{leads_none, leads_first, reaches_first, cycle_from_reaches}
 use Rattle.order_witness.specs.Marks.{IsMarked, IsUnmarked, IsReady, IsFree}
-use Rattle.order_witness.proofs.Placing.{IsPlacing, IsPlacing-push, IsPlacing-none, IsLeastOrder-from_placing}
+use Rattle.order_witness.proofs.Placing.{IsPlacing, IsPlacing-push, IsPlacing-none, HasLeastOrder-from_placing}
 
 contains_first : (e : Edge) (es : List Edge) → Contains (e ∷ es) e
 contains_first e es = Contains-append_left (e ∷ []) es e (0, omega arith, refl)
@@ -192,7 +192,7 @@ stopped size edges marks order in_range placing stuck =
     elim (first_open marks (length marks) (omega arith) (λ n above small. absurd (omega arith))) [
       | inr all ↦ inl (
         order,
-        (IsLeastOrder-from_placing size edges marks order placing (λ n small. let same = placing.length_marks in all n (omega arith)) in_range).extends,
+        (HasLeastOrder-from_placing size edges marks order placing (λ n small. let same = placing.length_marks in all n (omega arith)) in_range).is.extends,
       )
       | inl some ↦
           inr (cycle_back edges marks (replicate (length marks) false) (open_count (replicate (length marks) false)) some.0

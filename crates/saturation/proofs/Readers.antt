@@ -5,7 +5,7 @@ use Rattle.std.proofs.lemmas.List.{length_push, length-set, get_or_past}
 use Rattle.std.proofs.lemmas.Option.{slice_get_within}
 use Rattle.std.proofs.lemmas.Bool.{cases_eq, cases_lt, false≢true}
 use Rattle.graph_base.specs.declared.Edge.{Edge}
-use Rattle.graph_base.specs.Closure.{Chained}
+use Rattle.graph_base.specs.Chain.{Chained}
 use Rattle.order_witness.specs.Marks.{IsMarked}
 use Rattle.cell_base.specs.declared.level.Level.{Level}
 use Rattle.cell_base.specs.declared.level.Level.TheVariants.{Rc, Ra, Cc}
@@ -125,7 +125,7 @@ marks_seen Ra events now reader all start marks p a begins widens before visible
     subst (λ (ms : List Bool). IsMarked ms a) (sym widens) (begins.first a visible)
 marks_seen Cc events now reader all start marks p a begins widens before visible =
     marked_from_chain events (Precedes now) reader start marks widens begins.first begins.step
-    (λ a b link. let h = begins.bounded a b link in let same = widens.size in omega arith) a visible.middles visible.is
+    (λ a b link. let h = begins.bounded a b link in let same = widens.size in omega arith) a visible.between visible.is
 
 pub marked_within : (marks : List Bool) (n : ℕ) → IsMarked marks n → n < length marks
 marked_within marks n marked =

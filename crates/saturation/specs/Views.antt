@@ -1,6 +1,6 @@
 -- What the records of transactions show of their reads, and what each of these reads sees.
 use Rattle.std.specs.Prelude.{◌≡◌, ◌≢◌, ◌<◌, ◌+◌, ◌↔◌, ◌⊎◌, ℕ, Bool, List, Contains, Any, length}
-use Rattle.graph_base.specs.Closure.{Chained}
+use Rattle.graph_base.specs.Chain.{Chained}
 use Rattle.cell_base.specs.declared.key.Key.{Key}
 use Rattle.cell_base.specs.declared.cell.Cell.{Cell}
 use Rattle.cell_base.specs.declared.cell.Cell.TheVariants.{Presence, Field}
