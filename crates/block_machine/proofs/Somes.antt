@@ -1,10 +1,11 @@
 -- Each reply has bytes.
-use Rattle.std.proofs.Common.{ℕ, ◌<◌, Bool, List, ◌++◌, length, arith, length-append}
+use Rattle.std.proofs.Common.{ℕ, ◌<◌, List, ◌++◌, length, arith, length-append}
 use Rattle.cell_base.specs.declared.sql_state.SqlState.{SqlState}
 use Rattle.sql_tree.specs.declared.table.OutField.{OutField}
 use Rattle.statement_course.specs.declared.demand.Outcome.{Outcome}
 use Rattle.statement_course.specs.declared.demand.Outcome.TheVariants.{Rows, Inserted, Updated, Deleted, Failed}
 use Rattle.outcome_replies.specs.Replies.{outcome_reply}
+use Rattle.pg_framing.specs.declared.replies.Severity.{Severity}
 use Rattle.pg_framing.specs.declared.replies.TransactionState.{TransactionState}
 use Rattle.pg_framing.specs.Replies.{framed, ready, row_description, command_complete, empty_query, error_response, notice_response}
 use Rattle.block_machine.specs.declared.reply.Fixed.{Fixed}
@@ -22,9 +23,9 @@ complete-some : (tag : List ℕ) → 0 < length (command_complete tag)
 unfolding command_complete
 complete-some tag = framed-some _ _
 
-report-some : (fatal : Bool) (state : SqlState) → 0 < length (error_response fatal state)
+report-some : (severity : Severity) (state : SqlState) → 0 < length (error_response severity state)
 unfolding error_response
-report-some fatal state = framed-some _ _
+report-some severity state = framed-some _ _
 
 notice-some : (state : SqlState) → 0 < length (notice_response state)
 unfolding notice_response

@@ -8,7 +8,7 @@ use Rattle.cell_base.specs.declared.memory.Memory.{Memory as Short}
 use Rattle.sound_text.proofs.Plain.{built_sound}
 use Rattle.described_columns.specs.Described.{HasPlainNames}
 use Rattle.described_columns.proofs.Plain.{statements_plain}
-use Rattle.sql_grammar.specs.Limited.{HasNoZero}
+use Rattle.cell_base.specs.Texts.{HasNoZero}
 use Rattle.sql_statements.specs.declared.fault.ParseFault.{ParseFault}
 use Rattle.sql_statements.specs.declared.fault.ParseFault.TheVariants.{Lex, Syntax, Unsupported, TooDeep, TooMany, Memory}
 use Rattle.sql_statements.specs.Faults.{AreStatementsOf, IsFaultOfText, UnlessMemory, state_of}

@@ -1,6 +1,6 @@
 -- A text that is known has no zero byte.
 use Rattle.std.proofs.Common.{◌≡◌, ℕ, zero, suc, ◌≤◌, Bool, true, false, cond, eqb, eq-eqb, List, [], ◌∷◌, length, get_or, refl, arith}
-use Rattle.pg_framing.specs.Spelling.{HasNoZero}
+use Rattle.cell_base.specs.Texts.{HasNoZero}
 
 abbrev pub zero_free : List ℕ → Bool
 zero_free [] = true

@@ -4,6 +4,7 @@ use Rattle.cell_base.specs.declared.sql_state.SqlState.{SqlState}
 use Rattle.cell_base.specs.declared.sql_state.SqlState.TheVariants as states
 use Rattle.cell_base.specs.declared.sql_type.SqlType.TheVariants as types
 use Rattle.cell_base.specs.declared.value.Value.TheVariants as values
+use Rattle.pg_framing.specs.declared.replies.Severity.TheVariants as severities
 use Rattle.pg_framing.specs.declared.replies.TransactionState.{TransactionState}
 use Rattle.pg_framing.specs.Replies.{ready, command_complete, empty_query, error_response, notice_response, row_description, data_row}
 use Rattle.block_machine.specs.declared.reply.Fixed.{Fixed}
@@ -17,7 +18,7 @@ ready_reply state = ready state
 
 -- ErrorResponse with this code, of severity ERROR: the session goes on
 unfoldable pub error_reply : SqlState → List ℕ
-error_reply state = error_response false state
+error_reply state = error_response severities.Error state
 
 -- EmptyQueryResponse: the message has no statement
 unfoldable pub empty_reply : List ℕ

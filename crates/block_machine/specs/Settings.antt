@@ -3,7 +3,7 @@
 use Rattle.std.specs.Prelude.{ℕ, ◌≤◌, length, ◌==◌, List, [], ◌∷◌, codes, if◌then◌else◌, Bool, Option, Some, None}
 use Rattle.std.specs.List.{starts_with}
 use Rattle.std.specs.Str.{bytes_eq}
-use Rattle.pg_framing.specs.Spelling.{HasNoZero}
+use Rattle.cell_base.specs.Texts.{HasNoZero}
 use Rattle.cell_base.specs.declared.level.Level.{Level}
 use Rattle.cell_base.specs.declared.level.Level.TheVariants.{Rc, Ra, Cc}
 

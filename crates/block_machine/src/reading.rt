@@ -1,7 +1,7 @@
 // What the bytes of a query message ask for.
 ghost use Rattle.std.specs.Prelude.{◌≡◌, ◌≢◌, ◌<◌, ◌^◌, length, IfOk};
 ghost use Rattle.std.specs.Str.{IsUtf8};
-ghost use Rattle.sql_grammar.specs.Limited.{HasNoZero};
+ghost use Rattle.cell_base.specs.Texts.{HasNoZero};
 ghost use Rattle.sql_statements.specs.Faults.{state_of};
 ghost use Rattle.block_machine.specs.Messages.{IsMessage};
 ghost use Rattle.block_machine.specs.Stages.{IsSoundMessage};

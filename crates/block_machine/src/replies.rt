@@ -1,13 +1,14 @@
 // The replies to the statements of a message as bytes.
 ghost use Rattle.std.specs.Prelude.{◌≡◌, ◌≤◌, length, IfOk};
-ghost use Rattle.pg_framing.specs.Spelling.{HasNoZero};
+ghost use Rattle.cell_base.specs.Texts.{HasNoZero};
 ghost use Rattle.block_machine.specs.Settings.{IsShown};
 ghost use Rattle.block_machine.specs.Replies.{ready_reply, error_reply, empty_reply, done_reply, warned_reply, show_reply};
 
 use cell_base::{Memory, SqlState, SqlType, Text, TextFault, Value};
 use pg_framing::{
-    TransactionState, append_complete, append_empty, append_error, append_fields, append_notice,
-    append_ready, append_row,
+    Severity, TransactionState, append_command_complete, append_data_row,
+    append_empty_query_response, append_error_response, append_notice_response,
+    append_ready_for_query, append_row_description,
 };
 use sql_tree::OutField;
 use std::alloc::Global;
@@ -18,7 +19,7 @@ pub fn ready(alloc: Global, state: TransactionState) -> Result<Vec<u8>, Memory>
     ensures { IfOk result (λ reply. reply.items ≡ ready_reply state) }
 {
     let mut reply = Vec::new(alloc);
-    append_ready(alloc, &mut reply, state)?;
+    append_ready_for_query(alloc, &mut reply, state)?;
     Ok(reply)
 }
 
@@ -28,7 +29,7 @@ pub fn error(alloc: Global, state: SqlState) -> Result<Vec<u8>, Memory>
     ensures { IfOk result (λ reply. reply.items ≡ error_reply state) }
 {
     let mut reply = Vec::new(alloc);
-    append_error(alloc, &mut reply, false, state)?;
+    append_error_response(alloc, &mut reply, Severity::Error, state)?;
     Ok(reply)
 }
 
@@ -38,7 +39,7 @@ pub fn empty(alloc: Global) -> Result<Vec<u8>, Memory>
     ensures { IfOk result (λ reply. reply.items ≡ empty_reply) }
 {
     let mut reply = Vec::new(alloc);
-    append_empty(alloc, &mut reply)?;
+    append_empty_query_response(alloc, &mut reply)?;
     Ok(reply)
 }
 
@@ -50,7 +51,7 @@ pub fn done(alloc: Global, tag: &[u8]) -> Result<Vec<u8>, Memory>
     ensures { IfOk result (λ reply. reply.items ≡ done_reply tag.now) }
 {
     let mut reply = Vec::new(alloc);
-    append_complete(alloc, &mut reply, tag)?;
+    append_command_complete(alloc, &mut reply, tag)?;
     Ok(reply)
 }
 
@@ -62,8 +63,8 @@ pub fn warned(alloc: Global, state: SqlState, tag: &[u8]) -> Result<Vec<u8>, Mem
     ensures { IfOk result (λ reply. reply.items ≡ warned_reply state tag.now) }
 {
     let mut reply = Vec::new(alloc);
-    append_notice(alloc, &mut reply, state)?;
-    append_complete(alloc, &mut reply, tag)?;
+    append_notice_response(alloc, &mut reply, state)?;
+    append_command_complete(alloc, &mut reply, tag)?;
     Ok(reply)
 }
 
@@ -99,8 +100,8 @@ pub fn shown(alloc: Global, name: &str, value: &str) -> Result<Vec<u8>, Memory>
     let field = column(alloc, name)?;
     let value = text_of(alloc, value)?;
     let mut reply = Vec::new(alloc);
-    append_fields(alloc, &mut reply, &[field])?;
-    append_row(alloc, &mut reply, &[Value::Text(value)])?;
-    append_complete(alloc, &mut reply, b"SHOW")?;
+    append_row_description(alloc, &mut reply, &[field])?;
+    append_data_row(alloc, &mut reply, &[Value::Text(value)])?;
+    append_command_complete(alloc, &mut reply, b"SHOW")?;
     Ok(reply)
 }

@@ -5,7 +5,7 @@ use client_framing::FrameFault;
 use std::alloc::Global;
 use std::test::Fail;
 
-// Whether the last byte shows this fault behind so many messages, and no byte before it, and further bytes change nothing.
+// Whether the last byte shows this fault after so many messages, and no byte before it, and further bytes change nothing.
 fn is_shown(
     alloc: Global,
     stream: &[u8],
@@ -24,9 +24,9 @@ fn is_shown(
         early.fault == None
             && shown.fault == Some(fault)
             && later.fault == Some(fault)
-            && early.fronts.len() == before
-            && shown.fronts.len() == before
-            && later.fronts.len() == before,
+            && early.messages.len() == before
+            && shown.messages.len() == before
+            && later.messages.len() == before,
     )
 }
 

@@ -5,18 +5,18 @@ use client_framing::{FrameFault, Split};
 use std::alloc::Global;
 use std::test::Fail;
 
-// Whether nothing but this fault is read behind so many messages, and so many bytes are left.
+// Whether nothing but this fault is read after so many messages, and so many bytes are left.
 fn is_fault(split: &Split, before: usize, fault: FrameFault, rest: usize) -> bool {
-    split.fronts.len() == before && split.fault == Some(fault) && split.rest == rest
+    split.messages.len() == before && split.fault == Some(fault) && split.rest == rest
 }
 
-// Whether no fault is read behind so many messages, of which the last has this name, and so many bytes are left.
+// Whether no fault is read after so many messages, of which the last has this name, and so many bytes are left.
 fn is_message(split: &Split, number: usize, name: &[u8], rest: usize) -> bool {
-    let named = match split.fronts.as_slice().last() {
-        Some(front) => name_of(front) == name,
+    let named = match split.messages.as_slice().last() {
+        Some(message) => name_of(message) == name,
         None => false,
     };
-    split.fronts.len() == number && named && split.fault == None && split.rest == rest
+    split.messages.len() == number && named && split.fault == None && split.rest == rest
 }
 
 // A body of so many bytes less four.
@@ -30,7 +30,7 @@ fn body_of(len: u8) -> &'static [u8] {
     }
 }
 
-// Whether a message of this type byte and length is judged so behind the startup: `l` for a bad length, `m` for a message
+// Whether a message of this type byte and length is judged so after the startup: `l` for a bad length, `m` for a message
 // of this name, which isn't one before its body is held.
 fn type_is_judged(
     alloc: Global,
@@ -105,7 +105,7 @@ fn code_is_judged(
         b'l' => is_fault(&split, 0, FrameFault::BadLength(u32::from(len)), 8),
         b's' => is_fault(&split, 0, FrameFault::BadStartup, 8),
         b'm' => is_message(&split, 1, name, 0),
-        _ => split.fronts.len() == 0 && split.fault == None && split.rest == 8,
+        _ => split.messages.len() == 0 && split.fault == None && split.rest == 8,
     })
 }
 

@@ -1,6 +1,6 @@
 // A stream in pieces, and what is read from it in words.
 use cell_base::{Items, Memory};
-use client_framing::{CopyMessage, Extended, Front, Split, split_stream};
+use client_framing::{CopyMessage, Extended, FrontendMessage, Split, split_stream};
 use std::alloc::Global;
 
 /// The startup of user `a`, 16 bytes.
@@ -21,7 +21,7 @@ pub fn read(alloc: Global, size: usize, stream: &[u8]) -> Result<Split, Memory> 
     split_stream(alloc, pieces.as_slice())
 }
 
-/// The bytes behind the startup of user `a`.
+/// The bytes after the startup of user `a`.
 pub fn behind_startup(alloc: Global, bytes: &[u8]) -> Result<Vec<u8>, Memory> {
     let mut stream = Vec::from_slice(alloc, STARTUP)?;
     stream.extend_from_slice(bytes)?;
@@ -29,20 +29,20 @@ pub fn behind_startup(alloc: Global, bytes: &[u8]) -> Result<Vec<u8>, Memory> {
 }
 
 /// A message's name.
-pub fn name_of(front: &Front) -> &'static [u8] {
-    match front {
-        Front::Ssl => b"ssl",
-        Front::Gss => b"gss",
-        Front::Cancel(_, _) => b"cancel",
-        Front::Startup(_) => b"startup",
-        Front::Version(_) => b"version",
-        Front::Query(_) => b"query",
-        Front::Terminate => b"terminate",
-        Front::Sync => b"sync",
-        Front::Flush => b"flush",
-        Front::Extended(kind) => extended_name(*kind),
-        Front::Function => b"function",
-        Front::Copy(kind) => copy_name(*kind),
+pub fn name_of(message: &FrontendMessage) -> &'static [u8] {
+    match message {
+        FrontendMessage::Ssl => b"ssl",
+        FrontendMessage::Gss => b"gss",
+        FrontendMessage::Cancel(_, _) => b"cancel",
+        FrontendMessage::Startup(_) => b"startup",
+        FrontendMessage::Version(_) => b"version",
+        FrontendMessage::Query(_) => b"query",
+        FrontendMessage::Terminate => b"terminate",
+        FrontendMessage::Sync => b"sync",
+        FrontendMessage::Flush => b"flush",
+        FrontendMessage::Extended(kind) => extended_name(*kind),
+        FrontendMessage::FunctionCall => b"function",
+        FrontendMessage::Copy(kind) => copy_name(*kind),
     }
 }
 
@@ -64,16 +64,16 @@ fn copy_name(kind: CopyMessage) -> &'static [u8] {
     }
 }
 
-// What a message holds, behind its name.
-fn append_parts(out: &mut Vec<u8>, front: &Front) -> Result<(), Memory> {
-    match front {
-        Front::Cancel(pid, secret) => {
+// What a message holds, after its name.
+fn append_parts(out: &mut Vec<u8>, message: &FrontendMessage) -> Result<(), Memory> {
+    match message {
+        FrontendMessage::Cancel(pid, secret) => {
             out.extend_from_slice(&pid.to_be_bytes())?;
             out.extend_from_slice(&secret.to_be_bytes())?;
         }
-        Front::Version(code) => out.extend_from_slice(&code.to_be_bytes())?,
-        Front::Query(text) => out.extend_from_slice(text.as_slice())?,
-        Front::Startup(pairs) => append_pairs(out, pairs.as_slice())?,
+        FrontendMessage::Version(code) => out.extend_from_slice(&code.to_be_bytes())?,
+        FrontendMessage::Query(text) => out.extend_from_slice(text.as_slice())?,
+        FrontendMessage::Startup(pairs) => append_pairs(out, pairs.as_slice())?,
         _ => (),
     }
     Ok(())
@@ -91,12 +91,12 @@ fn append_pairs(out: &mut Vec<u8>, pairs: &[(Items<u8>, Items<u8>)]) -> Result<(
 }
 
 /// The messages in words: of each its name, what it holds, and a semicolon.
-pub fn told(alloc: Global, fronts: &[Front]) -> Result<Vec<u8>, Memory> {
+pub fn told(alloc: Global, messages: &[FrontendMessage]) -> Result<Vec<u8>, Memory> {
     let mut out = Vec::new(alloc);
-    for front in fronts {
-        out.extend_from_slice(name_of(front))?;
+    for message in messages {
+        out.extend_from_slice(name_of(message))?;
         out.push(b' ')?;
-        append_parts(&mut out, front)?;
+        append_parts(&mut out, message)?;
         out.push(b';')?;
     }
     Ok(out)

@@ -1,7 +1,7 @@
 // Streams of many messages in any pieces, and messages at the limits.
 use crate::reading::{STARTUP, name_of, read, told};
 use cell_base::Memory;
-use client_framing::{FrameFault, Frames, Front};
+use client_framing::{FrameFault, Frames, FrontendMessage};
 use std::alloc::Global;
 use std::test::Fail;
 
@@ -16,7 +16,7 @@ const ALL_TOLD: &[u8] =
 // Whether all messages are read in pieces of this size.
 fn all_are_read(alloc: Global, size: usize) -> Result<bool, Memory> {
     let split = read(alloc, size, ALL)?;
-    let words = told(alloc, split.fronts.as_slice())?;
+    let words = told(alloc, split.messages.as_slice())?;
     Ok(words.as_slice() == ALL_TOLD && split.rest == 3 && split.fault == None)
 }
 
@@ -31,28 +31,28 @@ fn long_message(alloc: Global, head: &[u8], number: usize, tail: &[u8]) -> Resul
 }
 
 // The number of bytes that a startup's values have, or a query's text.
-fn text_size(front: &Front) -> usize {
-    match front {
-        Front::Startup(pairs) => match pairs.as_slice().last() {
+fn text_size(message: &FrontendMessage) -> usize {
+    match message {
+        FrontendMessage::Startup(pairs) => match pairs.as_slice().last() {
             Some((_, value)) => value.len(),
             None => 0,
         },
-        Front::Query(text) => text.len(),
+        FrontendMessage::Query(text) => text.len(),
         _ => 0,
     }
 }
 
-// Whether the last of so many messages has a text of this size, and nothing stands behind it, in pieces of 100 bytes.
+// Whether the last of so many messages has a text of this size, and nothing stands after it, in pieces of 100 bytes.
 fn is_read_so(alloc: Global, stream: &[u8], number: usize, size: usize) -> Result<bool, Memory> {
     let split = read(alloc, 100, stream)?;
-    let sized = match split.fronts.as_slice().last() {
-        Some(front) => text_size(front) == size,
+    let sized = match split.messages.as_slice().last() {
+        Some(message) => text_size(message) == size,
         None => false,
     };
-    Ok(split.fronts.len() == number && sized && split.rest == 0 && split.fault == None)
+    Ok(split.messages.len() == number && sized && split.rest == 0 && split.fault == None)
 }
 
-// Messages of 10,000 bytes before the startup's end, and of 1,048,577 bytes with their type byte behind it.
+// Messages of 10,000 bytes before the startup's end, and of 1,048,577 bytes with their type byte after it.
 fn longest_are_read(alloc: Global) -> Result<bool, Memory> {
     let startup = long_message(
         alloc,
@@ -76,7 +76,7 @@ fn longest_are_read(alloc: Global) -> Result<bool, Memory> {
 // The name of the next message.
 fn next_name(frames: &mut Frames) -> Result<&'static [u8], FrameFault> {
     match frames.next()? {
-        Some(front) => Ok(name_of(&front)),
+        Some(message) => Ok(name_of(&message)),
         None => Ok(b"nothing"),
     }
 }

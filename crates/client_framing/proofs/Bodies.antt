@@ -3,9 +3,11 @@ use Rattle.std.proofs.Common.{◌≡◌, ◌≢◌, ℕ, ◌+◌, ◌-◌, ◌�
 use Rattle.std.specs.Prelude.{◌⊎◌, ◌↔◌, IsTrue}
 use Rattle.std.proofs.lemmas.Bool.{eq-eqb, eqb-true, leb-true, le-leb}
 use Rattle.std.specs.List.{AllByRecursion}
-use Rattle.client_framing.specs.Spelling.{Pair, pair_bytes, pairs_bytes, IsPair, HasNoZero}
+use Rattle.cell_base.specs.Texts.{HasNoZero}
+use Rattle.client_framing.specs.Spelling.{Pair, pair_bytes, pairs_bytes, IsPair}
 use Rattle.client_framing.specs.Reading.{CanBePairs}
-use Rattle.client_framing.proofs.Zeros.{NoZero, no_zero_from, has_no_zero, no_zero-append, ones, length-ones, no_zero-ones, split_unique, before_zero}
+use Rattle.cell_base.proofs.Zeros.{NoZero, no_zero_from, has_no_zero, no_zero-append}
+use Rattle.client_framing.proofs.Zeros.{ones, length-ones, no_zero-ones, split_unique, before_zero}
 use Rattle.client_framing.proofs.PairLists.{flat_pair, first_pair, length-pair, length-first, length-pairs, pair_unique, end_is_no_pair}
 
 no_zero_nil : HasNoZero []
@@ -132,7 +134,7 @@ end_needs room after can = go can.pairs can.each can.fills can.whole
     go [] h e w = sym e
     go (p ∷ ps) h e w = absurd (end_is_no_pair (after ++ can.more) p (pairs_bytes ps) h.0 (w ∙ first_pair p ps))
 
--- a pair is held, and what stands behind it can go on in the room that is left
+-- a pair is held, and what stands after it can go on in the room that is left
 pub pair_can : (room left : ℕ) (rest behind : List ℕ) (p : Pair) → IsPair p → rest ≡ pair_bytes p ++ behind → room ≡ length (pair_bytes p) + left → CanBePairs left behind → CanBePairs room rest
 pair_can room left rest behind p is_pair is size can = record {
   pairs = p ∷ can.pairs;

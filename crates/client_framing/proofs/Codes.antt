@@ -6,8 +6,8 @@ use Rattle.std.proofs.lemmas.Bool.{eq-eqb, eqb-true, cond-false}
 use Rattle.std.proofs.lemmas.Bool.Decides.{eqb_tells}
 use Rattle.std.proofs.lemmas.List.{length-append, length-drop, length-take-le, nil_from_length}
 use Rattle.std.proofs.lemmas.Option.{none-some, same_Some}
-use Rattle.client_framing.specs.declared.front.Front.{Front}
-use Rattle.client_framing.specs.declared.front.Front.TheVariants.{Ssl, Gss, Cancel, Startup, Version}
+use Rattle.client_framing.specs.declared.frontend_message.FrontendMessage.{FrontendMessage}
+use Rattle.client_framing.specs.declared.frontend_message.FrontendMessage.TheVariants.{Ssl, Gss, Cancel, Startup, Version}
 use Rattle.client_framing.specs.declared.opening_type.OpeningType.{OpeningType}
 use Rattle.client_framing.specs.declared.opening_type.OpeningType.TheVariants as types
 use Rattle.client_framing.specs.Spelling.{Pair, number_of, code_of, pairs_bytes, IsBody, IsPair, IsOtherVersion}
@@ -16,14 +16,14 @@ use Rattle.client_framing.proofs.Zeros.{ones, length-ones}
 use Rattle.client_framing.proofs.PairLists.{pairs_unique}
 
 -- the message of this code, this body and these pairs, where it has pairs
-abbrev pub coded : ℕ → List ℕ → List Pair → Front
+abbrev pub coded : ℕ → List ℕ → List Pair → FrontendMessage
 coded code body pairs =
     cond (eqb code 196608) (Startup pairs)
     (cond (eqb code 80877102) (Cancel (number_of (take 4 body)) (number_of (drop 4 body)))
     (cond (eqb code 80877103) Ssl
     (cond (eqb code 80877104) Gss (Version code))))
 
-abbrev pub pairs_in : Front → List Pair
+abbrev pub pairs_in : FrontendMessage → List Pair
 pairs_in (Startup pairs) = pairs
 pairs_in _ = []
 
@@ -37,10 +37,10 @@ version_coded code body pairs other =
     ∙ (cond-false _ _ _ (differs code 80877102 other.1) ∙ (cond-false _ _ _ (differs code 80877103 other.2) ∙ cond-false _ _ _ (differs code 80877104 other.3)))
 
 -- the message is that of a number, where it is that of the code
-as_coded : (front : Front) (body : List ℕ) (pairs : List Pair) (n code : ℕ) → Some n ≡ Some code → front ≡ coded n body pairs → front ≡ coded code body pairs
+as_coded : (front : FrontendMessage) (body : List ℕ) (pairs : List Pair) (n code : ℕ) → Some n ≡ Some code → front ≡ coded n body pairs → front ≡ coded code body pairs
 as_coded front body pairs n code e is = subst (λ (k : ℕ). front ≡ coded k body pairs) (same_Some n code e) is
 
-pub is_coded : (front : Front) (code : ℕ) (body : List ℕ) → code_of front ≡ Some code → IsBody front body → front ≡ coded code body (pairs_in front)
+pub is_coded : (front : FrontendMessage) (code : ℕ) (body : List ℕ) → code_of front ≡ Some code → IsBody front body → front ≡ coded code body (pairs_in front)
 is_coded Ssl code body e h = as_coded Ssl body [] 80877103 code e refl
 is_coded Gss code body e h = as_coded Gss body [] 80877104 code e refl
 is_coded (Cancel pid secret) code body e h = as_coded (Cancel pid secret) body [] 80877102 code e numbers
@@ -52,18 +52,18 @@ is_coded (Version version) code body e h = as_coded (Version version) body [] ve
 is_coded _ code body e h = absurd (none-some code e)
 
 -- the body is that of the message that its code names
-pub body_coded : (front : Front) (code : ℕ) (body : List ℕ) → code_of front ≡ Some code → IsBody front body → IsBody (coded code body (pairs_in front)) body
-body_coded front code body e h = let P : Front → Type 0 = λ (f : Front). IsBody f body in subst P (is_coded front code body e h) h
+pub body_coded : (front : FrontendMessage) (code : ℕ) (body : List ℕ) → code_of front ≡ Some code → IsBody front body → IsBody (coded code body (pairs_in front)) body
+body_coded front code body e h = let P : FrontendMessage → Type 0 = λ (f : FrontendMessage). IsBody f body in subst P (is_coded front code body e h) h
 
 -- a code and a body determine their message
-startup_unique : (front : Front) (pairs : List Pair) (body : List ℕ) → code_of front ≡ Some 196608 → IsBody front body → AllByRecursion IsPair pairs → body ≡ pairs_bytes pairs → Startup pairs ≡ front
+startup_unique : (front : FrontendMessage) (pairs : List Pair) (body : List ℕ) → code_of front ≡ Some 196608 → IsBody front body → AllByRecursion IsPair pairs → body ≡ pairs_bytes pairs → Startup pairs ≡ front
 startup_unique front pairs body e h each is =
     let other = body_coded front 196608 body e h in
     let same : pairs ≡ pairs_in front = pairs_unique pairs (pairs_in front) each other.0 (sym is ∙ other.1) in
     ap (λ (l : List Pair). Startup l) same ∙ sym (is_coded front 196608 body e h)
 
 -- what has another code than a startup is the same whatever pairs are given
-pub code_unique : (f g : Front) (code : ℕ) (body : List ℕ) → code_of f ≡ Some code → code_of g ≡ Some code → IsBody f body → IsBody g body → f ≡ g
+pub code_unique : (f g : FrontendMessage) (code : ℕ) (body : List ℕ) → code_of f ≡ Some code → code_of g ≡ Some code → IsBody f body → IsBody g body → f ≡ g
 code_unique Ssl g code body e k h j = sym (is_coded g 80877103 body (k ∙ sym e) j)
 code_unique Gss g code body e k h j = sym (is_coded g 80877104 body (k ∙ sym e) j)
 code_unique (Cancel pid secret) g code body e k h j = is_coded (Cancel pid secret) 80877102 body refl h ∙ sym (is_coded g 80877102 body (k ∙ sym e) j)
@@ -111,7 +111,7 @@ pub cancel_tells : (kind : OpeningType) (size : ℕ) (held : List ℕ) → kind 
 cancel_tells kind size held e fits = rw e (λ t. cancel_can size held fits (eqb-true size 8 t), λ can. eq-eqb size 8 (cancel_needs size held can))
 
 -- of an SSL or a GSS request
-request_can : (front : Front) (code size : ℕ) (held : List ℕ) → code_of front ≡ Some code → IsBody front [] → length held ≤ size → size ≡ 0 → CanBeBody code size held
+request_can : (front : FrontendMessage) (code size : ℕ) (held : List ℕ) → code_of front ≡ Some code → IsBody front [] → length held ≤ size → size ≡ 0 → CanBeBody code size held
 request_can front code size held e h fits none =
     let nothing : held ≡ [] = nil_from_length held (omega arith) in
     let both : held ++ [] ≡ [] = append-nil held ∙ nothing in

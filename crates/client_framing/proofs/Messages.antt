@@ -1,10 +1,10 @@
--- A message behind the startup, in the bytes of the stream.
+-- A message after the startup, in the bytes of the stream.
 use Rattle.std.proofs.Common.{◌≡◌, ◌≢◌, ℕ, ◌+◌, ◌-◌, ◌<◌, ◌≤◌, List, [], ◌∷◌, ◌++◌, length, take, drop, refl, sym, ◌∙◌, ap, subst, arith, append_assoc, true}
 use Rattle.std.specs.Prelude.{slice_index, Some}
 use Rattle.std.proofs.lemmas.List.{length-append, drop-drop, take_at, drop_at}
-use Rattle.client_framing.specs.declared.front.Front.{Front}
-use Rattle.client_framing.specs.declared.front.FrameFault.{FrameFault}
-use Rattle.client_framing.specs.declared.front.FrameFault.TheVariants.{BadLength, BadStartup, TooLong, UnknownType, NoTerminator, Memory}
+use Rattle.client_framing.specs.declared.frontend_message.FrontendMessage.{FrontendMessage}
+use Rattle.client_framing.specs.declared.frontend_message.FrameFault.{FrameFault}
+use Rattle.client_framing.specs.declared.frontend_message.FrameFault.TheVariants.{BadLength, BadStartup, TooLong, UnknownType, NoTerminator, Memory}
 use Rattle.client_framing.specs.declared.message_type.MessageType.{MessageType}
 use Rattle.client_framing.specs.Spelling.{number_of, type_of, IsBody, IsMessage}
 use Rattle.client_framing.specs.Fronts.{TakesFront, HasNoFront, HasFault, IsType, CanHaveLength, IsNoText, IsPartial, number_at, body_at_front}
@@ -13,7 +13,7 @@ use Rattle.client_framing.proofs.Numbers.{length-part, two_parts}
 use Rattle.client_framing.proofs.Types.{is_type, query_needs}
 
 -- the message at the front, as the bytes say it
-pub record ReadsMessage (bytes : List ℕ) (front : Front) (more : List ℕ) : Type 0 where
+pub record ReadsMessage (bytes : List ℕ) (front : FrontendMessage) (more : List ℕ) : Type 0 where
   pub low : 4 ≤ number_at 1 bytes
   pub high : number_at 1 bytes ≤ 1048576
   pub whole : 1 + number_at 1 bytes ≤ length bytes
@@ -21,7 +21,7 @@ pub record ReadsMessage (bytes : List ℕ) (front : Front) (more : List ℕ) : T
   pub body_is : IsBody front (body_at_front bytes)
   pub behind : more ≡ drop (1 + number_at 1 bytes) bytes
 
-pub reads_message : (bytes : List ℕ) (front : Front) (more : List ℕ) → TakesFront true bytes front more → ReadsMessage bytes front more
+pub reads_message : (bytes : List ℕ) (front : FrontendMessage) (more : List ℕ) → TakesFront true bytes front more → ReadsMessage bytes front more
 reads_message bytes front more t = go t.spelled
   where
     go : IsMessage front t.taken → ReadsMessage bytes front more
@@ -47,7 +47,7 @@ head_tail [] h = absurd (omega arith)
 head_tail (x ∷ bytes) h = refl
 
 -- what the bytes say is a message
-pub message_stands : (bytes : List ℕ) (front : Front) (len : ℕ) → len ≡ number_at 1 bytes → 4 ≤ len → len ≤ 1048576 → 1 + len ≤ length bytes → type_of front ≡ Some (slice_index bytes 0)
+pub message_stands : (bytes : List ℕ) (front : FrontendMessage) (len : ℕ) → len ≡ number_at 1 bytes → 4 ≤ len → len ≤ 1048576 → 1 + len ≤ length bytes → type_of front ≡ Some (slice_index bytes 0)
     → IsBody front (take (len - 4) (drop 5 bytes)) → TakesFront true bytes front (drop (1 + len) bytes)
 message_stands bytes front len e low high whole kind_is body_is =
     let body = take (len - 4) (drop 5 bytes) in
@@ -75,7 +75,7 @@ message_stands bytes front len e low high whole kind_is body_is =
     }
 
 -- a message can have the length that it has
-pub has_its_length : (bytes : List ℕ) (front : Front) (more : List ℕ) → ReadsMessage bytes front more → CanHaveLength (slice_index bytes 0) (number_at 1 bytes)
+pub has_its_length : (bytes : List ℕ) (front : FrontendMessage) (more : List ℕ) → ReadsMessage bytes front more → CanHaveLength (slice_index bytes 0) (number_at 1 bytes)
 has_its_length bytes front more s =
     let low : 4 ≤ number_at 1 bytes = s.low in
     let whole : 1 + number_at 1 bytes ≤ length bytes = s.whole in
@@ -148,7 +148,7 @@ text_is_bad bytes len kind is e can high whole fault named query no_text other =
     )
 
 -- the message of the code's type, length and body
-pub message_found : (bytes : List ℕ) (front : Front) (kind : MessageType) (len : ℕ) → byte_of kind ≡ slice_index bytes 0 → len ≡ number_at 1 bytes → CanHaveLength (byte_of kind) len → len ≤ 1048576 → 1 + len ≤ length bytes
+pub message_found : (bytes : List ℕ) (front : FrontendMessage) (kind : MessageType) (len : ℕ) → byte_of kind ≡ slice_index bytes 0 → len ≡ number_at 1 bytes → CanHaveLength (byte_of kind) len → len ≤ 1048576 → 1 + len ≤ length bytes
     → type_of front ≡ Some (byte_of kind) → IsBody front (take (1 + len - 5) (drop 5 bytes)) → TakesFront true bytes front (drop (1 + len) bytes)
 message_found bytes front kind len is e can high whole kind_is body_is =
     let low : 4 ≤ len = omega (arith, can.length_is) in

@@ -5,7 +5,7 @@ use Rattle.std.proofs.lemmas.List.{drop-drop, take-append-drop, take-append-le, 
 use Rattle.client_framing.specs.Spelling.{number_of}
 use Rattle.client_framing.specs.Fronts.{number_at}
 
--- a number stays where more bytes come behind it
+-- a number stays where more bytes come after it
 pub number_at-append : (place : ℕ) (bytes more : List ℕ) → place + 4 ≤ length bytes → number_at place (bytes ++ more) ≡ number_at place bytes
 number_at-append place bytes more fits =
     let a : drop place (bytes ++ more) ≡ drop place bytes ++ more = drop-append-le place bytes more (omega arith) in
@@ -21,7 +21,7 @@ first-append (x ∷ bytes) more h = refl
 pub length-part : (xs : List ℕ) (n m : ℕ) → n + m ≤ length xs → length (take m (drop n xs)) ≡ m
 length-part xs n m fits = length-take-le m (drop n xs) (rw length-drop (omega arith))
 
--- a list in two parts behind a first one
+-- a list in two parts after a first one
 pub two_parts : (xs : List ℕ) (n m : ℕ) → drop n xs ≡ take m (drop n xs) ++ drop (n + m) xs
 two_parts xs n m = sym (ap (λ (b : List ℕ). take m (drop n xs) ++ b) (sym (drop-drop m n xs)) ∙ take-append-drop m (drop n xs))
 

@@ -2,16 +2,16 @@
 use Rattle.std.proofs.Common.{◌≡◌, ℕ, ◌+◌, ◌-◌, ◌<◌, ◌≤◌, List, ◌++◌, length, take, drop, refl, sym, ◌∙◌, ap, subst, arith, append_assoc, false}
 use Rattle.std.specs.Prelude.{Some}
 use Rattle.std.proofs.lemmas.List.{length-append, length-drop, drop-drop, take_at, drop_at, take_all, take-append-drop, drop-append-le}
-use Rattle.client_framing.specs.declared.front.Front.{Front}
-use Rattle.client_framing.specs.declared.front.FrameFault.{FrameFault}
-use Rattle.client_framing.specs.declared.front.FrameFault.TheVariants.{BadLength, BadStartup, TooLong, UnknownType, NoTerminator, Memory}
+use Rattle.client_framing.specs.declared.frontend_message.FrontendMessage.{FrontendMessage}
+use Rattle.client_framing.specs.declared.frontend_message.FrameFault.{FrameFault}
+use Rattle.client_framing.specs.declared.frontend_message.FrameFault.TheVariants.{BadLength, BadStartup, TooLong, UnknownType, NoTerminator, Memory}
 use Rattle.client_framing.specs.Spelling.{number_of, code_of, IsBody, IsOpening}
 use Rattle.client_framing.specs.Fronts.{TakesFront, HasNoFront, HasFault, HasCode, CannotOpen, IsPartial, number_at}
 use Rattle.client_framing.specs.Reading.{CanBeBody, held_body}
 use Rattle.client_framing.proofs.Numbers.{number_at-append, length-part, two_parts, take_split}
 
 -- the message at the front, as the bytes say it
-pub record ReadsOpening (bytes : List ℕ) (front : Front) (more : List ℕ) : Type 0 where
+pub record ReadsOpening (bytes : List ℕ) (front : FrontendMessage) (more : List ℕ) : Type 0 where
   pub low : 8 ≤ number_at 0 bytes
   pub high : number_at 0 bytes ≤ 10000
   pub whole : number_at 0 bytes ≤ length bytes
@@ -19,7 +19,7 @@ pub record ReadsOpening (bytes : List ℕ) (front : Front) (more : List ℕ) : T
   pub body_is : IsBody front (held_body bytes)
   pub behind : more ≡ drop (number_at 0 bytes) bytes
 
-pub reads_opening : (bytes : List ℕ) (front : Front) (more : List ℕ) → TakesFront false bytes front more → ReadsOpening bytes front more
+pub reads_opening : (bytes : List ℕ) (front : FrontendMessage) (more : List ℕ) → TakesFront false bytes front more → ReadsOpening bytes front more
 reads_opening bytes front more t = go t.spelled
   where
     go : IsOpening front t.taken → ReadsOpening bytes front more
@@ -42,7 +42,7 @@ reads_opening bytes front more t = go t.spelled
         }
 
 -- what the bytes say is a message
-pub opening_stands : (bytes : List ℕ) (front : Front) (len : ℕ) → len ≡ number_at 0 bytes → 8 ≤ len → len ≤ 10000 → len ≤ length bytes → code_of front ≡ Some (number_at 4 bytes)
+pub opening_stands : (bytes : List ℕ) (front : FrontendMessage) (len : ℕ) → len ≡ number_at 0 bytes → 8 ≤ len → len ≤ 10000 → len ≤ length bytes → code_of front ≡ Some (number_at 4 bytes)
     → IsBody front (take (len - 8) (drop 8 bytes)) → TakesFront false bytes front (drop len bytes)
 opening_stands bytes front len e low high whole code_is body_is =
     let body = take (len - 8) (drop 8 bytes) in
@@ -75,7 +75,7 @@ opening_stands bytes front len e low high whole code_is body_is =
     join p q r s t u e f = rw (e, f) (sym (simp append_assoc))
 
 -- what is held can be the body of a message, where a message will stand
-pub body_before : (bytes more : List ℕ) (front : Front) (rest : List ℕ) → HasCode bytes → TakesFront false (bytes ++ more) front rest → CanBeBody (number_at 4 bytes) (number_at 0 bytes - 8) (held_body bytes)
+pub body_before : (bytes more : List ℕ) (front : FrontendMessage) (rest : List ℕ) → HasCode bytes → TakesFront false (bytes ++ more) front rest → CanBeBody (number_at 4 bytes) (number_at 0 bytes - 8) (held_body bytes)
 body_before bytes more front rest has t =
     let o = reads_opening (bytes ++ more) front rest t in
     let held : 8 ≤ length bytes = has.held in

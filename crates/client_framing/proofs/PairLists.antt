@@ -3,14 +3,16 @@ use Rattle.std.proofs.Common.{◌≡◌, ℕ, ◌+◌, ◌<◌, List, [], ◌∷
 use Rattle.std.proofs.lemmas.List.Concat.{flat_map-append}
 use Rattle.std.specs.Prelude.{flat_map}
 use Rattle.std.specs.List.{AllByRecursion}
-use Rattle.client_framing.specs.Spelling.{Pair, pair_bytes, pairs_bytes, IsPair, HasNoZero}
+use Rattle.cell_base.specs.Texts.{HasNoZero}
+use Rattle.client_framing.specs.Spelling.{Pair, pair_bytes, pairs_bytes, IsPair}
 use Rattle.client_framing.specs.Reading.{HasNoPair, ArePairs}
-use Rattle.client_framing.proofs.Zeros.{NoZero, no_zero_from, split_unique, contains_zero}
+use Rattle.cell_base.proofs.Zeros.{NoZero, no_zero_from}
+use Rattle.client_framing.proofs.Zeros.{split_unique, contains_zero}
 
 pub flat_pair : (n v after : List ℕ) → pair_bytes (n, v) ++ after ≡ n ++ (0 ∷ (v ++ (0 ∷ after)))
 flat_pair n v after = simp append_assoc
 
--- the first pair, and the pairs behind it
+-- the first pair, and the pairs after it
 pub first_pair : (p : Pair) (ps : List Pair) → pairs_bytes (p ∷ ps) ≡ pair_bytes p ++ pairs_bytes ps
 first_pair p ps = append_assoc (pair_bytes p) (flat_map pair_bytes ps) (0 ∷ [])
 
@@ -23,7 +25,7 @@ length-first p ps = rw first_pair (length-append (pair_bytes p) (pairs_bytes ps)
 pub length-pairs : (pairs : List Pair) → 0 < length (pairs_bytes pairs)
 length-pairs pairs = rw length-append (omega arith)
 
--- a pair and what stands behind it are determined
+-- a pair and what stands after it are determined
 pub pair_unique : (p q : Pair) (after more : List ℕ) → IsPair p → IsPair q → pair_bytes p ++ after ≡ pair_bytes q ++ more → (p ≡ q) × (after ≡ more)
 pair_unique (n, v) (m, w) after more hp hq e =
     let e1 : n ++ (0 ∷ (v ++ (0 ∷ after))) ≡ m ++ (0 ∷ (w ++ (0 ∷ more))) = sym (flat_pair n v after) ∙ (e ∙ flat_pair m w more) in
@@ -44,7 +46,7 @@ no_pair_behind bytes name after e no_zero none (n, v) more p f =
     let r = split_unique name after n (v ++ (0 ∷ more)) (no_zero_from name no_zero) (no_zero_from n p.1) g in
     contains_zero v more (let P : List ℕ → Type 0 = NoZero in subst P r.1 (no_zero_from after none))
 
--- the zero byte that ends the pairs begins no pair, whatever stands behind it
+-- the zero byte that ends the pairs begins no pair, whatever stands after it
 pub end_is_no_pair : (after : List ℕ) → HasNoPair (0 ∷ after)
 end_is_no_pair after ([], v) more h e = h.0 refl
 end_is_no_pair after (x ∷ n, v) more h e = (no_zero_from (x ∷ n) h.1).0 (cc)
@@ -60,7 +62,7 @@ pairs_unique (p ∷ ps) (q ∷ qs) hp hq e =
     let tails : ps ≡ qs = pairs_unique ps qs hp.1 hq.1 r.1 in
     cc
 
--- behind a pair stand the pairs that are left
+-- after a pair stand the pairs that are left
 pub pairs_behind : (rest after : List ℕ) (p : Pair) → ArePairs rest → IsPair p → rest ≡ pair_bytes p ++ after → ArePairs after
 pairs_behind rest after p are is_pair e = go are.pairs are.each are.whole
   where

@@ -2,9 +2,9 @@
 use Rattle.std.proofs.Common.{◌≡◌, ℕ, ◌+◌, ◌-◌, ◌<◌, ◌≤◌, List, [], ◌∷◌, ◌++◌, length, take, drop, refl, sym, ◌∙◌, ap, subst, arith, append_assoc, append-nil, Bool, true, false}
 use Rattle.std.specs.Prelude.{slice_index, Option, None, Some, IfSome}
 use Rattle.std.proofs.lemmas.List.{length-append, length-drop, drop-append-le, take-append-le}
-use Rattle.client_framing.specs.declared.front.Front.{Front}
-use Rattle.client_framing.specs.declared.front.FrameFault.{FrameFault}
-use Rattle.client_framing.specs.declared.front.FrameFault.TheVariants.{BadLength, BadStartup, TooLong, UnknownType, NoTerminator, Memory}
+use Rattle.client_framing.specs.declared.frontend_message.FrontendMessage.{FrontendMessage}
+use Rattle.client_framing.specs.declared.frontend_message.FrameFault.{FrameFault}
+use Rattle.client_framing.specs.declared.frontend_message.FrameFault.TheVariants.{BadLength, BadStartup, TooLong, UnknownType, NoTerminator, Memory}
 use Rattle.client_framing.specs.Spelling.{phase_after}
 use Rattle.client_framing.specs.Fronts.{TakesFront, HasFault, HasCode, HasLength, HasQuery, IsType, CanHaveLength, IsNoText, body_at_front, number_at, Stream, message, partial, faulty, unread, IsStream, IsRead, grafted, phase_behind, TakesFronts}
 use Rattle.client_framing.specs.Reading.{held_body}
@@ -15,7 +15,7 @@ use Rattle.client_framing.proofs.Openings.{reads_opening}
 use Rattle.client_framing.proofs.Messages.{reads_message, has_its_length}
 
 -- the message at the front is determined
-pub front_unique : (started : Bool) (f g : Front) (bytes a b : List ℕ) → TakesFront started bytes f a → TakesFront started bytes g b → f ≡ g
+pub front_unique : (started : Bool) (f g : FrontendMessage) (bytes a b : List ℕ) → TakesFront started bytes f a → TakesFront started bytes g b → f ≡ g
 front_unique false f g bytes a b h k =
     let o = reads_opening bytes f a h in
     let p = reads_opening bytes g b k in
@@ -25,13 +25,13 @@ front_unique true f g bytes a b h k =
     let p = reads_message bytes g b k in
     type_unique f g (slice_index bytes 0) (body_at_front bytes) o.kind_is p.kind_is o.body_is p.body_is
 
--- so is what stands behind it
-pub behind_unique : (started : Bool) (f g : Front) (bytes a b : List ℕ) → TakesFront started bytes f a → TakesFront started bytes g b → a ≡ b
+-- so is what stands after it
+pub behind_unique : (started : Bool) (f g : FrontendMessage) (bytes a b : List ℕ) → TakesFront started bytes f a → TakesFront started bytes g b → a ≡ b
 behind_unique false f g bytes a b h k = (reads_opening bytes f a h).behind ∙ sym ((reads_opening bytes g b k).behind)
 behind_unique true f g bytes a b h k = (reads_message bytes f a h).behind ∙ sym ((reads_message bytes g b k).behind)
 
 -- a message has bytes
-pub takes_bytes : (started : Bool) (bytes more : List ℕ) (front : Front) → TakesFront started bytes front more → length more < length bytes
+pub takes_bytes : (started : Bool) (bytes more : List ℕ) (front : FrontendMessage) → TakesFront started bytes front more → length more < length bytes
 takes_bytes false bytes more front t =
     let o = reads_opening bytes front more t in
     let low : 8 ≤ number_at 0 bytes = o.low in
@@ -44,7 +44,7 @@ takes_bytes true bytes more front t =
     omega (arith, ap length o.behind, length-drop (1 + number_at 1 bytes) bytes)
 
 -- where a message stands at the front there is no fault
-pub front_no_fault : (started : Bool) (front : Front) (fault : FrameFault) (bytes more : List ℕ) → TakesFront started bytes front more → HasFault started bytes fault → ⊥
+pub front_no_fault : (started : Bool) (front : FrontendMessage) (fault : FrameFault) (bytes more : List ℕ) → TakesFront started bytes front more → HasFault started bytes fault → ⊥
 front_no_fault false front fault bytes more t = go fault
   where
     go : (fault : FrameFault) → HasFault false bytes fault → ⊥
@@ -82,7 +82,7 @@ opening_unique bytes (TooLong m) _ h k = absurd k
 opening_unique bytes BadStartup _ h k = absurd k
 opening_unique bytes _ g h k = absurd h
 
--- two faults behind it
+-- two faults after it
 unknown_known : (bytes : List ℕ) (m : ℕ) → HasFault true bytes (UnknownType m) → IsType (slice_index bytes 0) → ⊥
 unknown_known bytes m h known = h.2 (let P : ℕ → Type 0 = IsType in subst P h.1 known)
 
@@ -135,7 +135,7 @@ pub stream_unique : (started : Bool) (bytes : List ℕ) (s t : Stream) → IsStr
 stream_unique started bytes (message f s) (message g t) h k r q =
     let same : f ≡ g = front_unique started f g bytes h.0 k.0 h.1 k.1 in
     let behind : h.0 ≡ k.0 = behind_unique started f g bytes h.0 k.0 h.1 k.1 in
-    let other : IsStream (phase_after started f) h.0 t = subst (λ (x : List ℕ). IsStream (phase_after started f) x t) (sym behind) (subst (λ (x : Front). IsStream (phase_after started x) k.0 t) (sym same) k.2) in
+    let other : IsStream (phase_after started f) h.0 t = subst (λ (x : List ℕ). IsStream (phase_after started f) x t) (sym behind) (subst (λ (x : FrontendMessage). IsStream (phase_after started x) k.0 t) (sym same) k.2) in
     let rest : s ≡ t = stream_unique (phase_after started f) h.0 s t h.2 other r q in
     cc
 stream_unique started bytes (message f s) (partial b) h k r q = absurd (k.1.no_front f h.0 h.1)
@@ -151,14 +151,14 @@ stream_unique started bytes (faulty d) (faulty e) h k r q = ap (λ (x : FrameFau
 stream_unique started bytes (faulty d) unread h k r q = absurd q
 stream_unique started bytes unread t h k r q = absurd r
 
--- messages, and what is read behind them
-pub stream_behind : (started : Bool) (bytes : List ℕ) (fronts : List Front) (rest : List ℕ) (s : Stream) → TakesFronts started bytes fronts rest → IsStream (phase_behind started fronts) rest s
+-- messages, and what is read after them
+pub stream_behind : (started : Bool) (bytes : List ℕ) (fronts : List FrontendMessage) (rest : List ℕ) (s : Stream) → TakesFronts started bytes fronts rest → IsStream (phase_behind started fronts) rest s
     → IsStream started bytes (grafted fronts s)
 stream_behind started bytes [] rest s t h = let P : List ℕ → Type 0 = λ (x : List ℕ). IsStream started x s in subst P (sym t) h
 stream_behind started bytes (f ∷ fs) rest s t h = (t.0, t.1, stream_behind (phase_after started f) t.0 fs rest s t.2 h)
 
 -- a stream that is grafted is read where its end is
-pub read_behind : (fronts : List Front) (s : Stream) → IsRead s → IsRead (grafted fronts s)
+pub read_behind : (fronts : List FrontendMessage) (s : Stream) → IsRead s → IsRead (grafted fronts s)
 read_behind [] s r = r
 read_behind (f ∷ fs) s r = read_behind fs s r
 

@@ -1,28 +1,8 @@
 -- Texts that a zero byte ends.
-use Rattle.std.proofs.Common.{◌≡◌, ◌≢◌, ℕ, zero, suc, ◌≤◌, List, [], ◌∷◌, ◌++◌, length, refl, sym, ◌∙◌, arith, get_or}
-use Rattle.client_framing.specs.Spelling.{HasNoZero}
+use Rattle.std.proofs.Common.{◌≡◌, ◌≢◌, ℕ, zero, suc, ◌≤◌, List, [], ◌∷◌, ◌++◌, length, refl, sym, ◌∙◌, arith}
+use Rattle.cell_base.specs.Texts.{HasNoZero}
+use Rattle.cell_base.proofs.Zeros.{NoZero, no_zero_from}
 use Rattle.client_framing.specs.Fronts.{IsNoText}
-
--- no zero byte, by cases
-abbrev pub NoZero : List ℕ → Type 0
-NoZero [] = Unit {0}
-NoZero (x ∷ xs) = (x ≢ 0) × NoZero xs
-
-pub no_zero_from : (xs : List ℕ) → HasNoZero xs → NoZero xs
-no_zero_from [] h = tt
-no_zero_from (x ∷ xs) h = (λ e. h (0, omega arith, e), no_zero_from xs (λ k. h (suc k.0, omega (arith, k.1), k.2)))
-
-not_at : (xs : List ℕ) (k : ℕ) → NoZero xs → suc k ≤ length xs → get_or xs k 0 ≡ 0 → ⊥
-not_at [] k h lt e = omega arith
-not_at (x ∷ xs) zero h lt e = h.0 e
-not_at (x ∷ xs) (suc k) h lt e = not_at xs k h.1 (omega arith) e
-
-pub has_no_zero : (xs : List ℕ) → NoZero xs → HasNoZero xs
-has_no_zero xs h k = not_at xs k.0 h (omega (arith, k.1)) k.2
-
-pub no_zero-append : (xs ys : List ℕ) → NoZero xs → NoZero ys → NoZero (xs ++ ys)
-no_zero-append [] ys h k = k
-no_zero-append (x ∷ xs) ys h k = (h.0, no_zero-append xs ys h.1 k)
 
 -- bytes that aren't zero, so many
 pub ones : ℕ → List ℕ
@@ -60,7 +40,7 @@ pub contains_zero : (a b : List ℕ) → NoZero (a ++ (0 ∷ b)) → ⊥
 contains_zero [] b h = h.0 refl
 contains_zero (x ∷ a) b h = contains_zero a b h.1
 
--- with bytes behind the first zero byte they are no text
+-- with bytes after the first zero byte they are no text
 pub no_text_behind : (bytes text after : List ℕ) → bytes ≡ text ++ (0 ∷ after) → HasNoZero text → after ≢ [] → IsNoText bytes
 no_text_behind bytes text after e no_zero more other is =
     more ((split_unique text after other [] (no_zero_from text no_zero) (no_zero_from other is.0) (sym e ∙ is.1)).1)

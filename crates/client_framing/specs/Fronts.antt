@@ -1,9 +1,9 @@
--- A stream of a client's messages: the messages that stand in it, what is left behind them, and what is wrong there.
+-- A stream of a client's messages: the messages that stand in it, what is left after them, and what is wrong there.
 use Rattle.std.specs.Prelude.{◌≡◌, ℕ, ◌+◌, ◌-◌, ◌≤◌, ◌<◌, List, [], ◌∷◌, ◌++◌, length, take, drop, slice_index, Bool, true, false, Option, None, Some}
-use Rattle.client_framing.specs.declared.front.Front.{Front}
-use Rattle.client_framing.specs.declared.front.Front.TheVariants.{Query}
-use Rattle.client_framing.specs.declared.front.FrameFault.{FrameFault}
-use Rattle.client_framing.specs.declared.front.FrameFault.TheVariants.{BadLength, BadStartup, TooLong, UnknownType, NoTerminator, Memory}
+use Rattle.client_framing.specs.declared.frontend_message.FrontendMessage.{FrontendMessage}
+use Rattle.client_framing.specs.declared.frontend_message.FrontendMessage.TheVariants.{Query}
+use Rattle.client_framing.specs.declared.frontend_message.FrameFault.{FrameFault}
+use Rattle.client_framing.specs.declared.frontend_message.FrameFault.TheVariants.{BadLength, BadStartup, TooLong, UnknownType, NoTerminator, Memory}
 use Rattle.client_framing.specs.Spelling.{number_of, type_of, IsBody, IsSpelling, phase_after}
 
 -- what a reader of messages holds
@@ -13,14 +13,14 @@ pub record Held : Type 0 where
   pub fault : Option FrameFault
 
 -- one message comes off the front
-pub record TakesFront (started : Bool) (bytes : List ℕ) (front : Front) (more : List ℕ) : Type 0 where
+pub record TakesFront (started : Bool) (bytes : List ℕ) (front : FrontendMessage) (more : List ℕ) : Type 0 where
   pub taken : List ℕ
   pub spelled : IsSpelling started front taken
   pub whole : bytes ≡ taken ++ more
 
 -- no message of this phase stands at the front
 abbrev pub HasNoFront : Bool → List ℕ → Type 0
-HasNoFront started bytes = (front : Front) (more : List ℕ) → TakesFront started bytes front more → ⊥
+HasNoFront started bytes = (front : FrontendMessage) (more : List ℕ) → TakesFront started bytes front more → ⊥
 
 -- the number that the four bytes at this place are
 abbrev pub number_at : ℕ → List ℕ → ℕ
@@ -38,12 +38,12 @@ CannotOpen bytes = (more : List ℕ) → HasNoFront false (bytes ++ more)
 
 -- a message has this type byte
 pub record IsType (kind : ℕ) : Type 0 where
-  pub front : Front
+  pub front : FrontendMessage
   pub kind_is : type_of front ≡ Some kind
 
 -- a message of this type byte can have this length
 pub record CanHaveLength (kind len : ℕ) : Type 0 where
-  pub front : Front
+  pub front : FrontendMessage
   pub body : List ℕ
   pub kind_is : type_of front ≡ Some kind
   pub body_is : IsBody front body
@@ -62,7 +62,7 @@ pub record HasQuery (bytes : List ℕ) : Type 0 where
   pub high : number_at 1 bytes ≤ 1048576
   pub whole : 1 + number_at 1 bytes ≤ length bytes
 
--- what stands behind the length of a message that is held whole
+-- what stands after the length of a message that is held whole
 abbrev pub body_at_front : List ℕ → List ℕ
 body_at_front bytes = take (number_at 1 bytes - 4) (drop 5 bytes)
 
@@ -92,7 +92,7 @@ pub record IsPartial (started : Bool) (bytes : List ℕ) : Type 0 where
 
 -- a stream as it is read: messages, and then less than a whole one, or a fault, or what nobody has looked at
 pub data Stream : Type 0 where
-  message : Front → Stream → Stream
+  message : FrontendMessage → Stream → Stream
   partial : List ℕ → Stream
   faulty : FrameFault → Stream
   unread : Stream
@@ -111,18 +111,18 @@ IsRead (partial rest) = Unit {0}
 IsRead (faulty fault) = Unit {0}
 IsRead unread = ⊥
 
--- the messages, and behind them the stream
-abbrev pub grafted : List Front → Stream → Stream
+-- the messages, and after them the stream
+abbrev pub grafted : List FrontendMessage → Stream → Stream
 grafted [] stream = stream
 grafted (front ∷ fronts) stream = message front (grafted fronts stream)
 
--- the phase behind the messages
-abbrev pub phase_behind : Bool → List Front → Bool
+-- the phase after the messages
+abbrev pub phase_behind : Bool → List FrontendMessage → Bool
 phase_behind started [] = started
 phase_behind started (front ∷ fronts) = phase_behind (phase_after started front) fronts
 
--- the messages come off the front of the bytes one after another, and this is left behind them
-abbrev pub TakesFronts : Bool → List ℕ → List Front → List ℕ → Type 0
+-- the messages come off the front of the bytes one after another, and this is left after them
+abbrev pub TakesFronts : Bool → List ℕ → List FrontendMessage → List ℕ → Type 0
 TakesFronts started bytes [] rest = bytes ≡ rest
 TakesFronts started bytes (front ∷ fronts) rest = (more : List ℕ) × TakesFront started bytes front more × TakesFronts (phase_after started front) more fronts rest
 

@@ -1,12 +1,12 @@
 -- What the parts of a reader of messages say of each other. The pages of definitions are `Spelling` and `Fronts`.
 use Rattle.std.specs.Prelude.{◌≡◌, ℕ, ◌-◌, List, ◌++◌, length, take, drop, false, Option, Some, MatchOption}
 use Rattle.std.specs.List.{AllByRecursion}
-use Rattle.client_framing.specs.declared.front.Front.{Front}
-use Rattle.client_framing.specs.declared.front.Extended.TheVariants.{Parse, Bind, Describe, Execute, Close}
-use Rattle.client_framing.specs.declared.front.CopyMessage.TheVariants.{Data, Done, Fail}
-use Rattle.client_framing.specs.declared.front.FrameFault.{FrameFault}
+use Rattle.client_framing.specs.declared.frontend_message.FrontendMessage.{FrontendMessage}
+use Rattle.client_framing.specs.declared.frontend_message.Extended.TheVariants.{Parse, Bind, Describe, Execute, Close}
+use Rattle.client_framing.specs.declared.frontend_message.CopyMessage.TheVariants.{Data, Done, Fail}
+use Rattle.client_framing.specs.declared.frontend_message.FrameFault.{FrameFault}
 use Rattle.client_framing.specs.declared.message_type.MessageType.{MessageType}
-use Rattle.client_framing.specs.declared.message_type.MessageType.TheVariants.{Query, Terminate, Sync, Flush, Extended, Function, Copy}
+use Rattle.client_framing.specs.declared.message_type.MessageType.TheVariants.{Query, Terminate, Sync, Flush, Extended, FunctionCall, Copy}
 use Rattle.client_framing.specs.declared.opening_type.OpeningType.{OpeningType}
 use Rattle.client_framing.specs.declared.opening_type.OpeningType.TheVariants.{Startup, Cancel, Ssl, Gss, Version}
 use Rattle.client_framing.specs.Spelling.{Pair, pair_bytes, pairs_bytes, code_of, IsPair, IsBody, IsOtherVersion}
@@ -23,7 +23,7 @@ byte_of (Extended Bind) = 66
 byte_of (Extended Describe) = 68
 byte_of (Extended Execute) = 69
 byte_of (Extended Close) = 67
-byte_of Function = 70
+byte_of FunctionCall = 70
 byte_of (Copy Data) = 100
 byte_of (Copy Done) = 99
 byte_of (Copy Fail) = 102
@@ -51,7 +51,7 @@ pub record ArePairs (bytes : List ℕ) : Type 0 where
   pub each : AllByRecursion IsPair pairs
   pub whole : bytes ≡ pairs_bytes pairs
 
--- with more bytes behind them, these are pairs and their end, of this size
+-- with more bytes after them, these are pairs and their end, of this size
 pub record CanBePairs (size : ℕ) (held : List ℕ) : Type 0 where
   pub pairs : List Pair
   pub more : List ℕ
@@ -59,9 +59,9 @@ pub record CanBePairs (size : ℕ) (held : List ℕ) : Type 0 where
   pub fills : length (pairs_bytes pairs) ≡ size
   pub whole : held ++ more ≡ pairs_bytes pairs
 
--- with more bytes behind them, these are the body of a message of this code, of this size
+-- with more bytes after them, these are the body of a message of this code, of this size
 pub record CanBeBody (code size : ℕ) (held : List ℕ) : Type 0 where
-  pub front : Front
+  pub front : FrontendMessage
   pub more : List ℕ
   pub code_is : code_of front ≡ Some code
   pub body_is : IsBody front (held ++ more)
@@ -71,8 +71,8 @@ pub record CanBeBody (code size : ℕ) (held : List ℕ) : Type 0 where
 abbrev pub held_body : List ℕ → List ℕ
 held_body bytes = take (number_at 0 bytes - 8) (drop 8 bytes)
 
--- the stream is these messages, and behind them what is held
-pub record SplitsInto (stream : List ℕ) (fronts : List Front) (held : Held) : Type 0 where
+-- the stream is these messages, and after them what is held
+pub record SplitsInto (stream : List ℕ) (fronts : List FrontendMessage) (held : Held) : Type 0 where
   pub takes : TakesFronts false stream fronts held.rest
   pub phase : held.started ≡ phase_behind false fronts
 

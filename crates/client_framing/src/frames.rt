@@ -4,7 +4,7 @@ ghost use Rattle.client_framing.specs.Fronts.{TakesFront, IsPartial, HasFault};
 
 use crate::main_phase::message_of;
 use crate::opening::opening_of;
-use crate::{FrameFault, Front};
+use crate::{FrameFault, FrontendMessage};
 use cell_base::Memory;
 use std::alloc::Global;
 use std::marker::Model;
@@ -49,7 +49,7 @@ impl Frames {
         }
     }
 
-    /// Takes the next piece of the stream, of any size. On want of memory nothing changes.
+    /// Takes the next piece of the stream, of any size. Out of memory, nothing changes.
     pub fn feed(&mut self, piece: &[u8]) -> Result<(), Memory>
         ensures ok { OnOk result (self.new ≡ record self.old { rest = self.old.rest ++ piece.now }) }
         ensures err { OnErr result (self.new ≡ self.old) }
@@ -72,10 +72,10 @@ impl Frames {
     }
 
     /// Takes the first whole message. `None` comes exactly where what is held begins with neither a message nor a fault.
-    /// A fault other than want of memory is answered for good; on want of memory nothing changes.
-    pub fn next(&mut self) -> Result<Option<Front>, FrameFault>
-        ensures front { IfOk result (λ r. IfSome r (λ front. TakesFront self.old.started self.old.rest front self.new.rest)) }
-        ensures started { IfOk result (λ r. IfSome r (λ front. self.new.started ≡ phase_after self.old.started front)) }
+    /// A fault other than `Memory` is answered for good; out of memory, nothing changes.
+    pub fn next(&mut self) -> Result<Option<FrontendMessage>, FrameFault>
+        ensures front { IfOk result (λ r. IfSome r (λ message. TakesFront self.old.started self.old.rest message self.new.rest)) }
+        ensures started { IfOk result (λ r. IfSome r (λ message. self.new.started ≡ phase_after self.old.started message)) }
         ensures sound { IfOk result (λ r. (self.old.fault ≡ None) × (self.new.fault ≡ None)) }
         ensures partial { IfOk result (λ r. IsNone r → (self.new ≡ self.old) × IsPartial self.old.started self.old.rest) }
         ensures fault { IfErr result (λ e. e ≢ FrameFault.Memory → (self.new ≡ record self.old { fault = Some e }) × HasFault self.old.started self.old.rest e) }
@@ -85,14 +85,14 @@ impl Frames {
         if let Some(fault) = self.fault {
             return Err(fault);
         }
-        match front_of(self.alloc, self.started, &self.bytes[self.start..]) {
+        match first_message(self.alloc, self.started, &self.bytes[self.start..]) {
             Ok(None) => Ok(None),
-            Ok(Some((front, len))) => {
+            Ok(Some((message, len))) => {
                 self.start += len;
-                if let Front::Startup(_) = &front {
+                if let FrontendMessage::Startup(_) = &message {
                     self.started = true;
                 }
-                Ok(Some(front))
+                Ok(Some(message))
             }
             Err(FrameFault::Memory) => Err(FrameFault::Memory),
             Err(fault) => {
@@ -111,11 +111,11 @@ impl Frames {
 }
 
 // The first message of the phase, and how many bytes it takes.
-fn front_of(
+fn first_message(
     alloc: Global,
     started: bool,
     bytes: &[u8],
-) -> Result<Option<(Front, usize)>, FrameFault>
+) -> Result<Option<(FrontendMessage, usize)>, FrameFault>
     ensures found { IfOk result (λ r. IfSome r (λ x. TakesFront started bytes.now x.0 (drop x.1 bytes.now))) }
     ensures within { IfOk result (λ r. IfSome r (λ x. x.1 ≤ length bytes.now)) }
     ensures partial { IfOk result (λ r. IsNone r → IsPartial started bytes.now) }

@@ -1,4 +1,4 @@
-// The types of the messages that stand behind the startup.
+// The types of the messages that stand after the startup.
 ghost use Rattle.std.specs.Prelude.{◌≡◌, ◌↔◌, IfSome, IsNone, IsTrue};
 ghost use Rattle.client_framing.specs.Fronts.{IsType, CanHaveLength};
 ghost use Rattle.client_framing.specs.Reading.{byte_of};
@@ -13,7 +13,7 @@ pub enum MessageType {
     Sync,
     Flush,
     Extended(Extended),
-    Function,
+    FunctionCall,
     Copy(CopyMessage),
 }
 
@@ -32,7 +32,7 @@ pub fn type_of(byte: u8) -> Option<MessageType>
         b'D' => Some(MessageType::Extended(Extended::Describe)),
         b'E' => Some(MessageType::Extended(Extended::Execute)),
         b'C' => Some(MessageType::Extended(Extended::Close)),
-        b'F' => Some(MessageType::Function),
+        b'F' => Some(MessageType::FunctionCall),
         b'd' => Some(MessageType::Copy(CopyMessage::Data)),
         b'c' => Some(MessageType::Copy(CopyMessage::Done)),
         b'f' => Some(MessageType::Copy(CopyMessage::Fail)),
@@ -47,6 +47,6 @@ pub fn can_have_length(kind: MessageType, len: u32) -> bool
     match kind {
         MessageType::Query => len >= 5,
         MessageType::Terminate | MessageType::Sync | MessageType::Flush => len == 4,
-        MessageType::Extended(_) | MessageType::Function | MessageType::Copy(_) => len >= 4,
+        MessageType::Extended(_) | MessageType::FunctionCall | MessageType::Copy(_) => len >= 4,
     }
 }

@@ -7,7 +7,7 @@ ghost use Rattle.client_framing.specs.Reading.{CanBeBody, IsRightlyNamed, openin
 use crate::opening_type::{OpeningType, opening_type};
 use crate::pairs::{can_be_pairs, pairs_of};
 use crate::parts::number_at;
-use crate::{FrameFault, Front};
+use crate::{FrameFault, FrontendMessage};
 use cell_base::Memory;
 use std::alloc::Global;
 
@@ -15,7 +15,10 @@ use std::alloc::Global;
 const MOST_LENGTH: u32 = 10_000;
 
 /// The message before the startup's end, and how many bytes it takes.
-pub fn opening_of(alloc: Global, bytes: &[u8]) -> Result<Option<(Front, usize)>, FrameFault>
+pub fn opening_of(
+    alloc: Global,
+    bytes: &[u8],
+) -> Result<Option<(FrontendMessage, usize)>, FrameFault>
     ensures found { IfOk result (λ r. IfSome r (λ x. TakesFront false bytes.now x.0 (drop x.1 bytes.now))) }
     ensures within { IfOk result (λ r. IfSome r (λ x. x.1 ≤ length bytes.now)) }
     ensures partial { IfOk result (λ r. IsNone r → IsPartial false bytes.now) }
@@ -43,11 +46,11 @@ pub fn opening_of(alloc: Global, bytes: &[u8]) -> Result<Option<(Front, usize)>,
     if bytes.len() < len {
         return Ok(None);
     }
-    let front = front_of(alloc, kind, held)?;
-    Ok(Some((front, len)))
+    let message = opening_with(alloc, kind, held)?;
+    Ok(Some((message, len)))
 }
 
-// What is held of a message's bytes behind its code.
+// What is held of a message's bytes after its code.
 fn held_behind_code(bytes: &[u8], len: usize) -> &[u8]
     requires held { 8 ≤ length bytes.now }
     requires low { 8 ≤ len }
@@ -75,17 +78,17 @@ fn can_be_body(kind: OpeningType, held: &[u8], size: usize) -> bool
 }
 
 // The message of this type and body.
-fn front_of(alloc: Global, kind: OpeningType, body: &[u8]) -> Result<Front, Memory>
+fn opening_with(alloc: Global, kind: OpeningType, body: &[u8]) -> Result<FrontendMessage, Memory>
     requires body { CanBeBody (opening_code kind) (length body.now) body.now }
     requires named { IsRightlyNamed kind }
-    ensures code { IfOk result (λ front. code_of front ≡ Some (opening_code kind)) }
-    ensures body { IfOk result (λ front. IsBody front body.now) }
+    ensures code { IfOk result (λ message. code_of message ≡ Some (opening_code kind)) }
+    ensures body { IfOk result (λ message. IsBody message body.now) }
 {
     match kind {
-        OpeningType::Startup => Ok(Front::Startup(pairs_of(alloc, body)?)),
-        OpeningType::Cancel => Ok(Front::Cancel(number_at(body, 0), number_at(body, 4))),
-        OpeningType::Ssl => Ok(Front::Ssl),
-        OpeningType::Gss => Ok(Front::Gss),
-        OpeningType::Version(code) => Ok(Front::Version(code)),
+        OpeningType::Startup => Ok(FrontendMessage::Startup(pairs_of(alloc, body)?)),
+        OpeningType::Cancel => Ok(FrontendMessage::Cancel(number_at(body, 0), number_at(body, 4))),
+        OpeningType::Ssl => Ok(FrontendMessage::Ssl),
+        OpeningType::Gss => Ok(FrontendMessage::Gss),
+        OpeningType::Version(code) => Ok(FrontendMessage::Version(code)),
     }
 }

@@ -38,7 +38,7 @@ fn has_room_for_end(room: usize) -> bool
     room == 1 || room >= 4
 }
 
-// The first pair, as its name and its value, and what stands behind it.
+// The first pair, as its name and its value, and what stands after it.
 fn pair_at(bytes: &[u8]) -> Option<(&[u8], &[u8], &[u8])>
     ensures some { IfSome result (λ x. bytes.now ≡ pair_bytes (x.0.now, x.1.now) ++ x.2.now) }
     ensures is_pair { IfSome result (λ x. IsPair (x.0.now, x.1.now)) }

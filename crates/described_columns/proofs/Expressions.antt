@@ -13,7 +13,8 @@ use Rattle.sql_tree.specs.declared.op.Op.TheVariants.{And, Ge, Le}
 use Rattle.sql_grammar.specs.declared.mark.Mark.{Mark}
 use Rattle.sql_grammar.specs.declared.mark.Mark.TheVariants as m
 use Rattle.sql_grammar.specs.Grammar.{Level, Spells, name_of, within}
-use Rattle.sql_grammar.specs.Limited.{HasNoZero, IsPlainName}
+use Rattle.cell_base.specs.Texts.{HasNoZero}
+use Rattle.sql_grammar.specs.Limited.{IsPlainName}
 use Rattle.typing_rules.specs.Select.{plain_name}
 use Rattle.sound_table.proofs.Yields.{IsPlainMark, ArePlain}
 

@@ -7,7 +7,7 @@ use Rattle.sql_tree.specs.declared.statement.Statement.TheVariants as tree
 use Rattle.sql_tree.specs.declared.table.Table.{Table}
 use Rattle.sql_tree.specs.declared.typed.Typed.TheVariants as typed_tree
 use Rattle.sql_tree.specs.declared.typed.TypedSelect.{TypedSelect}
-use Rattle.sql_grammar.specs.Limited.{HasNoZero}
+use Rattle.cell_base.specs.Texts.{HasNoZero}
 use Rattle.sql_statements.specs.Faults.{AreStatementsOf}
 use Rattle.typing_rules.specs.Select.{typed_select}
 use Rattle.typing_rules.specs.Typed.{typed}

@@ -4,9 +4,9 @@ use Rattle.std.specs.Prelude.{◌==◌}
 use Rattle.std.proofs.lemmas.List.{append-nil}
 use Rattle.cell_base.specs.declared.level.Level.{Level}
 use Rattle.cell_base.specs.declared.sql_state.SqlState.TheVariants as states
-use Rattle.client_framing.specs.declared.front.Front.{Front}
-use Rattle.client_framing.specs.declared.front.FrameFault.{FrameFault}
-use Rattle.client_framing.specs.declared.front.Front.TheVariants.{Ssl, Gss, Cancel, Startup, Version, Query, Terminate, Sync, Flush, Extended, Function, Copy}
+use Rattle.client_framing.specs.declared.frontend_message.FrontendMessage.{FrontendMessage}
+use Rattle.client_framing.specs.declared.frontend_message.FrameFault.{FrameFault}
+use Rattle.client_framing.specs.declared.frontend_message.FrontendMessage.TheVariants.{Ssl, Gss, Cancel, Startup, Version, Query, Terminate, Sync, Flush, Extended, FunctionCall, Copy}
 use Rattle.client_framing.specs.Spelling.{phase_after}
 use Rattle.client_framing.specs.Fronts.{TakesFront}
 use Rattle.client_framing.proofs.Streams.{front_unique, behind_unique, front_no_fault, fault_unique, fault_stays}
@@ -167,12 +167,12 @@ same_asks E level a b phase known s t h same =
     subst (λ (x : Ask). Agree E (told.handled level a phase known s) (told.handled level x phase known t)) same (handled E level a phase known s t h)
 
 -- a front that asks for one thing, and what it is
-abbrev IsPlain : Front → Type 0
+abbrev IsPlain : FrontendMessage → Type 0
 IsPlain (Startup pairs) = ⊥
 IsPlain (Query text) = ⊥
 IsPlain _ = Unit {0}
 
-abbrev ask_of : Front → Ask
+abbrev ask_of : FrontendMessage → Ask
 ask_of Ssl = encryption
 ask_of Gss = encryption
 ask_of (Cancel pid secret) = cancel
@@ -182,10 +182,10 @@ ask_of Sync = sync
 ask_of Flush = nothing
 ask_of (Copy part) = nothing
 ask_of (Extended step) = extended
-ask_of Function = function
+ask_of FunctionCall = function
 ask_of _ = nothing
 
-only_ask : (front : Front) (a : Ask) → IsPlain front → Says front a → a ≡ ask_of front
+only_ask : (front : FrontendMessage) (a : Ask) → IsPlain front → Says front a → a ≡ ask_of front
 only_ask (Startup pairs) a plain x = absurd plain
 only_ask (Query text) a plain x = absurd plain
 only_ask Ssl encryption plain x = refl
@@ -197,7 +197,7 @@ only_ask Sync sync plain x = refl
 only_ask Flush nothing plain x = refl
 only_ask (Copy part) nothing plain x = refl
 only_ask (Extended step) extended plain x = refl
-only_ask Function function plain x = refl
+only_ask FunctionCall function plain x = refl
 only_ask _ _ plain x = absurd x
 
 -- what a startup asks for
@@ -240,7 +240,7 @@ one_query E level text a b phase known s t h (inr x) (inl y) =
     both_ask E level a b unread_query (query y.0) phase known s t x y.1 (unread_read E level y.0 phase known s t h)
 one_query E level text a b phase known s t h (inr x) (inr y) = same_asks E level a b phase known s t h (x ∙ sym y)
 
-asked_alike : (E : End → Type 0) → (level : Level) (front : Front) (a b : Ask) (phase : Phase) (known : List Table) (s t : Follow) → FollowAlike E s t →
+asked_alike : (E : End → Type 0) → (level : Level) (front : FrontendMessage) (a b : Ask) (phase : Phase) (known : List Table) (s t : Follow) → FollowAlike E s t →
     Says front a → Says front b → Agree E (told.handled level a phase known s) (told.handled level b phase known t)
 asked_alike E level (Query text) a b phase known s t h x y = one_query E level text a b phase known s t h (query_asks text a x) (query_asks text b y)
 asked_alike E level (Startup pairs) a b phase known s t h x y =
@@ -422,7 +422,7 @@ partial_agrees (z ∷ zs) level phase known started bytes rest other a b = recor
 }
 
 -- a message stands at the front, whatever follows
-takes_further : (started : Bool) (bytes extra : List ℕ) (front : Front) (behind : List ℕ) → TakesFront started bytes front behind →
+takes_further : (started : Bool) (bytes extra : List ℕ) (front : FrontendMessage) (behind : List ℕ) → TakesFront started bytes front behind →
     TakesFront started (bytes ++ extra) front (behind ++ extra)
 takes_further started bytes extra front behind takes = record {
   taken = takes.taken;
@@ -446,9 +446,9 @@ sessions_agree extra level phase known started bytes (asks x one) (asks y other)
     let further = takes_further started bytes extra a.0 a.1 a.2 in
     let front : a.0 ≡ b.0 = front_unique started a.0 b.0 (bytes ++ extra) (a.1 ++ extra) b.1 further b.2 in
     let behind : a.1 ++ extra ≡ b.1 = behind_unique started a.0 b.0 (bytes ++ extra) (a.1 ++ extra) b.1 further b.2 in
-    let says : Says a.0 y = subst (λ (f : Front). Says f y) (sym front) b.3 in
+    let says : Says a.0 y = subst (λ (f : FrontendMessage). Says f y) (sym front) b.3 in
     let after : IsTalk (phase_after started a.0) b.1 other =
-    subst (λ (f : Front). IsTalk (phase_after started f) b.1 other) (sym front) b.4 in
+    subst (λ (f : FrontendMessage). IsTalk (phase_after started f) b.1 other) (sym front) b.4 in
     let rest : IsTalk (phase_after started a.0) (a.1 ++ extra) other =
     subst (λ (bs : List ℕ). IsTalk (phase_after started a.0) bs other) (sym behind) after in
     calm_memory (IsSpared extra) phase (told.handled level x phase known (λ p k. told.session level p k one))

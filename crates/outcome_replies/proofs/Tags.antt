@@ -3,9 +3,9 @@ use Rattle.std.proofs.Common.{◌≡◌, ◌<◌, ◌≤◌, ◌^◌, ℕ, List,
 use Rattle.std.specs.Fmt.{decimal}
 use Rattle.std.proofs.lemmas.Fmt.{decimal_is_IsNumeral}
 use Rattle.std.proofs.lemmas.Str.Parse.{digit_at}
-use Rattle.pg_framing.specs.Spelling.{HasNoZero}
+use Rattle.cell_base.specs.Texts.{HasNoZero}
 use Rattle.pg_framing.specs.Replies.{ended, IsShortBody}
-use Rattle.pg_framing.proofs.Zeros.{has_no_zero, no_zero_from, no_zero-append}
+use Rattle.cell_base.proofs.Zeros.{has_no_zero, no_zero_from, no_zero-append}
 
 decimal_no_zero : (n : ℕ) → n < 2 ^ 64 → HasNoZero (decimal n)
 decimal_no_zero n small k =

@@ -1,7 +1,8 @@
 -- The reply of a statement that reads or writes rows (PostgreSQL's documentation, "Message Flow", Simple Query).
-use Rattle.std.specs.Prelude.{ℕ, ◌≤◌, false, List, ◌++◌, length, flat_map, codes, All}
+use Rattle.std.specs.Prelude.{ℕ, ◌≤◌, List, ◌++◌, length, flat_map, codes, All}
 use Rattle.std.specs.Fmt.{decimal}
 use Rattle.cell_base.specs.declared.value.Value.{Value}
+use Rattle.pg_framing.specs.declared.replies.Severity.TheVariants as severities
 use Rattle.pg_framing.specs.Replies.{two_bytes, value_bytes, row_description, data_row, command_complete, error_response, IsShortBody}
 use Rattle.statement_course.specs.declared.demand.Outcome.{Outcome}
 use Rattle.statement_course.specs.declared.demand.Outcome.TheVariants.{Rows, Inserted, Updated, Deleted, Failed}
@@ -14,7 +15,7 @@ outcome_reply (Rows fields rows) = row_description fields ++ (flat_map data_row 
 outcome_reply (Inserted n) = command_complete (codes "INSERT 0 " ++ decimal n)
 outcome_reply (Updated n) = command_complete (codes "UPDATE " ++ decimal n)
 outcome_reply (Deleted n) = command_complete (codes "DELETE " ++ decimal n)
-outcome_reply (Failed code) = error_response false code
+outcome_reply (Failed code) = error_response severities.Error code
 
 -- a row fits one message
 pub record IsShortRow (row : List Value) : Type 0 where

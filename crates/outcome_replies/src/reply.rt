@@ -1,14 +1,17 @@
 // The reply of a statement that reads or writes rows.
 ghost use Rattle.std.specs.Prelude.{◌≡◌, ◌≤◌, ◌++◌, length, flat_map, All, IfOk, OnOk};
 ghost use Rattle.std.specs.Fmt.{decimal};
-ghost use Rattle.pg_framing.specs.Spelling.{HasNoZero};
+ghost use Rattle.cell_base.specs.Texts.{HasNoZero};
 ghost use Rattle.pg_framing.specs.Replies.{data_row, command_complete};
 ghost use Rattle.described_columns.specs.Described.{AreDescribed};
 ghost use Rattle.outcome_replies.specs.Replies.{outcome_reply, CanBeTold, IsShortRow};
 
 use cell_base::{Items, Memory, Value};
 use itoa::Buffer;
-use pg_framing::{append_complete, append_error, append_fields, append_row};
+use pg_framing::{
+    Severity, append_command_complete, append_data_row, append_error_response,
+    append_row_description,
+};
 use sql_tree::OutField;
 use statement_course::Outcome;
 use std::alloc::Global;
@@ -19,7 +22,7 @@ fn append_rows(alloc: Global, out: &mut Vec<u8>, rows: &[Items<Value>]) -> Resul
     ensures { OnOk result (out.new.items ≡ out.old.items ++ flat_map data_row rows.now) }
 {
     for row in rows {
-        append_row(alloc, out, row.as_slice())?;
+        append_data_row(alloc, out, row.as_slice())?;
     }
     Ok(())
 }
@@ -34,7 +37,7 @@ fn append_count(alloc: Global, out: &mut Vec<u8>, word: &[u8], n: u64) -> Result
     tag.extend_from_slice(word)?;
     let mut buffer = Buffer::new();
     tag.extend_from_slice(buffer.format(n).as_bytes())?;
-    append_complete(alloc, out, &tag)
+    append_command_complete(alloc, out, &tag)
 }
 
 // The columns of a result, its rows and how many they are.
@@ -49,7 +52,7 @@ fn append_result(
     requires short { All IsShortRow rows.now }
     ensures { OnOk result (out.new.items ≡ out.old.items ++ outcome_reply (Outcome.Rows fields.now rows.now)) }
 {
-    append_fields(alloc, out, fields)?;
+    append_row_description(alloc, out, fields)?;
     append_rows(alloc, out, rows)?;
     append_count(alloc, out, b"SELECT ", rows.len() as u64)
 }
@@ -70,7 +73,7 @@ fn append_outcome(alloc: Global, out: &mut Vec<u8>, outcome: &Outcome) -> Result
         Outcome::Inserted(n) => append_count(alloc, out, b"INSERT 0 ", *n as u64),
         Outcome::Updated(n) => append_count(alloc, out, b"UPDATE ", *n as u64),
         Outcome::Deleted(n) => append_count(alloc, out, b"DELETE ", *n as u64),
-        Outcome::Failed(code) => append_error(alloc, out, false, *code),
+        Outcome::Failed(code) => append_error_response(alloc, out, Severity::Error, *code),
     }
 }
 

@@ -1,5 +1,5 @@
 -- How the messages of the server are spelled, as PostgreSQL's protocol chapter has it under "Message Formats".
-use Rattle.std.specs.Prelude.{ℕ, ◌+◌, ◌<◌, ◌≤◌, ◌^◌, ◌==◌, List, [], ◌∷◌, ◌++◌, length, flat_map, codes, if◌then◌else◌, Bool, true, false, Option, Some, None}
+use Rattle.std.specs.Prelude.{ℕ, ◌+◌, ◌<◌, ◌≤◌, ◌^◌, ◌==◌, List, [], ◌∷◌, ◌++◌, length, flat_map, codes, if◌then◌else◌, true, false, Option, Some, None}
 use Rattle.std.specs.Int.{w16, to_be_bytes}
 use Rattle.std.specs.Fmt.{signed_decimal}
 use Rattle.cell_base.specs.declared.sql_type.SqlType.{SqlType}
@@ -10,10 +10,13 @@ use Rattle.cell_base.specs.declared.value.Value.{Value}
 use Rattle.cell_base.specs.declared.value.Value.TheVariants.{Unset, Null, Flag, Int, Wide}
 use Rattle.cell_base.specs.declared.value.Value.TheVariants as values
 use Rattle.cell_base.specs.Codes.{code_of, text_of}
+use Rattle.cell_base.specs.Texts.{HasNoZero}
 use Rattle.sql_tree.specs.declared.table.OutField.{OutField}
+use Rattle.pg_framing.specs.declared.replies.Severity.{Severity}
+use Rattle.pg_framing.specs.declared.replies.Severity.TheVariants.{Error, Fatal}
 use Rattle.pg_framing.specs.declared.replies.TransactionState.{TransactionState}
 use Rattle.pg_framing.specs.declared.replies.TransactionState.TheVariants.{Idle, Block, Failed}
-use Rattle.pg_framing.specs.Spelling.{four_bytes, sized, HasNoZero}
+use Rattle.pg_framing.specs.Spelling.{four_bytes, sized}
 
 -- a number in two bytes, the greater first
 unfoldable pub two_bytes : ℕ → List ℕ
@@ -122,9 +125,14 @@ empty_query = framed 73 []
 abbrev pub report : List ℕ → SqlState → List ℕ
 report severity state = (83 ∷ ended severity) ++ ((86 ∷ ended severity) ++ ((67 ∷ ended (code_of state)) ++ ((77 ∷ ended (text_of state)) ++ 0 ∷ [])))
 
+-- the word for how severe an error is
+abbrev pub severity_word : Severity → List ℕ
+severity_word Error = codes "ERROR"
+severity_word Fatal = codes "FATAL"
+
 -- an error, which ends the session where it is fatal
-unfoldable pub error_response : Bool → SqlState → List ℕ
-error_response fatal state = framed 69 (report (if fatal then codes "FATAL" else codes "ERROR") state)
+unfoldable pub error_response : Severity → SqlState → List ℕ
+error_response severity state = framed 69 (report (severity_word severity) state)
 
 -- a warning
 unfoldable pub notice_response : SqlState → List ℕ

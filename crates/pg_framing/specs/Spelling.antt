@@ -1,5 +1,5 @@
--- How numbers, lengths and texts are spelled in a message.
-use Rattle.std.specs.Prelude.{ℕ, ◌+◌, List, ◌++◌, length, Contains}
+-- How numbers and lengths are spelled in a message.
+use Rattle.std.specs.Prelude.{ℕ, ◌+◌, List, ◌++◌, length}
 use Rattle.std.specs.Int.{w32, to_be_bytes}
 
 -- a number in four bytes, the greatest first
@@ -9,7 +9,3 @@ four_bytes n = to_be_bytes w32 n
 -- a length, which counts its own four bytes, and what it is the length of
 abbrev pub sized : List ℕ → List ℕ
 sized body = four_bytes (4 + length body) ++ body
-
--- a zero byte ends a text, so it holds none
-abbrev pub HasNoZero : List ℕ → Type 0
-HasNoZero text = ¬ (Contains text 0)

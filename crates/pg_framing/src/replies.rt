@@ -2,11 +2,22 @@
 #![tactic(auto, unfolding(crate::specs::Spelling::four_bytes, crate::specs::Replies::two_bytes, crate::specs::Replies::framed, crate::specs::Replies::auth_ok, crate::specs::Replies::parameter, crate::specs::Replies::key_data, crate::specs::Replies::ready, crate::specs::Replies::command_complete, crate::specs::Replies::empty_query, crate::specs::Replies::error_response, crate::specs::Replies::notice_response))]
 
 ghost use Rattle.std.specs.Prelude.{◌≡◌, ◌+◌, ◌∷◌, ◌++◌, [], length, codes, IfOk, OnOk, OnErr};
-ghost use Rattle.pg_framing.specs.Spelling.{HasNoZero, four_bytes};
-ghost use Rattle.pg_framing.specs.Replies.{two_bytes, framed, IsShortBody, ended, auth_ok, parameter, key_data, ready, state_byte, command_complete, empty_query, report, error_response, notice_response};
+ghost use Rattle.cell_base.specs.Texts.{HasNoZero};
+ghost use Rattle.pg_framing.specs.Spelling.{four_bytes};
+ghost use Rattle.pg_framing.specs.Replies.{two_bytes, framed, IsShortBody, ended, auth_ok, parameter, key_data, ready, state_byte, command_complete, empty_query, report, severity_word, error_response, notice_response};
 
+use byteorder::{BigEndian, ByteOrder};
 use cell_base::{Memory, SqlState};
 use std::alloc::Global;
+
+/// How severe an error is.
+#[derive(Clone, Copy, Debug, PartialEq, Eq)]
+pub enum Severity {
+    /// A statement is refused, and the session goes on.
+    Error,
+    /// The session ends.
+    Fatal,
+}
 
 /// What ReadyForQuery says of the session's transaction block.
 #[derive(Clone, Copy, Debug, PartialEq, Eq)]
@@ -19,7 +30,7 @@ pub enum TransactionState {
     Failed,
 }
 
-// A whole message, behind what stands in `out`.
+// A whole message, after what stands in `out`.
 pub(crate) fn append_framed(
     alloc: Global,
     out: &mut Vec<u8>,
@@ -32,7 +43,7 @@ pub(crate) fn append_framed(
 {
     let mut message = Vec::new(alloc);
     message.push(kind)?;
-    message.extend_from_slice(&((4 + body.len()) as u32).to_be_bytes())?;
+    append_four(&mut message, (4 + body.len()) as u32)?;
     message.extend_from_slice(body)?;
     out.extend_from_slice(&message)?;
     Ok(())
@@ -42,7 +53,9 @@ pub(crate) fn append_framed(
 pub(crate) fn append_four(out: &mut Vec<u8>, number: u32) -> Result<(), Memory>
     ensures { OnOk result (out.new.items ≡ out.old.items ++ four_bytes number) }
 {
-    out.extend_from_slice(&number.to_be_bytes())?;
+    let mut bytes = [0; 4];
+    BigEndian::write_u32(&mut bytes, number);
+    out.extend_from_slice(&bytes)?;
     Ok(())
 }
 
@@ -50,7 +63,9 @@ pub(crate) fn append_four(out: &mut Vec<u8>, number: u32) -> Result<(), Memory>
 pub(crate) fn append_two(out: &mut Vec<u8>, number: u16) -> Result<(), Memory>
     ensures { OnOk result (out.new.items ≡ out.old.items ++ two_bytes number) }
 {
-    out.extend_from_slice(&number.to_be_bytes())?;
+    let mut bytes = [0; 2];
+    BigEndian::write_u16(&mut bytes, number);
+    out.extend_from_slice(&bytes)?;
     Ok(())
 }
 
@@ -63,16 +78,18 @@ pub(crate) fn append_ended(out: &mut Vec<u8>, text: &[u8]) -> Result<(), Memory>
     Ok(())
 }
 
-/// AuthenticationOk: the user is accepted without a password. On want of memory `out` stays as it was.
-pub fn append_auth_ok(alloc: Global, out: &mut Vec<u8>) -> Result<(), Memory>
+/// AuthenticationOk: the user is accepted without a password. Out of memory, `out` stays as it was.
+pub fn append_authentication_ok(alloc: Global, out: &mut Vec<u8>) -> Result<(), Memory>
     ensures ok { OnOk result (out.new.items ≡ out.old.items ++ auth_ok) }
     ensures err { OnErr result (out.new.items ≡ out.old.items) }
 {
-    append_framed(alloc, out, b'R', &0u32.to_be_bytes())
+    let mut body = Vec::new(alloc);
+    append_four(&mut body, 0)?;
+    append_framed(alloc, out, b'R', &body)
 }
 
-/// ParameterStatus: the name of a setting and its value. On want of memory `out` stays as it was.
-pub fn append_parameter(
+/// ParameterStatus: the name of a setting and its value. Out of memory, `out` stays as it was.
+pub fn append_parameter_status(
     alloc: Global,
     out: &mut Vec<u8>,
     name: &[u8],
@@ -90,8 +107,13 @@ pub fn append_parameter(
     append_framed(alloc, out, b'S', &body)
 }
 
-/// BackendKeyData: the session's number, and a secret word. On want of memory `out` stays as it was.
-pub fn append_key(alloc: Global, out: &mut Vec<u8>, pid: u32, secret: u32) -> Result<(), Memory>
+/// BackendKeyData: the session's number, and a secret word. Out of memory, `out` stays as it was.
+pub fn append_backend_key_data(
+    alloc: Global,
+    out: &mut Vec<u8>,
+    pid: u32,
+    secret: u32,
+) -> Result<(), Memory>
     ensures ok { OnOk result (out.new.items ≡ out.old.items ++ key_data pid secret) }
     ensures err { OnErr result (out.new.items ≡ out.old.items) }
 {
@@ -101,8 +123,12 @@ pub fn append_key(alloc: Global, out: &mut Vec<u8>, pid: u32, secret: u32) -> Re
     append_framed(alloc, out, b'K', &body)
 }
 
-/// ReadyForQuery: the next query may come. On want of memory `out` stays as it was.
-pub fn append_ready(alloc: Global, out: &mut Vec<u8>, state: TransactionState) -> Result<(), Memory>
+/// ReadyForQuery: the next query may come. Out of memory, `out` stays as it was.
+pub fn append_ready_for_query(
+    alloc: Global,
+    out: &mut Vec<u8>,
+    state: TransactionState,
+) -> Result<(), Memory>
     ensures ok { OnOk result (out.new.items ≡ out.old.items ++ ready state) }
     ensures err { OnErr result (out.new.items ≡ out.old.items) }
 {
@@ -119,8 +145,8 @@ fn byte_of(state: TransactionState) -> u8
     }
 }
 
-/// CommandComplete: a statement is done, by its tag. On want of memory `out` stays as it was.
-pub fn append_complete(alloc: Global, out: &mut Vec<u8>, tag: &[u8]) -> Result<(), Memory>
+/// CommandComplete: a statement is done, by its tag. Out of memory, `out` stays as it was.
+pub fn append_command_complete(alloc: Global, out: &mut Vec<u8>, tag: &[u8]) -> Result<(), Memory>
     requires tag { HasNoZero tag.now }
     requires short { IsShortBody (ended tag.now) }
     ensures ok { OnOk result (out.new.items ≡ out.old.items ++ command_complete tag.now) }
@@ -131,32 +157,44 @@ pub fn append_complete(alloc: Global, out: &mut Vec<u8>, tag: &[u8]) -> Result<(
     append_framed(alloc, out, b'C', &body)
 }
 
-/// EmptyQueryResponse: a query without a statement is done. On want of memory `out` stays as it was.
-pub fn append_empty(alloc: Global, out: &mut Vec<u8>) -> Result<(), Memory>
+/// EmptyQueryResponse: a query without a statement is done. Out of memory, `out` stays as it was.
+pub fn append_empty_query_response(alloc: Global, out: &mut Vec<u8>) -> Result<(), Memory>
     ensures ok { OnOk result (out.new.items ≡ out.old.items ++ empty_query) }
     ensures err { OnErr result (out.new.items ≡ out.old.items) }
 {
     append_framed(alloc, out, b'I', &[])
 }
 
-/// ErrorResponse: a statement is refused with this code; a fatal one ends the session. On want of memory `out` stays as it
-/// was.
-pub fn append_error(
+/// ErrorResponse: an error with this code; a fatal one ends the session. Out of memory, `out` stays as
+/// it was.
+pub fn append_error_response(
     alloc: Global,
     out: &mut Vec<u8>,
-    fatal: bool,
+    severity: Severity,
     state: SqlState,
 ) -> Result<(), Memory>
-    ensures ok { OnOk result (out.new.items ≡ out.old.items ++ error_response fatal state) }
+    ensures ok { OnOk result (out.new.items ≡ out.old.items ++ error_response severity state) }
     ensures err { OnErr result (out.new.items ≡ out.old.items) }
 {
-    let severity = if fatal { "FATAL" } else { "ERROR" };
-    let body = report_of(alloc, severity.as_bytes(), state)?;
+    let body = report_of(alloc, word_of(severity), state)?;
     append_framed(alloc, out, b'E', &body)
 }
 
-/// NoticeResponse: a warning with this code. On want of memory `out` stays as it was.
-pub fn append_notice(alloc: Global, out: &mut Vec<u8>, state: SqlState) -> Result<(), Memory>
+fn word_of(severity: Severity) -> &'static [u8]
+    ensures { result.now ≡ severity_word severity }
+{
+    match severity {
+        Severity::Error => b"ERROR",
+        Severity::Fatal => b"FATAL",
+    }
+}
+
+/// NoticeResponse: a warning with this code. Out of memory, `out` stays as it was.
+pub fn append_notice_response(
+    alloc: Global,
+    out: &mut Vec<u8>,
+    state: SqlState,
+) -> Result<(), Memory>
     ensures ok { OnOk result (out.new.items ≡ out.old.items ++ notice_response state) }
     ensures err { OnErr result (out.new.items ≡ out.old.items) }
 {

@@ -11,9 +11,13 @@ use itoa::Buffer;
 use sql_tree::OutField;
 use std::alloc::Global;
 
-/// RowDescription: the columns of the rows that follow, at most 1,664. On want of memory `out` stays as it was.
+/// RowDescription: the columns of the rows that follow, at most 1,664. Out of memory, `out` stays as it was.
 #[tactic(auto, unfolding(crate::specs::Replies::row_description))]
-pub fn append_fields(alloc: Global, out: &mut Vec<u8>, fields: &[OutField]) -> Result<(), Memory>
+pub fn append_row_description(
+    alloc: Global,
+    out: &mut Vec<u8>,
+    fields: &[OutField],
+) -> Result<(), Memory>
     requires number { length fields.now ≤ 1664 }
     requires each { All IsField fields.now }
     requires short { IsShortBody (two_bytes (length fields.now) ++ flat_map field_bytes fields.now) }
@@ -82,9 +86,9 @@ fn modifier_of(kind: SqlType) -> u32
     }
 }
 
-/// DataRow: the values of one row, at most 1,664, as texts. On want of memory `out` stays as it was.
+/// DataRow: the values of one row, at most 1,664, as texts. Out of memory, `out` stays as it was.
 #[tactic(auto, unfolding(crate::specs::Replies::data_row))]
-pub fn append_row(alloc: Global, out: &mut Vec<u8>, values: &[Value]) -> Result<(), Memory>
+pub fn append_data_row(alloc: Global, out: &mut Vec<u8>, values: &[Value]) -> Result<(), Memory>
     requires number { length values.now ≤ 1664 }
     requires short { IsShortBody (two_bytes (length values.now) ++ flat_map value_bytes values.now) }
     ensures ok { OnOk result (out.new.items ≡ out.old.items ++ data_row values.now) }
@@ -115,7 +119,7 @@ fn append_value(body: &mut Vec<u8>, value: &Value) -> Result<(), Memory>
     }
 }
 
-// A text behind its length.
+// The length of a text, and the text.
 fn append_sized(body: &mut Vec<u8>, text: &[u8]) -> Result<(), Memory>
     requires { length text.now < 2 ^ 31 }
     ensures { OnOk result (body.new.items ≡ body.old.items ++ text_bytes (Some text.now)) }

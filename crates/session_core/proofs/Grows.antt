@@ -6,8 +6,8 @@ use Rattle.cell_base.specs.declared.level.Level.{Level}
 use Rattle.history_core.specs.declared.event.Event.{Event}
 use Rattle.sql_tree.specs.declared.statement.Statement.{Statement}
 use Rattle.sql_tree.specs.declared.table.Table.{Table}
-use Rattle.client_framing.specs.declared.front.FrameFault.{FrameFault}
-use Rattle.client_framing.specs.declared.front.FrameFault.TheVariants.{BadLength, BadStartup, TooLong, UnknownType, NoTerminator, Memory}
+use Rattle.client_framing.specs.declared.frontend_message.FrameFault.{FrameFault}
+use Rattle.client_framing.specs.declared.frontend_message.FrameFault.TheVariants.{BadLength, BadStartup, TooLong, UnknownType, NoTerminator, Memory}
 use Rattle.client_framing.specs.Fronts.{Held, HasFault, IsPartial}
 use Rattle.block_machine.specs.Calls.{Call}
 use Rattle.block_machine.specs.Calls as calls

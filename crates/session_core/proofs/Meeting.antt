@@ -3,9 +3,9 @@ use Rattle.std.proofs.Common.{◌≡◌, Bool, true, false, ℕ, List, [], lengt
 use Rattle.cell_base.specs.declared.level.Level.{Level}
 use Rattle.cell_base.specs.declared.sql_state.SqlState.TheVariants as states
 use Rattle.pg_framing.specs.declared.replies.TransactionState.{TransactionState}
-use Rattle.client_framing.specs.declared.front.Front.TheVariants as fronts
-use Rattle.client_framing.specs.declared.front.Extended.{Extended}
-use Rattle.client_framing.specs.declared.front.CopyMessage.{CopyMessage}
+use Rattle.client_framing.specs.declared.frontend_message.FrontendMessage.TheVariants as fronts
+use Rattle.client_framing.specs.declared.frontend_message.Extended.{Extended}
+use Rattle.client_framing.specs.declared.frontend_message.CopyMessage.{CopyMessage}
 use Rattle.block_machine.specs.Script.{Entry, Said, lost}
 use Rattle.block_machine.specs.Stages.{IsFrom, with_short}
 use Rattle.block_machine.specs.Messages.{Outside, IsMessage, message, owed_between}
@@ -172,7 +172,7 @@ pub meets_function : (state : TransactionState) (old new : Runner) →
     ((startup : List ℕ) (talk : Talk) (said : Said) (es : List Entry) →
     message (messages.Unread states.S0A000) state (known_of old)
     (outside_of (level_of old) (on old talk)) said es ≡ goes_on stages.Running new startup talk said es) →
-    Meets fronts.Function (phases.Normal state) old stages.Running new None
+    Meets fronts.FunctionCall (phases.Normal state) old stages.Running new None
 meets_function state old new goes =
     inl (record { asked = function; says = tt; busy = tt; passing = tt; goes = λ startup talk said es from. goes startup talk said es })
 
@@ -207,7 +207,7 @@ pub drops_extended : (step : Extended) (state : TransactionState) (r : Runner) �
 drops_extended step state r = inr (record { asked = extended; says = tt; goes = λ level known rest. refl }, refl, refl, refl)
 
 pub drops_function : (state : TransactionState) (r : Runner) →
-    Meets fronts.Function (phases.Discarding state) r (stages.Taking (phases.Discarding state)) r None
+    Meets fronts.FunctionCall (phases.Discarding state) r (stages.Taking (phases.Discarding state)) r None
 drops_function state r = inr (record { asked = function; says = tt; goes = λ level known rest. refl }, refl, refl, refl)
 
 pub drops_copy : (part : CopyMessage) (state : TransactionState) (r : Runner) →

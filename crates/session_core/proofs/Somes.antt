@@ -1,6 +1,7 @@
 -- Each reply of the session's own has bytes.
-use Rattle.std.proofs.Common.{ℕ, ◌<◌, Bool, List, ◌++◌, length, arith, length-append}
+use Rattle.std.proofs.Common.{ℕ, ◌<◌, List, ◌++◌, length, arith, length-append}
 use Rattle.cell_base.specs.declared.sql_state.SqlState.{SqlState}
+use Rattle.pg_framing.specs.declared.replies.Severity.{Severity}
 use Rattle.pg_framing.specs.declared.replies.TransactionState.{TransactionState}
 use Rattle.pg_framing.specs.Replies.{framed, auth_ok, ready, error_response}
 use Rattle.block_machine.specs.Replies.{ready_reply, error_reply}
@@ -18,9 +19,9 @@ framed-some kind body = omega arith
 first-some : (bytes more : List ℕ) → 0 < length bytes → 0 < length (bytes ++ more)
 first-some bytes more some = omega (arith, length-append bytes more)
 
-report-some : (fatal : Bool) (state : SqlState) → 0 < length (error_response fatal state)
+report-some : (severity : Severity) (state : SqlState) → 0 < length (error_response severity state)
 unfolding error_response
-report-some fatal state = framed-some _ _
+report-some severity state = framed-some _ _
 
 accepted-some : 0 < length auth_ok
 unfolding auth_ok

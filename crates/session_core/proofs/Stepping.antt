@@ -3,9 +3,9 @@ use Rattle.std.proofs.Common.{◌≡◌, ◌≢◌, ◌⊎◌, inl, inr, Bool, t
 use Rattle.std.proofs.lemmas.List.{append-nil}
 use Rattle.cell_base.specs.declared.level.Level.{Level}
 use Rattle.sql_tree.specs.declared.table.Table.{Table}
-use Rattle.client_framing.specs.declared.front.Front.{Front}
-use Rattle.client_framing.specs.declared.front.FrameFault.{FrameFault}
-use Rattle.client_framing.specs.declared.front.FrameFault.TheVariants as frame_faults
+use Rattle.client_framing.specs.declared.frontend_message.FrontendMessage.{FrontendMessage}
+use Rattle.client_framing.specs.declared.frontend_message.FrameFault.{FrameFault}
+use Rattle.client_framing.specs.declared.frontend_message.FrameFault.TheVariants as frame_faults
 use Rattle.client_framing.specs.Spelling.{phase_after}
 use Rattle.client_framing.specs.Fronts.{Held, TakesFront, IsPartial, HasFault}
 use Rattle.block_machine.specs.Script.{Entry, Script, Said, short, lost, unless_short}
@@ -59,7 +59,7 @@ at_one : (stage : Stage) (n : ℕ) (es : List Entry) → IsBusy stage → IsFrom
 at_one stage n es busy from = subst (λ (k : ℕ). IsFrom k n es) (least-busy stage busy) from
 
 -- a message that comes off the front of what is held
-taken_off : (before after : Held) (front : Front) (bytes : List ℕ) → TakesFront before.started before.rest front after.rest →
+taken_off : (before after : Held) (front : FrontendMessage) (bytes : List ℕ) → TakesFront before.started before.rest front after.rest →
     TakesFront before.started (before.rest ++ bytes) front (after.rest ++ bytes)
 taken_off before after front bytes takes = record {
   taken = takes.taken;
@@ -67,7 +67,7 @@ taken_off before after front bytes takes = record {
   whole = ap (λ x. x ++ bytes) takes.whole ∙ append_assoc takes.taken after.rest bytes;
 }
 
-Steps-entered : (phase : Phase) (r : Runner) (before after : Held) (front : Front) (stage : Stage) (next : Runner) (wanting : Option Shortage) →
+Steps-entered : (phase : Phase) (r : Runner) (before after : Held) (front : FrontendMessage) (stage : Stage) (next : Runner) (wanting : Option Shortage) →
     TakesFront before.started before.rest front after.rest →
     after.started ≡ phase_after before.started front → Enters front phase r stage next wanting →
     Steps phase r before stage next wanting after
@@ -88,7 +88,7 @@ Steps-entered phase r before after front stage next wanting takes started enters
   waits = λ other is. absurd (subst IsBusy is enters.busy);
 }
 
-Steps-skipped : (phase : Phase) (r : Runner) (before after : Held) (front : Front) →
+Steps-skipped : (phase : Phase) (r : Runner) (before after : Held) (front : FrontendMessage) →
     TakesFront before.started before.rest front after.rest →
     after.started ≡ phase_after before.started front → Skips front phase → Steps phase r before (stages.Taking phase) r None after
 Steps-skipped phase r before after front takes started skips = record {
@@ -107,7 +107,7 @@ Steps-skipped phase r before after front takes started skips = record {
   waits = λ other is. absurd (cc is);
 }
 
-pub Steps-front : (phase : Phase) (r : Runner) (before after : Held) (front : Front) (stage : Stage) (next : Runner)
+pub Steps-front : (phase : Phase) (r : Runner) (before after : Held) (front : FrontendMessage) (stage : Stage) (next : Runner)
     (wanting : Option Shortage) → TakesFront before.started before.rest front after.rest →
     after.started ≡ phase_after before.started front → Meets front phase r stage next wanting →
     Steps phase r before stage next wanting after

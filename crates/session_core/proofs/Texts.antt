@@ -1,7 +1,7 @@
 -- Texts without a zero byte.
 use Rattle.std.proofs.Common.{◌≡◌, ℕ, zero, suc, List, [], ◌∷◌, Bool, true, false, arith}
-use Rattle.pg_framing.specs.Spelling.{HasNoZero}
-use Rattle.pg_framing.proofs.Zeros.{NoZero, has_no_zero}
+use Rattle.cell_base.specs.Texts.{HasNoZero}
+use Rattle.cell_base.proofs.Zeros.{NoZero, has_no_zero}
 
 -- whether no byte is zero
 abbrev pub has_none : List ℕ → Bool

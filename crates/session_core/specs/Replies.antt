@@ -1,7 +1,8 @@
 -- The replies of a session, but for those of the statements of its messages (block_machine).
-use Rattle.std.specs.Prelude.{ℕ, List, [], ◌∷◌, ◌++◌, codes, true}
+use Rattle.std.specs.Prelude.{ℕ, List, [], ◌∷◌, ◌++◌, codes}
 use Rattle.cell_base.specs.declared.sql_state.SqlState.{SqlState}
 use Rattle.cell_base.specs.declared.sql_state.SqlState.TheVariants as states
+use Rattle.pg_framing.specs.declared.replies.Severity.TheVariants as severities
 use Rattle.pg_framing.specs.declared.replies.TransactionState.TheVariants as ready_states
 use Rattle.pg_framing.specs.Replies.{auth_ok, parameter, key_data, ready, error_response}
 use Rattle.block_machine.specs.Replies.{ready_reply, error_reply}
@@ -27,7 +28,7 @@ unfoldable pub startup_reply : ℕ → List ℕ
 startup_reply session = auth_ok ++ (statuses parameters ++ (key_data session 0 ++ ready ready_states.Idle))
 
 unfoldable pub fatal_reply : SqlState → List ℕ
-fatal_reply state = error_response true state
+fatal_reply state = error_response severities.Fatal state
 
 -- the code of an end that a FATAL reply tells
 abbrev pub fatal_state : Fatal → SqlState

@@ -3,9 +3,9 @@ use Rattle.std.specs.Prelude.{◌≡◌, ℕ, ◌<◌, ◌⊎◌, List, [], ◌�
 use Rattle.cell_base.specs.declared.level.Level.{Level}
 use Rattle.history_core.specs.declared.event.Event.{Event}
 use Rattle.sql_tree.specs.declared.table.Table.{Table}
-use Rattle.client_framing.specs.declared.front.Front.{Front}
-use Rattle.client_framing.specs.declared.front.Front.TheVariants.{Ssl, Gss, Cancel, Startup, Version, Query, Function}
-use Rattle.client_framing.specs.Spelling.{HasNoZero}
+use Rattle.client_framing.specs.declared.frontend_message.FrontendMessage.{FrontendMessage}
+use Rattle.client_framing.specs.declared.frontend_message.FrontendMessage.TheVariants.{Ssl, Gss, Cancel, Startup, Version, Query, FunctionCall}
+use Rattle.cell_base.specs.Texts.{HasNoZero}
 use Rattle.client_framing.specs.Fronts.{Held, TakesFront, IsPartial}
 use Rattle.block_machine.specs.Calls.{Call}
 use Rattle.block_machine.specs.Script.{Entry, did, refused, short, unsent, stop, Said, Script, with_call}
@@ -60,7 +60,7 @@ LeadsTo stage script = IsLast stage × ((r : Runner) (startup : List ℕ) (talk 
     script said es ≡ goes_on stage r startup talk said es)
 
 -- the message stands behind the startup
-abbrev pub is_main : Front → Bool
+abbrev pub is_main : FrontendMessage → Bool
 is_main Ssl = false
 is_main Gss = false
 is_main (Cancel pid secret) = false
@@ -69,22 +69,22 @@ is_main (Version code) = false
 is_main _ = true
 
 -- a message that runs no statement
-abbrev pub IsPlainFront : Front → Type 0
+abbrev pub IsPlainFront : FrontendMessage → Type 0
 IsPlainFront (Query text) = ⊥
-IsPlainFront Function = ⊥
+IsPlainFront FunctionCall = ⊥
 IsPlainFront _ = Unit {0}
 
 -- the text of a query is one that can be read
-abbrev pub IsReadable : Front → Type 0
+abbrev pub IsReadable : FrontendMessage → Type 0
 IsReadable (Query text) = (length text < 4294967296) × HasNoZero text
 IsReadable _ = Unit {0}
 
 -- the message was taken off a stream in this phase
-abbrev pub IsHeard : Phase → Front → Type 0
+abbrev pub IsHeard : Phase → FrontendMessage → Type 0
 IsHeard phase front = (bytes : List ℕ) × (more : List ℕ) × TakesFront (has_started phase) bytes front more
 
 -- A message of a client leads to a stage, with a want of memory in its reading where there was one.
-pub record Enters (front : Front) (phase : Phase) (r : Runner) (stage : Stage) (next : Runner) (wanting : Option Shortage) : Type 0 where
+pub record Enters (front : FrontendMessage) (phase : Phase) (r : Runner) (stage : Stage) (next : Runner) (wanting : Option Shortage) : Type 0 where
   pub asked : Ask
   pub says : Says front asked
   pub busy : IsBusy stage
@@ -94,7 +94,7 @@ pub record Enters (front : Front) (phase : Phase) (r : Runner) (stage : Stage) (
       goes_on stage next startup talk said es
 
 -- A message of a client tells nothing and changes nothing.
-pub record Skips (front : Front) (phase : Phase) : Type 0 where
+pub record Skips (front : FrontendMessage) (phase : Phase) : Type 0 where
   pub asked : Ask
   pub says : Says front asked
   pub goes : (level : Level) (known : List Table) (rest : Phase → List Table → Script) →
@@ -112,7 +112,7 @@ pub record Leads (owed : Owed) (r : Runner) (stage : Stage) (next : Runner) : Ty
   pub some : (startup : List ℕ) → HasReply stage next startup
 
 -- A message leads to a stage, or is passed over.
-abbrev pub Meets : Front → Phase → Runner → Stage → Runner → Option Shortage → Type 0
+abbrev pub Meets : FrontendMessage → Phase → Runner → Stage → Runner → Option Shortage → Type 0
 Meets front phase r stage next wanting =
     Enters front phase r stage next wanting
     ⊎ (Skips front phase × (stage ≡ stages.Taking phase) × (next ≡ r) × (wanting ≡ None))

@@ -1,8 +1,8 @@
 -- What a client says: its messages, each as what it asks for.
 use Rattle.std.specs.Prelude.{◌≡◌, ℕ, List, Bool}
-use Rattle.client_framing.specs.declared.front.Front.{Front}
-use Rattle.client_framing.specs.declared.front.Front.TheVariants.{Ssl, Gss, Cancel, Startup, Version, Query, Terminate, Sync, Flush, Extended, Function, Copy}
-use Rattle.client_framing.specs.declared.front.FrameFault.{FrameFault}
+use Rattle.client_framing.specs.declared.frontend_message.FrontendMessage.{FrontendMessage}
+use Rattle.client_framing.specs.declared.frontend_message.FrontendMessage.TheVariants.{Ssl, Gss, Cancel, Startup, Version, Query, Terminate, Sync, Flush, Extended, FunctionCall, Copy}
+use Rattle.client_framing.specs.declared.frontend_message.FrameFault.{FrameFault}
 use Rattle.client_framing.specs.Spelling.{phase_after}
 use Rattle.client_framing.specs.Fronts.{TakesFront, IsPartial, HasFault}
 use Rattle.block_machine.specs.declared.message.Message.{Message}
@@ -33,7 +33,7 @@ pub data Ask : Type 0 where
   -- a function call
   function : Ask
 
-abbrev pub Says : Front → Ask → Type 0
+abbrev pub Says : FrontendMessage → Ask → Type 0
 Says Ssl encryption = Unit {0}
 Says Gss encryption = Unit {0}
 Says (Cancel pid secret) cancel = Unit {0}
@@ -47,7 +47,7 @@ Says Sync sync = Unit {0}
 Says Flush nothing = Unit {0}
 Says (Copy part) nothing = Unit {0}
 Says (Extended step) extended = Unit {0}
-Says Function function = Unit {0}
+Says FunctionCall function = Unit {0}
 Says _ _ = ⊥
 
 -- a stream as a session hears it: what is asked for, message after message, and then bytes that are no whole message, or a
@@ -61,7 +61,7 @@ pub data Talk : Type 0 where
 -- the bytes, before the startup or after it, are that talk
 abbrev pub IsTalk : Bool → List ℕ → Talk → Type 0
 IsTalk started bytes (asks ask talk) =
-    (front : Front) × (more : List ℕ) × TakesFront started bytes front more × Says front ask × IsTalk (phase_after started front) more talk
+    (front : FrontendMessage) × (more : List ℕ) × TakesFront started bytes front more × Says front ask × IsTalk (phase_after started front) more talk
 IsTalk started bytes (partial rest) = (rest ≡ bytes) × IsPartial started bytes
 IsTalk started bytes (faulty fault) = HasFault started bytes fault
 IsTalk started bytes unread = Unit {0}

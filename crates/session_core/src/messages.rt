@@ -1,6 +1,6 @@
 // The stages that messages lead to.
 ghost use Rattle.std.specs.Prelude.{◌≡◌, ◌≢◌, ℕ, ◌+◌, ◌*◌, ◌<◌, ◌≤◌, ◌^◌, List, [], length, Bool, true, false, None, Some};
-ghost use Rattle.sql_grammar.specs.Limited.{HasNoZero};
+ghost use Rattle.cell_base.specs.Texts.{HasNoZero};
 ghost use Rattle.client_framing.specs.Spelling.{phase_after};
 ghost use Rattle.block_machine.specs.Messages as blocks;
 ghost use Rattle.block_machine.specs.Script.{Said, Entry};
@@ -19,7 +19,7 @@ use crate::turns::{Shortage, Step, calm, leave, owed_by, refuse};
 use crate::user::has_user;
 use block_machine::{End, Message, Owed, Runner, owed_between, read_message};
 use cell_base::{Memory, SqlState};
-use client_framing::{FrameFault, Frames, Front};
+use client_framing::{FrameFault, Frames, FrontendMessage};
 use pg_framing::TransactionState;
 use std::alloc::Global;
 
@@ -70,7 +70,7 @@ fn query(alloc: Global, text: &[u8], state: TransactionState, runner: &mut Runne
     requires short { length text.now < 2 ^ 32 }
     requires no_zero { HasNoZero text.now }
     requires fit { IsFit runner.old }
-    ensures goes { Meets (Front.Query text.now) (Phase.Normal state) runner.old result.stage runner.new result.wanting }
+    ensures goes { Meets (FrontendMessage.Query text.now) (Phase.Normal state) runner.old result.stage runner.new result.wanting }
     ensures leads { Leads (blocks.owed_between state) runner.old result.stage runner.new }
     ensures stage { result.stage ≡ Stage.Running }
 {
@@ -87,7 +87,7 @@ fn query(alloc: Global, text: &[u8], state: TransactionState, runner: &mut Runne
 }
 
 // The stage that a message before the startup leads to.
-fn open(front: &Front) -> Stage
+fn open(front: &FrontendMessage) -> Stage
     requires { is_main front.now ≡ false }
     ensures goes { (r : Machine) → Meets front.now Phase.Startup r result r None }
     ensures leads { (r : Machine) → IsFit r → Leads Owed.Nothing r result r }
@@ -95,23 +95,23 @@ fn open(front: &Front) -> Stage
     ensures phase { InPhase result (phase_after false front.now) }
 {
     match front {
-        Front::Ssl => Stage::Telling(Reply::NoEncryption),
-        Front::Gss => Stage::Telling(Reply::NoEncryption),
-        Front::Cancel(_, _) => Stage::Ended(Finish::Cancelled),
-        Front::Startup(pairs) => {
+        FrontendMessage::Ssl => Stage::Telling(Reply::NoEncryption),
+        FrontendMessage::Gss => Stage::Telling(Reply::NoEncryption),
+        FrontendMessage::Cancel(_, _) => Stage::Ended(Finish::Cancelled),
+        FrontendMessage::Startup(pairs) => {
             if has_user(pairs.as_slice()) {
                 Stage::Opening
             } else {
                 Stage::Parting(Fatal::NoUser)
             }
         }
-        Front::Version(_) => Stage::Parting(Fatal::OtherVersion),
+        FrontendMessage::Version(_) => Stage::Parting(Fatal::OtherVersion),
         _ => unreachable!(),
     }
 }
 
 // The stage that a message leads to which is served and runs no statement.
-fn serve_plain(front: &Front, state: TransactionState) -> Stage
+fn serve_plain(front: &FrontendMessage, state: TransactionState) -> Stage
     requires main { is_main front.now ≡ true }
     requires plain { IsPlainFront front.now }
     ensures goes { (r : Machine) → Meets front.now (Phase.Normal state) r result r None }
@@ -120,11 +120,11 @@ fn serve_plain(front: &Front, state: TransactionState) -> Stage
     ensures phase { InPhase result true }
 {
     match front {
-        Front::Terminate => leave(owed_between(state), Finish::Terminated),
-        Front::Sync => Stage::Telling(Reply::Ready(state)),
-        Front::Extended(_) => refuse(state),
-        Front::Flush => Stage::Taking(Phase::Normal(state)),
-        Front::Copy(_) => Stage::Taking(Phase::Normal(state)),
+        FrontendMessage::Terminate => leave(owed_between(state), Finish::Terminated),
+        FrontendMessage::Sync => Stage::Telling(Reply::Ready(state)),
+        FrontendMessage::Extended(_) => refuse(state),
+        FrontendMessage::Flush => Stage::Taking(Phase::Normal(state)),
+        FrontendMessage::Copy(_) => Stage::Taking(Phase::Normal(state)),
         _ => unreachable!(),
     }
 }
@@ -132,7 +132,7 @@ fn serve_plain(front: &Front, state: TransactionState) -> Stage
 // The step that a function call leads to.
 fn call_function(state: TransactionState, runner: &mut Runner) -> Step
     requires fit { IsFit runner.old }
-    ensures goes { Meets Front.Function (Phase.Normal state) runner.old result.stage runner.new result.wanting }
+    ensures goes { Meets FrontendMessage.FunctionCall (Phase.Normal state) runner.old result.stage runner.new result.wanting }
     ensures leads { Leads (blocks.owed_between state) runner.old result.stage runner.new }
     ensures stage { result.stage ≡ Stage.Running }
 {
@@ -141,7 +141,12 @@ fn call_function(state: TransactionState, runner: &mut Runner) -> Step
 }
 
 // The step that a message leads to which is served.
-fn serve(alloc: Global, front: &Front, state: TransactionState, runner: &mut Runner) -> Step
+fn serve(
+    alloc: Global,
+    front: &FrontendMessage,
+    state: TransactionState,
+    runner: &mut Runner,
+) -> Step
     requires main { is_main front.now ≡ true }
     requires readable { IsReadable front.now }
     requires fit { IsFit runner.old }
@@ -151,14 +156,14 @@ fn serve(alloc: Global, front: &Front, state: TransactionState, runner: &mut Run
     ensures phase { InPhase result.stage true }
 {
     match front {
-        Front::Query(text) => query(alloc, text.as_slice(), state, runner),
-        Front::Function => call_function(state, runner),
+        FrontendMessage::Query(text) => query(alloc, text.as_slice(), state, runner),
+        FrontendMessage::FunctionCall => call_function(state, runner),
         _ => calm(serve_plain(front, state)),
     }
 }
 
 // The stage that a message leads to where messages are discarded.
-fn discard(front: &Front, state: TransactionState) -> Stage
+fn discard(front: &FrontendMessage, state: TransactionState) -> Stage
     requires { is_main front.now ≡ true }
     ensures goes { (r : Machine) → Meets front.now (Phase.Discarding state) r result r None }
     ensures leads { (r : Machine) → IsFit r → Leads (blocks.owed_between state) r result r }
@@ -166,19 +171,19 @@ fn discard(front: &Front, state: TransactionState) -> Stage
     ensures phase { InPhase result true }
 {
     match front {
-        Front::Terminate => leave(owed_between(state), Finish::Terminated),
-        Front::Sync => Stage::Telling(Reply::Ready(state)),
-        Front::Query(_) => Stage::Taking(Phase::Discarding(state)),
-        Front::Flush => Stage::Taking(Phase::Discarding(state)),
-        Front::Extended(_) => Stage::Taking(Phase::Discarding(state)),
-        Front::Function => Stage::Taking(Phase::Discarding(state)),
-        Front::Copy(_) => Stage::Taking(Phase::Discarding(state)),
+        FrontendMessage::Terminate => leave(owed_between(state), Finish::Terminated),
+        FrontendMessage::Sync => Stage::Telling(Reply::Ready(state)),
+        FrontendMessage::Query(_) => Stage::Taking(Phase::Discarding(state)),
+        FrontendMessage::Flush => Stage::Taking(Phase::Discarding(state)),
+        FrontendMessage::Extended(_) => Stage::Taking(Phase::Discarding(state)),
+        FrontendMessage::FunctionCall => Stage::Taking(Phase::Discarding(state)),
+        FrontendMessage::Copy(_) => Stage::Taking(Phase::Discarding(state)),
         _ => unreachable!(),
     }
 }
 
 // The step that a message leads to.
-fn enter(alloc: Global, front: &Front, phase: Phase, runner: &mut Runner) -> Step
+fn enter(alloc: Global, front: &FrontendMessage, phase: Phase, runner: &mut Runner) -> Step
     requires heard { IsHeard phase front.now }
     requires fit { IsFit runner.old }
     ensures goes { Meets front.now phase runner.old result.stage runner.new result.wanting }

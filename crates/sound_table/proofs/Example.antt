@@ -12,7 +12,8 @@ use Rattle.sql_tree.specs.declared.token.Sign.TheVariants as s
 use Rattle.sql_tree.specs.declared.token.Token.{Token}
 use Rattle.sql_tree.specs.declared.token.TokenKind.{TokenKind}
 use Rattle.sql_tree.specs.declared.token.TokenKind.TheVariants as t
-use Rattle.sql_grammar.specs.Limited.{IsPlain, IsPlainKind, HasNoZero, max_depth, max_rows, max_statements}
+use Rattle.cell_base.specs.Texts.{HasNoZero}
+use Rattle.sql_grammar.specs.Limited.{IsPlain, IsPlainKind, max_depth, max_rows, max_statements}
 use Rattle.sql_grammar.specs.Statements.{name, alias, filter, item, tab, join, next_tabs, next_joins, more_from, from, source, direction, term, order, limit, select, cell, row, columns, insert, assignment, update, delete, work, level, mode, next_mode, modes, beginning, begin, commit, rollback, suffix, dotted, value_word, setting_value, setting_values, assigned, transaction_modes, characteristics, session_setting, set, show, constant_word, constant, check, label, constraint_body, next_constraint, constraints, size, sized, type_name, column, key_list, table_constraint, element, create, control, statement, piece, next_piece, message}
 use Rattle.sql_grammar.specs.Steps.{reading, repeat_from}
 use Rattle.sql_grammar.specs.Reading as reader

@@ -7,7 +7,8 @@ use Rattle.sql_tree.specs.declared.token.Token.{Token}
 use Rattle.sql_tree.specs.declared.token.TokenKind.{TokenKind}
 use Rattle.sql_lexer.specs.Lexemes.{IsToken}
 use Rattle.sql_lexer.specs.Tokens.{token, StandsFor}
-use Rattle.sql_grammar.specs.Limited.{HasNoZero, IsPlainKind}
+use Rattle.cell_base.specs.Texts.{HasNoZero}
+use Rattle.sql_grammar.specs.Limited.{IsPlainKind}
 use Rattle.sound_text.specs.Laws.{TokensArePlain, BuiltIsSound}
 use Rattle.sound_text.proofs.Zeros.{before, behind, folded_free, quoted_free}
 

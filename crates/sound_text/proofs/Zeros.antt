@@ -6,7 +6,7 @@ use Rattle.std.proofs.lemmas.Bool.{cond_both, eqb-true}
 use Rattle.std.proofs.lemmas.List.Elements.{Contains-append_left, Contains-append_right}
 use Rattle.sql_lexer.specs.Bytes.{folded}
 use Rattle.sql_lexer.specs.Lexemes.{doubled, to_quote}
-use Rattle.sql_grammar.specs.Limited.{HasNoZero}
+use Rattle.cell_base.specs.Texts.{HasNoZero}
 
 -- ---- parts
 

@@ -7,7 +7,8 @@ use Rattle.sql_tree.specs.declared.statement.Statement.TheVariants.{Create}
 use Rattle.sql_tree.specs.declared.table.Table.{Table}
 use Rattle.sql_tree.specs.declared.token.Token.{Token}
 use Rattle.sql_lexer.specs.Tokens.{AreTokensOf}
-use Rattle.sql_grammar.specs.Limited.{HasNoZero, IsPlain}
+use Rattle.cell_base.specs.Texts.{HasNoZero}
+use Rattle.sql_grammar.specs.Limited.{IsPlain}
 use Rattle.sql_statements.specs.Faults.{AreStatementsOf}
 use Rattle.typing_rules.specs.Building.{built}
 use Rattle.sound_table.specs.Sound.{IsSound}

@@ -1,5 +1,6 @@
 -- The limited grammar, and the lists of tokens that a text can have.
-use Rattle.std.specs.Prelude.{◌≤◌, ℕ, ℤ, pos, negsuc, List, length, Contains}
+use Rattle.std.specs.Prelude.{◌≤◌, ℕ, ℤ, pos, negsuc, List, length}
+use Rattle.cell_base.specs.Texts.{HasNoZero}
 use Rattle.sql_tree.specs.declared.statement.Statement.{Statement}
 use Rattle.sql_tree.specs.declared.token.Token.{Token}
 use Rattle.sql_tree.specs.declared.token.TokenKind.{TokenKind}
@@ -25,9 +26,6 @@ abbrev pub IsLimited : List Mark → List Statement → Type 0
 IsLimited ts xs = spells (message max_depth max_rows max_statements) ts xs
 
 -- ---- plain lists
-
-abbrev pub HasNoZero : List ℕ → Type 0
-HasNoZero text = ¬ (Contains text 0)
 
 pub record IsPlainName (name : List ℕ) : Type 0 where
   pub short : length name ≤ 63

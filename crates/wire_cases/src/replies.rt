@@ -1,13 +1,15 @@
 // What the server sends, by the bytes of worked sessions and of the protocol's description.
 ghost use Rattle.std.specs.Prelude.{◌<◌, length, IsTrue};
 ghost use Rattle.pg_framing.specs.Replies.{IsShortType, value_bytes};
-ghost use Rattle.pg_framing.specs.Spelling.{HasNoZero};
+ghost use Rattle.cell_base.specs.Texts.{HasNoZero};
 
 use cell_base::{Memory, SqlState, SqlType, Text, Value};
 use itoa::Buffer;
 use pg_framing::{
-    TransactionState, append_auth_ok, append_complete, append_empty, append_error, append_fields,
-    append_key, append_notice, append_parameter, append_ready, append_row,
+    Severity, TransactionState, append_authentication_ok, append_backend_key_data,
+    append_command_complete, append_data_row, append_empty_query_response, append_error_response,
+    append_notice_response, append_parameter_status, append_ready_for_query,
+    append_row_description,
 };
 use sql_tree::OutField;
 use std::alloc::Global;
@@ -39,7 +41,7 @@ fn append_setting(alloc: Global, out: &mut Vec<u8>, name: &[u8], value: &[u8]) -
     requires value { length value.now < 99 }
 {
     if has_no_zero(name) && has_no_zero(value) {
-        append_parameter(alloc, out, name, value)
+        append_parameter_status(alloc, out, name, value)
     } else {
         Err(Memory)
     }
@@ -48,7 +50,7 @@ fn append_setting(alloc: Global, out: &mut Vec<u8>, name: &[u8], value: &[u8]) -
 // What answers the startup of session 1.
 fn welcome(alloc: Global) -> Result<Vec<u8>, Memory> {
     let mut out = Vec::new(alloc);
-    append_auth_ok(alloc, &mut out)?;
+    append_authentication_ok(alloc, &mut out)?;
     let settings: [(&[u8], &[u8]); 6] = [
         (b"server_version", b"14.0"),
         (b"server_encoding", b"UTF8"),
@@ -58,8 +60,8 @@ fn welcome(alloc: Global) -> Result<Vec<u8>, Memory> {
         (b"standard_conforming_strings", b"on"),
     ];
     append_settings(alloc, &mut out, &settings)?;
-    append_key(alloc, &mut out, 1, 0)?;
-    append_ready(alloc, &mut out, TransactionState::Idle)?;
+    append_backend_key_data(alloc, &mut out, 1, 0)?;
+    append_ready_for_query(alloc, &mut out, TransactionState::Idle)?;
     Ok(out)
 }
 
@@ -72,7 +74,7 @@ fn is_described_so(alloc: Global, kind: SqlType, tail: &[u8]) -> Result<bool, Me
         Err(_) => return Err(Memory),
     };
     let mut out = Vec::new(alloc);
-    append_fields(alloc, &mut out, &[OutField { name, kind }])?;
+    append_row_description(alloc, &mut out, &[OutField { name, kind }])?;
     let mut wanted = Vec::from_slice(
         alloc,
         b"T\x00\x00\x00\x1a\x00\x01v\x00\x00\x00\x00\x00\x00\x00",
@@ -135,7 +137,7 @@ fn is_row_so(alloc: Global, value: Value, tail: &[u8]) -> Result<bool, Memory> {
         return Ok(false);
     }
     let mut out = Vec::new(alloc);
-    append_row(alloc, &mut out, &[value])?;
+    append_data_row(alloc, &mut out, &[value])?;
     let mut wanted = Vec::from_slice(alloc, b"D\x00\x00\x00")?;
     wanted.extend_from_slice(tail)?;
     Ok(out.as_slice() == wanted.as_slice())
@@ -163,20 +165,20 @@ fn ends(alloc: Global, tag: &[u8]) -> Result<Vec<u8>, Memory>
 {
     let mut out = Vec::new(alloc);
     if has_no_zero(tag) {
-        append_complete(alloc, &mut out, tag)?;
+        append_command_complete(alloc, &mut out, tag)?;
     }
-    append_empty(alloc, &mut out)?;
-    append_ready(alloc, &mut out, TransactionState::Block)?;
-    append_ready(alloc, &mut out, TransactionState::Failed)?;
+    append_empty_query_response(alloc, &mut out)?;
+    append_ready_for_query(alloc, &mut out, TransactionState::Block)?;
+    append_ready_for_query(alloc, &mut out, TransactionState::Failed)?;
     Ok(out)
 }
 
 // An error, a fatal one and a warning.
 fn reports(alloc: Global) -> Result<Vec<u8>, Memory> {
     let mut out = Vec::new(alloc);
-    append_error(alloc, &mut out, false, SqlState::S22012)?;
-    append_error(alloc, &mut out, true, SqlState::S28000)?;
-    append_notice(alloc, &mut out, SqlState::S25P01)?;
+    append_error_response(alloc, &mut out, Severity::Error, SqlState::S22012)?;
+    append_error_response(alloc, &mut out, Severity::Fatal, SqlState::S28000)?;
+    append_notice_response(alloc, &mut out, SqlState::S25P01)?;
     Ok(out)
 }
 

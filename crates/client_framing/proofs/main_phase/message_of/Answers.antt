@@ -14,13 +14,13 @@ pub returns-then-bytes-end-clause-partial : goal.returns-then-bytes-end-clause-p
 returns-then-bytes-end-clause-partial c = λ _.
     not_whole c.args.bytes.now c.in-Some.kind c.number_at-len.result c.in-Some.ensures.some c.number_at-len.ensures (c.if-not-can_have_length.ensures.0 refl) (omega arith) (omega arith)
 
-pub returns-in_err-front-clause-bad : goal.returns-in_err-front-clause-bad
-returns-in_err-front-clause-bad c =
+pub returns-in_err-message-clause-bad : goal.returns-in_err-message-clause-bad
+returns-in_err-message-clause-bad c =
     let h = text_is_bad c.args.bytes.now c.number_at-len.result c.in-Some.kind c.in-Some.ensures.some c.number_at-len.ensures (c.if-not-can_have_length.ensures.0 refl) (omega arith) (omega arith)
-    c.in_err-front.field-0.0 c.in_err-front.ensures.fault c.in_err-front.ensures.query c.in_err-front.ensures.no_text in
+    c.in_err-message.field-0.0 c.in_err-message.ensures.fault c.in_err-message.ensures.query c.in_err-message.ensures.no_text in
     search (rules, h)
 
 pub returns-clause-found : goal.returns-clause-found
 returns-clause-found c =
-    message_found c.args.bytes.now c.in_ok-front.front c.in-Some.kind c.number_at-len.result c.in-Some.ensures.some c.number_at-len.ensures (c.if-not-can_have_length.ensures.0 refl) (omega arith) (omega arith)
-    c.in_ok-front.ensures.kind c.in_ok-front.ensures.body
+    message_found c.args.bytes.now c.in_ok-message.message c.in-Some.kind c.number_at-len.result c.in-Some.ensures.some c.number_at-len.ensures (c.if-not-can_have_length.ensures.0 refl) (omega arith) (omega arith)
+    c.in_ok-message.ensures.kind c.in_ok-message.ensures.body

@@ -17,6 +17,6 @@ returns-then-bytes-len-clause-partial c = λ _.
 
 pub returns-clause-found : goal.returns-clause-found
 returns-clause-found c =
-    opening_stands c.args.bytes.now c.in_ok-front.front c.number_at-len.result c.number_at-len.ensures (omega arith) (omega arith) (omega arith)
-    (c.in_ok-front.ensures.code ∙ ap (λ (i : ℕ). Some i) (c.opening_type-kind.ensures.code ∙ c.number_at.ensures))
-    (let P : List ℕ → Type 0 = λ (x : List ℕ). IsBody c.in_ok-front.front x in subst P c.held_behind_code-held.ensures c.in_ok-front.ensures.body)
+    opening_stands c.args.bytes.now c.in_ok-message.message c.number_at-len.result c.number_at-len.ensures (omega arith) (omega arith) (omega arith)
+    (c.in_ok-message.ensures.code ∙ ap (λ (i : ℕ). Some i) (c.opening_type-kind.ensures.code ∙ c.number_at.ensures))
+    (let P : List ℕ → Type 0 = λ (x : List ℕ). IsBody c.in_ok-message.message x in subst P c.held_behind_code-held.ensures c.in_ok-message.ensures.body)

@@ -5,6 +5,6 @@ use Rattle.client_framing.proofs.split.split_stream.Given as goal
 
 abbrev pub invariant-loop-piece : goal.invariant-loop-piece
 invariant-loop-piece l = record {
-  splits : SplitsInto (flat_map (λ (piece : List ℕ). piece) (take l.piece-index l.pieces)) l.fronts l.frames;
+  splits : SplitsInto (flat_map (λ (piece : List ℕ). piece) (take l.piece-index l.pieces)) l.messages l.frames;
   ends : EndsWith l.frames l.fault;
 }

@@ -1,5 +1,5 @@
 use Rattle.std.proofs.Common.{sym, subst}
-use Rattle.client_framing.specs.declared.front.Front.TheVariants as fronts
+use Rattle.client_framing.specs.declared.frontend_message.FrontendMessage.TheVariants as fronts
 use Rattle.session_core.specs.declared.phase.Phase.TheVariants as phases
 use Rattle.session_core.specs.declared.turns.Step.{Step}
 use Rattle.session_core.specs.Steps.{Meets}
@@ -8,6 +8,6 @@ use Rattle.session_core.proofs.messages.call_function.Goals as goal
 
 pub returns-clause-goes : goal.returns-clause-goes
 returns-clause-goes c =
-    subst (λ (x : Step). Meets fronts.Function (phases.Normal c.args.state) c.args.runner.now x.stage c.fail.new.runner x.wanting)
+    subst (λ (x : Step). Meets fronts.FunctionCall (phases.Normal c.args.state) c.args.runner.now x.stage c.fail.new.runner x.wanting)
     (sym c.calm.ensures)
     (meets_function c.args.state c.args.runner.now c.fail.new.runner c.fail.ensures.goes)

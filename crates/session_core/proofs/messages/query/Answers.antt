@@ -1,5 +1,5 @@
 use Rattle.std.proofs.Common.{sym, subst}
-use Rattle.client_framing.specs.declared.front.Front.TheVariants as fronts
+use Rattle.client_framing.specs.declared.frontend_message.FrontendMessage.TheVariants as fronts
 use Rattle.session_core.specs.declared.phase.Phase.TheVariants as phases
 use Rattle.session_core.specs.declared.stage.Stage.{Stage}
 use Rattle.session_core.specs.Steps.{Meets}

@@ -1,6 +1,6 @@
 -- What is left to show of `serve_plain`.
 use Rattle.std.proofs.Common.{[], None, refl, sym, ◌∙◌, subst}
-use Rattle.client_framing.specs.declared.front.Front.{Front}
+use Rattle.client_framing.specs.declared.frontend_message.FrontendMessage.{FrontendMessage}
 use Rattle.block_machine.specs.Messages.{owed_between}
 use Rattle.block_machine.specs.declared.block.Owed.{Owed}
 use Rattle.block_machine.specs.declared.end.End.TheVariants as ends
@@ -14,7 +14,7 @@ use Rattle.session_core.proofs.messages.serve_plain.Goals as goal
 
 pub returns-in-Terminate-clause-goes : goal.returns-in-Terminate-clause-goes
 returns-in-Terminate-clause-goes c = λ r.
-    subst (λ (x : Front). Meets x (phases.Normal c.args.state) r c.leave.result r None) (sym c.in-Terminate.is)
+    subst (λ (x : FrontendMessage). Meets x (phases.Normal c.args.state) r c.leave.result r None) (sym c.in-Terminate.is)
     (meets_terminate c.args.state c.leave.result r (subst
     (λ (x : Owed). LeadsTo c.leave.result (ending x ends.Terminated)) c.owed_between.ensures c.leave.ensures.leads))
 
@@ -26,7 +26,7 @@ returns-in-Terminate-clause-leads c = λ r fit.
 
 pub returns-in-Sync-clause-goes : goal.returns-in-Sync-clause-goes
 returns-in-Sync-clause-goes c = λ r.
-    subst (λ (x : Front). Meets x (phases.Normal c.args.state) r (stages.Telling (replies.Ready c.args.state)) r None) (sym c.in-Sync.is)
+    subst (λ (x : FrontendMessage). Meets x (phases.Normal c.args.state) r (stages.Telling (replies.Ready c.args.state)) r None) (sym c.in-Sync.is)
     (meets_sync c.args.state r)
 
 pub returns-in-Sync-clause-leads : goal.returns-in-Sync-clause-leads
@@ -35,7 +35,7 @@ returns-in-Sync-clause-leads c =
 
 pub returns-in-Extended-clause-goes : goal.returns-in-Extended-clause-goes
 returns-in-Extended-clause-goes c = λ r.
-    subst (λ (x : Front). Meets x (phases.Normal c.args.state) r c.refuse.result r None) (sym c.in-Extended.is)
+    subst (λ (x : FrontendMessage). Meets x (phases.Normal c.args.state) r c.refuse.result r None) (sym c.in-Extended.is)
     (meets_extended c.in-Extended.field-0 c.args.state c.refuse.result r c.refuse.ensures.busy (c.refuse.ensures.goes r))
 
 pub returns-in-Extended-clause-leads : goal.returns-in-Extended-clause-leads
@@ -46,10 +46,10 @@ returns-in-Extended-clause-leads c = λ r fit.
 
 pub returns-in-Flush-clause-goes : goal.returns-in-Flush-clause-goes
 returns-in-Flush-clause-goes c = λ r.
-    subst (λ (x : Front). Meets x (phases.Normal c.args.state) r (stages.Taking (phases.Normal c.args.state)) r None) (sym c.in-Flush.is)
+    subst (λ (x : FrontendMessage). Meets x (phases.Normal c.args.state) r (stages.Taking (phases.Normal c.args.state)) r None) (sym c.in-Flush.is)
     (meets_flush c.args.state r)
 
 pub returns-in-Copy-clause-goes : goal.returns-in-Copy-clause-goes
 returns-in-Copy-clause-goes c = λ r.
-    subst (λ (x : Front). Meets x (phases.Normal c.args.state) r (stages.Taking (phases.Normal c.args.state)) r None) (sym c.in-Copy.is)
+    subst (λ (x : FrontendMessage). Meets x (phases.Normal c.args.state) r (stages.Taking (phases.Normal c.args.state)) r None) (sym c.in-Copy.is)
     (meets_copy c.in-Copy.field-0 c.args.state r)

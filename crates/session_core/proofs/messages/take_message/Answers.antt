@@ -1,7 +1,7 @@
 -- What is left to show of `take_message`.
 use Rattle.std.proofs.Common.{◌≡◌, subst, refl, sym, IfSome, IsNone}
 use Rattle.std.specs.Prelude.{Option}
-use Rattle.client_framing.specs.declared.front.Front.{Front}
+use Rattle.client_framing.specs.declared.frontend_message.FrontendMessage.{FrontendMessage}
 use Rattle.client_framing.specs.Fronts.{TakesFront}
 use Rattle.client_framing.specs.Spelling.{phase_after}
 use Rattle.session_core.specs.declared.turns.Step.{Step}
@@ -11,7 +11,7 @@ use Rattle.session_core.proofs.messages.take_message.Goals as goal
 
 pub returns-in-Ok-None-clause-goes : goal.returns-in-Ok-None-clause-goes
 returns-in-Ok-None-clause-goes c =
-    let (same, partial) = c.in-Ok-None.ensures.partial (subst (λ (o : Option Front). IsNone o) (sym c.in-Ok-None.field-0-is) refl) in
+    let (same, partial) = c.in-Ok-None.ensures.partial (subst (λ (o : Option FrontendMessage). IsNone o) (sym c.in-Ok-None.field-0-is) refl) in
     subst (λ (x : Step). Steps c.args.phase c.args.runner.now c.args.frames.now x.stage c.args.runner.now x.wanting c.next.new.self)
     (sym c.calm.ensures)
     (Steps-partial c.args.phase c.args.runner.now c.args.frames.now c.next.new.self same partial)
@@ -20,9 +20,9 @@ pub returns-in-Ok-Some-clause-goes : goal.returns-in-Ok-Some-clause-goes
 returns-in-Ok-Some-clause-goes c =
     Steps-front c.args.phase c.args.runner.now c.args.frames.now c.next.new.self c.in-Ok-Some.front c.enter.result.stage c.enter.new.runner
     c.enter.result.wanting
-    (subst (λ (o : Option Front). IfSome o (λ f. TakesFront c.args.frames.now.started c.args.frames.now.rest f c.next.new.self.rest))
+    (subst (λ (o : Option FrontendMessage). IfSome o (λ f. TakesFront c.args.frames.now.started c.args.frames.now.rest f c.next.new.self.rest))
     c.in-Ok-Some.field-0-is c.in-Ok-Some.ensures.front)
-    (subst (λ (o : Option Front). IfSome o (λ f. c.next.new.self.started ≡ phase_after c.args.frames.now.started f)) c.in-Ok-Some.field-0-is
+    (subst (λ (o : Option FrontendMessage). IfSome o (λ f. c.next.new.self.started ≡ phase_after c.args.frames.now.started f)) c.in-Ok-Some.field-0-is
     c.in-Ok-Some.ensures.started)
     c.enter.ensures.goes
 

@@ -1,6 +1,6 @@
 -- Texts without a zero byte.
 use Rattle.std.proofs.Common.{◌≡◌, ◌≢◌, ℕ, zero, suc, ◌≤◌, List, [], ◌∷◌, ◌++◌, length, arith, get_or}
-use Rattle.pg_framing.specs.Spelling.{HasNoZero}
+use Rattle.cell_base.specs.Texts.{HasNoZero}
 
 -- no zero byte, by cases
 abbrev pub NoZero : List ℕ → Type 0

@@ -3,7 +3,7 @@ use Rattle.std.specs.Prelude.{flat_map}
 use Rattle.std.proofs.lemmas.List.Folds.{length-flat_map-take}
 use Rattle.cell_base.specs.declared.value.Value.{Value}
 use Rattle.pg_framing.specs.Replies.{two_bytes, value_bytes}
-use Rattle.pg_framing.proofs.rows.append_row.Goals as goal
+use Rattle.pg_framing.proofs.rows.append_data_row.Goals as goal
 
 pub append_value-requires : goal.append_value-requires
 append_value-requires c =
