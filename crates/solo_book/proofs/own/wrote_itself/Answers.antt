@@ -2,7 +2,7 @@ use Rattle.std.proofs.Common.{sym, ◌∙◌}
 use Rattle.std.proofs.lemmas.Bool.{false≢true}
 use Rattle.history_core.proofs.Next.{pending_bounded}
 use Rattle.history_core.proofs.Numbers.{pending_positive}
-use Rattle.solo_book.proofs.Bridge.{true_unless, written_from_buffer, none_from_buffer}
+use Rattle.solo_book.proofs.Records.{true_unless, written_from_buffer, none_from_buffer}
 use Rattle.solo_book.proofs.Scans.{none_pending, wrote_last}
 use Rattle.solo_book.proofs.own.wrote_itself.Goals as goal
 
