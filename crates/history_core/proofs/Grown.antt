@@ -1,37 +1,77 @@
 -- What one further event changes.
-use Rattle.std.proofs.Common.{◌≡◌, ℕ, ◌+◌, ◌<◌, ◌≤◌, List, [], ◌∷◌, ◌++◌, true, false, length, take, arith, ap, sym, ◌∙◌, subst, inl, inr, ◌⊎◌}
+use Rattle.std.proofs.Common.{◌≡◌, ℕ, ◌+◌, ◌<◌, ◌≤◌, List, [], ◌∷◌, ◌++◌, Some, true, false, length, take, arith, ap, sym, ◌∙◌, subst, inl, inr, ◌⊎◌}
 use Rattle.std.proofs.lemmas.List.{take-append-le, length_push, take_all}
 use Rattle.std.proofs.lemmas.Option.{slice_get_within}
 use Rattle.std.proofs.lemmas.Bool.{false≢true}
+use Rattle.cell_base.specs.declared.level.Level.{Level}
 use Rattle.cell_base.specs.declared.cell.Cell.{Cell}
 use Rattle.history_core.specs.declared.event.Event.{Event}
 use Rattle.history_core.specs.declared.event.Event.TheVariants.{Begin, Write, Commit}
-use Rattle.history_core.specs.Transactions.{IsStart, IsOf, IsCommitted, IsPending, IsRunning}
+use Rattle.history_core.specs.Transactions.{IsStart, IsOf, IsCommitted, IsPending, IsRunning, RunsAt}
 use Rattle.history_core.specs.Events.{begun, session_in, is_begin}
 use Rattle.history_core.specs.Relations.{Writes, Gives, Reads, Precedes}
-use Rattle.history_core.proofs.Places.{slice_get-append_left, start_unique, start_session}
+use Rattle.history_core.proofs.Places.{slice_get-append_left, start_unique, start_session, start_of}
 use Rattle.txn_buffer.proofs.Lists.{slice_get_push_cases}
+
+-- the further event starts the transaction
+pub record StartsNow (events : List Event) (e : Event) (number session place : ℕ) : Type 0 where
+  pub level : Level
+  pub at : place ≡ length events
+  pub is : e ≡ Begin session level
+  pub counts : number ≡ begun events + 1
 
 pub start_back :
     (events : List Event) (e : Event) (k s p : ℕ) → IsStart (events ++ e ∷ []) k s p →
-    IsStart events k s p ⊎ ((p ≡ length events) × (e ≡ Begin s) × (k ≡ begun events + 1))
+    IsStart events k s p ⊎ StartsNow events e k s p
 start_back events e k s p start =
-    elim (slice_get_push_cases events e p (Begin s) start.is) [
+    elim (slice_get_push_cases events e p (Begin s start.level) start.is) [
       | inl old ↦
           let same : begun (take p (events ++ e ∷ [])) ≡ begun (take p events) = ap begun (take-append-le p events (e ∷ []) (let h = old.0 in omega arith)) in
-          inl record { is = old.1; counts = let h = start.counts in omega arith }
+          inl record { level = start.level; is = old.1; counts = let h = start.counts in omega arith }
       | inr new ↦
           let same : begun (take p (events ++ e ∷ [])) ≡ begun (take p events) = ap begun (take-append-le p events (e ∷ []) (let h = new.0 in omega arith)) in
           let whole : begun (take p events) ≡ begun events = ap begun (take_all p events (let h = new.0 in omega arith)) in
-          inr (new.0, new.1, let h = start.counts in omega arith)
+          inr record { level = start.level; at = new.0; is = new.1; counts = let h = start.counts in omega arith }
     ]
 
 -- a start that a further event leaves
 pub start_kept : (events : List Event) (e : Event) (k s p : ℕ) → IsStart events k s p → IsStart (events ++ e ∷ []) k s p
 start_kept events e k s p start =
-    let within : p < length events = slice_get_within events p (Begin s) start.is in
+    let within : p < length events = slice_get_within events p (Begin s start.level) start.is in
     let same : begun (take p (events ++ e ∷ [])) ≡ begun (take p events) = ap begun (take-append-le p events (e ∷ []) (omega arith)) in
-    record { is = slice_get-append_left events (e ∷ []) p within ∙ start.is; counts = let h = start.counts in omega arith }
+    record { level = start.level; is = slice_get-append_left events (e ∷ []) p within ∙ start.is; counts = let h = start.counts in omega arith }
+
+-- a transaction runs at the level that it started at
+pub runs_kept : (events : List Event) (e : Event) (k : ℕ) (level : Level) → RunsAt events k level → RunsAt (events ++ e ∷ []) k level
+runs_kept events e k level runs =
+    let within : runs.place < length events = slice_get_within events runs.place (Begin runs.session level) runs.is in
+    let same : begun (take runs.place (events ++ e ∷ [])) ≡ begun (take runs.place events) =
+    ap begun (take-append-le runs.place events (e ∷ []) (omega arith)) in
+    record {
+      session = runs.session;
+      place = runs.place;
+      is = slice_get-append_left events (e ∷ []) runs.place within ∙ runs.is;
+      counts = let h = runs.counts in omega arith;
+    }
+
+pub runs_back :
+    (events : List Event) (e : Event) (k : ℕ) (level : Level) → (k ≡ begun events + 1 → is_begin e ≡ true → ⊥) → RunsAt (events ++ e ∷ []) k level →
+    RunsAt events k level
+runs_back events e k level none runs =
+    elim (start_back events e k runs.session runs.place (start_of (events ++ e ∷ []) k level runs)) [
+      | inl old ↦
+          let within = slice_get_within events runs.place (Begin runs.session old.level) old.is in
+          let both : Some (Begin runs.session level) ≡ Some (Begin runs.session old.level) =
+          sym runs.is ∙ slice_get-append_left events (e ∷ []) runs.place within ∙ old.is in
+          let same : level ≡ old.level = cc in
+          record {
+            session = runs.session;
+            place = runs.place;
+            is = old.is ∙ ap (λ (l : Level). Some (Begin runs.session l)) (sym same);
+            counts = old.counts;
+          }
+      | inr new ↦ absurd (none new.counts (ap is_begin new.is))
+    ]
 
 pub running_back :
     (events : List Event) (e : Event) (s low high : ℕ) → high ≤ length events → IsRunning (events ++ e ∷ []) s low high →
@@ -70,7 +110,7 @@ of_back events e k p f of =
       | inr late ↦
           let within : p < length (events ++ e ∷ []) = slice_get_within (events ++ e ∷ []) p f of.is in
           let longer : length (events ++ e ∷ []) ≡ length events + 1 = length_push events e in
-          let after = of.after in let at = late.0 in
+          let after = of.after in let at = late.at in
           absurd (omega arith)
     ]
 
@@ -126,7 +166,7 @@ precedes_back events e none a b (inl so) =
     let old = λ (k s p : ℕ) (start : IsStart (events ++ e ∷ []) k s p).
     let kept : IsStart events k s p = elim (start_back events e k s p start) [
       | inl before ↦ before
-      | inr new ↦ absurd (false≢true (sym none ∙ ap is_begin new.1))
+      | inr new ↦ absurd (false≢true (sym none ∙ ap is_begin new.is))
     ] in kept
     in
     inl (inl record {

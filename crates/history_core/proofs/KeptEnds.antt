@@ -4,11 +4,13 @@ use Rattle.std.proofs.lemmas.List.{length_push}
 use Rattle.std.proofs.lemmas.Option.{slice_get-get_or}
 use Rattle.std.specs.Option.{is_some}
 use Rattle.std.specs.List.{sum_by, slice_get}
+use Rattle.cell_base.specs.declared.level.Level.{Level}
 use Rattle.history_core.specs.declared.event.Event.{Event}
 use Rattle.history_core.specs.declared.event.Event.TheVariants.{Open, Close, Define, Look, Begin, Scan, Read, Own, Write, Commit, Rollback, Show}
 use Rattle.cell_base.specs.declared.cell.Cell.{Cell}
 use Rattle.cell_base.specs.declared.value.Value.{Value}
-use Rattle.history_core.specs.Events.{load_of, weight_of, defined_name, session_in, is_begin, is_end, is_open_event}
+use Rattle.history_core.specs.Events.{weight_of, defined_name, session_in, is_begin, is_end, is_open_event}
+use Rattle.history_core.specs.Initial.{load_of}
 use Rattle.history_core.specs.Transactions.{IsPending}
 use Rattle.history_core.specs.Legal.{MayCome, IsOpen}
 use Rattle.history_core.specs.declared.kept.Kept.{Kept}
@@ -36,7 +38,7 @@ pub record IsEnding (e : Event) (s : ℕ) (state : TxnState) : Type 0 where
   pub writes : (t : ℕ) (x : Cell) (v : Value) → e ≡ Write t x v → ⊥
   pub opens : (t : ℕ) → e ≡ Open t → ⊥
   pub closes : (t : ℕ) → e ≡ Close t → ⊥
-  pub begins : (t : ℕ) → e ≡ Begin t → ⊥
+  pub begins : (t : ℕ) (level : Level) → e ≡ Begin t level → ⊥
   pub not_pending : state ≡ Pending → ⊥
   pub committed : (state ≡ Committed) ↔ (e ≡ Commit (session_in e))
 
@@ -53,7 +55,7 @@ ending (Commit t) s state is = record {
   writes = λ u x v h. cc;
   opens = λ u h. cc;
   closes = λ u h. cc;
-  begins = λ u h. cc;
+  begins = λ u l h. cc;
   not_pending = λ h. let both : Committed ≡ Pending = sym is.1 ∙ h in cc;
   committed = (λ h. refl, λ h. is.1);
 }
@@ -69,7 +71,7 @@ ending (Rollback t) s state is = record {
   writes = λ u x v h. cc;
   opens = λ u h. cc;
   closes = λ u h. cc;
-  begins = λ u h. cc;
+  begins = λ u l h. cc;
   not_pending = λ h. let both : RolledBack ≡ Pending = sym is.1 ∙ h in cc;
   committed = (λ h. let both : RolledBack ≡ Committed = sym is.1 ∙ h in cc, λ h. cc);
 }
@@ -77,7 +79,7 @@ ending (Open t) s state is = absurd is
 ending (Close t) s state is = absurd is
 ending (Define t name) s state is = absurd is
 ending (Look t count) s state is = absurd is
-ending (Begin t) s state is = absurd is
+ending (Begin t level) s state is = absurd is
 ending (Scan t table keys) s state is = absurd is
 ending (Read t cell source n u v) s state is = absurd is
 ending (Own t x v) s state is = absurd is
@@ -112,19 +114,19 @@ owed_for_open kept s at is opens number within =
 
 -- a transaction ends
 pub kept_ends :
-    (old new : Kept) (e : Event) (s k at : ℕ) (state : TxnState) → IsKept old → MayCome old.events.items e → IsEndOf e s state →
+    (old new : Kept) (e : Event) (s k at : ℕ) (state : TxnState) → IsKept old → MayCome old.initial old.events.items e → IsEndOf e s state →
     IsPending old.events.items (k + 1) s → at + 1 ≡ s → ChangesOne old.txns.items new.txns.items k (TakesState state) →
-    ChangesOne old.sessions.items new.sessions.items at (TakesPending None) → new.events.items ≡ old.events.items ++ e ∷ [] →
+    ChangesOne old.sessions.items new.sessions.items at (TakesPending None) → new.initial ≡ old.initial → new.events.items ≡ old.events.items ++ e ∷ [] →
     new.tables.items ≡ old.tables.items → new.load ≡ old.load + 1 → new.owed ≡ old.owed - 1 → vec_capacity old.events ≤ vec_capacity new.events →
     IsKept new
-kept_ends old new e s k at state is may end_of pending number txn session events tables load owed capacity =
+kept_ends old new e s k at state is may end_of pending number txn session initial events tables load owed capacity =
     let end = ending e s state end_of in
     let pending_e : IsPending old.events.items (k + 1) (session_in e) =
     subst (λ (t : ℕ). IsPending old.events.items (k + 1) t) (sym end.session) pending in
     let txn_after : IsRecordOf (old.events.items ++ e ∷ []) (k + 1) txn.after =
     subst (λ (t : Txn). IsRecordOf (old.events.items ++ e ∷ []) (k + 1) t) (sym txn.changes)
     (record_ends old.events.items e (k + 1) txn.before (record txn.before { state = state }) (is.txns.each k txn.before txn.is) pending_e
-    end.ends (end.shows (length old.events.items + 1)) end.writes refl refl refl end.not_pending end.committed)
+    end.ends (end.shows (length old.events.items + 1)) end.writes refl refl refl refl end.not_pending end.committed)
     in
     let before : IsSessionOf old.events.items s session.before =
     subst (λ (n : ℕ). IsSessionOf old.events.items n session.before) number (is.sessions.each at session.before session.is) in
@@ -142,26 +144,26 @@ kept_ends old new e s k at state is may end_of pending number txn session events
     ap (λ (o : Option ℕ). cond session.after.is_open 1 0 + cond (is_some o) 1 0) now ∙ ap (λ (b : Bool). cond b 1 0 + 0) open_is in
     let owed_old = is.owed in
     let back : old.owed ≡ (old.owed - 1) + 1 = omega arith in
-    let small : IsSmall (old.events.items ++ e ∷ []) (old.owed - 1) =
-    small_last old.events.items e (old.owed - 1) end.last end.no_begin end.no_open end.light (subst (λ (n : ℕ). IsSmall old.events.items n) back is.small) in
+    let small : IsSmall old.initial (old.events.items ++ e ∷ []) (old.owed - 1) =
+    small_last old.initial old.events.items e (old.owed - 1) end.last end.no_begin end.no_open end.light (subst (λ (n : ℕ). IsSmall old.initial old.events.items n) back is.small) in
     let long = length_push old.events.items e in
     let room = is.room in
-    kept_grows old new e is may events
-    (rw txn.set_to (txns_change old.events.items e old.txns.items k txn.after (unique old.events.items is.formed.formed) end.no_begin pending_e is.txns txn_after))
+    kept_grows old new e is may initial events
+    (rw txn.set_to (txns_change old.events.items e old.txns.items k txn.after (unique old.initial old.events.items is.formed.formed) end.no_begin pending_e is.txns txn_after))
     (rw session.set_to (sessions_change old.events.items e old.sessions.items at session.after end.no_open (number ∙ sym end.session) is.sessions session_after))
     (rw tables (tables_still old.events.items e old.tables.items end.no_name (are_tables old is)))
-    (load ∙ ap (λ (n : ℕ). n + 1) is.load ∙ ap (λ (n : ℕ). load_of old.events.items + n) (sym end.light) ∙ sym (load-push old.events.items e))
+    (load ∙ ap (λ (n : ℕ). n + 1) is.load ∙ ap (λ (n : ℕ). load_of old.initial old.events.items + n) (sym end.light) ∙ sym (load-push old.initial old.events.items e))
     (owed ∙ omega arith)
     (rw owed small)
     (rw owed (omega arith))
 
 -- a session ends
 pub kept_closes :
-    (old new : Kept) (s at : ℕ) → IsKept old → MayCome old.events.items (Close s) → at + 1 ≡ s →
-    ChangesOne old.sessions.items new.sessions.items at Closes → new.events.items ≡ old.events.items ++ Close s ∷ [] →
+    (old new : Kept) (s at : ℕ) → IsKept old → MayCome old.initial old.events.items (Close s) → at + 1 ≡ s →
+    ChangesOne old.sessions.items new.sessions.items at Closes → new.initial ≡ old.initial → new.events.items ≡ old.events.items ++ Close s ∷ [] →
     new.tables.items ≡ old.tables.items → new.txns.items ≡ old.txns.items → new.load ≡ old.load + 1 → new.owed ≡ old.owed - 1 →
     vec_capacity old.events ≤ vec_capacity new.events → IsKept new
-kept_closes old new s at is may number session events tables txns load owed capacity =
+kept_closes old new s at is may number session initial events tables txns load owed capacity =
     let before : IsSessionOf old.events.items s session.before =
     subst (λ (n : ℕ). IsSessionOf old.events.items n session.before) number (is.sessions.each at session.before session.is) in
     let was : session.before.is_open ≡ true = before.open_is.1 may.follows.0 in
@@ -179,15 +181,15 @@ kept_closes old new s at is may number session events tables txns load owed capa
     ap (λ (b : Bool). cond b 1 0 + cond (is_some session.after.pending) 1 0) now ∙ ap (λ (o : Option ℕ). 0 + cond (is_some o) 1 0) pending_is in
     let owed_old = is.owed in
     let back : old.owed ≡ (old.owed - 1) + 1 = omega arith in
-    let small : IsSmall (old.events.items ++ Close s ∷ []) (old.owed - 1) =
-    small_last old.events.items (Close s) (old.owed - 1) refl refl refl refl (subst (λ (n : ℕ). IsSmall old.events.items n) back is.small) in
+    let small : IsSmall old.initial (old.events.items ++ Close s ∷ []) (old.owed - 1) =
+    small_last old.initial old.events.items (Close s) (old.owed - 1) refl refl refl refl (subst (λ (n : ℕ). IsSmall old.initial old.events.items n) back is.small) in
     let long = length_push old.events.items (Close s) in
     let room = is.room in
-    kept_grows old new (Close s) is may events
+    kept_grows old new (Close s) is may initial events
     (rw txns (txns_quiet old.events.items (Close s) old.txns.items refl (record { goes = refl; shows = refl; writes = λ t x v h. cc }) is.txns))
     (rw session.set_to (sessions_change old.events.items (Close s) old.sessions.items at session.after refl number is.sessions session_after))
     (rw tables (tables_still old.events.items (Close s) old.tables.items refl (are_tables old is)))
-    (load ∙ ap (λ (n : ℕ). n + 1) is.load ∙ sym (load-push old.events.items (Close s)))
+    (load ∙ ap (λ (n : ℕ). n + 1) is.load ∙ sym (load-push old.initial old.events.items (Close s)))
     (owed ∙ omega arith)
     (rw owed small)
     (rw owed (omega arith))

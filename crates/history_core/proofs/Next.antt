@@ -2,12 +2,13 @@
 use Rattle.std.proofs.Common.{◌≡◌, ◌≢◌, ℕ, ◌+◌, ◌<◌, ◌≤◌, List, [], ◌∷◌, ◌++◌, false, length, take, arith, ap, sym, ◌∙◌, subst, inl, inr, ◌⊎◌, ◌↔◌}
 use Rattle.std.proofs.lemmas.List.{length_push, take_all, take-append-le}
 use Rattle.std.proofs.lemmas.Option.{slice_get_within}
+use Rattle.cell_base.specs.declared.level.Level.{Level}
 use Rattle.cell_base.specs.declared.cell.Cell.{Cell}
 use Rattle.cell_base.specs.declared.value.Value.{Value}
 use Rattle.history_core.specs.declared.event.Event.{Event}
 use Rattle.history_core.specs.declared.event.Event.TheVariants.{Begin, Write, Commit}
 use Rattle.history_core.specs.Events.{begun, session_in, is_end}
-use Rattle.history_core.specs.Transactions.{IsOf, IsCommitted, IsPending}
+use Rattle.history_core.specs.Transactions.{IsOf, IsCommitted, IsPending, RunsAt}
 use Rattle.history_core.specs.Relations.{LastWrites}
 use Rattle.history_core.proofs.Places.{slice_get-append_left}
 use Rattle.txn_buffer.proofs.Lists.{slice_get_push_cases}
@@ -17,7 +18,7 @@ use Rattle.history_core.proofs.Prefixes.{slice_get-at_end, of_kept, start_bounde
 -- the next event is one of the pending transaction
 pub of_new : (events : List Event) (e : Event) (k : ℕ) → IsPending events k (session_in e) → IsOf (events ++ e ∷ []) k (length events) e
 of_new events e k pending =
-    let within : pending.start < length events = slice_get_within events pending.start (Begin (session_in e)) pending.starts.is in
+    let within : pending.start < length events = slice_get_within events pending.start (Begin (session_in e) pending.starts.level) pending.starts.is in
     record {
       start = pending.start;
       starts = start_kept events e k (session_in e) pending.start pending.starts;
@@ -38,13 +39,19 @@ pending_kept events e k s ends pending =
       ];
     }
 
+-- the next event begins the transaction in the session
+pub record BeginsNow (events : List Event) (e : Event) (number session : ℕ) : Type 0 where
+  pub level : Level
+  pub is : e ≡ Begin session level
+  pub counts : number ≡ begun events + 1
+
 pub pending_back :
     (events : List Event) (e : Event) (k s : ℕ) → IsPending (events ++ e ∷ []) k s →
-    (IsPending events k s × (session_in e ≡ s → is_end e ≡ false)) ⊎ ((e ≡ Begin s) × (k ≡ begun events + 1))
+    (IsPending events k s × (session_in e ≡ s → is_end e ≡ false)) ⊎ BeginsNow events e k s
 pending_back events e k s pending =
     elim (start_back events e k s pending.start pending.starts) [
       | inl old ↦
-          let within : pending.start < length events = slice_get_within events pending.start (Begin s) old.is in
+          let within : pending.start < length events = slice_get_within events pending.start (Begin s old.level) old.is in
           let longer : length (events ++ e ∷ []) ≡ length events + 1 = length_push events e in
           inl (
             record {
@@ -54,19 +61,26 @@ pending_back events e k s pending =
             },
             λ same. pending.running (length events) e within (omega arith) (slice_get-at_end events e) same,
           )
-      | inr new ↦ inr (new.1, new.2)
+      | inr new ↦ inr record { level = new.level; is = new.is; counts = new.counts }
     ]
 
-pub pending_begin : (events : List Event) (s : ℕ) → IsPending (events ++ Begin s ∷ []) (begun events + 1) s
-pending_begin events s =
-    let longer : length (events ++ Begin s ∷ []) ≡ length events + 1 = length_push events (Begin s) in
-    let whole : begun (take (length events) (events ++ Begin s ∷ [])) ≡ begun events =
-    ap begun (take-append-le (length events) events (Begin s ∷ []) (omega arith) ∙ take_all (length events) events (omega arith)) in
+pub pending_begin : (events : List Event) (s : ℕ) (level : Level) → IsPending (events ++ Begin s level ∷ []) (begun events + 1) s
+pending_begin events s level =
+    let longer : length (events ++ Begin s level ∷ []) ≡ length events + 1 = length_push events (Begin s level) in
+    let whole : begun (take (length events) (events ++ Begin s level ∷ [])) ≡ begun events =
+    ap begun (take-append-le (length events) events (Begin s level ∷ []) (omega arith) ∙ take_all (length events) events (omega arith)) in
     record {
       start = length events;
-      starts = record { is = slice_get-at_end events (Begin s); counts = omega arith };
+      starts = record { level = level; is = slice_get-at_end events (Begin s level); counts = omega arith };
       running = λ q f above below is same. absurd (omega arith);
     }
+
+-- a transaction runs at the level that its Begin says
+pub runs_begin : (events : List Event) (s : ℕ) (level : Level) → RunsAt (events ++ Begin s level ∷ []) (begun events + 1) level
+runs_begin events s level =
+    let whole : begun (take (length events) (events ++ Begin s level ∷ [])) ≡ begun events =
+    ap begun (take-append-le (length events) events (Begin s level ∷ []) (omega arith) ∙ take_all (length events) events (omega arith)) in
+    record { session = s; place = length events; is = slice_get-at_end events (Begin s level); counts = omega arith }
 
 pub pending_bounded : (events : List Event) (k s : ℕ) → IsPending events k s → k ≤ begun events
 pending_bounded events k s pending = start_bounded events k s pending.start pending.starts

@@ -5,6 +5,8 @@ use Rattle.std.proofs.lemmas.List.{take-append-drop}
 use Rattle.std.proofs.lemmas.List.Elements.{Contains-append_left}
 use Rattle.std.proofs.lemmas.List.Sums.{sum_by-take-le, count_by_more_yes}
 use Rattle.std.proofs.lemmas.Option.{slice_get_within, get_or_from_slice_get, slice_get_read}
+use Rattle.cell_base.specs.declared.cell.Cell.{Cell}
+use Rattle.cell_base.specs.declared.value.Value.{Value}
 use Rattle.history_core.specs.declared.event.Event.{Event}
 use Rattle.history_core.specs.declared.event.Event.TheVariants.{Open, Close, Begin}
 use Rattle.history_core.specs.Events.{opened, is_open_event}
@@ -20,8 +22,8 @@ Contains-take {X} xs n x member =
     subst (λ (ys : List X). Contains ys x) (take-append-drop n xs) (Contains-append_left (take n xs) (drop n xs) x member)
 
 -- the number of an opened session
-pub opened_bounds : (events : List Event) → IsFormed events → (s : ℕ) → Contains events (Open s) → (0 < s) × (s ≤ opened events)
-opened_bounds events formed s member =
+pub opened_bounds : (initial : List (Cell × Value)) (events : List Event) → IsFormed initial events → (s : ℕ) → Contains events (Open s) → (0 < s) × (s ≤ opened events)
+opened_bounds initial events formed s member =
     let found = at_contains events (Open s) member in
     let is : s ≡ opened (take found.0 events) + 1 = (formed found.0 (Open s) found.1).follows in
     let within : found.0 < length events = slice_get_within events found.0 (Open s) found.1 in
@@ -31,9 +33,9 @@ opened_bounds events formed s member =
     (omega arith, omega arith)
 
 -- a session with a pending transaction was opened
-pub pending_opened : (events : List Event) → IsFormed events → (k s : ℕ) → IsPending events k s → Contains events (Open s)
-pending_opened events formed k s pending =
-    Contains-take events pending.start (Open s) (formed pending.start (Begin s) pending.starts.is).follows.0.0
+pub pending_opened : (initial : List (Cell × Value)) (events : List Event) → IsFormed initial events → (k s : ℕ) → IsPending events k s → Contains events (Open s)
+pending_opened initial events formed k s pending =
+    Contains-take events pending.start (Open s) (formed pending.start (Begin s pending.starts.level) pending.starts.is).follows.0.0
 
 pub session_read :
     (events : List Event) (sessions : List SessionRecord) → StandsForSessions events sessions → (i s : ℕ) (r : SessionRecord) →
@@ -45,7 +47,7 @@ pub pending_positive : (events : List Event) (k s : ℕ) → IsPending events k 
 pending_positive events k s pending = start_positive events k s pending.start pending.starts
 
 -- a session that was closed was opened
-pub closed_opened : (events : List Event) → IsFormed events → (s : ℕ) → Contains events (Close s) → Contains events (Open s)
-closed_opened events formed s member =
+pub closed_opened : (initial : List (Cell × Value)) (events : List Event) → IsFormed initial events → (s : ℕ) → Contains events (Close s) → Contains events (Open s)
+closed_opened initial events formed s member =
     let found = at_contains events (Close s) member in
     Contains-take events found.0 (Open s) (formed found.0 (Close s) found.1).follows.0.0

@@ -3,20 +3,22 @@ use Rattle.std.proofs.Common.{◌≡◌, ℕ, ◌+◌, ◌<◌, ◌≤◌, List,
 use Rattle.std.proofs.lemmas.Option.{slice_get_within}
 use Rattle.std.proofs.lemmas.Bool.{cases_order}
 use Rattle.graph_base.specs.Order.{HoldsEachOnce, place_of}
+use Rattle.graph_base.specs.Closure.{IsChain, Chained}
 use Rattle.cell_base.specs.declared.level.Level.{Level}
 use Rattle.cell_base.specs.declared.level.Level.TheVariants.{Rc, Ra, Cc}
 use Rattle.cell_base.specs.declared.cell.Cell.{Cell}
 use Rattle.cell_base.specs.declared.value.Value.{Value}
 use Rattle.history_core.specs.declared.event.Event.{Event}
 use Rattle.history_core.specs.declared.event.Event.TheVariants.{Read}
-use Rattle.history_core.specs.Transactions.{IsPending, HasPending}
+use Rattle.history_core.specs.Transactions.{IsPending, HasPending, RunsAt}
 use Rattle.history_core.specs.Events.{begun}
-use Rattle.history_core.specs.Relations.{Writes, Precedes, IsChain, IsVisible, Meets}
+use Rattle.history_core.specs.Relations.{Writes, Precedes, IsVisibleAt, IsVisible, Meets}
 use Rattle.history_core.specs.Legal.{IsLegal, IsPermitted}
+use Rattle.history_core.proofs.Places.{runs_unique}
 use Rattle.history_core.proofs.Grown.{reads_back, writes_back, precedes_back}
 use Rattle.graph_base.proofs.Places.{get_or-place_of}
 use Rattle.history_core.proofs.Greatest.{greatest}
-use Rattle.history_core.proofs.Prefixes.{IsSound, start_bounded, start_positive, begun-push_other, found_once, legal_consistent, sound_of}
+use Rattle.history_core.proofs.Prefixes.{IsSound, start_bounded, start_positive, begun-push_other, runs_still, found_once, legal_consistent, sound_of}
 
 -- a session has one pending transaction
 pub pending_unique :
@@ -52,27 +54,38 @@ precedes_read events sound s k cell source n u v pending a b p =
     ]
 
 -- the writer may be seen by a read of the pending transaction, or is the initial transaction
-abbrev pub MaySee : Level → List Event → ℕ → ℕ → Type 0
-MaySee level events reader writer = (writer ≡ 0) ⊎ IsVisible level events reader (length events) writer
+abbrev pub MaySee : List Event → ℕ → ℕ → Type 0
+MaySee events reader writer = (writer ≡ 0) ⊎ IsVisible events reader (length events) writer
 
 pub initial_precedes : (events : List Event) (s k n : ℕ) → IsPending events k s → n ≡ 0 → Precedes events n k
 initial_precedes events s k n pending initial =
     let positive : 0 < k = start_positive events k s pending.start pending.starts in
     inl record { earlier = omega arith; place = pending.start; session = s; started = pending.starts; same = inl initial }
 
+-- what is seen leads to the reader
+pub chain_seen :
+    (level : Level) (events : List Event) (reader p writer : ℕ) → IsVisibleAt level events reader p writer → Chained (Precedes events) writer reader
+chain_seen Rc events reader p writer visible =
+    record { middles = []; is = inr record { place = visible.earlier; cell = visible.cell; reads = visible.reads } }
+chain_seen Ra events reader p writer visible = record { middles = []; is = visible }
+chain_seen Cc events reader p writer visible = visible
+
 -- what may be seen leads to the reader
 pub chain_of :
-    (level : Level) (events : List Event) (s k writer : ℕ) → IsPending events k s → MaySee level events k writer →
-    (between : List ℕ) × IsChain events writer between k
-chain_of level events s k writer pending (inl initial) = ([], initial_precedes events s k writer pending initial)
-chain_of Rc events s k writer pending (inr visible) =
-    ([], inr record { place = visible.earlier; cell = visible.cell; reads = visible.reads })
-chain_of Ra events s k writer pending (inr visible) = ([], visible)
-chain_of Cc events s k writer pending (inr visible) = visible
+    (events : List Event) (s k writer : ℕ) → IsPending events k s → MaySee events k writer → Chained (Precedes events) writer k
+chain_of events s k writer pending (inl initial) = record { middles = []; is = initial_precedes events s k writer pending initial }
+chain_of events s k writer pending (inr visible) = chain_seen visible.level events k (length events) writer visible.sees
+
+-- at Read Atomic what may be seen comes before the reader
+pub precedes_seen :
+    (events : List Event) (s k writer : ℕ) → IsPending events k s → RunsAt events k Ra → MaySee events k writer → Precedes events writer k
+precedes_seen events s k writer pending runs (inl initial) = initial_precedes events s k writer pending initial
+precedes_seen events s k writer pending runs (inr visible) =
+    subst (λ (level : Level). IsVisibleAt level events k (length events) writer) (runs_unique events k visible.level Ra visible.runs runs) visible.sees
 
 pub chain_forward :
     (events : List Event) (order : List ℕ) → ((a b : ℕ) → Precedes events a b → place_of order a < place_of order b) →
-    (a : ℕ) (between : List ℕ) (b : ℕ) → IsChain events a between b → place_of order a < place_of order b
+    (a : ℕ) (between : List ℕ) (b : ℕ) → IsChain (Precedes events) a between b → place_of order a < place_of order b
 chain_forward events order precedes a [] b link = precedes a b link
 chain_forward events order precedes a (c ∷ rest) b (link, chain) =
     let first : place_of order a < place_of order c = precedes a c link in
@@ -81,45 +94,57 @@ chain_forward events order precedes a (c ∷ rest) b (link, chain) =
 
 pub chain_append :
     (events : List Event) (a : ℕ) (xs : List ℕ) (b : ℕ) (ys : List ℕ) (c : ℕ) →
-    IsChain events a xs b → IsChain events b ys c → IsChain events a (xs ++ b ∷ ys) c
+    IsChain (Precedes events) a xs b → IsChain (Precedes events) b ys c → IsChain (Precedes events) a (xs ++ b ∷ ys) c
 chain_append events a [] b ys c link chain = (link, chain)
 chain_append events a (x ∷ xs) b ys c (link, rest) chain = (link, chain_append events x xs b ys c rest chain)
 
+-- what a transaction sees with a further read of the pending one, from a source that this one may see, it saw before: the new pair
+-- matters at Read Atomic to the pending transaction alone, and at Causal Consistency it is a chain of old ones
 pub visible_read :
     (level : Level) (events : List Event) → IsSound events → (s k : ℕ) (cell : Cell) (source n u : ℕ) (v : Value) → IsPending events k s →
-    MaySee level events k source →
-    (t q : ℕ) (a : ℕ) → q ≤ length events → IsVisible level (events ++ Read s cell source n u v ∷ []) t q a → IsVisible level events t q a
-visible_read Rc events sound s k cell source n u v pending may t q a within visible =
+    MaySee events k source →
+    (t q : ℕ) (a : ℕ) → q ≤ length events → RunsAt events t level → IsVisibleAt level (events ++ Read s cell source n u v ∷ []) t q a →
+    IsVisibleAt level events t q a
+visible_read Rc events sound s k cell source n u v pending may t q a within runs visible =
     elim (reads_back events (Read s cell source n u v) t visible.earlier visible.cell a visible.reads) [
       | inl old ↦ record { earlier = visible.earlier; cell = visible.cell; below = visible.below; reads = old }
       | inr new ↦ let at = new.0 in let under = visible.below in absurd (omega arith)
     ]
-visible_read Ra events sound s k cell source n u v pending may t q a within visible =
+visible_read Ra events sound s k cell source n u v pending may t q a within runs visible =
     elim (precedes_read events sound s k cell source n u v pending a t visible) [
       | inl old ↦ old
       | inr new ↦
-          let through : Precedes events source k = elim may [ inl initial ↦ initial_precedes events s k source pending initial | inr seen ↦ seen ] in
-          subst (λ (n : ℕ). Precedes events n t) (sym new.0) (subst (λ (n : ℕ). Precedes events source n) (sym new.1) through)
+          let runs_k : RunsAt events k Ra = subst (λ (m : ℕ). RunsAt events m Ra) new.1 runs in
+          let through : Precedes events source k = precedes_seen events s k source pending runs_k may in
+          subst (λ (m : ℕ). Precedes events m t) (sym new.0) (subst (λ (m : ℕ). Precedes events source m) (sym new.1) through)
     ]
-visible_read Cc events sound s k cell source n u v pending may t q a within (between, chain) = chain_read a between t chain
+visible_read Cc events sound s k cell source n u v pending may t q a within runs visible =
+    let found = chain_read a visible.middles t visible.is in record { middles = found.0; is = found.1 }
   where
-    through : (xs : List ℕ) × IsChain events source xs k
-    through = chain_of Cc events s k source pending may
+    through : Chained (Precedes events) source k
+    through = chain_of events s k source pending may
 
-    chain_read : (a : ℕ) (xs : List ℕ) (b : ℕ) → IsChain (events ++ Read s cell source n u v ∷ []) a xs b → (ys : List ℕ) × IsChain events a ys b
+    chain_read :
+        (a : ℕ) (xs : List ℕ) (b : ℕ) → IsChain (Precedes (events ++ Read s cell source n u v ∷ [])) a xs b →
+        (ys : List ℕ) × IsChain (Precedes events) a ys b
     chain_read a [] b link =
         elim (precedes_read events sound s k cell source n u v pending a b link) [
           | inl old ↦ ([], old)
-          | inr new ↦ (through.0, subst (λ (n : ℕ). IsChain events n through.0 b) (sym new.0) (subst (λ (n : ℕ). IsChain events source through.0 n) (sym new.1) through.1))
+          | inr new ↦ (
+            through.middles,
+            subst (λ (m : ℕ). IsChain (Precedes events) m through.middles b) (sym new.0)
+                (subst (λ (m : ℕ). IsChain (Precedes events) source through.middles m) (sym new.1) through.is),
+          )
         ]
     chain_read a (x ∷ xs) b (link, rest) =
         let on = chain_read x xs b rest in
         elim (precedes_read events sound s k cell source n u v pending a x link) [
           | inl old ↦ (x ∷ on.0, (old, on.1))
           | inr new ↦
-              let first : IsChain events a through.0 x =
-              subst (λ (n : ℕ). IsChain events n through.0 x) (sym new.0) (subst (λ (n : ℕ). IsChain events source through.0 n) (sym new.1) through.1) in
-              (through.0 ++ x ∷ on.0, chain_append events a through.0 x on.0 b first on.1)
+              let first : IsChain (Precedes events) a through.middles x =
+              subst (λ (m : ℕ). IsChain (Precedes events) m through.middles x) (sym new.0)
+              (subst (λ (m : ℕ). IsChain (Precedes events) source through.middles m) (sym new.1) through.is) in
+              (through.middles ++ x ∷ on.0, chain_append events a through.middles x on.0 b first on.1)
         ]
 
 pub writer_bounded : (events : List Event) (n : ℕ) (cell : Cell) → Writes events n cell → n < begun events + 1
@@ -138,14 +163,14 @@ same_place size order holds a b small_a small_b same =
     ∙ get_or-place_of order b 0 (found_once size order holds b small_b)
 
 pub meets_read :
-    (level : Level) (events : List Event) → IsSound events → (s k : ℕ) (cell : Cell) (source n u : ℕ) (v : Value) (order : List ℕ) → IsPending events k s →
-    Meets level events order → Writes events source cell → MaySee level events k source →
-    ((m : ℕ) → Writes events m cell × MaySee level events k m → place_of order m ≤ place_of order source) →
-    Meets level (events ++ Read s cell source n u v ∷ []) order
-meets_read level events sound s k cell source n u v order pending meets writes_source may last =
+    (events : List Event) → IsSound events → (s k : ℕ) (cell : Cell) (source n u : ℕ) (v : Value) (order : List ℕ) → IsPending events k s →
+    Meets events order → Writes events source cell → MaySee events k source →
+    ((m : ℕ) → Writes events m cell × MaySee events k m → place_of order m ≤ place_of order source) →
+    Meets (events ++ Read s cell source n u v ∷ []) order
+meets_read events sound s k cell source n u v order pending meets writes_source may last =
     let size : begun (events ++ Read s cell source n u v ∷ []) + 1 ≡ begun events + 1 = ap (λ (n : ℕ). n + 1) (begun-push_other events (Read s cell source n u v) refl) in
-    let chain = chain_of level events s k source pending may in
-    let up : place_of order source < place_of order k = chain_forward events order meets.precedes source chain.0 k chain.1 in
+    let chain = chain_of events s k source pending may in
+    let up : place_of order source < place_of order k = chain_forward events order meets.precedes source chain.middles k chain.is in
     record {
       holds = rw size meets.holds;
       first = meets.first;
@@ -170,14 +195,13 @@ meets_read level events sound s k cell source n u v order pending meets writes_s
                         reads = old;
                         other = d.other;
                         writes = writes;
-                        visible = visible_read level events sound s k cell source n u v pending may d.reader d.place a (omega arith) d.visible;
+                        visible = seen_before d.reader d.place a (omega arith) d.visible;
                       }
                   | inr new ↦
                       let reader_is : d.reader ≡ k = pending_unique events sound s d.reader k new.1 pending in
-                      let visible : IsVisible level events d.reader d.place a =
-                      visible_read level events sound s k cell source n u v pending may d.reader d.place a (let h = new.0 in omega arith) d.visible in
-                      let there : IsVisible level events k (length events) a =
-                      subst (λ (n : ℕ). IsVisible level events n (length events) a) reader_is (subst (λ (q : ℕ). IsVisible level events d.reader q a) new.0 visible) in
+                      let visible : IsVisible events d.reader d.place a = seen_before d.reader d.place a (let h = new.0 in omega arith) d.visible in
+                      let there : IsVisible events k (length events) a =
+                      subst (λ (m : ℕ). IsVisible events m (length events) a) reader_is (subst (λ (q : ℕ). IsVisible events d.reader q a) new.0 visible) in
                       let writes_cell : Writes events a cell = subst (λ (y : Cell). Writes events a y) (sym new.2.0) writes in
                       let le : place_of order a ≤ place_of order source = last a (writes_cell, inr there) in
                       let at_b : place_of order source ≡ place_of order b = ap (λ (n : ℕ). place_of order n) new.2.1 in
@@ -192,19 +216,29 @@ meets_read level events sound s k cell source n u v order pending meets writes_s
                 ]
           ];
     }
+  where
+    seen_before :
+        (t q a : ℕ) → q ≤ length events → IsVisible (events ++ Read s cell source n u v ∷ []) t q a → IsVisible events t q a
+    seen_before t q a within visible =
+        let runs = runs_still events (Read s cell source n u v) t visible.level refl visible.runs in
+        record {
+          level = visible.level;
+          runs = runs;
+          sees = visible_read visible.level events sound s k cell source n u v pending may t q a within runs visible.sees;
+        }
 
 -- it can't be that no write is permitted
 pub some_permitted :
-    (level : Level) (events : List Event) (s : ℕ) (cell : Cell) → IsLegal level events → HasPending events s →
-    ((source : ℕ) → IsPermitted level events s cell source → ⊥) → ⊥
-some_permitted level events s cell legal (k, pending) none =
-    let sound = sound_of events legal.formed in
-    let consistent = legal_consistent level events legal in
+    (initial : List (Cell × Value)) (events : List Event) (s : ℕ) (cell : Cell) → IsLegal initial events → HasPending events s →
+    ((source : ℕ) → IsPermitted events s cell source → ⊥) → ⊥
+some_permitted initial events s cell legal (k, pending) none =
+    let sound = sound_of initial events legal.formed in
+    let consistent = legal_consistent initial events legal in
     let order = consistent.0 in
-    greatest (λ n. Writes events n cell × MaySee level events k n) (place_of order) (length order)
+    greatest (λ n. Writes events n cell × MaySee events k n) (place_of order) (length order)
     (λ n may. found_once (begun events + 1) order consistent.1.holds n (writer_bounded events n cell may.0))
     0 (inl refl, inl refl)
     (λ source may last. none source (
       may.0,
-      λ n u v. (order, meets_read level events sound s k cell source n u v order pending consistent.1 may.0 may.1 last),
+      λ n u v. (order, meets_read events sound s k cell source n u v order pending consistent.1 may.0 may.1 last),
     ))

@@ -5,6 +5,9 @@ use Rattle.std.proofs.lemmas.List.{length_push, length-set}
 use Rattle.std.proofs.lemmas.List.Elements.{Contains-push_cases, Contains-append_left, Contains-push}
 use Rattle.std.proofs.lemmas.Bool.{false≢true}
 use Rattle.graph_base.proofs.Places.{count_by-push}
+use Rattle.cell_base.specs.declared.level.Level.{Level}
+use Rattle.cell_base.specs.declared.cell.Cell.{Cell}
+use Rattle.cell_base.specs.declared.value.Value.{Value}
 use Rattle.history_core.specs.declared.event.Event.{Event}
 use Rattle.history_core.specs.declared.event.Event.TheVariants.{Open, Close, Begin}
 use Rattle.history_core.specs.Events.{begun, opened, session_in, is_begin, is_end, is_open_event}
@@ -32,15 +35,15 @@ open_still events e s no_open no_close = (
 
 -- the event neither begins nor ends a transaction of the session
 pub pending_still :
-    (events : List Event) (e : Event) (s : ℕ) → (e ≡ Begin s → ⊥) → (session_in e ≡ s → is_end e ≡ false) →
+    (events : List Event) (e : Event) (s : ℕ) → ((level : Level) → e ≡ Begin s level → ⊥) → (session_in e ≡ s → is_end e ≡ false) →
     (k : ℕ) → IsPending (events ++ e ∷ []) k s ↔ IsPending events k s
 pending_still events e s no_begin no_end k = (
-  λ is. elim (pending_back events e k s is) [ inl old ↦ old.0 | inr new ↦ absurd (no_begin new.0) ],
+  λ is. elim (pending_back events e k s is) [ inl old ↦ old.0 | inr new ↦ absurd (no_begin new.level new.is) ],
   pending_kept events e k s no_end,
 )
 
 pub session_goes :
-    (events : List Event) (e : Event) (s : ℕ) (r : SessionRecord) → (e ≡ Open s → ⊥) → (e ≡ Close s → ⊥) → (e ≡ Begin s → ⊥) →
+    (events : List Event) (e : Event) (s : ℕ) (r : SessionRecord) → (e ≡ Open s → ⊥) → (e ≡ Close s → ⊥) → ((level : Level) → e ≡ Begin s level → ⊥) →
     (session_in e ≡ s → is_end e ≡ false) → IsSessionOf events s r → IsSessionOf (events ++ e ∷ []) s r
 session_goes events e s r no_open no_close no_begin no_end is =
     let open_is = open_still events e s no_open no_close in
@@ -56,14 +59,14 @@ pub session_other :
     (events : List Event) (e : Event) (s : ℕ) (r : SessionRecord) → (session_in e ≡ s → ⊥) → IsSessionOf events s r →
     IsSessionOf (events ++ e ∷ []) s r
 session_other events e s r other is =
-    session_goes events e s r (λ same. other (ap session_in same)) (λ same. other (ap session_in same)) (λ same. other (ap session_in same))
+    session_goes events e s r (λ same. other (ap session_in same)) (λ same. other (ap session_in same)) (λ level same. other (ap session_in same))
     (λ same. absurd (other same)) is
 
 -- an event that opens, closes, begins and ends nothing
 pub record IsPlain (e : Event) : Type 0 where
   pub no_open : (s : ℕ) → e ≡ Open s → ⊥
   pub no_close : (s : ℕ) → e ≡ Close s → ⊥
-  pub no_begin : (s : ℕ) → e ≡ Begin s → ⊥
+  pub no_begin : (s : ℕ) (level : Level) → e ≡ Begin s level → ⊥
   pub no_end : is_end e ≡ false
   pub opens_none : is_open_event e ≡ false
   pub begins_none : is_begin e ≡ false
@@ -96,27 +99,27 @@ sessions_change events e sessions at r other number stands is = record {
 }
 
 pub session_begins :
-    (events : List Event) (s : ℕ) (old new : SessionRecord) → (HasPending events s → ⊥) → new.is_open ≡ old.is_open →
-    new.pending ≡ Some (begun events + 1) → IsSessionOf events s old → IsSessionOf (events ++ Begin s ∷ []) s new
-session_begins events s old new none opens pending is =
-    let open_is = open_still events (Begin s) s (λ same. cc) (λ same. cc) in
+    (events : List Event) (s : ℕ) (level : Level) (old new : SessionRecord) → (HasPending events s → ⊥) → new.is_open ≡ old.is_open →
+    new.pending ≡ Some (begun events + 1) → IsSessionOf events s old → IsSessionOf (events ++ Begin s level ∷ []) s new
+session_begins events s level old new none opens pending is =
+    let open_is = open_still events (Begin s level) s (λ same. cc) (λ same. cc) in
     record {
       open_is = (λ h. open_is.1 (is.open_is.0 (sym opens ∙ h)), λ h. opens ∙ is.open_is.1 (open_is.0 h));
       pending = λ k. (
         λ h.
             let both : Some (begun events + 1) ≡ Some k = sym pending ∙ h in
             let same : begun events + 1 ≡ k = cc in
-            subst (λ (n : ℕ). IsPending (events ++ Begin s ∷ []) n s) same (pending_begin events s),
-        λ h. elim (pending_back events (Begin s) k s h) [
+            subst (λ (n : ℕ). IsPending (events ++ Begin s level ∷ []) n s) same (pending_begin events s level),
+        λ h. elim (pending_back events (Begin s level) k s h) [
           | inl before ↦ absurd (none (k, before.0))
-          | inr new ↦ pending ∙ ap (λ (n : ℕ). Some n) (sym new.1)
+          | inr new ↦ pending ∙ ap (λ (n : ℕ). Some n) (sym new.counts)
         ],
       );
     }
 
 pub session_ends :
     (events : List Event) (e : Event) (s : ℕ) (old new : SessionRecord) → session_in e ≡ s → is_end e ≡ true → (e ≡ Open s → ⊥) → (e ≡ Close s → ⊥) →
-    (e ≡ Begin s → ⊥) → new.is_open ≡ old.is_open → new.pending ≡ None → IsSessionOf events s old → IsSessionOf (events ++ e ∷ []) s new
+    ((level : Level) → e ≡ Begin s level → ⊥) → new.is_open ≡ old.is_open → new.pending ≡ None → IsSessionOf events s old → IsSessionOf (events ++ e ∷ []) s new
 session_ends events e s old new same ends no_open no_close no_begin opens pending is =
     let open_is = open_still events e s no_open no_close in
     record {
@@ -125,7 +128,7 @@ session_ends events e s old new same ends no_open no_close no_begin opens pendin
         λ h. let both : None ≡ Some k = sym pending ∙ h in cc,
         λ h. absurd (elim (pending_back events e k s h) [
           | inl before ↦ false≢true (sym (before.1 same) ∙ ends)
-          | inr new ↦ no_begin new.0
+          | inr new ↦ no_begin new.level new.is
         ]),
       );
     }
@@ -136,14 +139,14 @@ pub session_closes :
 session_closes events s old new opens pending is = record {
   open_is = (λ h. absurd (false≢true (sym opens ∙ h)), λ h. absurd (h.1 (Contains-push events (Close s))));
   pending = λ k.
-      let pending_is = pending_still events (Close s) s (λ same. cc) (λ _. refl) k in
+      let pending_is = pending_still events (Close s) s (λ level same. cc) (λ _. refl) k in
       (λ h. pending_is.1 ((is.pending k).0 (sym pending ∙ h)), λ h. pending ∙ (is.pending k).1 (pending_is.0 h));
 }
 
 pub sessions_open :
-    (events : List Event) (s : ℕ) (sessions : List SessionRecord) (r : SessionRecord) → IsFormed events → s ≡ opened events + 1 → r.is_open ≡ true → r.pending ≡ None →
+    (initial : List (Cell × Value)) (events : List Event) (s : ℕ) (sessions : List SessionRecord) (r : SessionRecord) → IsFormed initial events → s ≡ opened events + 1 → r.is_open ≡ true → r.pending ≡ None →
     StandsForSessions events sessions → StandsForSessions (events ++ Open s ∷ []) (sessions ++ r ∷ [])
-sessions_open events s sessions r formed number opens pending stands = record {
+sessions_open initial events s sessions r formed number opens pending stands = record {
   count =
       let long = length_push sessions r in
       let more = count_by-push is_open_event events (Open s) in
@@ -158,10 +161,10 @@ sessions_open events s sessions r formed number opens pending stands = record {
 }
   where
     never : Contains events (Open s) → ⊥
-    never member = let h = opened_bounds events formed s member in absurd (omega arith)
+    never member = let h = opened_bounds initial events formed s member in absurd (omega arith)
 
     closed_never : Contains events (Close s) → ⊥
-    closed_never member = never (closed_opened events formed s member)
+    closed_never member = never (closed_opened initial events formed s member)
 
     made : IsSessionOf (events ++ Open s ∷ []) s r
     made = record {
@@ -175,8 +178,8 @@ sessions_open events s sessions r formed number opens pending stands = record {
       pending = λ k. (
         λ h. let both : None ≡ Some k = sym pending ∙ h in cc,
         λ h. absurd (elim (pending_back events (Open s) k s h) [
-          | inl before ↦ never (pending_opened events formed k s before.0)
-          | inr new ↦ let e = new.0 in cc
+          | inl before ↦ never (pending_opened initial events formed k s before.0)
+          | inr new ↦ let e = new.is in cc
         ]),
       );
     }

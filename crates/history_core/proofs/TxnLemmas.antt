@@ -4,18 +4,19 @@ use Rattle.std.specs.List.{Contains}
 use Rattle.std.proofs.lemmas.List.{length_push, length-set}
 use Rattle.std.proofs.lemmas.List.Elements.{Contains-push_cases, Contains-append_left, Contains-push}
 use Rattle.std.proofs.lemmas.Bool.{false≢true}
+use Rattle.cell_base.specs.declared.level.Level.{Level}
 use Rattle.cell_base.specs.declared.cell.Cell.{Cell}
 use Rattle.cell_base.specs.declared.value.Value.{Value}
 use Rattle.history_core.specs.declared.event.Event.{Event}
 use Rattle.history_core.specs.declared.event.Event.TheVariants.{Begin, Write, Commit}
 use Rattle.history_core.specs.Events.{begun, session_in, is_begin, is_end}
-use Rattle.history_core.specs.Transactions.{IsStart, IsOf, IsCommitted, IsPending, HasPending}
+use Rattle.history_core.specs.Transactions.{IsStart, IsOf, IsCommitted, IsPending, HasPending, RunsAt}
 use Rattle.history_core.specs.Relations.{LastWrites}
-use Rattle.history_core.proofs.Places.{start_session}
+use Rattle.history_core.proofs.Places.{start_session, runs_of}
 use Rattle.txn_buffer.proofs.Lists.{slice_get_push_cases, slice_get-set_cases}
-use Rattle.history_core.proofs.Grown.{start_kept, of_back, pending_not_committed, committed_back}
+use Rattle.history_core.proofs.Grown.{start_kept, runs_kept, of_back, pending_not_committed, committed_back}
 use Rattle.history_core.proofs.Prefixes.{of_kept, committed_kept, begun-push_other, begun-push_start, start_bounded}
-use Rattle.history_core.proofs.Next.{of_new, pending_kept, pending_back, pending_begin, of_none, committed_new, last_kept, last_back, last_new}
+use Rattle.history_core.proofs.Next.{of_new, pending_kept, pending_back, pending_begin, runs_begin, of_none, committed_new, last_kept, last_back, last_new}
 use Rattle.history_core.specs.declared.txn.TxnState.TheVariants.{Pending, Committed}
 use Rattle.history_core.specs.declared.txn.Seen.{Seen}
 use Rattle.history_core.specs.declared.txn.Txn.{Txn}
@@ -47,12 +48,12 @@ saw_new events e k x pending shows = record { place = length events; event = e; 
 
 -- the record goes on, where the event doesn't end the transaction
 pub record_goes :
-    (events : List Event) (e : Event) (k : ℕ) (old new : Txn) → IsRecordOf events k old → new.session ≡ old.session → new.state ≡ old.state →
+    (events : List Event) (e : Event) (k : ℕ) (old new : Txn) → IsRecordOf events k old → new.session ≡ old.session → new.level ≡ old.level → new.state ≡ old.state →
     (IsPending events k (session_in e) → is_end e ≡ false) →
     ((x : Seen) → Contains new.seen x ↔ Saw (events ++ e ∷ []) k x) →
     ((x : Cell) (v : Value) → Contains new.buffer.writes (x, v) ↔ LastWrites (events ++ e ∷ []) k x v) →
     IsRecordOf (events ++ e ∷ []) k new
-record_goes events e k old new is session state goes seen writes =
+record_goes events e k old new is session level state goes seen writes =
     let goes_here : IsPending events k old.session → session_in e ≡ old.session → is_end e ≡ false =
     λ pending same. goes (subst (λ (s : ℕ). IsPending events k s) (sym same) pending)
     in
@@ -62,7 +63,7 @@ record_goes events e k old new is session state goes seen writes =
         | inl before ↦ state ∙ is.pending.1 before.0
         | inr new_one ↦
             let bounded : k ≤ begun events = start_bounded events k old.session is.place is.started in
-            let at = new_one.1 in
+            let at = new_one.counts in
             absurd (omega arith)
       ],
     )
@@ -70,6 +71,7 @@ record_goes events e k old new is session state goes seen writes =
     record {
       place = is.place;
       started = subst (λ (s : ℕ). IsStart (events ++ e ∷ []) k s is.place) (sym session) (start_kept events e k old.session is.place is.started);
+      level = subst (λ (l : Level). RunsAt (events ++ e ∷ []) k l) (sym level) (runs_kept events e k old.level is.level);
       pending = subst (λ (s : ℕ). (new.state ≡ Pending) ↔ IsPending (events ++ e ∷ []) k s) (sym session) pending_is;
       committed = (
         λ h. committed_kept events e k (is.committed.0 (sym state ∙ h)),
@@ -144,7 +146,7 @@ pub record_other :
     (events : List Event) (e : Event) (k : ℕ) (txn : Txn) → IsRecordOf events k txn → (IsPending events k (session_in e) → ⊥) →
     IsRecordOf (events ++ e ∷ []) k txn
 record_other events e k txn is apart =
-    record_goes events e k txn txn is refl refl (λ pending. absurd (apart pending))
+    record_goes events e k txn txn is refl refl refl (λ pending. absurd (apart pending))
     (seen_same events e k txn is (λ pending. absurd (apart pending)))
     (writes_same events e k txn is (λ s x v same pending. apart pending))
 
@@ -157,7 +159,7 @@ pub record IsQuiet (events : List Event) (e : Event) : Type 0 where
 pub record_quiet :
     (events : List Event) (e : Event) (k : ℕ) (txn : Txn) → IsQuiet events e → IsRecordOf events k txn → IsRecordOf (events ++ e ∷ []) k txn
 record_quiet events e k txn quiet is =
-    record_goes events e k txn txn is refl refl (λ _. quiet.goes)
+    record_goes events e k txn txn is refl refl refl (λ _. quiet.goes)
     (seen_same events e k txn is (λ _. quiet.shows))
     (writes_same events e k txn is (λ s x v same _. quiet.writes s x v same))
 
@@ -165,21 +167,22 @@ record_quiet events e k txn quiet is =
 pub record_ends :
     (events : List Event) (e : Event) (k : ℕ) (old new : Txn) → IsRecordOf events k old → IsPending events k (session_in e) →
     is_end e ≡ true → seen_of (length events + 1) e ≡ None → ((s : ℕ) (x : Cell) (v : Value) → e ≡ Write s x v → ⊥) →
-    new.session ≡ old.session → new.seen ≡ old.seen → new.buffer.writes ≡ old.buffer.writes →
+    new.session ≡ old.session → new.level ≡ old.level → new.seen ≡ old.seen → new.buffer.writes ≡ old.buffer.writes →
     (new.state ≡ Pending → ⊥) → ((new.state ≡ Committed) ↔ (e ≡ Commit (session_in e))) →
     IsRecordOf (events ++ e ∷ []) k new
-record_ends events e k old new is pending ends shows writes session seen buffer not_pending committed =
+record_ends events e k old new is pending ends shows writes session level seen buffer not_pending committed =
     let same : session_in e ≡ old.session = start_session events k (session_in e) old.session pending.start is.place pending.starts is.started in
     record {
       place = is.place;
       started = subst (λ (s : ℕ). IsStart (events ++ e ∷ []) k s is.place) (sym session) (start_kept events e k old.session is.place is.started);
+      level = subst (λ (l : Level). RunsAt (events ++ e ∷ []) k l) (sym level) (runs_kept events e k old.level is.level);
       pending = (
         λ h. absurd (not_pending h),
         λ h. absurd (elim (pending_back events e k new.session h) [
           | inl before ↦ false≢true (sym (before.1 (same ∙ sym session)) ∙ ends)
           | inr new_one ↦
               let bounded : k ≤ begun events = start_bounded events k old.session is.place is.started in
-              let at = new_one.1 in
+              let at = new_one.counts in
               omega arith
         ]),
       );
@@ -198,14 +201,15 @@ record_ends events e k old new is pending ends shows writes session seen buffer 
 -- a transaction begins
 pub record_begins :
     (events : List Event) (s : ℕ) (txn : Txn) → txn.session ≡ s → txn.state ≡ Pending → txn.seen ≡ [] → txn.buffer.writes ≡ [] →
-    IsRecordOf (events ++ Begin s ∷ []) (begun events + 1) txn
+    IsRecordOf (events ++ Begin s txn.level ∷ []) (begun events + 1) txn
 record_begins events s txn session state seen buffer =
-    let pending = pending_begin events s in
+    let pending = pending_begin events s txn.level in
     record {
       place = pending.start;
-      started = subst (λ (t : ℕ). IsStart (events ++ Begin s ∷ []) (begun events + 1) t pending.start) (sym session) pending.starts;
+      started = subst (λ (t : ℕ). IsStart (events ++ Begin s txn.level ∷ []) (begun events + 1) t pending.start) (sym session) pending.starts;
+      level = runs_begin events s txn.level;
       pending = (
-        λ _. subst (λ (t : ℕ). IsPending (events ++ Begin s ∷ []) (begun events + 1) t) (sym session) pending,
+        λ _. subst (λ (t : ℕ). IsPending (events ++ Begin s txn.level ∷ []) (begun events + 1) t) (sym session) pending,
         λ _. state,
       );
       committed = (
@@ -222,8 +226,8 @@ record_begins events s txn session state seen buffer =
       );
     }
   where
-    none_done : (p : ℕ) (f : Event) → IsOf (events ++ Begin s ∷ []) (begun events + 1) p f → ⊥
-    none_done p f of = of_none events (Begin s) (begun events + 1) p f (omega arith) of
+    none_done : (p : ℕ) (f : Event) → IsOf (events ++ Begin s txn.level ∷ []) (begun events + 1) p f → ⊥
+    none_done p f of = of_none events (Begin s txn.level) (begun events + 1) p f (omega arith) of
 
     nothing : {X : Type 0} (x : X) → Contains [] x → ⊥
     nothing x (n, within, is) = absurd (omega arith)
@@ -254,14 +258,14 @@ txns_change events e txns at txn unique other pending stands is = record {
 
 pub txns_begin :
     (events : List Event) (s : ℕ) (txns : List Txn) (txn : Txn) → (HasPending events s → ⊥) → StandsForTxns events txns →
-    txn.session ≡ s → txn.state ≡ Pending → txn.seen ≡ [] → txn.buffer.writes ≡ [] → StandsForTxns (events ++ Begin s ∷ []) (txns ++ txn ∷ [])
+    txn.session ≡ s → txn.state ≡ Pending → txn.seen ≡ [] → txn.buffer.writes ≡ [] → StandsForTxns (events ++ Begin s txn.level ∷ []) (txns ++ txn ∷ [])
 txns_begin events s txns txn none stands session state seen buffer = record {
-  count = length_push txns txn ∙ ap (λ (n : ℕ). n + 1) stands.count ∙ sym (begun-push_start events s);
+  count = length_push txns txn ∙ ap (λ (n : ℕ). n + 1) stands.count ∙ sym (begun-push_start events s txn.level);
   each = λ i t is. elim (slice_get_push_cases txns txn i t is) [
-    | inl old ↦ record_other events (Begin s) (i + 1) t (stands.each i t old.1) (λ pending. none (i + 1, pending))
+    | inl old ↦ record_other events (Begin s txn.level) (i + 1) t (stands.each i t old.1) (λ pending. none (i + 1, pending))
     | inr new ↦
         let number : begun events + 1 ≡ i + 1 = let c = stands.count in let h = new.0 in omega arith in
-        subst (λ (u : Txn). IsRecordOf (events ++ Begin s ∷ []) (i + 1) u) new.1
-        (subst (λ (n : ℕ). IsRecordOf (events ++ Begin s ∷ []) n txn) number (record_begins events s txn session state seen buffer))
+        subst (λ (u : Txn). IsRecordOf (events ++ Begin s txn.level ∷ []) (i + 1) u) new.1
+        (subst (λ (n : ℕ). IsRecordOf (events ++ Begin s txn.level ∷ []) n txn) number (record_begins events s txn session state seen buffer))
   ];
 }

@@ -74,7 +74,7 @@ LastWrite cell value state = WritesLast (writes_of state) cell value
 abbrev pub HasTable : Past → ℕ → Type 0
 HasTable past table = table < length past.seen.tables
 
--- each key is below those behind it, none stands twice, and there are fewer than 2 ^ 32
+-- each key is below those after it, none stands twice, and there are fewer than 2 ^ 32
 pub record IsKeyList (keys : List Key) : Type 0 where
   pub ascending : (i j : ℕ) (a b : Key) → i < j → slice_get keys i ≡ Some a → slice_get keys j ≡ Some b → IsKeyBelow a b
   pub once : (i j : ℕ) (key : Key) → slice_get keys i ≡ Some key → slice_get keys j ≡ Some key → i ≡ j

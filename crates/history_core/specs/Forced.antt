@@ -1,5 +1,5 @@
 -- The pairs of transactions that a history, or a further read, forces on each commit order.
-use Rattle.std.specs.Prelude.{◌≡◌, ◌⊎◌, ℕ, List, [], ◌∷◌, ◌++◌, Contains}
+use Rattle.std.specs.Prelude.{◌≡◌, ◌↔◌, ◌⊎◌, ℕ, List, [], ◌∷◌, ◌++◌, Contains}
 use Rattle.std.specs.List.Sorted.{IsStrictlyIncreasing}
 use Rattle.graph_base.specs.declared.Edge.{Edge}
 use Rattle.graph_base.specs.Walk.{IsInRange}

@@ -34,9 +34,14 @@ abbrev pub FitsCell : List (Cell × Value) → Cell → Value → Type 0
 FitsCell initial (Presence table key) value = value ≡ Flag true
 FitsCell initial (Field table key column) value = IsThereInitially initial table key × IsStorable value
 
+-- each cell is below those after it, as cells are ordered
+abbrev pub IsAscending : List (Cell × Value) → Type 0
+IsAscending cells =
+    (i j : ℕ) (a b : Cell × Value) → i < j → slice_get cells i ≡ Some a → slice_get cells j ≡ Some b → (cell_order.ghosts).cmp a.0 b.0 ≡ Less
+
 -- a map from cells to values, ascending by cell: the presences of rows that are there, and fields of such rows
 pub record IsInitialState (initial : List (Cell × Value)) : Type 0 where
-  pub ascending : (i j : ℕ) (a b : Cell × Value) → i < j → slice_get initial i ≡ Some a → slice_get initial j ≡ Some b → (cell_order.ghosts).cmp a.0 b.0 ≡ Less
+  pub ascending : IsAscending initial
   pub fits : (cell : Cell) (value : Value) → Contains initial (cell, value) → FitsCell initial cell value
 
 -- each row that is there is one of these tables, and has each field but the key's, and no other
@@ -46,6 +51,13 @@ pub record HoldsWholeRows (tables : List Table) (initial : List (Cell × Value))
       column < length of_table.columns → column ≢ of_table.key → (value : Value) × Contains initial (Field table key column, value)
   pub fields : (table : ℕ) (key : Key) (of_table : Table) (column : ℕ) (value : Value) → Contains initial (Field table key column, value) →
       slice_get tables table ≡ Some of_table → (column < length of_table.columns) × (column ≢ of_table.key)
+
+-- the presences of a table's rows, ascending
+pub record AreRowsOf (initial : List (Cell × Value)) (table : ℕ) (rows : List (Cell × Value)) : Type 0 where
+  pub ascending : IsAscending rows
+  pub each : (cell : Cell) (value : Value) → Contains rows (cell, value) →
+      (key : Key) × ((cell ≡ Presence table key) × (value ≡ Flag true) × IsThereInitially initial table key)
+  pub all : (key : Key) → IsThereInitially initial table key → Contains rows (Presence table key, Flag true)
 
 -- each cell weighs what a write of it does
 abbrev pub initial_weight : Cell × Value → ℕ

@@ -96,6 +96,7 @@ AddsSeen seen before after = after ≡ record before { seen = before.seen ++ see
 
 pub record AddsWrite (cell : Cell) (value : Value) (before after : Txn) : Type 0 where
   pub session : after.session ≡ before.session
+  pub level : after.level ≡ before.level
   pub state : after.state ≡ before.state
   pub seen : after.seen ≡ before.seen
   pub puts : Puts before.buffer.writes after.buffer.writes cell value

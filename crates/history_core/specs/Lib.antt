@@ -1,5 +1,6 @@
 pub mod Events
 pub mod Initial
+pub mod Judged
 pub mod Transactions
 pub mod Relations
 pub mod Forced

@@ -12,24 +12,24 @@ use crate::{Event, TxnState};
 /// An end, of a transaction or of a session.
 pub fn end_event(kept: &mut Kept, event: Event)
     requires kept { IsKept kept.old }
-    requires may { MayCome kept.old.events.items event }
+    requires may { MayCome kept.old.initial kept.old.events.items event }
     requires end { IsTrue (is_any_end event) }
     ensures kept { IsKept kept.new }
     ensures grows { Grows kept.old kept.new event }
 {
     match event {
-        Event::Commit(session) => {
-            end_txn(kept, Event::Commit(session), session, TxnState::Committed);
+        Event::Commit { session } => {
+            end_txn(kept, Event::Commit { session }, session, TxnState::Committed);
         }
-        Event::Rollback(session) => {
+        Event::Rollback { session } => {
             end_txn(
                 kept,
-                Event::Rollback(session),
+                Event::Rollback { session },
                 session,
                 TxnState::RolledBack,
             );
         }
-        Event::Close(session) => end_session(kept, session),
+        Event::Close { session } => end_session(kept, session),
         _ => unreachable!(),
     }
 }
@@ -37,7 +37,7 @@ pub fn end_event(kept: &mut Kept, event: Event)
 /// The end of a transaction.
 pub fn end_txn(kept: &mut Kept, event: Event, session: u32, state: TxnState)
     requires kept { IsKept kept.old }
-    requires may { MayCome kept.old.events.items event }
+    requires may { MayCome kept.old.initial kept.old.events.items event }
     requires ends { IsEndOf event session state }
     ensures kept { IsKept kept.new }
     ensures grows { Grows kept.old kept.new event }
@@ -54,13 +54,13 @@ pub fn end_txn(kept: &mut Kept, event: Event, session: u32, state: TxnState)
 /// The end of a session.
 pub fn end_session(kept: &mut Kept, session: u32)
     requires kept { IsKept kept.old }
-    requires may { MayCome kept.old.events.items (Event.Close session) }
+    requires may { MayCome kept.old.initial kept.old.events.items (Event.Close session) }
     ensures kept { IsKept kept.new }
     ensures grows { Grows kept.old kept.new (Event.Close session) }
 {
     let place = session_index(kept, session);
     close(&mut kept.sessions, place);
-    append(&mut kept.events, Event::Close(session));
+    append(&mut kept.events, Event::Close { session });
     kept.load += 1;
     kept.owed -= 1;
 }

@@ -1,26 +1,33 @@
 // Why a history or a book refuses a call.
 use cell_base::Memory;
 use std::alloc::{AllocError, AllocFailed};
+use thiserror::Error;
 
 /// A limit of the history.
-#[derive(Clone, Copy, Debug, PartialEq, Eq)]
+#[derive(Clone, Copy, Debug, PartialEq, Eq, Error)]
 pub enum Limit {
     /// The load is at least 1,048,576.
+    #[error("its load has reached the limit")]
     Load,
-    /// 16,383 transactions were begun.
+    /// 65,535 transactions were begun.
+    #[error("so many transactions have begun as a history takes")]
     Transactions,
     /// 4,096 sessions were opened.
+    #[error("so many sessions were opened as a history takes")]
     Sessions,
     /// 64 tables are defined.
+    #[error("so many tables are defined as a history takes")]
     Tables,
 }
 
 /// Why a book refuses a call.
-#[derive(Clone, Copy, Debug, PartialEq, Eq)]
+#[derive(Clone, Copy, Debug, PartialEq, Eq, Error)]
 pub enum BookFault {
     /// The history is full.
+    #[error("the history is full: {0}")]
     Full(Limit),
-    /// Want of memory.
+    /// Out of memory.
+    #[error("out of memory")]
     Memory,
 }
 

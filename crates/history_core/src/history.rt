@@ -3,7 +3,8 @@ ghost use Rattle.std.specs.Prelude.{◌≡◌, ◌≤◌, ◌<◌, ◌+◌, ◌�
 ghost use Rattle.sound_table.specs.Sound.{IsSound};
 ghost use Rattle.history_core.specs.declared.event.Event.{Event};
 ghost use Rattle.history_core.specs.declared.fault.Limit.{Limit};
-ghost use Rattle.history_core.specs.Events.{begun, load_of};
+ghost use Rattle.history_core.specs.Events.{begun};
+ghost use Rattle.history_core.specs.Initial.{load_of};
 ghost use Rattle.history_core.specs.Transactions.{IsPending};
 ghost use Rattle.history_core.specs.Legal.{Follows, full_for};
 ghost use Rattle.history_core.specs.Chronicle.{followed_by, with_table, IsFormedChronicle};
@@ -13,13 +14,13 @@ use crate::ends::end_event;
 use crate::kept::{self, Kept, count_begun, next_number, pending_of, txn_of};
 use crate::limits::{define_limit, limit_for};
 use crate::pushes::{push_event, push_table};
-use crate::{BookFault, Event, Limit, Txn};
+use crate::{BookFault, Event, InitialState, Limit, Txn};
 use cell_base::Level;
 use sql_tree::Table;
 use std::alloc::Global;
 use std::marker::Model;
 
-/// A history: its level, its events and its tables. Contracts see these three. Beside them it keeps the load and a record
+/// A history: its level, its initial state, its events and its tables. Contracts see these four. Beside them it keeps the load and a record
 /// of each transaction, so that no answer goes through the events.
 #[derive(Debug, Drop)]
 pub struct History {
@@ -37,29 +38,29 @@ impl Model for History {
 
     ghost use Rattle.history_core.specs.Kept.{IsKept};
 
-    ghost view = { λ h. record { level = h.kept.level; events = h.kept.events.items; tables = h.kept.tables.items } };
+    ghost view = { λ h. record { level = h.kept.level; initial = h.kept.initial; events = h.kept.events.items; tables = h.kept.tables.items } };
 
     ghost invariant = { λ h. IsKept h.kept };
 }
 
 impl History {
-    /// A history of the level without events. Takes no memory.
-    pub fn new(alloc: Global, level: Level) -> History
-        ensures { result ≡ record { level = level; events = []; tables = [] } }
+    /// A history of the level and the initial state, without events. Takes no memory.
+    pub fn new(alloc: Global, level: Level, initial: InitialState) -> History
+        ensures { result ≡ record { level = level; initial = initial; events = []; tables = [] } }
     {
         History {
-            kept: kept::new(alloc, level),
+            kept: kept::new(alloc, level, initial),
         }
     }
 
     /// Appends an event that fits what came before, any but a definition. `Full` comes exactly where the history is full
-    /// for the event: at a load of 1,048,576, then at an Open after 4,096 Opens and at a Begin after 16,383 Begins. What
+    /// for the event: at a load of 1,048,576, then at an Open after 4,096 Opens and at a Begin after 65,535 Begins. What
     /// ends a transaction or a session is never refused. On an error nothing changes.
     pub fn push(&mut self, event: Event) -> Result<(), BookFault>
-        requires follows { Follows self.old.events event }
+        requires follows { Follows self.old.initial self.old.events event }
         requires pushed { IsNoDefinition event }
         ensures ok { OnOk result (self.new ≡ followed_by self.old event) }
-        ensures full { (limit : Limit) → (result ≡ Err (BookFault.Full limit)) ↔ (full_for self.old.events event ≡ Some limit) }
+        ensures full { (limit : Limit) → (result ≡ Err (BookFault.Full limit)) ↔ (full_for self.old.initial self.old.events event ≡ Some limit) }
         ensures err { OnErr result (self.new ≡ self.old) }
     {
         if let Some(limit) = limit_for(&self.kept, &event) {
@@ -74,10 +75,10 @@ impl History {
     /// Appends the definition of a sound table, whose name isn't taken. `Full` comes exactly at a load of 1,048,576, and
     /// then after 64 definitions. On an error nothing changes.
     pub fn push_define(&mut self, session: u32, table: Table) -> Result<(), BookFault>
-        requires follows { Follows self.old.events (Event.Define session table.name) }
+        requires follows { Follows self.old.initial self.old.events (Event.Define session table.name) }
         requires sound { IsSound table }
         ensures ok { OnOk result (self.new ≡ with_table self.old session table) }
-        ensures full { (limit : Limit) → (result ≡ Err (BookFault.Full limit)) ↔ (full_for self.old.events (Event.Define session table.name) ≡ Some limit) }
+        ensures full { (limit : Limit) → (result ≡ Err (BookFault.Full limit)) ↔ (full_for self.old.initial self.old.events (Event.Define session table.name) ≡ Some limit) }
         ensures err { OnErr result (self.new ≡ self.old) }
     {
         if let Some(limit) = define_limit(&self.kept, session, &table) {
@@ -92,18 +93,25 @@ impl History {
     /// Appends a Commit, a Rollback or a Close. Takes no memory and always succeeds, since the Open or the Begin took the
     /// room.
     pub fn end(&mut self, event: Event)
-        requires follows { Follows self.old.events event }
+        requires follows { Follows self.old.initial self.old.events event }
         requires end { IsTrue (is_any_end event) }
         ensures { self.new ≡ followed_by self.old event }
     {
         end_event(&mut self.kept, event);
     }
 
-    /// The isolation level.
+    /// The served level.
     pub fn level(&self) -> Level
         ensures { result ≡ self.now.level }
     {
         self.kept.level
+    }
+
+    /// The initial state, which nothing changes.
+    pub fn initial(&self) -> &InitialState
+        ensures { result.now ≡ self.now.initial }
+    {
+        &self.kept.initial
     }
 
     /// The events, in order; the first one is event 1. Each fits what came before.
@@ -129,9 +137,9 @@ impl History {
         self.kept.tables.as_slice()
     }
 
-    /// The load, which is the sum of the events' weights.
+    /// The load, which is that of the initial state and the sum of the events' weights.
     pub fn load(&self) -> u64
-        ensures { result ≡ load_of self.now.events }
+        ensures { result ≡ load_of self.now.initial self.now.events }
     {
         self.kept.load
     }
@@ -139,7 +147,7 @@ impl History {
     /// How many transactions have begun. They are numbered from 1.
     pub fn begun(&self) -> u32
         ensures number { result ≡ begun self.now.events }
-        ensures small { result ≤ 16383 }
+        ensures small { result ≤ 65535 }
     {
         count_begun(&self.kept)
     }

@@ -6,7 +6,7 @@ ghost use Rattle.history_core.specs.Transactions.{IsPending, HasPending};
 ghost use Rattle.history_core.specs.Records.{IsRecordOf};
 ghost use Rattle.history_core.specs.Kept.{IsKept};
 
-use crate::{Event, Txn};
+use crate::{Event, InitialState, Txn};
 use cell_base::Level;
 use sql_tree::Table;
 use std::alloc::Global;
@@ -25,6 +25,7 @@ pub struct SessionRecord {
 pub struct Kept {
     pub alloc: Global,
     pub level: Level,
+    pub initial: InitialState,
     pub events: Vec<Event>,
     pub tables: Vec<Table>,
     pub txns: Vec<Txn>,
@@ -34,20 +35,23 @@ pub struct Kept {
 }
 
 /// No event yet.
-pub fn new(alloc: Global, level: Level) -> Kept
+pub fn new(alloc: Global, level: Level, initial: InitialState) -> Kept
     ensures kept { IsKept result }
     ensures level { result.level ≡ level }
+    ensures initial { result.initial ≡ initial }
     ensures events { result.events.items ≡ [] }
     ensures tables { result.tables.items ≡ [] }
 {
+    let load = initial.load();
     Kept {
         alloc,
         level,
+        initial,
         events: Vec::new(alloc),
         tables: Vec::new(alloc),
         txns: Vec::new(alloc),
         sessions: Vec::new(alloc),
-        load: 0,
+        load,
         owed: 0,
     }
 }

@@ -16,8 +16,10 @@ mod laws;
 mod limits;
 mod notes;
 mod pushes;
+mod search;
 mod txn;
 mod weight;
+mod whole;
 
 pub use book::Book;
 pub use event::Event;

@@ -17,7 +17,7 @@ const MOST_LOAD: u64 = 1_048_576;
 const MOST_SESSIONS: u32 = 4_096;
 
 /// The greatest number of transactions that a history begins.
-const MOST_TRANSACTIONS: u32 = 16_383;
+const MOST_TRANSACTIONS: u32 = 65_535;
 
 /// The greatest number of tables that a history defines.
 const MOST_TABLES: usize = 64;
@@ -25,10 +25,10 @@ const MOST_TABLES: usize = 64;
 /// The limit that keeps the event out.
 pub fn limit_for(kept: &Kept, event: &Event) -> Option<Limit>
     requires { IsKept kept.now }
-    ensures { result ≡ full_for kept.now.events.items event.now }
+    ensures { result ≡ full_for kept.now.initial kept.now.events.items event.now }
 {
     match event {
-        Event::Close(_) | Event::Commit(_) | Event::Rollback(_) => None,
+        Event::Close { .. } | Event::Commit { .. } | Event::Rollback { .. } => None,
         _ => {
             if kept.load >= MOST_LOAD {
                 Some(Limit::Load)
@@ -42,7 +42,7 @@ pub fn limit_for(kept: &Kept, event: &Event) -> Option<Limit>
 /// The limit that keeps a definition out.
 pub fn define_limit(kept: &Kept, _session: u32, _table: &Table) -> Option<Limit>
     requires { IsKept kept.now }
-    ensures { result ≡ full_for kept.now.events.items (Event.Define _session _table.now.name) }
+    ensures { result ≡ full_for kept.now.initial kept.now.events.items (Event.Define _session _table.now.name) }
 {
     if kept.load >= MOST_LOAD {
         return Some(Limit::Load);
@@ -55,21 +55,21 @@ fn count_limit(kept: &Kept, event: &Event) -> Option<Limit>
     ensures { result ≡ full_count kept.now.events.items event.now }
 {
     match event {
-        Event::Open(_) => {
+        Event::Open { .. } => {
             if count_opened(kept) >= MOST_SESSIONS {
                 Some(Limit::Sessions)
             } else {
                 None
             }
         }
-        Event::Begin(_) => {
+        Event::Begin { .. } => {
             if count_begun(kept) >= MOST_TRANSACTIONS {
                 Some(Limit::Transactions)
             } else {
                 None
             }
         }
-        Event::Define(_, _) => table_limit(kept),
+        Event::Define { .. } => table_limit(kept),
         _ => None,
     }
 }

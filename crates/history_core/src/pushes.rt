@@ -13,55 +13,84 @@ use crate::kept::{Kept, SessionRecord, count_begun, next_number, pending_index, 
 use crate::notes::{append, copy_keys, make_room, note_seen, note_write, set_pending};
 use crate::weight::weight;
 use crate::{Event, Seen, Txn, TxnState};
-use cell_base::{Cell, Items, Key, Memory, Value};
+use cell_base::{Cell, Items, Key, Level, Memory, Value};
 use sql_tree::Table;
 use txn_buffer::TxnBuffer;
 
 /// Appends any event but a definition.
 pub fn push_event(kept: &mut Kept, event: Event) -> Result<(), Memory>
     requires kept { IsKept kept.old }
-    requires may { MayCome kept.old.events.items event }
+    requires may { MayCome kept.old.initial kept.old.events.items event }
     requires pushed { IsNoDefinition event }
     ensures kept { IsKept kept.new }
     ensures ok { OnOk result (Grows kept.old kept.new event) }
     ensures err { OnErr result (Stays kept.old kept.new) }
 {
     match event {
-        Event::Open(session) => push_open(kept, session),
-        Event::Begin(session) => push_begin(kept, session),
-        Event::Scan(session, table, keys) => push_scan(kept, session, table, keys),
-        Event::Read(session, cell, source, count, word, value) => {
-            push_read(kept, session, cell, source, count, word, value)
-        }
-        Event::Write(session, cell, value) => push_write(kept, session, cell, value),
-        Event::Look(session, count) => push_unnoted(kept, Event::Look(session, count)),
-        Event::Own(session, cell, value) => push_unnoted(kept, Event::Own(session, cell, value)),
-        Event::Show(session, number) => push_unnoted(kept, Event::Show(session, number)),
-        Event::Commit(session) => {
-            end_txn(kept, Event::Commit(session), session, TxnState::Committed);
-            Ok(())
-        }
-        Event::Rollback(session) => {
+        Event::Open { session } => push_open(kept, session),
+        Event::Begin { session, level } => push_begin(kept, session, level),
+        Event::Scan {
+            session,
+            table,
+            keys,
+        } => push_scan(kept, session, table, keys),
+        Event::Read {
+            session,
+            cell,
+            source,
+            count,
+            word,
+            value,
+        } => push_read(kept, session, cell, source, count, word, value),
+        Event::Write {
+            session,
+            cell,
+            value,
+        } => push_write(kept, session, cell, value),
+        Event::Look { session, tables } => push_unnoted(kept, Event::Look { session, tables }),
+        Event::Own {
+            session,
+            cell,
+            value,
+        } => push_unnoted(
+            kept,
+            Event::Own {
+                session,
+                cell,
+                value,
+            },
+        ),
+        Event::Show { session, number } => push_unnoted(kept, Event::Show { session, number }),
+        Event::Commit { session } => {
             end_txn(
                 kept,
-                Event::Rollback(session),
+                Event::Commit { session },
+                session,
+                TxnState::Committed,
+            );
+            Ok(())
+        }
+        Event::Rollback { session } => {
+            end_txn(
+                kept,
+                Event::Rollback { session },
                 session,
                 TxnState::RolledBack,
             );
             Ok(())
         }
-        Event::Close(session) => {
+        Event::Close { session } => {
             end_session(kept, session);
             Ok(())
         }
-        Event::Define(_, _) => unreachable!(),
+        Event::Define { .. } => unreachable!(),
     }
 }
 
 /// Appends the definition of a table.
 pub fn push_table(kept: &mut Kept, session: u32, table: Table) -> Result<(), Memory>
     requires kept { IsKept kept.old }
-    requires may { MayCome kept.old.events.items (Event.Define session table.name) }
+    requires may { MayCome kept.old.initial kept.old.events.items (Event.Define session table.name) }
     requires sound { IsSound table }
     ensures kept { IsKept kept.new }
     ensures ok { OnOk result (Defines kept.old kept.new session table) }
@@ -70,7 +99,7 @@ pub fn push_table(kept: &mut Kept, session: u32, table: Table) -> Result<(), Mem
     let name = table.name.copy(kept.alloc)?;
     make_room(&mut kept.events, kept.owed)?;
     kept.tables.push(table)?;
-    append(&mut kept.events, Event::Define(session, name));
+    append(&mut kept.events, Event::Define { session, name });
     kept.load += 1;
     Ok(())
 }
@@ -78,7 +107,7 @@ pub fn push_table(kept: &mut Kept, session: u32, table: Table) -> Result<(), Mem
 /// The start of a session. The room for its end is taken now.
 fn push_open(kept: &mut Kept, session: u32) -> Result<(), Memory>
     requires kept { IsKept kept.old }
-    requires may { MayCome kept.old.events.items (Event.Open session) }
+    requires may { MayCome kept.old.initial kept.old.events.items (Event.Open session) }
     ensures kept { IsKept kept.new }
     ensures ok { OnOk result (Grows kept.old kept.new (Event.Open session)) }
     ensures err { OnErr result (Stays kept.old kept.new) }
@@ -88,18 +117,18 @@ fn push_open(kept: &mut Kept, session: u32) -> Result<(), Memory>
         is_open: true,
         pending: None,
     })?;
-    append(&mut kept.events, Event::Open(session));
+    append(&mut kept.events, Event::Open { session });
     kept.load += 1;
     kept.owed += 1;
     Ok(())
 }
 
 /// The start of a transaction. The room for its end is taken now.
-fn push_begin(kept: &mut Kept, session: u32) -> Result<(), Memory>
+fn push_begin(kept: &mut Kept, session: u32, level: Level) -> Result<(), Memory>
     requires kept { IsKept kept.old }
-    requires may { MayCome kept.old.events.items (Event.Begin session) }
+    requires may { MayCome kept.old.initial kept.old.events.items (Event.Begin session level) }
     ensures kept { IsKept kept.new }
-    ensures ok { OnOk result (Grows kept.old kept.new (Event.Begin session)) }
+    ensures ok { OnOk result (Grows kept.old kept.new (Event.Begin session level)) }
     ensures err { OnErr result (Stays kept.old kept.new) }
 {
     let at = session_index(kept, session);
@@ -107,12 +136,13 @@ fn push_begin(kept: &mut Kept, session: u32) -> Result<(), Memory>
     make_room(&mut kept.events, kept.owed + 1)?;
     kept.txns.push(Txn {
         session,
+        level,
         state: TxnState::Pending,
         seen: Items::new(kept.alloc),
         buffer: TxnBuffer::new(kept.alloc),
     })?;
     set_pending(&mut kept.sessions, at, Some(number));
-    append(&mut kept.events, Event::Begin(session));
+    append(&mut kept.events, Event::Begin { session, level });
     kept.load += 1;
     kept.owed += 1;
     Ok(())
@@ -121,14 +151,27 @@ fn push_begin(kept: &mut Kept, session: u32) -> Result<(), Memory>
 /// A scan of the pending transaction.
 fn push_scan(kept: &mut Kept, session: u32, table: u32, keys: Items<Key>) -> Result<(), Memory>
     requires kept { IsKept kept.old }
-    requires may { MayCome kept.old.events.items (Event.Scan session table keys) }
+    requires may { MayCome kept.old.initial kept.old.events.items (Event.Scan session table keys) }
     ensures kept { IsKept kept.new }
     ensures ok { OnOk result (Grows kept.old kept.new (Event.Scan session table keys)) }
     ensures err { OnErr result (Stays kept.old kept.new) }
 {
     let listed = copy_keys(kept.alloc, &keys)?;
-    let noted = Seen::Scan(next_number(kept), table, listed);
-    push_seen(kept, Event::Scan(session, table, keys), session, noted)
+    let noted = Seen::Scan {
+        number: next_number(kept),
+        table,
+        keys: listed,
+    };
+    push_seen(
+        kept,
+        Event::Scan {
+            session,
+            table,
+            keys,
+        },
+        session,
+        noted,
+    )
 }
 
 /// An external read of the pending transaction.
@@ -142,16 +185,27 @@ fn push_read(
     value: Value,
 ) -> Result<(), Memory>
     requires kept { IsKept kept.old }
-    requires may { MayCome kept.old.events.items (Event.Read session cell source count word value) }
+    requires may { MayCome kept.old.initial kept.old.events.items (Event.Read session cell source count word value) }
     ensures kept { IsKept kept.new }
     ensures ok { OnOk result (Grows kept.old kept.new (Event.Read session cell source count word value)) }
     ensures err { OnErr result (Stays kept.old kept.new) }
 {
     let seen_cell = cell.copy(kept.alloc)?;
-    let noted = Seen::Read(next_number(kept), seen_cell, source);
+    let noted = Seen::Read {
+        number: next_number(kept),
+        cell: seen_cell,
+        source,
+    };
     push_seen(
         kept,
-        Event::Read(session, cell, source, count, word, value),
+        Event::Read {
+            session,
+            cell,
+            source,
+            count,
+            word,
+            value,
+        },
         session,
         noted,
     )
@@ -160,7 +214,7 @@ fn push_read(
 /// An event that the pending transaction saw something by.
 fn push_seen(kept: &mut Kept, event: Event, session: u32, seen: Seen) -> Result<(), Memory>
     requires kept { IsKept kept.old }
-    requires may { MayCome kept.old.events.items event }
+    requires may { MayCome kept.old.initial kept.old.events.items event }
     requires session { session_in event ≡ session }
     requires pending { HasPending kept.old.events.items session }
     requires shows { seen_of (length kept.old.events.items + 1) event ≡ Some seen }
@@ -180,7 +234,7 @@ fn push_seen(kept: &mut Kept, event: Event, session: u32, seen: Seen) -> Result<
 /// A write of the pending transaction.
 fn push_write(kept: &mut Kept, session: u32, cell: Cell, value: Value) -> Result<(), Memory>
     requires kept { IsKept kept.old }
-    requires may { MayCome kept.old.events.items (Event.Write session cell value) }
+    requires may { MayCome kept.old.initial kept.old.events.items (Event.Write session cell value) }
     ensures kept { IsKept kept.new }
     ensures ok { OnOk result (Grows kept.old kept.new (Event.Write session cell value)) }
     ensures err { OnErr result (Stays kept.old kept.new) }
@@ -188,7 +242,11 @@ fn push_write(kept: &mut Kept, session: u32, cell: Cell, value: Value) -> Result
     let at = pending_index(kept, session);
     let cell_noted = cell.copy(kept.alloc)?;
     let value_noted = value.copy(kept.alloc)?;
-    let event = Event::Write(session, cell, value);
+    let event = Event::Write {
+        session,
+        cell,
+        value,
+    };
     let weight = weight(&event)?;
     make_room(&mut kept.events, kept.owed)?;
     note_write(&mut kept.txns, at, cell_noted, value_noted)?;
@@ -200,7 +258,7 @@ fn push_write(kept: &mut Kept, session: u32, cell: Cell, value: Value) -> Result
 /// An event of which the records note nothing.
 fn push_unnoted(kept: &mut Kept, event: Event) -> Result<(), Memory>
     requires kept { IsKept kept.old }
-    requires may { MayCome kept.old.events.items event }
+    requires may { MayCome kept.old.initial kept.old.events.items event }
     requires unnoted { IsUnnoted event }
     ensures kept { IsKept kept.new }
     ensures ok { OnOk result (Grows kept.old kept.new event) }

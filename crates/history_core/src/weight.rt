@@ -5,17 +5,17 @@ ghost use Rattle.history_core.specs.Events.{weight_of, key_bytes, cell_bytes, va
 use crate::Event;
 use cell_base::{Cell, Items, Key, Memory, Value};
 
-/// What the event adds to the load. A weight above 4,611,686,018,427,387,904 counts as want of memory: no memory has room
+/// What the event adds to the load. A weight above 4,611,686,018,427,387,904 counts as out of memory: no memory has room
 /// for so many keys or bytes, and every load fits a number of 64 bits.
 pub fn weight(event: &Event) -> Result<u64, Memory>
     ensures value { IfOk result (λ w. w ≡ weight_of event.now) }
     ensures light { IfOk result (λ w. weight_of event.now ≤ 4611686018427387904) }
 {
     match event {
-        Event::Scan(_, _, keys) => keys_weight(keys),
-        Event::Read(_, cell, _, _, _, value) => Ok(text_weight(cell, value)),
-        Event::Own(_, cell, value) => Ok(text_weight(cell, value)),
-        Event::Write(_, cell, value) => Ok(text_weight(cell, value)),
+        Event::Scan { keys, .. } => keys_weight(keys),
+        Event::Read { cell, value, .. } => Ok(text_weight(cell, value)),
+        Event::Own { cell, value, .. } => Ok(text_weight(cell, value)),
+        Event::Write { cell, value, .. } => Ok(text_weight(cell, value)),
         _ => Ok(1),
     }
 }
@@ -51,7 +51,7 @@ fn value_size(value: &Value) -> u64
 }
 
 /// The weight of an event that holds a cell and a value.
-fn text_weight(cell: &Cell, value: &Value) -> u64
+pub fn text_weight(cell: &Cell, value: &Value) -> u64
     ensures value { result ≡ 1 + (cell_bytes cell.now + value_bytes value.now) / 256 }
     ensures light { result ≤ 4611686018427387904 }
 {

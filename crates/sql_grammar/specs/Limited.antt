@@ -1,5 +1,5 @@
 -- The limited grammar, and the lists of tokens that a text can have.
-use Rattle.std.specs.Prelude.{◌≤◌, ℕ, ℤ, pos, negsuc, List, length}
+use Rattle.std.specs.Prelude.{◌≤◌, ℕ, ℤ, pos, negsuc, List, length, Contains}
 use Rattle.cell_base.specs.Texts.{HasNoZero}
 use Rattle.sql_tree.specs.declared.statement.Statement.{Statement}
 use Rattle.sql_tree.specs.declared.token.Token.{Token}

@@ -16,4 +16,4 @@ overflow_sub-kept c =
 pub returns-clause-kept : goal.returns-clause-kept
 returns-clause-kept c =
     kept_closes c.args.kept.now _ c.args.session c.session_index-place.result c.requires.kept c.requires.may c.session_index-place.ensures.number
-    c.close.ensures c.append.ensures.items refl refl refl refl c.append.ensures.capacity
+    c.close.ensures refl c.append.ensures.items refl refl refl refl c.append.ensures.capacity

@@ -5,7 +5,7 @@ use Rattle.history_core.proofs.ends.end_txn.Goals as goal
 
 pub session_index-place-requires-clause-opened : goal.session_index-place-requires-clause-opened
 session_index-place-requires-clause-opened c =
-    pending_opened c.args.kept.now.events.items c.requires.kept.formed.formed _ c.args.session c.pending_index-at.ensures.pending
+    pending_opened c.args.kept.now.initial c.args.kept.now.events.items c.requires.kept.formed.formed _ c.args.session c.pending_index-at.ensures.pending
 
 pub append-requires : goal.append-requires
 append-requires c =
@@ -22,4 +22,4 @@ pub returns-clause-kept : goal.returns-clause-kept
 returns-clause-kept c =
     kept_ends c.args.kept.now _ c.args.event c.args.session c.pending_index-at.result c.session_index-place.result c.args.state c.requires.kept
     c.requires.may c.requires.ends c.pending_index-at.ensures.pending c.session_index-place.ensures.number c.set_state.ensures c.set_pending.ensures
-    c.append.ensures.items refl refl refl c.append.ensures.capacity
+    refl c.append.ensures.items refl refl refl c.append.ensures.capacity

@@ -6,7 +6,7 @@ use Rattle.history_core.proofs.kept.pending_index.Goals as goal
 
 pub session_index-at-requires-clause-opened : goal.session_index-at-requires-clause-opened
 session_index-at-requires-clause-opened c =
-    pending_opened c.args.kept.now.events.items c.requires.kept.formed.formed c.requires.pending.0 c.args.session c.requires.pending.1
+    pending_opened c.args.kept.now.initial c.args.kept.now.events.items c.requires.kept.formed.formed c.requires.pending.0 c.args.session c.requires.pending.1
 
 pub overflow_sub-result : goal.overflow_sub-result
 overflow_sub-result c =

@@ -6,16 +6,16 @@ pub returns-then-session-eq0 : goal.returns-then-session-eq0
 returns-then-session-eq0 c = λ number. (
   λ h. let both : None ≡ Some number = h in cc,
   λ pending.
-      let h = opened_bounds c.args.kept.now.events.items c.requires.formed.formed c.args.session
-      (pending_opened c.args.kept.now.events.items c.requires.formed.formed number c.args.session pending) in absurd (omega arith),
+      let h = opened_bounds c.args.kept.now.initial c.args.kept.now.events.items c.requires.formed.formed c.args.session
+      (pending_opened c.args.kept.now.initial c.args.kept.now.events.items c.requires.formed.formed number c.args.session pending) in absurd (omega arith),
 )
 
 pub returns-then-session-count_opened : goal.returns-then-session-count_opened
 returns-then-session-count_opened c = λ number. (
   λ h. let both : None ≡ Some number = h in cc,
   λ pending.
-      let h = opened_bounds c.args.kept.now.events.items c.requires.formed.formed c.args.session
-      (pending_opened c.args.kept.now.events.items c.requires.formed.formed number c.args.session pending) in absurd (omega arith),
+      let h = opened_bounds c.args.kept.now.initial c.args.kept.now.events.items c.requires.formed.formed c.args.session
+      (pending_opened c.args.kept.now.initial c.args.kept.now.events.items c.requires.formed.formed number c.args.session pending) in absurd (omega arith),
 )
 
 pub returns : goal.returns

@@ -5,8 +5,8 @@ use Rattle.history_core.proofs.laws.legal_laws.Goals as goal
 
 pub returns : goal.returns
 returns c = record {
-  formed = λ level events legal. legal.formed;
+  formed = λ initial events legal. legal.formed;
   consistent = legal_consistent;
   prefixes = legal_take;
-  permitted = λ level events session cell legal pending. some_permitted level events session cell legal pending;
+  permitted = λ initial events session cell legal pending. some_permitted initial events session cell legal pending;
 }

@@ -11,5 +11,5 @@ returns-clause-kept c =
     kept_begin c.args.kept.now _ c.args.session c.session_index-at.result _ c.requires.kept c.requires.may c.session_index-at.ensures.number
     c.in_ok-push.ensures.items refl refl c.new.ensures c.new-2.ensures
     (rw c.count_begun-number.ensures at c.set_pending.ensures)
-    (c.append.ensures.items ∙ ap (λ (xs : List Event). xs ++ Begin c.args.session ∷ []) c.make_room.ensures.items)
+    refl (c.append.ensures.items ∙ ap (λ (xs : List Event). xs ++ Begin c.args.session c.args.level ∷ []) c.make_room.ensures.items)
     refl refl refl (omega arith)

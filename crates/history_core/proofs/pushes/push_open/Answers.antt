@@ -9,5 +9,5 @@ returns-clause-kept c =
     let room = c.in_ok-make_room.ensures.ok in
     let capacity = c.append.ensures.capacity in
     kept_open c.args.kept.now _ c.args.session _ c.requires.kept c.requires.may c.in_ok-push.ensures.items refl refl
-    (c.append.ensures.items ∙ ap (λ (xs : List Event). xs ++ Open c.args.session ∷ []) c.make_room.ensures.items)
+    refl (c.append.ensures.items ∙ ap (λ (xs : List Event). xs ++ Open c.args.session ∷ []) c.make_room.ensures.items)
     refl refl refl refl (omega arith)

@@ -12,5 +12,5 @@ returns-clause-kept c =
     kept_seen c.args.kept.now _ c.args.event c.pending_index-at.result c.args.seen c.requires.kept c.requires.may
     (subst (λ (s : ℕ). IsPending c.args.kept.now.events.items (c.pending_index-at.result + 1) s) (sym c.requires.session) c.pending_index-at.ensures.pending)
     c.requires.shows c.in_ok-weight.ensures.light c.in_ok-note_seen.ensures.ok
-    (c.append.ensures.items ∙ ap (λ (xs : List Event). xs ++ c.args.event ∷ []) c.make_room.ensures.items)
+    refl (c.append.ensures.items ∙ ap (λ (xs : List Event). xs ++ c.args.event ∷ []) c.make_room.ensures.items)
     refl refl (ap (λ (n : ℕ). c.args.kept.now.load + n) weight) refl (omega arith)

@@ -9,6 +9,6 @@ returns-clause-kept c =
     let room = c.in_ok-make_room.ensures.ok in
     let capacity = c.append.ensures.capacity in
     kept_defines c.args.kept.now _ c.args.session c.args.table c.requires.kept c.requires.may c.requires.sound
-    (c.append.ensures.items ∙ ap (λ (xs : List Event). xs ++ Define c.args.session c.in_ok-name.name ∷ []) c.make_room.ensures.items
+    refl (c.append.ensures.items ∙ ap (λ (xs : List Event). xs ++ Define c.args.session c.in_ok-name.name ∷ []) c.make_room.ensures.items
     ∙ ap (λ (name : List ℕ). c.args.kept.now.events.items ++ Define c.args.session name ∷ []) c.in_ok-name.ensures)
     c.in_ok-push.ensures.items refl refl refl refl (omega arith)

@@ -9,5 +9,5 @@ returns-clause-kept c =
     let room = c.in_ok-make_room.ensures.ok in
     let capacity = c.append.ensures.capacity in
     kept_unnoted c.args.kept.now _ c.args.event c.requires.kept c.requires.may c.requires.unnoted c.in_ok-weight.ensures.light
-    (c.append.ensures.items ∙ ap (λ (xs : List Event). xs ++ c.args.event ∷ []) c.make_room.ensures.items)
+    refl (c.append.ensures.items ∙ ap (λ (xs : List Event). xs ++ c.args.event ∷ []) c.make_room.ensures.items)
     refl refl refl (ap (λ (n : ℕ). c.args.kept.now.load + n) c.in_ok-weight.ensures.value) refl (omega arith)
