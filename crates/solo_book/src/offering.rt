@@ -1,39 +1,14 @@
 // Which writes a read may see, of any number of sessions: each writer is tried against all forced pairs.
-ghost use Rattle.std.specs.Prelude.{◌≡◌, ◌<◌, ◌≤◌, ◌+◌, ◌%◌, ◌↔◌, Some, IsTrue, IfOk, length, slice_get};
-ghost use Rattle.history_core.specs.Events.{begun};
+ghost use Rattle.std.specs.Prelude.{◌≡◌, ◌<◌, ◌≤◌, ◌%◌, Some, IfOk, length, slice_get};
 ghost use Rattle.history_core.specs.Transactions.{HasPending};
-ghost use Rattle.history_core.specs.Legal.{IsLegal, IsPermitted, IsOffer};
-ghost use Rattle.history_core.specs.Forced.{IsForced, IsPairList};
+ghost use Rattle.history_core.specs.Legal.{IsLegal, IsOffer};
 ghost use Rattle.solo_book.specs.Desk.{IsChosen};
 
 use crate::desk::Choice;
 use cell_base::{Cell, Memory};
-use graph_base::Graph;
 use history_core::History;
-use saturation::{forced, is_permitted, is_writer};
+use saturation::{forced, is_permitted};
 use std::alloc::Global;
-
-/// Whether the transaction is a writer that may be read.
-fn may_read(
-    alloc: Global,
-    history: &History,
-    pairs: &Graph,
-    session: u32,
-    cell: &Cell,
-    source: u32,
-) -> Result<bool, Memory>
-    requires legal { IsLegal history.now.initial history.now.events }
-    requires pending { HasPending history.now.events session }
-    requires source { source ≤ begun history.now.events }
-    requires size { pairs.now.size ≡ begun history.now.events + 1 }
-    requires pairs { IsPairList (IsForced history.now.events) pairs.now.size pairs.now.edges.items }
-    ensures { IfOk result (λ yes. IsTrue yes ↔ IsPermitted history.now.events session cell.now source) }
-{
-    if !is_writer(history, source, cell) {
-        return Ok(false);
-    }
-    is_permitted(alloc, history, pairs, session, cell, source)
-}
 
 /// The writes that the pending transaction of the session may read next, ascending.
 fn tried_offer(
@@ -51,7 +26,7 @@ fn tried_offer(
     let pairs = forced(alloc, history)?;
     let mut offer = Vec::new(alloc);
     for source in 0..history.begun() + 1 {
-        let yes = may_read(alloc, history, &pairs, session, cell, source)?;
+        let yes = is_permitted(alloc, history, &pairs, session, cell, source)?;
         if yes {
             offer.push(source)?;
         }

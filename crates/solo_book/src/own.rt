@@ -19,17 +19,20 @@ use txn_buffer::TxnBuffer;
 fn writes_cell(buffer: &TxnBuffer, cell: &Cell) -> bool
     ensures { IsTrue result ↔ ((value : CellValue) × Contains buffer.now.writes (cell.now, value)) }
 {
-    buffer.get(cell).is_some()
+    match buffer.get(cell) {
+        Some(_) => true,
+        None => false,
+    }
 }
 
 /// Whether the pending transaction of the session wrote the cell.
 pub fn wrote_itself(history: &History, session: u32, cell: &Cell) -> bool
     ensures { IsTrue result ↔ WroteItself history.now.events session cell.now }
 {
-    match history.pending(session) {
-        Some(number) => writes_cell(&history.txn(number).buffer, cell),
-        None => false,
-    }
+    let Some(number) = history.pending(session) else {
+        return false;
+    };
+    writes_cell(&history.txn(number).buffer, cell)
 }
 
 /// What the transaction of the number wrote last to the cell.

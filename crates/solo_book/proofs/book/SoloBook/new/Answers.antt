@@ -7,4 +7,4 @@ use Rattle.solo_book.proofs.book.SoloBook.new.Goals as goal
 
 pub invariant_of-result : goal.invariant_of-result
 invariant_of-result c =
-    subst (λ (h : Chronicle). IsServed h 0 NoSession) (sym c.in_ok-history.ensures.ok) (served_none c.args.level c.args.initial c.new-history.ensures.is)
+    subst (λ (h : Chronicle). IsServed h 0 NoSession) (sym c.in_ok-history.ensures.ok) (served_none c.args.level c.args.initial c.new.ensures.is)
