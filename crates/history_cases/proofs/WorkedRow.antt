@@ -4,6 +4,8 @@ use Rattle.std.specs.List.{slice_get}
 use Rattle.std.proofs.lemmas.Bool.{false≢true}
 use Rattle.std.proofs.lemmas.Option.{slice_get_within}
 use Rattle.txn_buffer.proofs.Lists.{contains_at, at_contains}
+use Rattle.cell_base.specs.declared.level.Level.{Level}
+use Rattle.cell_base.specs.declared.level.Level.TheVariants.{Rc, Cc}
 use Rattle.cell_base.specs.declared.key.Key.{Key}
 use Rattle.cell_base.specs.declared.cell.Cell.{Cell}
 use Rattle.cell_base.specs.declared.cell.Cell.TheVariants.{Presence, Field}
@@ -36,7 +38,7 @@ module _ (name : List ℕ) (key : Key) (ten : Value) where
   h3 = h2 ++ Look 1 1 ∷ []
 
   abbrev pub h4 : List Event
-  h4 = h3 ++ Begin 1 ∷ []
+  h4 = h3 ++ Begin 1 Cc ∷ []
 
   abbrev pub h5 : List Event
   h5 = h4 ++ Read 1 presence 0 1 0 (Flag false) ∷ []
@@ -54,7 +56,7 @@ module _ (name : List ℕ) (key : Key) (ten : Value) where
   h9 = h8 ++ Commit 1 ∷ []
 
   abbrev pub h10 : List Event
-  h10 = h9 ++ Begin 1 ∷ []
+  h10 = h9 ++ Begin 1 Rc ∷ []
 
   abbrev pub h11 : List Event
   h11 = h10 ++ Read 1 presence 1 2 1 (Flag true) ∷ []
@@ -95,7 +97,7 @@ module _ (name : List ℕ) (key : Key) (ten : Value) where
       (still h6 (Write 1 field ten) (λ h. cc) (λ h. cc)
       (still h5 (Write 1 presence (Flag true)) (λ h. cc) (λ h. cc)
       (still h4 (Read 1 presence 0 1 0 (Flag false)) (λ h. cc) (λ h. cc)
-      (still h3 (Begin 1) (λ h. cc) (λ h. cc) o3)))))
+      (still h3 (Begin 1 Cc) (λ h. cc) (λ h. cc) o3)))))
 
   o14 : IsOpen h14 1
   o14 =
@@ -103,11 +105,11 @@ module _ (name : List ℕ) (key : Key) (ten : Value) where
       (still h12 (Scan 1 0 (key ∷ [])) (λ h. cc) (λ h. cc)
       (still h11 (Read 1 field 1 1 7 ten) (λ h. cc) (λ h. cc)
       (still h10 (Read 1 presence 1 2 1 (Flag true)) (λ h. cc) (λ h. cc)
-      (still h9 (Begin 1) (λ h. cc) (λ h. cc) o9))))
+      (still h9 (Begin 1 Rc) (λ h. cc) (λ h. cc) o9))))
 
   -- its transactions
   p4 : IsPending h4 1 1
-  p4 = pending_begin h3 1
+  p4 = pending_begin h3 1 Cc
 
   p5 : IsPending h5 1 1
   p5 = pending_kept h4 (Read 1 presence 0 1 0 (Flag false)) 1 1 (λ _. refl) p4
@@ -122,7 +124,7 @@ module _ (name : List ℕ) (key : Key) (ten : Value) where
   p8 = pending_kept h7 (Own 1 field ten) 1 1 (λ _. refl) p7
 
   p10 : IsPending h10 2 1
-  p10 = pending_begin h9 1
+  p10 = pending_begin h9 1 Rc
 
   p11 : IsPending h11 2 1
   p11 = pending_kept h10 (Read 1 presence 1 2 1 (Flag true)) 2 1 (λ _. refl) p10
@@ -133,27 +135,27 @@ module _ (name : List ℕ) (key : Key) (ten : Value) where
   p13 : IsPending h13 2 1
   p13 = pending_kept h12 (Scan 1 0 (key ∷ [])) 2 1 (λ _. refl) p12
 
-  no_begin : (n : ℕ) → slice_get h3 n ≡ Some (Begin 1) → ⊥
-  no_begin zero is = cc
-  no_begin (suc zero) is = cc
-  no_begin (suc (suc zero)) is = cc
-  no_begin (suc (suc (suc n))) is = cc
+  no_begin : (n : ℕ) (level : Level) → slice_get h3 n ≡ Some (Begin 1 level) → ⊥
+  no_begin zero level is = cc
+  no_begin (suc zero) level is = cc
+  no_begin (suc (suc zero)) level is = cc
+  no_begin (suc (suc (suc n))) level is = cc
 
   none3 : ¬ HasPending h3 1
-  none3 (k, pending) = no_begin pending.start pending.starts.is
+  none3 (k, pending) = no_begin pending.start pending.starts.level pending.starts.is
 
   none9 : ¬ HasPending h9 1
   none9 (k, pending) =
       elim (pending_back h8 (Commit 1) k 1 pending) [
         | inl before ↦ false≢true (sym (before.1 refl))
-        | inr new ↦ let clash : Commit 1 ≡ Begin 1 = new.0 in cc
+        | inr new ↦ let clash : Commit 1 ≡ Begin 1 new.level = new.is in cc
       ]
 
   none14 : ¬ HasPending h14 1
   none14 (k, pending) =
       elim (pending_back h13 (Rollback 1) k 1 pending) [
         | inl before ↦ false≢true (sym (before.1 refl))
-        | inr new ↦ let clash : Rollback 1 ≡ Begin 1 = new.0 in cc
+        | inr new ↦ let clash : Rollback 1 ≡ Begin 1 new.level = new.is in cc
       ]
 
   -- what they wrote
@@ -166,13 +168,13 @@ module _ (name : List ℕ) (key : Key) (ten : Value) where
 
   second : (k : ℕ) → IsPending h10 k 1 → k ≡ 2
   second k pending =
-      elim (pending_back h9 (Begin 1) k 1 pending) [
+      elim (pending_back h9 (Begin 1 Rc) k 1 pending) [
         | inl before ↦ absurd (none9 (k, before.0))
-        | inr new ↦ new.1
+        | inr new ↦ new.counts
       ]
 
   idle10 : (k p : ℕ) (f : Event) → k ≡ 2 → IsOf h10 k p f → ⊥
-  idle10 k p f two of = of_none h9 (Begin 1) k p f (omega arith) of
+  idle10 k p f two of = of_none h9 (Begin 1 Rc) k p f (omega arith) of
 
   unwritten10 : (x : Cell) → ¬ WroteItself h10 1 x
   unwritten10 x wrote = idle10 wrote.number wrote.written.place _ (second wrote.number wrote.pending) wrote.written.write
@@ -186,7 +188,7 @@ module _ (name : List ℕ) (key : Key) (ten : Value) where
               | inl old ↦ idle10 wrote.number wrote.written.place (Write wrote.written.session x wrote.written.value) two old
               | inr new ↦ let clash : Read 1 presence 1 2 1 (Flag true) ≡ Write wrote.written.session x wrote.written.value = new.1 in cc
             ]
-        | inr new ↦ let clash : Read 1 presence 1 2 1 (Flag true) ≡ Begin 1 = new.0 in cc
+        | inr new ↦ let clash : Read 1 presence 1 2 1 (Flag true) ≡ Begin 1 new.level = new.is in cc
       ]
 
   l6 : LastWrites h6 1 presence (Flag true)
@@ -200,14 +202,14 @@ module _ (name : List ℕ) (key : Key) (ten : Value) where
 
   on10 : (x : Cell) (v : Value) → LastWrites h7 1 x v → LastWrites h10 1 x v
   on10 x v last =
-      last_kept h9 (Begin 1) 1 x v (λ s u h _. cc)
+      last_kept h9 (Begin 1 Rc) 1 x v (λ s u h _. cc)
       (last_kept h8 (Commit 1) 1 x v (λ s u h _. cc) (last_kept h7 (Own 1 field ten) 1 x v (λ s u h _. cc) last))
 
   on11 : (x : Cell) (v : Value) → LastWrites h10 1 x v → LastWrites h11 1 x v
   on11 x v last = last_kept h10 (Read 1 presence 1 2 1 (Flag true)) 1 x v (λ s u h _. cc) last
 
   c10 : IsCommitted h10 1
-  c10 = committed_kept h9 (Begin 1) 1 (committed_new h8 1 1 p8)
+  c10 = committed_kept h9 (Begin 1 Rc) 1 (committed_new h8 1 1 p8)
 
   c11 : IsCommitted h11 1
   c11 = committed_kept h10 (Read 1 presence 1 2 1 (Flag true)) 1 c10
@@ -234,60 +236,63 @@ module _ (name : List ℕ) (key : Key) (ten : Value) where
   written_key (suc (suc (suc (suc (suc (suc (suc (suc (suc (suc (suc (suc n)))))))))))) s k v is = cc
 
   -- the events
-  pub fits1 : Follows [] (Open 1)
+  pub fits1 : Follows [] [] (Open 1)
   fits1 = refl
 
-  pub fits2 : Follows h1 (Define 1 name)
+  pub fits2 : Follows [] h1 (Define 1 name)
   fits2 = (o1, λ member. let found = at_contains [] name member in cc)
 
-  pub fits3 : Follows h2 (Look 1 1)
+  pub fits3 : Follows [] h2 (Look 1 1)
   fits3 = (o2, refl)
 
-  pub fits4 : Follows h3 (Begin 1)
+  pub fits4 : Follows [] h3 (Begin 1 Cc)
   fits4 = (o3, none3)
 
-  pub fits5 : Follows h4 (Read 1 presence 0 1 0 (Flag false))
-  fits5 = ((1, p4), λ wrote. no_write wrote.written.place wrote.written.session presence wrote.written.value wrote.written.write.is, omega arith, inl (refl, refl))
+  pub fits5 : Follows [] h4 (Read 1 presence 0 1 0 (Flag false))
+  fits5 = ((1, p4), λ wrote. no_write wrote.written.place wrote.written.session presence wrote.written.value wrote.written.write.is, omega arith, inl (refl, inr (λ v member. let found = at_contains [] (presence, v) member in cc, refl)))
 
-  pub fits6 : Follows h5 (Write 1 presence (Flag true))
-  fits6 = ((1, p5), omega arith, λ h. cc, λ w h. cc)
+  pub fits6 : Follows [] h5 (Write 1 presence (Flag true))
+  fits6 = ((1, p5), omega arith, (λ h. cc, λ w h. cc))
 
-  pub fits7 : ten ≢ Unset → ((w : ℤ) → ten ≢ Wide w) → Follows h6 (Write 1 field ten)
-  fits7 set narrow = ((1, p6), omega arith, set, narrow)
+  pub fits7 : ten ≢ Unset → ((w : ℤ) → ten ≢ Wide w) → Follows [] h6 (Write 1 field ten)
+  fits7 set narrow = ((1, p6), omega arith, (set, narrow))
 
-  pub fits8 : Follows h7 (Own 1 field ten)
+  pub fits8 : Follows [] h7 (Own 1 field ten)
   fits8 = (1, p7, f7)
 
-  pub fits9 : Follows h8 (Commit 1)
+  pub fits9 : Follows [] h8 (Commit 1)
   fits9 = (1, p8)
 
-  pub fits10 : Follows h9 (Begin 1)
+  pub fits10 : Follows [] h9 (Begin 1 Rc)
   fits10 = (o9, none9)
 
-  pub fits11 : Follows h10 (Read 1 presence 1 2 1 (Flag true))
+  pub fits11 : Follows [] h10 (Read 1 presence 1 2 1 (Flag true))
   fits11 = ((2, p10), unwritten10 presence, omega arith, inr (c10, on10 presence (Flag true) l7))
 
-  pub fits12 : Follows h11 (Read 1 field 1 1 7 ten)
+  pub fits12 : Follows [] h11 (Read 1 field 1 1 7 ten)
   fits12 = ((2, p11), unwritten11 field, omega arith, inr (c11, on11 field ten (on10 field ten f7)))
 
-  lists : ListsKeys h12 1 0 (key ∷ [])
+  lists : ListsKeys [] h12 1 0 (key ∷ [])
   lists = record {
     ascending = λ k a b at next. let within : k + 1 < 1 = slice_get_within (key ∷ []) (k + 1) b next in absurd (omega arith);
     listed = λ k. (
       λ member.
           let found = at_contains (key ∷ []) k member in
           let same : k ≡ key = only found.0 k found.1 in
-          inl (1, omega arith, inr (c12, subst (λ (x : Key). HasWritten h12 1 (Presence 0 x)) (sym same) written)),
+          inr (inl (1, omega arith, inr (c12, subst (λ (x : Key). HasWritten h12 1 (Presence 0 x)) (sym same) written))),
       λ either. elim either [
-        | inl by_others ↦ contains_at (key ∷ []) 0 k (ap (λ (x : Key). Some x) (sym (elim by_others.2 [
-          | inl initial ↦ let some = by_others.1 in absurd (omega arith)
-          | inr committed ↦
-              let has = committed.1 in
-              written_key has.place has.session k has.value has.write.is
-        ])))
-        | inr own ↦
-            let has = own.written in
-            contains_at (key ∷ []) 0 k (ap (λ (x : Key). Some x) (sym (written_key has.place has.session k has.value has.write.is)))
+        | inl there ↦ let found = at_contains [] (Presence 0 k, Flag true) there in cc
+        | inr later ↦ elim later [
+          | inl by_others ↦ contains_at (key ∷ []) 0 k (ap (λ (x : Key). Some x) (sym (elim by_others.2 [
+            | inl initial ↦ let some = by_others.1 in absurd (omega arith)
+            | inr committed ↦
+                let has = committed.1 in
+                written_key has.place has.session k has.value has.write.is
+          ])))
+          | inr own ↦
+              let has = own.written in
+              contains_at (key ∷ []) 0 k (ap (λ (x : Key). Some x) (sym (written_key has.place has.session k has.value has.write.is)))
+        ]
       ],
     );
   }
@@ -299,23 +304,23 @@ module _ (name : List ℕ) (key : Key) (ten : Value) where
       written : HasWritten h12 1 presence
       written = record { place = l12.place; session = l12.session; value = Flag true; write = l12.write }
 
-  pub fits13 : Follows h12 (Scan 1 0 (key ∷ []))
+  pub fits13 : Follows [] h12 (Scan 1 0 (key ∷ []))
   fits13 = ((2, p12), omega arith, lists)
 
-  pub fits14 : Follows h13 (Rollback 1)
+  pub fits14 : Follows [] h13 (Rollback 1)
   fits14 = (2, p13)
 
-  pub fits15 : Follows h14 (Show 1 15)
+  pub fits15 : Follows [] h14 (Show 1 15)
   fits15 = (o14, refl)
 
-  pub fits16 : Follows h15 (Close 1)
+  pub fits16 : Follows [] h15 (Close 1)
   fits16 = (still h14 (Show 1 15) (λ h. cc) (λ h. cc) o14, none15)
     where
       none15 : ¬ HasPending h15 1
       none15 (k, pending) =
           elim (pending_back h14 (Show 1 15) k 1 pending) [
             | inl before ↦ none14 (k, before.0)
-            | inr new ↦ let clash : Show 1 15 ≡ Begin 1 = new.0 in cc
+            | inr new ↦ let clash : Show 1 15 ≡ Begin 1 new.level = new.is in cc
           ]
 
   abbrev pub h16 : List Event

@@ -1,1 +1,2 @@
 pub mod WorkedRow
+pub mod Pairs

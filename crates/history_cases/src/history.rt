@@ -5,15 +5,15 @@ ghost use Rattle.sound_table.specs.Sound.{IsSound};
 ghost use Rattle.history_cases.specs.WorkedRow.{row_written, row_read};
 
 use cell_base::{Cell, Items, Key, Level, Memory, SqlType, Text, Value};
-use history_core::{BookFault, Event, History, TxnState};
+use history_core::{BookFault, Event, History, InitialState, TxnState};
 use sql_tree::{Column, Table};
 use std::alloc::Global;
 
-/// A session writes a row in one transaction and reads it back in the next: `INSERT INTO t VALUES (1, 10)`, then
+/// A session writes a row in one transaction and reads it back in the next, at another level: `INSERT INTO t VALUES (1, 10)`, then
 /// `SELECT v FROM t WHERE k = 1` with the words 1 and 7.
 #[test]
 fn a_row_is_written_and_read_back(rt: HostRuntime) -> Result<(), BookFault> {
-    let mut history = History::new(rt.alloc(), Level::Rc);
+    let mut history = History::new(rt.alloc(), Level::Rc, InitialState::empty(rt.alloc()));
     write_row(rt.alloc(), &mut history)?;
     assert_eq!(&rt; history.load(), 9);
     assert_eq!(&rt; history.begun(), 1);
@@ -24,11 +24,13 @@ fn a_row_is_written_and_read_back(rt: HostRuntime) -> Result<(), BookFault> {
     assert_eq!(&rt; history.load(), 17);
     assert_eq!(&rt; history.begun(), 2);
     let first = history.txn(1);
+    assert_eq!(&rt; first.level, Level::Cc);
     assert_eq!(&rt; first.state, TxnState::Committed);
     assert_eq!(&rt; first.seen.len(), 1);
     assert_eq!(&rt; first.buffer.get(&presence()), Some(&Value::Flag(true)));
     assert_eq!(&rt; first.buffer.get(&field()), Some(&Value::Int(10)));
     let second = history.txn(2);
+    assert_eq!(&rt; second.level, Level::Rc);
     assert_eq!(&rt; second.state, TxnState::RolledBack);
     assert_eq!(&rt; second.seen.len(), 3);
     assert_eq!(&rt; second.buffer.writes().len(), 0);
@@ -37,35 +39,87 @@ fn a_row_is_written_and_read_back(rt: HostRuntime) -> Result<(), BookFault> {
 
 /// The first transaction, with the session and the table before it: nine events.
 fn write_row(alloc: Global, history: &mut History) -> Result<(), BookFault>
-    requires { history.old.events ≡ [] }
-    ensures { OnOk result (history.new.events ≡ row_written (codes "t") (Key.Int (pos 1)) (Value.Int (pos 10))) }
+    requires events { history.old.events ≡ [] }
+    requires initial { history.old.initial ≡ [] }
+    ensures events { OnOk result (history.new.events ≡ row_written (codes "t") (Key.Int (pos 1)) (Value.Int (pos 10))) }
+    ensures initial { OnOk result (history.new.initial ≡ []) }
 {
-    history.push(Event::Open(1))?;
+    history.push(Event::Open { session: 1 })?;
     history.push_define(1, table(alloc)?)?;
-    history.push(Event::Look(1, 1))?;
-    history.push(Event::Begin(1))?;
-    history.push(Event::Read(1, presence(), 0, 1, 0, Value::Flag(false)))?;
-    history.push(Event::Write(1, presence(), Value::Flag(true)))?;
-    history.push(Event::Write(1, field(), Value::Int(10)))?;
-    history.push(Event::Own(1, field(), Value::Int(10)))?;
-    history.end(Event::Commit(1));
+    history.push(Event::Look {
+        session: 1,
+        tables: 1,
+    })?;
+    history.push(Event::Begin {
+        session: 1,
+        level: Level::Cc,
+    })?;
+    history.push(Event::Read {
+        session: 1,
+        cell: presence(),
+        source: 0,
+        count: 1,
+        word: 0,
+        value: Value::Flag(false),
+    })?;
+    history.push(Event::Write {
+        session: 1,
+        cell: presence(),
+        value: Value::Flag(true),
+    })?;
+    history.push(Event::Write {
+        session: 1,
+        cell: field(),
+        value: Value::Int(10),
+    })?;
+    history.push(Event::Own {
+        session: 1,
+        cell: field(),
+        value: Value::Int(10),
+    })?;
+    history.end(Event::Commit { session: 1 });
     Ok(())
 }
 
 /// The second transaction, and the end of the session: seven events.
 fn read_row(alloc: Global, history: &mut History) -> Result<(), BookFault>
-    requires { history.old.events ≡ row_written (codes "t") (Key.Int (pos 1)) (Value.Int (pos 10)) }
+    requires events { history.old.events ≡ row_written (codes "t") (Key.Int (pos 1)) (Value.Int (pos 10)) }
+    requires initial { history.old.initial ≡ [] }
     ensures { OnOk result (history.new.events ≡ row_read (codes "t") (Key.Int (pos 1)) (Value.Int (pos 10))) }
 {
     let mut keys = Items::new(alloc);
     keys.push(Key::Int(1))?;
-    history.push(Event::Begin(1))?;
-    history.push(Event::Read(1, presence(), 1, 2, 1, Value::Flag(true)))?;
-    history.push(Event::Read(1, field(), 1, 1, 7, Value::Int(10)))?;
-    history.push(Event::Scan(1, 0, keys))?;
-    history.push(Event::Rollback(1))?;
-    history.push(Event::Show(1, 15))?;
-    history.push(Event::Close(1))?;
+    history.push(Event::Begin {
+        session: 1,
+        level: Level::Rc,
+    })?;
+    history.push(Event::Read {
+        session: 1,
+        cell: presence(),
+        source: 1,
+        count: 2,
+        word: 1,
+        value: Value::Flag(true),
+    })?;
+    history.push(Event::Read {
+        session: 1,
+        cell: field(),
+        source: 1,
+        count: 1,
+        word: 7,
+        value: Value::Int(10),
+    })?;
+    history.push(Event::Scan {
+        session: 1,
+        table: 0,
+        keys,
+    })?;
+    history.push(Event::Rollback { session: 1 })?;
+    history.push(Event::Show {
+        session: 1,
+        number: 15,
+    })?;
+    history.push(Event::Close { session: 1 })?;
     Ok(())
 }
 
@@ -85,7 +139,7 @@ fn field() -> Cell
 
 /// The table of `CREATE TABLE t (k bigint PRIMARY KEY, v bigint)`.
 #[tactic(auto, using(sound_table::proofs::Example::sound))]
-fn table(alloc: Global) -> Result<Table, Memory>
+pub fn table(alloc: Global) -> Result<Table, Memory>
     ensures value { IfOk result (λ table. table ≡ two_columns) }
     ensures sound { IfOk result IsSound }
 {

@@ -1,4 +1,5 @@
-//! Tests of histories: a session that writes a row and reads it back, event by event, and the buffer of a transaction's writes
+//! Tests of histories: a session that writes a row and reads it back, event by event, an initial state of two rows, as many transactions
+//! as a history takes, and the buffer of a transaction's writes
 //! beside a list that is walked.
 //!
 //! The contracts of `history_core` and `txn_buffer` say what each call does. No clause says that a call with ample memory succeeds:
@@ -9,3 +10,7 @@
 mod buffer;
 #[cfg(test)]
 mod history;
+#[cfg(test)]
+mod limit;
+#[cfg(test)]
+mod rows;

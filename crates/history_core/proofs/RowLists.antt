@@ -97,8 +97,7 @@ rows_between cells table from to is first second = record {
 
     place : (k : ℕ) (e : Cell × Value) → slice_get (take (to - from) (drop from cells)) k ≡ Some e → (slice_get cells (from + k) ≡ Some e) × (from + k < to)
     place k e at =
-        let under : k < to - from = under_take (drop from cells) (to - from) k e at in
-        (
+        let under : k < to - from = under_take (drop from cells) (to - from) k e at in (
           sym (slice_get-drop cells from k) ∙ sym (slice_get-take (drop from cells) (to - from) k under) ∙ at,
           omega arith,
         )

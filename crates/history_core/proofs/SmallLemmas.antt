@@ -8,10 +8,10 @@ use Rattle.cell_base.specs.declared.level.Level.{Level}
 use Rattle.cell_base.specs.declared.cell.Cell.{Cell}
 use Rattle.cell_base.specs.declared.value.Value.{Value}
 use Rattle.history_core.specs.declared.fault.Limit.{Limit}
-use Rattle.history_core.specs.declared.fault.Limit.TheVariants.{Load, Transactions, Sessions}
+use Rattle.history_core.specs.declared.fault.Limit.TheVariants.{Load, Transactions, Sessions, Tables}
 use Rattle.history_core.specs.declared.event.Event.{Event}
 use Rattle.history_core.specs.declared.event.Event.TheVariants.{Open, Close, Define, Look, Begin, Scan, Read, Own, Write, Commit, Rollback, Show}
-use Rattle.history_core.specs.Events.{begun, opened, is_begin, is_open_event, weight_of, weights_of}
+use Rattle.history_core.specs.Events.{begun, opened, defined, is_begin, is_open_event, weight_of, weights_of}
 use Rattle.history_core.specs.Initial.{initial_load, load_of}
 use Rattle.history_core.specs.Legal.{full_for, full_count}
 use Rattle.graph_base.proofs.Places.{count_by-push}
@@ -60,6 +60,11 @@ fits_load initial events (Show s number) last fits = (below_from_test 1048576 (l
 pub fits_begin : (initial : List (Cell × Value)) (events : List Event) (s : ℕ) (level : Level) → full_for initial events (Begin s level) ≡ None → begun events < 65535
 fits_begin initial events s level fits =
     (below_from_test 65535 (begun events) Transactions None (below_from_test 1048576 (load_of initial events) Load (full_count events (Begin s level)) fits).1).0
+
+pub fits_define :
+    (initial : List (Cell × Value)) (events : List Event) (s : ℕ) (name : List ℕ) → full_for initial events (Define s name) ≡ None → defined events < 64
+fits_define initial events s name fits =
+    (below_from_test 64 (defined events) Tables None (below_from_test 1048576 (load_of initial events) Load (full_count events (Define s name)) fits).1).0
 
 pub fits_open : (initial : List (Cell × Value)) (events : List Event) (s : ℕ) → full_for initial events (Open s) ≡ None → opened events < 4096
 fits_open initial events s fits =

@@ -66,8 +66,7 @@ there_at cells cell value at m ascending stands is =
     let both : Some m ≡ Some (cell, stands.value) = sym is ∙ stands.is in
     let pair : m ≡ (cell, stands.value) = cc in
     let member : Contains cells (cell, m.1) =
-    subst (λ (v : Value). Contains cells (cell, v)) (sym (ap (λ (p : Cell × Value). p.1) pair)) (contains_at cells at (cell, stands.value) stands.is) in
-    (
+    subst (λ (v : Value). Contains cells (cell, v)) (sym (ap (λ (p : Cell × Value). p.1) pair)) (contains_at cells at (cell, stands.value) stands.is) in (
       λ same. subst (λ (v : Value). Contains cells (cell, v)) same member,
       λ there. one_value cells cell m.1 value ascending member there,
     )
@@ -131,12 +130,14 @@ whole_each tables cells is whole k within e at = right e.0 e.1 (contains_at cell
     right (Presence table key) value member =
         let true_is : value ≡ Flag true = is.fits (Presence table key) value member in
         let there : IsThereInitially cells table key = subst (λ (v : Value). Contains cells (Presence table key, v)) true_is member in
-        let row = there_row tables cells whole table key there in
-        (true_is, record {
-          of_table = row.0;
-          is = row.1;
-          whole = λ column under. record { has = λ apart. whole.whole table key row.0 column there row.1 under apart };
-        })
+        let row = there_row tables cells whole table key there in (
+          true_is,
+          record {
+            of_table = row.0;
+            is = row.1;
+            whole = λ column under. record { has = λ apart. whole.whole table key row.0 column there row.1 under apart };
+          },
+        )
     right (Field table key column) value member =
         let fits = is.fits (Field table key column) value member in
         let row = there_row tables cells whole table key fits.0 in

@@ -19,7 +19,12 @@ pub fn end_event(kept: &mut Kept, event: Event)
 {
     match event {
         Event::Commit { session } => {
-            end_txn(kept, Event::Commit { session }, session, TxnState::Committed);
+            end_txn(
+                kept,
+                Event::Commit { session },
+                session,
+                TxnState::Committed,
+            );
         }
         Event::Rollback { session } => {
             end_txn(

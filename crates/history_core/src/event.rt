@@ -5,15 +5,28 @@ use cell_base::{Cell, Items, Key, Level, Text, Value};
 #[derive(Debug, Drop)]
 pub enum Event {
     /// The session starts; sessions are numbered 1, 2, 3 in order of opening.
-    Open { session: u32 },
+    Open {
+        session: u32,
+    },
     /// The session ends.
-    Close { session: u32 },
+    Close {
+        session: u32,
+    },
     /// The next table, numbered from 0, has this name.
-    Define { session: u32, name: Text },
+    Define {
+        session: u32,
+        name: Text,
+    },
     /// The session saw that so many tables are defined.
-    Look { session: u32, tables: u32 },
+    Look {
+        session: u32,
+        tables: u32,
+    },
     /// The next transaction, numbered from 1, starts in the session at this level.
-    Begin { session: u32, level: Level },
+    Begin {
+        session: u32,
+        level: Level,
+    },
     /// The keys of the table that the scan listed, ascending.
     Scan {
         session: u32,
@@ -43,9 +56,16 @@ pub enum Event {
         value: Value,
     },
     /// The pending transaction of the session commits.
-    Commit { session: u32 },
+    Commit {
+        session: u32,
+    },
     /// The pending transaction of the session rolls back.
-    Rollback { session: u32 },
+    Rollback {
+        session: u32,
+    },
     /// The session was told that this event has this number.
-    Show { session: u32, number: u32 },
+    Show {
+        session: u32,
+        number: u32,
+    },
 }

@@ -132,6 +132,7 @@ impl History {
     /// The tables, by their numbers from 0.
     pub fn tables(&self) -> &[Table]
         ensures items { result.now ≡ self.now.tables }
+        ensures few { length result.now ≤ 64 }
         ensures formed { IsFormedChronicle self.now }
     {
         self.kept.tables.as_slice()

@@ -89,11 +89,11 @@ pub fn close(sessions: &mut Vec<SessionRecord>, at: usize)
 }
 
 /// The same keys once more.
-pub fn copy_keys(alloc: Global, keys: &Items<Key>) -> Result<Items<Key>, Memory>
+pub fn copy_keys(alloc: Global, keys: &[Key]) -> Result<Items<Key>, Memory>
     ensures { IfOk result (λ copies. copies ≡ keys.now) }
 {
     let mut copies = Items::new(alloc);
-    for key in keys.as_slice() {
+    for key in keys {
         copies.push(key.copy(alloc)?)?;
     }
     Ok(copies)

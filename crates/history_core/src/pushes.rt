@@ -156,7 +156,7 @@ fn push_scan(kept: &mut Kept, session: u32, table: u32, keys: Items<Key>) -> Res
     ensures ok { OnOk result (Grows kept.old kept.new (Event.Scan session table keys)) }
     ensures err { OnErr result (Stays kept.old kept.new) }
 {
-    let listed = copy_keys(kept.alloc, &keys)?;
+    let listed = copy_keys(kept.alloc, keys.as_slice())?;
     let noted = Seen::Scan {
         number: next_number(kept),
         table,

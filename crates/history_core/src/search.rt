@@ -21,7 +21,12 @@ pub fn place_of_cell(cells: &[(Cell, Value)], cell: &Cell) -> Option<usize>
 }
 
 /// Where the field of the row stands, or its presence where no column is given.
-pub fn place_of(cells: &[(Cell, Value)], table: u32, key: &Key, column: Option<usize>) -> Option<usize>
+pub fn place_of(
+    cells: &[(Cell, Value)],
+    table: u32,
+    key: &Key,
+    column: Option<usize>,
+) -> Option<usize>
     requires { IsAscending cells.now }
     ensures found { IfSome result (λ at. StandsAt cells.now (cell_at table key.now column) at) }
     ensures absent { IfNone result (IsAbsent cells.now (cell_at table key.now column)) }

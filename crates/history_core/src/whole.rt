@@ -104,7 +104,13 @@ fn is_right_cell(tables: &[Table], cells: &[(Cell, Value)], cell: &Cell, value: 
 }
 
 /// Whether a presence is true, and of a whole row.
-fn is_right_presence(tables: &[Table], cells: &[(Cell, Value)], table: u32, key: &Key, value: &Value) -> bool
+fn is_right_presence(
+    tables: &[Table],
+    cells: &[(Cell, Value)],
+    table: u32,
+    key: &Key,
+    value: &Value,
+) -> bool
     requires { IsAscending cells.now }
     ensures { IsTrue result ↔ ((value.now ≡ Value.Flag true) × IsWholeRow tables.now cells.now table key.now) }
 {
@@ -156,9 +162,7 @@ fn has_column(tables: &[Table], table: u32, column: u32) -> bool
     ensures { IsTrue result ↔ HasColumn tables.now table column }
 {
     match tables.get(table as usize) {
-        Some(of_table) => {
-            (column as usize) < of_table.columns.len() && column != of_table.key
-        }
+        Some(of_table) => { (column as usize) < of_table.columns.len() && column != of_table.key }
         None => false,
     }
 }

@@ -1,0 +1,53 @@
+// How many transactions a history takes.
+ghost use Rattle.std.specs.Prelude.{◌≡◌, OnOk};
+ghost use Rattle.history_cases.specs.Pairs.{IsBetween};
+ghost use Rattle.history_core.specs.declared.event.Event.{Event};
+ghost use Rattle.cell_base.specs.declared.level.Level.{Level};
+
+use cell_base::Level;
+use history_core::{BookFault, Event, History, InitialState, Limit};
+
+/// A session begins and commits 65,535 transactions. A further one is refused.
+#[test]
+fn begins_and_commits_65535_transactions(rt: HostRuntime) -> Result<(), BookFault> {
+    let mut history = History::new(rt.alloc(), Level::Rc, InitialState::empty(rt.alloc()));
+    history.push(Event::Open { session: 1 })?;
+    commit_many(&mut history, 65_535)?;
+    assert_eq!(&rt; history.begun(), 65_535);
+    assert_eq!(&rt; history.load(), 131_071);
+    assert_eq!(&rt;
+        history.push(begin()),
+        Err(BookFault::Full(Limit::Transactions))
+    );
+    Ok(())
+}
+
+/// Begins and commits so many transactions.
+fn commit_many(history: &mut History, count: u32) -> Result<(), BookFault>
+    requires { IsBetween history.old.events }
+    ensures { OnOk result (IsBetween history.new.events) }
+{
+    for _ in 0..count {
+        commit_one(history)?;
+    }
+    Ok(())
+}
+
+/// Begins and commits a transaction.
+fn commit_one(history: &mut History) -> Result<(), BookFault>
+    requires { IsBetween history.old.events }
+    ensures { OnOk result (IsBetween history.new.events) }
+{
+    history.push(begin())?;
+    history.end(Event::Commit { session: 1 });
+    Ok(())
+}
+
+fn begin() -> Event
+    ensures { result ≡ Event.Begin 1 Level.Ra }
+{
+    Event::Begin {
+        session: 1,
+        level: Level::Ra,
+    }
+}
