@@ -18,7 +18,7 @@ use Rattle.history_core.specs.Initial.{IsInitialState}
 use Rattle.history_core.specs.Legal.{IsFormed, IsOpen, Follows, WroteItself}
 use Rattle.history_core.specs.Relations.{HasWritten, WritesValue}
 use Rattle.history_core.specs.Book.{WritesLast}
-use Rattle.solo_book.proofs.Legality.{tables_defined}
+use Rattle.history_core.proofs.TablesFew.{formed_of, tables_defined}
 use Rattle.history_core.specs.Chronicle.{Chronicle, IsLegalChronicle, followed_by, with_table}
 use Rattle.sql_tree.specs.declared.table.Table.{Table}
 use Rattle.sound_table.specs.Sound.{IsSound}
@@ -328,7 +328,7 @@ pub read_follows :
     (WroteItself history.events n cell → ⊥) → table_of cell < length history.tables → WritesValue history.initial history.events source cell value →
     Follows history.initial history.events (Read n cell source count word value)
 read_follows history n stage cell source count word value served is unwritten inside written =
-    let defined_all = tables_defined history served.legal in
+    let defined_all = tables_defined history (formed_of history served.legal) in
     let stands = (at_stage history n stage Pending is served).stands in
     ((begun history.events, stands.1), unwritten, omega arith, written)
 

@@ -1,6 +1,5 @@
 -- What keeps a history legal.
 use Rattle.std.proofs.Common.{◌≡◌, ℕ, ◌+◌, ◌<◌, ◌≤◌, List, [], ◌∷◌, ◌++◌, Option, Some, None, Ok, Err, Result, true, false, zero, suc, nat_le, length, map, arith, refl, ap, sym, ◌∙◌, subst, ◌↔◌}
-use Rattle.std.specs.Bool.{if◌then◌else◌}
 use Rattle.std.specs.List.{slice_get, Contains, Any}
 use Rattle.std.proofs.lemmas.List.{length-map, length_push, map-append}
 use Rattle.std.proofs.lemmas.List.Elements.{All-push}
@@ -10,7 +9,7 @@ use Rattle.cell_base.specs.declared.cell.Cell.{Cell}
 use Rattle.sql_tree.specs.declared.table.Table.{Table}
 use Rattle.sound_table.specs.Sound.{IsSound}
 use Rattle.history_core.specs.declared.fault.Limit.{Limit}
-use Rattle.history_core.specs.declared.fault.Limit.TheVariants.{Load, Tables}
+use Rattle.history_core.specs.declared.fault.Limit.TheVariants.{Load}
 use Rattle.history_core.specs.declared.fault.BookFault.{BookFault}
 use Rattle.history_core.specs.declared.fault.BookFault.TheVariants.{Full}
 use Rattle.history_core.specs.declared.event.Event.{Event}
@@ -122,41 +121,6 @@ legal_defined old s table is follows fits sound = record {
   };
 }
 
--- as many tables as definitions
-pub tables_defined : (history : Chronicle) → IsLegalChronicle history → length history.tables ≡ defined history.events
-tables_defined history is = sym (length-map history.tables (λ (t : Table). t.name)) ∙ ap length is.tables.named
-
-below_from_test : (n m : ℕ) (x : Limit) (y : Option Limit) → (if nat_le n m then Some x else y) ≡ None → (m < n) × (y ≡ None)
-below_from_test n m x y none = (grind (arith, nat_tests, none), grind (arith, nat_tests, none))
-
--- at most 64 tables are defined
-pub defined_few : (initial : List (Cell × Value)) (events : List Event) → IsFormed initial events → defined events ≤ 64
-defined_few initial events =
-    along (λ (h : List Event). IsFormed initial h → defined h ≤ 64)
-    (λ h e holds formed. let both = formed_back initial h e formed in few h e (holds both.0) both.1)
-    [] events (λ formed. omega arith)
-  where
-    same : (h : List Event) (e : Event) → IsNoDefinition e → defined h ≤ 64 → defined (h ++ e ∷ []) ≤ 64
-    same h e no_definition few = let stays : defined (h ++ e ∷ []) ≡ defined h = ap length (names-push h e (no_name e no_definition)) in omega arith
-
-    few : (h : List Event) (e : Event) → defined h ≤ 64 → MayCome initial h e → defined (h ++ e ∷ []) ≤ 64
-    few h (Define s name) before may =
-        let room : defined h < 64 =
-        (below_from_test 64 (defined h) Tables None (below_from_test 1048576 (load_of initial h) Load (full_count h (Define s name)) may.fits).1).0 in
-        let more : defined (h ++ Define s name ∷ []) ≡ defined h + 1 = ap length (names-push_define h s name) ∙ length_push (names h) name in
-        omega arith
-    few h (Open s) before may = same h (Open s) tt before
-    few h (Close s) before may = same h (Close s) tt before
-    few h (Look s count) before may = same h (Look s count) tt before
-    few h (Begin s level) before may = same h (Begin s level) tt before
-    few h (Scan s table keys) before may = same h (Scan s table keys) tt before
-    few h (Read s cell source n u v) before may = same h (Read s cell source n u v) tt before
-    few h (Own s x v) before may = same h (Own s x v) tt before
-    few h (Write s x v) before may = same h (Write s x v) tt before
-    few h (Commit s) before may = same h (Commit s) tt before
-    few h (Rollback s) before may = same h (Rollback s) tt before
-    few h (Show s number) before may = same h (Show s number) tt before
-
 -- the member of an offer is a writer
 pub picked_writes :
     (events : List Event) (session : ℕ) (cell : Cell) (offer : List ℕ) (k source : ℕ) → IsOffer events session cell offer →
@@ -194,12 +158,6 @@ opened_few initial events =
 -- an event that only the load keeps out
 pub load_keeps_out : (initial : List (Cell × Value)) (events : List Event) → 1048576 ≤ load_of initial events → full_load initial events ≡ Some Load
 load_keeps_out initial events full = grind (arith, nat_tests, full)
-
-pub tables_few : (history : Chronicle) → IsLegalChronicle history → length history.tables ≤ 64
-tables_few history is =
-    let count = tables_defined history is in
-    let few = defined_few history.initial history.events is.legal.formed in
-    omega arith
 
 name_there : (tables : List Table) (t : Table) → Contains tables t → Contains (map (λ (u : Table). u.name) tables) t.name
 name_there [] t (k, within, at) = absurd (omega arith)

@@ -282,7 +282,7 @@ permitted_seen initial events s k w Ra x is pending runs permitted = record {
   writes = permitted.0;
   last = λ other writes. elim (cases_lt w other) [
     | inl less ↦ absurd (overtaken initial events s k w Ra x is pending runs permitted other less writes
-      (precedes_kept events (Read s x w 0 0 Unset) other k (inl (writer_below initial events s k other x is pending writes))))
+        (precedes_kept events (Read s x w 0 0 Unset) other k (inl (writer_below initial events s k other x is pending writes))))
     | inr more ↦ more
   ];
 }

@@ -103,11 +103,7 @@ impl IndexedHistory {
     ghost use Rattle.solo_book.specs.Passed.{KeepsSources};
 
     /// A history of the level and the initial state, without events. It takes memory for the keys of the initial rows alone.
-    pub fn new(
-        alloc: Global,
-        level: Level,
-        initial: InitialState,
-    ) -> Result<IndexedHistory, Memory>
+    pub fn new(alloc: Global, level: Level, initial: InitialState) -> Result<IndexedHistory, Memory>
         ensures ok { IfOk result (λ history. history ≡ record { level = level; initial = initial; events = []; tables = [] }) }
         ensures is { IsInitialState initial }
     {
@@ -231,6 +227,7 @@ impl IndexedHistory {
     /// The tables, by their numbers from 0.
     pub fn tables(&self) -> &[Table]
         ensures items { result.now ≡ self.now.tables }
+        ensures few { length result.now ≤ 64 }
         ensures formed { IsFormedChronicle self.now }
     {
         self.history.tables()
