@@ -1,18 +1,18 @@
 // Calls of a book, and what stands between them.
 ghost use Rattle.std.specs.Prelude.{◌≡◌, OnOk};
 ghost use Rattle.history_core.specs.Events.{table_of};
-ghost use Rattle.history_core.specs.Book.{IsStorable};
+ghost use Rattle.history_core.specs.Initial.{IsStorable};
 ghost use Rattle.book_cases.specs.SessionStates.{IsReady, IsFresh, IsBusy};
 
-use cell_base::{Cell, Items, Key, Value};
+use cell_base::{Cell, Items, Key, Level, Value};
 use history_core::{Book, BookFault};
 use solo_book::SoloBook;
 
-pub fn begin(book: &mut SoloBook) -> Result<(), BookFault>
+pub fn begin(book: &mut SoloBook, level: Level) -> Result<(), BookFault>
     requires { IsReady book.old }
     ensures { OnOk result (IsFresh book.new) }
 {
-    book.begin()?;
+    book.begin(level)?;
     Ok(())
 }
 

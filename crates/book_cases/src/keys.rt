@@ -31,9 +31,11 @@ pub fn told_scan(book: &SoloBook, session: u32, want: &[i64]) -> bool {
         return false;
     }
     match &events[events.len() - 2] {
-        Event::Scan(own, table, keys) => {
-            *own == session && *table == 0 && are_integers(keys, want)
-        }
+        Event::Scan {
+            session: own,
+            table,
+            keys,
+        } => *own == session && *table == 0 && are_integers(keys, want),
         _ => false,
     }
 }

@@ -9,9 +9,13 @@ mod calls;
 #[cfg(test)]
 mod keys;
 #[cfg(test)]
+mod levels;
+#[cfg(test)]
 mod own_reads;
 #[cfg(test)]
 mod reads;
+#[cfg(test)]
+mod rows;
 #[cfg(test)]
 mod scans;
 #[cfg(test)]

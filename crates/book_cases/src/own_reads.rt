@@ -7,7 +7,7 @@ use crate::calls::{
 };
 use crate::start::{start, text};
 use crate::told::{is_own, is_shown, is_told, reads_of};
-use cell_base::Value;
+use cell_base::{Level, Value};
 use history_core::BookFault;
 use solo_book::SoloBook;
 use std::alloc::Global;
@@ -47,7 +47,7 @@ fn reads_its_own_row(rt: HostRuntime) -> Result<(), BookFault> {
     Ok(())
 }
 
-/// The number is that of the event that tells it, whatever the events weigh: behind the Open and the Define it is 3.
+/// The number is that of the event that tells it, whatever the events weigh: after the Open and the Define it is 3.
 #[test]
 fn shows_its_number(rt: HostRuntime) -> Result<(), BookFault> {
     let mut book = start(rt.alloc())?;
@@ -67,7 +67,7 @@ fn see_second(book: &mut SoloBook) -> Result<Value, BookFault>
     requires { IsReady book.old }
     ensures { OnOk result (IsReady book.new) }
 {
-    begin(book)?;
+    begin(book, Level::Rc)?;
     write(book, field_of(1), Value::Int(10))?;
     write(book, field_of(1), Value::Int(20))?;
     let value = see(book, &field_of(1), 0)?;
@@ -75,18 +75,18 @@ fn see_second(book: &mut SoloBook) -> Result<Value, BookFault>
     Ok(value)
 }
 
-/// Whether a field is written before its first write and behind it, and whether the presence of its row is.
+/// Whether a field is written before its first write and after it, and whether the presence of its row is.
 fn wrote_around(book: &mut SoloBook) -> Result<(bool, bool, bool), BookFault>
     requires { IsReady book.old }
     ensures { OnOk result (IsReady book.new) }
 {
-    begin(book)?;
+    begin(book, Level::Rc)?;
     let before = wrote(book, &field_of(1));
     write(book, field_of(1), Value::Int(10))?;
-    let behind = wrote(book, &field_of(1));
+    let after = wrote(book, &field_of(1));
     let other = wrote(book, &presence_of(1));
     roll_back(book);
-    Ok((before, behind, other))
+    Ok((before, after, other))
 }
 
 /// Whether a field is written in a transaction that has done nothing yet.
@@ -94,7 +94,7 @@ fn wrote_after(book: &mut SoloBook) -> Result<bool, BookFault>
     requires { IsReady book.old }
     ensures { OnOk result (IsReady book.new) }
 {
-    begin(book)?;
+    begin(book, Level::Rc)?;
     let next = wrote(book, &field_of(1));
     roll_back(book);
     Ok(next)
@@ -105,7 +105,7 @@ fn commit_one(book: &mut SoloBook) -> Result<(), BookFault>
     requires { IsReady book.old }
     ensures { OnOk result (IsReady book.new) }
 {
-    begin(book)?;
+    begin(book, Level::Rc)?;
     write(book, field_of(1), Value::Int(10))?;
     commit(book);
     Ok(())
@@ -115,18 +115,18 @@ fn commit_one(book: &mut SoloBook) -> Result<(), BookFault>
 fn row_rolled_back(alloc: Global) -> Result<SoloBook, BookFault> {
     let mut book = start(alloc)?;
     insert_and_see(&mut book)?;
-    begin(&mut book)?;
+    begin(&mut book, Level::Rc)?;
     see(&mut book, &presence_of(1), 6)?;
     roll_back(&mut book);
     Ok(book)
 }
 
-/// The first transaction of it: the insert finds no row, and both cells are read behind it.
+/// The first transaction of it: the insert finds no row, and both cells are read after it.
 fn insert_and_see(book: &mut SoloBook) -> Result<(), BookFault>
     requires { IsReady book.old }
     ensures { OnOk result (IsReady book.new) }
 {
-    begin(book)?;
+    begin(book, Level::Rc)?;
     read(book, &presence_of(1), 5)?;
     write_row(book, presence_of(1), field_of(1), 10)?;
     see(book, &presence_of(1), 9)?;
@@ -141,7 +141,7 @@ fn write_text(alloc: Global, book: &mut SoloBook) -> Result<(), BookFault>
     ensures { OnOk result (IsReady book.new) }
 {
     let value = Value::Text(text(alloc, &[b'a'; 600])?);
-    begin(book)?;
+    begin(book, Level::Rc)?;
     write(book, field_of(1), value)?;
     commit(book);
     Ok(())

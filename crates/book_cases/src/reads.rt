@@ -5,7 +5,7 @@ ghost use Rattle.book_cases.specs.SessionStates.{IsReady, IsBusy};
 use crate::calls::{begin, commit, field_of, presence_of, read, roll_back, write_row};
 use crate::start::{reopen, start};
 use crate::told::{Told, is_told, reads_of};
-use cell_base::{Items, Value};
+use cell_base::{Items, Level, Value};
 use history_core::BookFault;
 use solo_book::SoloBook;
 use std::alloc::Global;
@@ -66,7 +66,7 @@ fn offers_no_rolled_back_row(rt: HostRuntime) -> Result<(), BookFault> {
 /// A transaction that has read from the third writer isn't offered what the first and the second wrote. In a second session
 /// all are offered again.
 #[test]
-fn goes_not_behind_a_source(rt: HostRuntime) -> Result<(), BookFault> {
+fn goes_not_back_before_a_source(rt: HostRuntime) -> Result<(), BookFault> {
     let told = get_of_three(rt.alloc())?;
     assert_eq!(&rt; told.len(), 4);
     assert!(&rt; is_told(&told, 0, 3, 4, 7, &Value::Flag(true)));
@@ -100,7 +100,7 @@ fn put_twice(alloc: Global, first: u32, second: u32) -> Result<Items<Told>, Book
 /// An insert that is rolled back, another one, and a read of its row.
 fn put_after_rollback(alloc: Global) -> Result<Items<Told>, BookFault> {
     let mut book = start(alloc)?;
-    begin(&mut book)?;
+    begin(&mut book, Level::Rc)?;
     read(&mut book, &presence_of(1), 0)?;
     write_first(&mut book, 10)?;
     roll_back(&mut book);
@@ -126,7 +126,7 @@ fn put(book: &mut SoloBook, word: u32, value: i64) -> Result<(), BookFault>
     requires { IsReady book.old }
     ensures { OnOk result (IsReady book.new) }
 {
-    begin(book)?;
+    begin(book, Level::Rc)?;
     let there = read(book, &presence_of(1), word)?;
     if there.is_same(&Value::Flag(true)) {
         roll_back(book);
@@ -142,7 +142,7 @@ fn write_alone(book: &mut SoloBook, value: i64) -> Result<(), BookFault>
     requires { IsReady book.old }
     ensures { OnOk result (IsReady book.new) }
 {
-    begin(book)?;
+    begin(book, Level::Rc)?;
     write_first(book, value)?;
     commit(book);
     Ok(())
@@ -153,7 +153,7 @@ fn get(book: &mut SoloBook, first: u32, second: u32) -> Result<(), BookFault>
     requires { IsReady book.old }
     ensures { OnOk result (IsReady book.new) }
 {
-    begin(book)?;
+    begin(book, Level::Rc)?;
     let there = read(book, &presence_of(1), first)?;
     if there.is_same(&Value::Flag(true)) {
         read(book, &field_of(1), second)?;

@@ -1,7 +1,7 @@
-// Scans: the keys that each lists, and reads behind them, found by hand.
+// Scans: the keys that each lists, and reads after them, found by hand.
 ghost use Rattle.std.specs.Prelude.{◌≡◌, OnOk};
 ghost use Rattle.history_core.specs.Events.{table_of};
-ghost use Rattle.history_core.specs.Book.{IsStorable};
+ghost use Rattle.history_core.specs.Initial.{IsStorable};
 ghost use Rattle.book_cases.specs.SessionStates.{IsReady, IsBusy};
 
 use crate::calls::{
@@ -10,7 +10,7 @@ use crate::calls::{
 use crate::keys::{are_integers, is_text, told_scan};
 use crate::start::{reopen, start, text};
 use crate::told::{Told, is_told, reads_of};
-use cell_base::{Cell, Items, Key, Value};
+use cell_base::{Cell, Items, Key, Level, Value};
 use history_core::BookFault;
 use solo_book::SoloBook;
 use std::alloc::Global;
@@ -31,7 +31,7 @@ fn lists_committed_and_own(rt: HostRuntime) -> Result<(), BookFault> {
     let mut book = start(rt.alloc())?;
     commit_rows(&mut book, &[5, -3])?;
     roll_rows_back(&mut book, &[7, 5])?;
-    let own = scan_behind(&mut book, &[1])?;
+    let own = scan_after(&mut book, &[1])?;
     assert!(&rt; are_integers(&own, &[-3, 1, 5]));
     let next = scan_alone(&mut book)?;
     assert!(&rt; are_integers(&next, &[-3, 5]));
@@ -55,7 +55,7 @@ fn lists_presences(rt: HostRuntime) -> Result<(), BookFault> {
 fn orders_integers(rt: HostRuntime) -> Result<(), BookFault> {
     let mut book = start(rt.alloc())?;
     commit_rows(&mut book, &[0, 9_223_372_036_854_775_807, -1, 10, 9])?;
-    let keys = scan_behind(&mut book, &[-9_223_372_036_854_775_807, -10, -9])?;
+    let keys = scan_after(&mut book, &[-9_223_372_036_854_775_807, -10, -9])?;
     assert!(&rt;
         are_integers(
             &keys,
@@ -96,7 +96,7 @@ fn lists_in_a_second_session(rt: HostRuntime) -> Result<(), BookFault> {
     commit_rows(&mut book, &[2])?;
     roll_rows_back(&mut book, &[3])?;
     reopen(&mut book)?;
-    let own = scan_behind(&mut book, &[1])?;
+    let own = scan_after(&mut book, &[1])?;
     assert!(&rt; are_integers(&own, &[1, 2]));
     let next = scan_alone(&mut book)?;
     assert!(&rt; are_integers(&next, &[2]));
@@ -104,9 +104,9 @@ fn lists_in_a_second_session(rt: HostRuntime) -> Result<(), BookFault> {
     Ok(())
 }
 
-/// A scan takes no offer no_session: behind it a listed row may be missed, in the same session and in another.
+/// A scan takes no offer away: after it a listed row may be missed, in the same session and in another.
 #[test]
-fn reads_behind_a_scan(rt: HostRuntime) -> Result<(), BookFault> {
+fn reads_after_a_scan(rt: HostRuntime) -> Result<(), BookFault> {
     let told = reads_of_scans(rt.alloc())?;
     assert_eq!(&rt; told.len(), 5);
     assert!(&rt; is_told(&told, 0, 0, 1, 3, &Value::Flag(false)));
@@ -117,7 +117,7 @@ fn reads_behind_a_scan(rt: HostRuntime) -> Result<(), BookFault> {
     Ok(())
 }
 
-/// A row, and reads of it and of another one behind scans, in its session and in a second one.
+/// A row, and reads of it and of another one after scans, in its session and in a second one.
 fn reads_of_scans(alloc: Global) -> Result<Items<Told>, BookFault> {
     let mut book = start(alloc)?;
     commit_rows(&mut book, &[1])?;
@@ -132,7 +132,7 @@ fn read_three(book: &mut SoloBook) -> Result<(), BookFault>
     requires { IsReady book.old }
     ensures { OnOk result (IsReady book.new) }
 {
-    begin(book)?;
+    begin(book, Level::Rc)?;
     first_scan(book)?;
     read(book, &presence_of(2), 3)?;
     read(book, &presence_of(1), 1)?;
@@ -146,7 +146,7 @@ fn read_two(book: &mut SoloBook) -> Result<(), BookFault>
     requires { IsReady book.old }
     ensures { OnOk result (IsReady book.new) }
 {
-    begin(book)?;
+    begin(book, Level::Rc)?;
     first_scan(book)?;
     read(book, &presence_of(1), 4)?;
     read(book, &field_of(1), 5)?;
@@ -159,18 +159,18 @@ fn scan_alone(book: &mut SoloBook) -> Result<Items<Key>, BookFault>
     requires { IsReady book.old }
     ensures { OnOk result (IsReady book.new) }
 {
-    begin(book)?;
+    begin(book, Level::Rc)?;
     let keys = scan(book)?;
     commit(book);
     Ok(keys)
 }
 
 /// A transaction that writes rows, scans and is rolled back.
-fn scan_behind(book: &mut SoloBook, rows: &[i64]) -> Result<Items<Key>, BookFault>
+fn scan_after(book: &mut SoloBook, rows: &[i64]) -> Result<Items<Key>, BookFault>
     requires { IsReady book.old }
     ensures { OnOk result (IsReady book.new) }
 {
-    begin(book)?;
+    begin(book, Level::Rc)?;
     write_rows(book, rows)?;
     let keys = scan(book)?;
     roll_back(book);
@@ -181,7 +181,7 @@ fn commit_rows(book: &mut SoloBook, rows: &[i64]) -> Result<(), BookFault>
     requires { IsReady book.old }
     ensures { OnOk result (IsReady book.new) }
 {
-    begin(book)?;
+    begin(book, Level::Rc)?;
     write_rows(book, rows)?;
     commit(book);
     Ok(())
@@ -191,7 +191,7 @@ fn roll_rows_back(book: &mut SoloBook, rows: &[i64]) -> Result<(), BookFault>
     requires { IsReady book.old }
     ensures { OnOk result (IsReady book.new) }
 {
-    begin(book)?;
+    begin(book, Level::Rc)?;
     write_rows(book, rows)?;
     roll_back(book);
     Ok(())
@@ -215,7 +215,7 @@ fn write_alone(book: &mut SoloBook, cell: Cell, value: Value) -> Result<(), Book
     requires storable { IsStorable value }
     ensures { OnOk result (IsReady book.new) }
 {
-    begin(book)?;
+    begin(book, Level::Rc)?;
     write(book, cell, value)?;
     commit(book);
     Ok(())
@@ -226,7 +226,7 @@ fn scan_texts(alloc: Global, book: &mut SoloBook) -> Result<Items<Key>, BookFaul
     requires { IsReady book.old }
     ensures { OnOk result (IsReady book.new) }
 {
-    begin(book)?;
+    begin(book, Level::Rc)?;
     write_text(alloc, book, b"b")?;
     write_text(alloc, book, b"")?;
     write_text(alloc, book, b"ab")?;

@@ -4,17 +4,24 @@ ghost use Rattle.sound_table.specs.Sound.{IsSound};
 ghost use Rattle.history_core.specs.Book.{IsIdle};
 ghost use Rattle.book_cases.specs.SessionStates.{IsReady};
 
-use cell_base::{Items, Memory, SqlType, Text, Value};
-use history_core::{Book, BookFault};
+use cell_base::{Items, Level, Memory, SqlType, Text, Value};
+use history_core::{Book, BookFault, InitialState};
 use solo_book::SoloBook;
 use sql_tree::{Column, Table};
 use std::alloc::Global;
 
-/// A book with an open session and the table `t`.
+/// A book with an open session and the table `t`, where no row is there from the start.
 pub fn start(alloc: Global) -> Result<SoloBook, BookFault>
     ensures { IfOk result IsReady }
 {
-    let mut book = SoloBook::new(alloc);
+    start_from(alloc, InitialState::empty(alloc))
+}
+
+/// A book with an open session and the table `t`, over the initial state.
+pub fn start_from(alloc: Global, initial: InitialState) -> Result<SoloBook, BookFault>
+    ensures { IfOk result IsReady }
+{
+    let mut book = SoloBook::new(alloc, Level::Cc, initial)?;
     book.open()?;
     define(&mut book, &table(alloc)?)?;
     Ok(book)
@@ -44,7 +51,7 @@ pub fn reopen(book: &mut SoloBook) -> Result<(), BookFault>
 
 /// The table of `CREATE TABLE t (k bigint PRIMARY KEY, v bigint)`.
 #[tactic(auto, using(sound_table::proofs::Example::sound))]
-fn table(alloc: Global) -> Result<Table, Memory>
+pub fn table(alloc: Global) -> Result<Table, Memory>
     ensures { IfOk result IsSound }
 {
     let mut columns = Items::new(alloc);

@@ -17,7 +17,14 @@ pub struct Told {
 pub fn reads_of(alloc: Global, book: &SoloBook) -> Result<Items<Told>, Memory> {
     let mut all = Items::new(alloc);
     for event in book.history().events() {
-        if let Event::Read(_, _, source, count, word, value) = event {
+        if let Event::Read {
+            source,
+            count,
+            word,
+            value,
+            ..
+        } = event
+        {
             all.push(Told {
                 source: *source,
                 count: *count,
@@ -52,9 +59,13 @@ pub fn is_told(
 /// Whether the event at the place is an own read of the cell in session 1, which gave the value.
 pub fn is_own(book: &SoloBook, at: usize, cell: &Cell, value: &Value) -> bool {
     match book.history().events().get(at) {
-        Some(Event::Own(session, own, last)) => {
-            *session == 1 && own.is_same(cell) && last.is_same(value)
-        }
+        Some(
+            Event::Own {
+                session,
+                cell: own,
+                value: last,
+            },
+        ) => *session == 1 && own.is_same(cell) && last.is_same(value),
         _ => false,
     }
 }
@@ -62,7 +73,12 @@ pub fn is_own(book: &SoloBook, at: usize, cell: &Cell, value: &Value) -> bool {
 /// Whether the event at the place tells the number in session 1.
 pub fn is_shown(book: &SoloBook, at: usize, number: u32) -> bool {
     match book.history().events().get(at) {
-        Some(Event::Show(session, own)) => *session == 1 && *own == number,
+        Some(
+            Event::Show {
+                session,
+                number: own,
+            },
+        ) => *session == 1 && *own == number,
         _ => false,
     }
 }

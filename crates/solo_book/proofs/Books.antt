@@ -4,6 +4,7 @@ use Rattle.std.specs.Prelude.{IfOk, OnOk, OnErr}
 use Rattle.std.specs.List.{Contains, All}
 use Rattle.std.proofs.lemmas.List.{append-nil, take-append-drop, length-drop, take_all, length-take-le}
 use Rattle.std.proofs.lemmas.List.Elements.{Contains-append_left, Contains-push, All-contains}
+use Rattle.cell_base.specs.declared.level.Level.{Level}
 use Rattle.cell_base.specs.declared.cell.Cell.{Cell}
 use Rattle.cell_base.specs.declared.value.Value.{Value}
 use Rattle.sql_tree.specs.declared.table.Table.{Table}
@@ -59,11 +60,11 @@ nothing_between (f ∷ fs) e = ap (λ (es : List Event). f ∷ es) (nothing_betw
 -- the event is added, and no other
 pub adds_goes : (old new : Desk) (e : Event) (s : ℕ) (stage : Stage) → GoesTo old e s stage new → Adds (past_of old) e (past_of new)
 adds_goes old new e s stage goes =
-    let level : new.history.level ≡ old.history.level = ap (λ (h : Chronicle). h.level) goes.history in
     let events : new.history.events ≡ old.history.events ++ e ∷ [] = ap (λ (h : Chronicle). h.events) goes.history in
     let tables : new.history.tables ≡ old.history.tables = ap (λ (h : Chronicle). h.tables) goes.history in
     record {
-      level = level;
+      level = ap (λ (h : Chronicle). h.level) goes.history;
+      initial = ap (λ (h : Chronicle). h.initial) goes.history;
       others = [];
       seen = events ∙ nothing_between old.history.events _;
       foreign = λ k d within. absurd (omega arith);
@@ -76,6 +77,7 @@ adds_goes old new e s stage goes =
 pub goes_same : (old new : Desk) → new ≡ old → GoesOn (past_of old) (past_of new)
 goes_same old new same = record {
   level = ap (λ (d : Desk). d.history.level) same;
+  initial = ap (λ (d : Desk). d.history.initial) same;
   others = [];
   seen = ap (λ (d : Desk). d.history.events) same ∙ sym (append-nil old.history.events);
   foreign = λ k d within. absurd (omega arith);
@@ -126,9 +128,9 @@ all_noted events =
     none p s x v of = let after = of.after in let starts = of.starts.counts in cc (of.is)
 
     step : (h : List Event) (e : Event) → AllNoted h → AllNoted (h ++ e ∷ [])
-    step h (Begin t) noted = λ p s x v of.
-        let more : begun (h ++ Begin t ∷ []) ≡ begun h + 1 = begun-push_start h t in
-        absurd (of_none h (Begin t) (begun (h ++ Begin t ∷ [])) p (Write s x v) (omega arith) of)
+    step h (Begin t l) noted = λ p s x v of.
+        let more : begun (h ++ Begin t l ∷ []) ≡ begun h + 1 = begun-push_start h t l in
+        absurd (of_none h (Begin t l) (begun (h ++ Begin t l ∷ [])) p (Write s x v) (omega arith) of)
     step h (Write t y u) noted = λ p s x v of.
         let same : begun (h ++ Write t y u ∷ []) ≡ begun h = begun-push_other h (Write t y u) refl in
         let of_same : IsOf (h ++ Write t y u ∷ []) (begun h) p (Write s x v) = subst (λ (k : ℕ). IsOf (h ++ Write t y u ∷ []) k p (Write s x v)) same of in
@@ -160,7 +162,7 @@ pub not_written :
 not_written history sessions cell is unwritten wrote =
     let events : List Event = history.events in
     let number : wrote.number ≡ begun events =
-    pending_unique events (sound_of events is.legal.legal.formed) sessions wrote.number (begun events) wrote.pending is.stands.1 in
+    pending_unique events (sound_of history.initial events is.legal.legal.formed) sessions wrote.number (begun events) wrote.pending is.stands.1 in
     let written = wrote.written in
     let of : IsOf events (begun events) written.place (Write written.session cell written.value) =
     subst (λ (k : ℕ). IsOf events k written.place (Write written.session cell written.value)) number written.write in
@@ -257,6 +259,7 @@ defines_adds old new table defines =
     let events : new.history.events ≡ old.history.events ++ Define old.sessions table.name ∷ [] = ap (λ (h : Chronicle). h.events) defines.history in
     record {
       level = ap (λ (h : Chronicle). h.level) defines.history;
+      initial = ap (λ (h : Chronicle). h.initial) defines.history;
       others = [];
       seen = events ∙ nothing_between old.history.events _;
       foreign = λ k d within. absurd (omega arith);
@@ -298,11 +301,11 @@ defines_state old new table (Err e) answers same = state_same old new same
 
 -- the state after a Begin, and after a write
 pub begin_state :
-    (old new : Desk) → old.stage ≢ NoSession → GoesTo old (Begin old.sessions) old.sessions Pending new →
+    (old new : Desk) (level : Level) → old.stage ≢ NoSession → GoesTo old (Begin old.sessions level) old.sessions Pending new →
     (past_of new).state ≡ pending (session_of (state_of old.stage old.sessions old.history.events)) []
-begin_state old new open_is goes =
-    state_goes old new (Begin old.sessions) old.sessions Pending goes
-    ∙ ap (λ (w : List (Cell × Value)). pending old.sessions w) (last_writes-push old.history.events (Begin old.sessions))
+begin_state old new level open_is goes =
+    state_goes old new (Begin old.sessions level) old.sessions Pending goes
+    ∙ ap (λ (w : List (Cell × Value)). pending old.sessions w) (last_writes-push old.history.events (Begin old.sessions level))
     ∙ ap (λ (s : ℕ). pending s []) (sym (session_is_in old.stage old.sessions old.history.events open_is))
 
 pub write_state :

@@ -21,7 +21,8 @@ use Rattle.history_core.specs.Relations.{HasWritten, Writes}
 use Rattle.history_core.specs.Chronicle.{Chronicle}
 use Rattle.history_core.proofs.Grown.{of_back, committed_back}
 use Rattle.history_core.proofs.Next.{pending_back, pending_bounded}
-use Rattle.history_core.proofs.Prefixes.{of_kept, committed_kept, start_bounded}
+use Rattle.history_core.proofs.Prefixes.{start_bounded}
+use Rattle.solo_book.proofs.Further.{writes_kept}
 use Rattle.solo_book.specs.declared.index.Index.{Index}
 use Rattle.solo_book.specs.Index.{numbers_at, IsAlive, IsLast, ListsWriters, IsIndex, AreWriters, IsNoWrite}
 
@@ -43,7 +44,7 @@ alive_back events e k last (inr (at, (s, pending))) =
           let more = begun_more events e in let few = pending_bounded events k s old.0 in
           let same : k ≡ begun events = omega arith in
           inl (inr (same, (s, old.0)))
-      | inr new ↦ inr (let h = new.1 in omega arith)
+      | inr new ↦ inr (let h = new.counts in omega arith)
     ]
 
 -- what has written after an event had written before, or writes now
@@ -58,18 +59,6 @@ written_back events e k x written =
 
 written_bounded : (events : List Event) (k : ℕ) (x : Cell) → HasWritten events k x → k ≤ begun events
 written_bounded events k x written = start_bounded events k written.session written.write.start written.write.starts
-
-writes_kept : (events : List Event) (e : Event) (k : ℕ) (x : Cell) → Writes events k x → Writes (events ++ e ∷ []) k x
-writes_kept events e k x (inl initial) = inl initial
-writes_kept events e k x (inr own) = inr (
-  committed_kept events e k own.0,
-  record {
-    place = own.1.place;
-    session = own.1.session;
-    value = own.1.value;
-    write = of_kept events e k own.1.place (Write own.1.session x own.1.value) own.1.write;
-  },
-)
 
 -- the lists serve after a further event too, where a write is listed and a commit ends the last transaction
 pub indexed_push :
@@ -381,7 +370,7 @@ set_contained xs v some =
     let long : length (set xs (length xs - 1) v) ≡ length xs = length-set xs (length xs - 1) v in
     (length xs - 1, omega arith, get_or-set_same xs (length xs - 1) v v within)
 
--- the number was put behind the others, or nothing changed
+-- the number was put after the others, or nothing changed
 pub pushed_listed :
     (events : List Event) (x : Cell) (old new : List ℕ) (n : ℕ) (r : Result (Unit {0}) Memory) → OnOk r (new ≡ old ++ n ∷ []) → OnErr r (new ≡ old) →
     ListsWriters events x old → ListsWriters events x (old ++ n ∷ []) → ListsWriters events x new

@@ -1,5 +1,5 @@
 -- Keys in order, and what an index of keys holds as events are added.
-use Rattle.std.proofs.Common.{◌≡◌, Bool, true, false, cond, ℕ, List, [], ◌∷◌, ◌++◌, Ok, Err, Result, Some, None, Option, get_or, rules, refl, ap, sym, ◌∙◌, subst, inl, inr, ◌⊎◌, Bor}
+use Rattle.std.proofs.Common.{◌≡◌, Bool, true, false, cond, ℕ, ◌+◌, ◌<◌, ◌≤◌, arith, length, List, [], ◌∷◌, ◌++◌, Ok, Err, Result, Some, None, Option, get_or, rules, refl, ap, sym, ◌∙◌, subst, inl, inr, ◌⊎◌, Bor}
 use Rattle.std.specs.Prelude.{IfSome, IfNone, OnOk, OnErr, nat_eq}
 use Rattle.std.specs.Int.Signed.{<ℤ_irrefl}
 use Rattle.std.specs.Ordering.{nat_cmp, int_cmp, is_eq}
@@ -7,13 +7,14 @@ use Rattle.std.specs.Cmp.{IsTotalOrder}
 use Rattle.std.specs.Cmp.Lexicographic.{slice_cmp}
 use Rattle.std.specs.declared.cmp.Ordering.{Ordering}
 use Rattle.std.specs.declared.cmp.Ordering.TheVariants.{Less, Equal, Greater}
-use Rattle.std.specs.List.{Contains}
+use Rattle.std.specs.List.{Contains, slice_get}
 use Rattle.std.specs.List.Sorted.{IsStrictlySortedBy}
 use Rattle.std.specs.BTreeSet.{BTreeSet, contains, Updates}
 use Rattle.std.specs.HashMap.{get}
 use Rattle.std.specs.Map.{lookup}
 use Rattle.std.proofs.lemmas.Cmp.{tied_itself, nat_list_cmp_total}
-use Rattle.std.proofs.lemmas.Bool.{false≢true}
+use Rattle.std.proofs.lemmas.Bool.{false≢true, cases_lt}
+use Rattle.txn_buffer.proofs.Lists.{at_contains}
 use Rattle.std.proofs.lemmas.Map.Views.{btree_set_contains_iff, exact_unsigned_eq}
 use Rattle.std.proofs.lemmas.Map.Keys.{Less-from_sorted}
 use Rattle.std.proofs.lemmas.Map.Lookups.{CmpEqualImpliesEq, exact_signed, exact_bytes}
@@ -24,17 +25,19 @@ use Rattle.cell_base.specs.declared.key.Key.TheVariants.{Int, Text}
 use Rattle.cell_base.specs.contracts.key.KeyOrd.TheImpl as key_ord
 use Rattle.cell_base.specs.contracts.key.KeyOrd.TheImpl.Laws as key_laws
 use Rattle.cell_base.specs.declared.cell.Cell.{Cell}
-use Rattle.cell_base.specs.declared.cell.Cell.TheVariants.{Presence}
+use Rattle.cell_base.specs.declared.cell.Cell.TheVariants.{Presence, Field}
 use Rattle.cell_base.specs.declared.value.Value.{Value}
+use Rattle.cell_base.specs.declared.value.Value.TheVariants.{Flag}
+use Rattle.sql_tree.specs.declared.table.Table.{Table}
 use Rattle.history_core.specs.declared.event.Event.{Event}
-use Rattle.history_core.specs.declared.event.Event.TheVariants.{Write}
+use Rattle.history_core.specs.declared.event.Event.TheVariants.{Define, Write}
 use Rattle.history_core.specs.declared.fault.BookFault.{BookFault}
 use Rattle.history_core.specs.Records.{is_any_end}
-use Rattle.history_core.specs.Chronicle.{Chronicle}
+use Rattle.history_core.specs.Chronicle.{Chronicle, followed_by, with_table}
 use Rattle.history_core.specs.Legal.{IsKeyBelow}
 use Rattle.solo_book.specs.declared.keys.KeyIndex.{KeyIndex}
 use Rattle.solo_book.specs.Index.{IsNoWrite}
-use Rattle.solo_book.specs.Keys.{some_keys, keys_at, HoldWritten, IsKeyIndex, KeepsKeys, IsKept, AreAscending, GainsKey}
+use Rattle.solo_book.specs.Keys.{some_keys, keys_at, HoldInitial, HoldWritten, IsKeyIndex, KeepsKeys, IsKept, AreAscending, GainsKey}
 use Rattle.solo_book.proofs.Cells.{bool_cases}
 use Rattle.solo_book.proofs.Indexes.{written_back, no_write}
 
@@ -136,41 +139,106 @@ kept_at old new table keys updates =
 pub found_keys : (index : KeyIndex) (table : ℕ) (keys : List Key) → Some keys ≡ get nat_eq index.tables table → keys_at index table ≡ keys
 found_keys index table keys is = ap some_keys (sym is)
 
+-- a kept cell is kept by an index that keeps all keys
+kept_still : (old new : KeyIndex) (cell : Cell) → KeepsKeys old new → IsKept old cell → IsKept new cell
+kept_still old new (Presence table key) keeps there = keeps table key there
+kept_still old new (Field table key column) keeps there = tt
+
+-- the keys of the first so many cells are kept
+pub record IsKeyPart (cells : List (Cell × Value)) (n : ℕ) (index : KeyIndex) : Type 0 where
+  pub kept : (k : ℕ) (entry : Cell × Value) → k < n → slice_get cells k ≡ Some entry → IsKept index entry.0
+
+pub key_part_none : (cells : List (Cell × Value)) (index : KeyIndex) → IsKeyPart cells 0 index
+key_part_none cells index = record { kept = λ k entry below at. absurd (omega arith) }
+
+-- one cell more
+pub key_part_more :
+    (cells : List (Cell × Value)) (n : ℕ) (entry : Cell × Value) (old new : KeyIndex) → slice_get cells n ≡ Some entry → KeepsKeys old new →
+    IsKept new entry.0 → IsKeyPart cells n old → IsKeyPart cells (n + 1) new
+key_part_more cells n entry old new at keeps kept part = record {
+  kept = λ k other below there. elim (cases_lt k n) [
+    | inl before ↦ kept_still old new other.0 keeps (part.kept k other before there)
+    | inr last ↦
+        let same : k ≡ n = omega arith in
+        let both : Some entry ≡ Some other = sym at ∙ ap (λ (i : ℕ). slice_get cells i) (sym same) ∙ there in
+        let is : entry ≡ other = cc in
+        subst (λ (e : Cell × Value). IsKept new e.0) is kept
+  ];
+}
+
+-- all of them
+pub key_part_whole :
+    (cells : List (Cell × Value)) (n : ℕ) (index : KeyIndex) → length cells ≤ n → IsKeyPart cells n index → HoldInitial cells index
+key_part_whole cells n index end part table key there =
+    let at = at_contains cells (Presence table key, Flag true) there in
+    let within = slice_get_within cells at.0 (Presence table key, Flag true) at.1 in
+    part.kept at.0 (Presence table key, Flag true) (omega arith) at.1
+
 -- an event leaves no key out, where the key of a write is kept
 pub keyed_push :
-    (events : List Event) (e : Event) (index : KeyIndex) → ((s : ℕ) (x : Cell) (v : Value) → e ≡ Write s x v → IsKept index x) →
-    IsKeyIndex events index → IsKeyIndex (events ++ e ∷ []) index
-keyed_push events e index kept is table key number written =
-    elim (written_back events e number (Presence table key) written) [
-      | inl old ↦ is table key number old
-      | inr new ↦ kept new.0 (Presence table key) new.1.0 new.1.1.0
-    ]
+    (initial : List (Cell × Value)) (events : List Event) (e : Event) (index : KeyIndex) →
+    ((s : ℕ) (x : Cell) (v : Value) → e ≡ Write s x v → IsKept index x) → IsKeyIndex initial events index → IsKeyIndex initial (events ++ e ∷ []) index
+keyed_push initial events e index kept is table = record {
+  initial_ones = (is table).initial_ones;
+  written = λ key number written. elim (written_back events e number (Presence table key) written) [
+    | inl old ↦ (is table).written key number old
+    | inr new ↦ kept new.0 (Presence table key) new.1.0 new.1.1.0
+  ];
+}
 
-pub keyed_other : (events : List Event) (e : Event) (index : KeyIndex) → IsNoWrite e → IsKeyIndex events index → IsKeyIndex (events ++ e ∷ []) index
-keyed_other events e index other is = keyed_push events e index (λ s x v at. absurd (no_write e s x v other at)) is
+-- without events the keys of the initial state are all
+pub keyed_none : (initial : List (Cell × Value)) (events : List Event) (index : KeyIndex) → events ≡ [] → HoldInitial initial index → IsKeyIndex initial events index
+keyed_none initial events index none hold table = record {
+  initial_ones = hold table;
+  written = λ key number written.
+      let short : length events ≡ 0 = ap (λ (es : List Event). length es) none in
+      let within = slice_get_within events written.place (Write written.session (Presence table key) written.value) written.write.is in
+      absurd (omega arith);
+}
+
+pub keyed_other :
+    (initial : List (Cell × Value)) (events : List Event) (e : Event) (index : KeyIndex) → IsNoWrite e → IsKeyIndex initial events index →
+    IsKeyIndex initial (events ++ e ∷ []) index
+keyed_other initial events e index other is = keyed_push initial events e index (λ s x v at. absurd (no_write e s x v other at)) is
 
 -- the end of a transaction or of a session
 pub keyed_end :
-    (events : List Event) (e : Event) (index : KeyIndex) → is_any_end e ≡ true → IsKeyIndex events index → IsKeyIndex (events ++ e ∷ []) index
-keyed_end events e index end is = keyed_push events e index (λ s x v at. absurd (false≢true (ap is_any_end (sym at) ∙ end))) is
+    (initial : List (Cell × Value)) (events : List Event) (e : Event) (index : KeyIndex) → is_any_end e ≡ true → IsKeyIndex initial events index →
+    IsKeyIndex initial (events ++ e ∷ []) index
+keyed_end initial events e index end is =
+    keyed_push initial events e index (λ s x v at. absurd (false≢true (ap is_any_end (sym at) ∙ end))) is
 
 pub keyed_write :
-    (events : List Event) (s : ℕ) (x : Cell) (v : Value) (index : KeyIndex) → IsKept index x → IsKeyIndex events index →
-    IsKeyIndex (events ++ Write s x v ∷ []) index
-keyed_write events s x v index kept is =
-    keyed_push events (Write s x v) index
+    (initial : List (Cell × Value)) (events : List Event) (s : ℕ) (x : Cell) (v : Value) (index : KeyIndex) → IsKept index x →
+    IsKeyIndex initial events index → IsKeyIndex initial (events ++ Write s x v ∷ []) index
+keyed_write initial events s x v index kept is =
+    keyed_push initial events (Write s x v) index
     (λ t y u at. let both : Write s x v ≡ Write t y u = at in let cells : x ≡ y = cc in subst (λ (z : Cell). IsKept index z) cells kept) is
 
 -- an event was added, or nothing changed
 pub keyed_either :
-    (old new : Chronicle) (e : Event) (index : KeyIndex) (r : Result (Unit {0}) BookFault) → OnOk r (new.events ≡ old.events ++ e ∷ []) → OnErr r (new ≡ old) →
-    (IsKeyIndex old.events index → IsKeyIndex (old.events ++ e ∷ []) index) → IsKeyIndex old.events index → IsKeyIndex new.events index
-keyed_either old new e index (Ok u) ok err step is = subst (λ (es : List Event). IsKeyIndex es index) (sym ok) (step is)
-keyed_either old new e index (Err fault) ok err step is = subst (λ (h : Chronicle). IsKeyIndex h.events index) (sym err) is
+    (old new : Chronicle) (e : Event) (index : KeyIndex) (r : Result (Unit {0}) BookFault) → OnOk r (new ≡ followed_by old e) → OnErr r (new ≡ old) →
+    (IsKeyIndex old.initial old.events index → IsKeyIndex old.initial (old.events ++ e ∷ []) index) → IsKeyIndex old.initial old.events index →
+    IsKeyIndex new.initial new.events index
+keyed_either old new e index (Ok u) ok err step is = subst (λ (h : Chronicle). IsKeyIndex h.initial h.events index) (sym ok) (step is)
+keyed_either old new e index (Err fault) ok err step is = subst (λ (h : Chronicle). IsKeyIndex h.initial h.events index) (sym err) is
+
+-- the definition of a table was added, or nothing changed
+pub keyed_defined :
+    (old new : Chronicle) (s : ℕ) (table : Table) (index : KeyIndex) (r : Result (Unit {0}) BookFault) → OnOk r (new ≡ with_table old s table) →
+    OnErr r (new ≡ old) → IsKeyIndex old.initial old.events index → IsKeyIndex new.initial new.events index
+keyed_defined old new s table index (Ok u) ok err is =
+    subst (λ (h : Chronicle). IsKeyIndex h.initial h.events index) (sym ok) (keyed_other old.initial old.events (Define s table.name) index tt is)
+keyed_defined old new s table index (Err fault) ok err is = subst (λ (h : Chronicle). IsKeyIndex h.initial h.events index) (sym err) is
 
 -- an index that keeps all keys serves as well
-pub keyed_kept : (events : List Event) (old new : KeyIndex) → KeepsKeys old new → IsKeyIndex events old → IsKeyIndex events new
-keyed_kept events old new keeps is table key number written = keeps table key (is table key number written)
+pub keyed_kept :
+    (initial : List (Cell × Value)) (events : List Event) (old new : KeyIndex) → KeepsKeys old new → IsKeyIndex initial events old →
+    IsKeyIndex initial events new
+keyed_kept initial events old new keeps is table = record {
+  initial_ones = λ key there. keeps table key ((is table).initial_ones key there);
+  written = λ key number written. keeps table key ((is table).written key number written);
+}
 
 -- what was kept is kept, whether the key was put in or nothing changed
 pub gained_all :
@@ -185,14 +253,14 @@ gained_key old key new (Err fault) ok = tt
 
 -- what is found at a table holds all that was written there
 pub held_some :
-    (events : List Event) (table : ℕ) (index : KeyIndex) (found : Option (Bor (List Key))) → IsKeyIndex events index →
-    IfSome found (λ keys. keys.now ≡ keys_at index table) → IfSome found (λ keys. HoldWritten events table keys.now)
-held_some events table index None is same = tt
-held_some events table index (Some keys) is same = subst (λ (ks : List Key). HoldWritten events table ks) (sym same) (is table)
+    (initial : List (Cell × Value)) (events : List Event) (table : ℕ) (index : KeyIndex) (found : Option (Bor (List Key))) → IsKeyIndex initial events index →
+    IfSome found (λ keys. keys.now ≡ keys_at index table) → IfSome found (λ keys. HoldWritten initial events table keys.now)
+held_some initial events table index None is same = tt
+held_some initial events table index (Some keys) is same = subst (λ (ks : List Key). HoldWritten initial events table ks) (sym same) (is table)
 
--- and where nothing is found, nothing was written
+-- and where nothing is found, nothing is there and nothing was written
 pub held_none :
-    (events : List Event) (table : ℕ) (index : KeyIndex) (found : Option (Bor (List Key))) → IsKeyIndex events index → IfNone found (keys_at index table ≡ []) →
-    IfNone found (HoldWritten events table [])
-held_none events table index None is none = subst (λ (ks : List Key). HoldWritten events table ks) none (is table)
-held_none events table index (Some keys) is none = tt
+    (initial : List (Cell × Value)) (events : List Event) (table : ℕ) (index : KeyIndex) (found : Option (Bor (List Key))) → IsKeyIndex initial events index → IfNone found (keys_at index table ≡ []) →
+    IfNone found (HoldWritten initial events table [])
+held_none initial events table index None is none = subst (λ (ks : List Key). HoldWritten initial events table ks) none (is table)
+held_none initial events table index (Some keys) is none = tt

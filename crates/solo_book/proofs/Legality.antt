@@ -1,21 +1,21 @@
 -- What keeps a history legal.
 use Rattle.std.proofs.Common.{◌≡◌, ℕ, ◌+◌, ◌<◌, ◌≤◌, List, [], ◌∷◌, ◌++◌, Option, Some, None, Ok, Err, Result, true, false, zero, suc, nat_le, length, map, arith, refl, ap, sym, ◌∙◌, subst, ◌↔◌}
-use Rattle.std.specs.Bool.{if◌then◌else◌}
 use Rattle.std.specs.List.{slice_get, Contains, Any}
 use Rattle.std.proofs.lemmas.List.{length-map, length_push, map-append}
 use Rattle.std.proofs.lemmas.List.Elements.{All-push}
 use Rattle.std.proofs.lemmas.Bool.Decides.{nat_tests}
-use Rattle.cell_base.specs.declared.level.Level.{Level}
+use Rattle.cell_base.specs.declared.value.Value.{Value}
 use Rattle.cell_base.specs.declared.cell.Cell.{Cell}
 use Rattle.sql_tree.specs.declared.table.Table.{Table}
 use Rattle.sound_table.specs.Sound.{IsSound}
 use Rattle.history_core.specs.declared.fault.Limit.{Limit}
-use Rattle.history_core.specs.declared.fault.Limit.TheVariants.{Load, Tables}
+use Rattle.history_core.specs.declared.fault.Limit.TheVariants.{Load}
 use Rattle.history_core.specs.declared.fault.BookFault.{BookFault}
 use Rattle.history_core.specs.declared.fault.BookFault.TheVariants.{Full}
 use Rattle.history_core.specs.declared.event.Event.{Event}
 use Rattle.history_core.specs.declared.event.Event.TheVariants.{Open, Close, Define, Look, Begin, Scan, Read, Own, Write, Commit, Rollback, Show}
-use Rattle.history_core.specs.Events.{names, defined, defined_name, load_of, opened, is_open_event}
+use Rattle.history_core.specs.Events.{names, defined, defined_name, opened, is_open_event}
+use Rattle.history_core.specs.Initial.{load_of}
 use Rattle.graph_base.proofs.Places.{count_by-push}
 use Rattle.history_core.proofs.SessionLemmas.{opened-push_other}
 use Rattle.history_core.proofs.SmallLemmas.{fits_open}
@@ -33,45 +33,45 @@ option_none (Some x) h = absurd (h x refl)
 
 -- what was appended was not full
 pub fits_from_ok :
-    (events : List Event) (e : Event) (r : Result (Unit {0}) BookFault) (u : Unit {0}) → r ≡ Ok u →
-    ((limit : Limit) → (r ≡ Err (Full limit)) ↔ (full_for events e ≡ Some limit)) → full_for events e ≡ None
-fits_from_ok events e r u ok full = option_none (full_for events e) (λ limit h. let err : r ≡ Err (Full limit) = (full limit).1 h in cc)
+    (initial : List (Cell × Value)) (events : List Event) (e : Event) (r : Result (Unit {0}) BookFault) (u : Unit {0}) → r ≡ Ok u →
+    ((limit : Limit) → (r ≡ Err (Full limit)) ↔ (full_for initial events e ≡ Some limit)) → full_for initial events e ≡ None
+fits_from_ok initial events e r u ok full = option_none (full_for initial events e) (λ limit h. let err : r ≡ Err (Full limit) = (full limit).1 h in cc)
 
 -- the end of a transaction or of a session always fits
-pub fits_end : (events : List Event) (e : Event) → is_any_end e ≡ true → full_for events e ≡ None
-fits_end events (Close s) is = refl
-fits_end events (Commit s) is = refl
-fits_end events (Rollback s) is = refl
-fits_end events (Open s) is = cc
-fits_end events (Define s name) is = cc
-fits_end events (Look s count) is = cc
-fits_end events (Begin s) is = cc
-fits_end events (Scan s table keys) is = cc
-fits_end events (Read s cell source n u v) is = cc
-fits_end events (Own s x v) is = cc
-fits_end events (Write s x v) is = cc
-fits_end events (Show s number) is = cc
+pub fits_end : (initial : List (Cell × Value)) (events : List Event) (e : Event) → is_any_end e ≡ true → full_for initial events e ≡ None
+fits_end initial events (Close s) is = refl
+fits_end initial events (Commit s) is = refl
+fits_end initial events (Rollback s) is = refl
+fits_end initial events (Open s) is = cc
+fits_end initial events (Define s name) is = cc
+fits_end initial events (Look s count) is = cc
+fits_end initial events (Begin s level) is = cc
+fits_end initial events (Scan s table keys) is = cc
+fits_end initial events (Read s cell source n u v) is = cc
+fits_end initial events (Own s x v) is = cc
+fits_end initial events (Write s x v) is = cc
+fits_end initial events (Show s number) is = cc
 
-pub end_offered : (level : Level) (events : List Event) (e : Event) → is_any_end e ≡ true → IsOffered level events e
-end_offered level events (Close s) is = tt
-end_offered level events (Commit s) is = tt
-end_offered level events (Rollback s) is = tt
-end_offered level events (Open s) is = cc
-end_offered level events (Define s name) is = cc
-end_offered level events (Look s count) is = cc
-end_offered level events (Begin s) is = cc
-end_offered level events (Scan s table keys) is = cc
-end_offered level events (Read s cell source n u v) is = cc
-end_offered level events (Own s x v) is = cc
-end_offered level events (Write s x v) is = cc
-end_offered level events (Show s number) is = cc
+pub end_offered : (events : List Event) (e : Event) → is_any_end e ≡ true → IsOffered events e
+end_offered events (Close s) is = tt
+end_offered events (Commit s) is = tt
+end_offered events (Rollback s) is = tt
+end_offered events (Open s) is = cc
+end_offered events (Define s name) is = cc
+end_offered events (Look s count) is = cc
+end_offered events (Begin s level) is = cc
+end_offered events (Scan s table keys) is = cc
+end_offered events (Read s cell source n u v) is = cc
+end_offered events (Own s x v) is = cc
+end_offered events (Write s x v) is = cc
+end_offered events (Show s number) is = cc
 
 no_name : (e : Event) → IsNoDefinition e → defined_name e ≡ None
 no_name (Define s name) is = absurd is
 no_name (Open s) is = refl
 no_name (Close s) is = refl
 no_name (Look s count) is = refl
-no_name (Begin s) is = refl
+no_name (Begin s level) is = refl
 no_name (Scan s table keys) is = refl
 no_name (Read s cell source n u v) is = refl
 no_name (Own s x v) is = refl
@@ -87,7 +87,7 @@ end_no_definition (Rollback s) is = tt
 end_no_definition (Open s) is = tt
 end_no_definition (Define s name) is = cc
 end_no_definition (Look s count) is = tt
-end_no_definition (Begin s) is = tt
+end_no_definition (Begin s level) is = tt
 end_no_definition (Scan s table keys) is = tt
 end_no_definition (Read s cell source n u v) is = tt
 end_no_definition (Own s x v) is = tt
@@ -96,10 +96,11 @@ end_no_definition (Show s number) is = tt
 
 -- a further event keeps a history legal
 pub legal_with :
-    (old : Chronicle) (e : Event) → IsLegalChronicle old → Follows old.events e → full_for old.events e ≡ None → IsOffered old.level old.events e →
-    IsNoDefinition e → IsLegalChronicle (followed_by old e)
+    (old : Chronicle) (e : Event) → IsLegalChronicle old → Follows old.initial old.events e → full_for old.initial old.events e ≡ None →
+    IsOffered old.events e → IsNoDefinition e → IsLegalChronicle (followed_by old e)
 legal_with old e is follows fits offered no_definition = record {
-  legal = legal_push old.level old.events e is.legal (record { follows = follows; fits = fits }) offered;
+  initial = is.initial;
+  legal = legal_push old.initial old.events e is.legal (record { follows = follows; fits = fits }) offered;
   tables = record {
     named = is.tables.named ∙ sym (names-push old.events e (no_name e no_definition));
     sound = is.tables.sound;
@@ -107,10 +108,12 @@ legal_with old e is follows fits offered no_definition = record {
 }
 
 pub legal_defined :
-    (old : Chronicle) (s : ℕ) (table : Table) → IsLegalChronicle old → Follows old.events (Define s table.name) → full_for old.events (Define s table.name) ≡ None →
+    (old : Chronicle) (s : ℕ) (table : Table) → IsLegalChronicle old → Follows old.initial old.events (Define s table.name) →
+    full_for old.initial old.events (Define s table.name) ≡ None →
     IsSound table → IsLegalChronicle (with_table old s table)
 legal_defined old s table is follows fits sound = record {
-  legal = legal_push old.level old.events (Define s table.name) is.legal (record { follows = follows; fits = fits }) tt;
+  initial = is.initial;
+  legal = legal_push old.initial old.events (Define s table.name) is.legal (record { follows = follows; fits = fits }) tt;
   tables = record {
     named = map-append (λ (t : Table). t.name) old.tables (table ∷ []) ∙ ap (λ (xs : List (List ℕ)). xs ++ table.name ∷ []) is.tables.named
         ∙ sym (names-push_define old.events s table.name);
@@ -118,67 +121,32 @@ legal_defined old s table is follows fits sound = record {
   };
 }
 
--- as many tables as definitions
-pub tables_defined : (history : Chronicle) → IsLegalChronicle history → length history.tables ≡ defined history.events
-tables_defined history is = sym (length-map history.tables (λ (t : Table). t.name)) ∙ ap length is.tables.named
-
-below_from_test : (n m : ℕ) (x : Limit) (y : Option Limit) → (if nat_le n m then Some x else y) ≡ None → (m < n) × (y ≡ None)
-below_from_test n m x y none = (grind (arith, nat_tests, none), grind (arith, nat_tests, none))
-
--- at most 64 tables are defined
-pub defined_few : (events : List Event) → IsFormed events → defined events ≤ 64
-defined_few events =
-    along (λ (h : List Event). IsFormed h → defined h ≤ 64)
-    (λ h e holds formed. let both = formed_back h e formed in few h e (holds both.0) both.1)
-    [] events (λ formed. omega arith)
-  where
-    same : (h : List Event) (e : Event) → IsNoDefinition e → defined h ≤ 64 → defined (h ++ e ∷ []) ≤ 64
-    same h e no_definition few = let stays : defined (h ++ e ∷ []) ≡ defined h = ap length (names-push h e (no_name e no_definition)) in omega arith
-
-    few : (h : List Event) (e : Event) → defined h ≤ 64 → MayCome h e → defined (h ++ e ∷ []) ≤ 64
-    few h (Define s name) before may =
-        let room : defined h < 64 =
-        (below_from_test 64 (defined h) Tables None (below_from_test 1048576 (load_of h) Load (full_count h (Define s name)) may.fits).1).0 in
-        let more : defined (h ++ Define s name ∷ []) ≡ defined h + 1 = ap length (names-push_define h s name) ∙ length_push (names h) name in
-        omega arith
-    few h (Open s) before may = same h (Open s) tt before
-    few h (Close s) before may = same h (Close s) tt before
-    few h (Look s count) before may = same h (Look s count) tt before
-    few h (Begin s) before may = same h (Begin s) tt before
-    few h (Scan s table keys) before may = same h (Scan s table keys) tt before
-    few h (Read s cell source n u v) before may = same h (Read s cell source n u v) tt before
-    few h (Own s x v) before may = same h (Own s x v) tt before
-    few h (Write s x v) before may = same h (Write s x v) tt before
-    few h (Commit s) before may = same h (Commit s) tt before
-    few h (Rollback s) before may = same h (Rollback s) tt before
-    few h (Show s number) before may = same h (Show s number) tt before
-
 -- the member of an offer is a writer
 pub picked_writes :
-    (level : Level) (events : List Event) (session : ℕ) (cell : Cell) (offer : List ℕ) (k source : ℕ) → IsOffer level events session cell offer →
+    (events : List Event) (session : ℕ) (cell : Cell) (offer : List ℕ) (k source : ℕ) → IsOffer events session cell offer →
     slice_get offer k ≡ Some source → Writes events source cell
-picked_writes level events session cell offer k source is picked =
+picked_writes events session cell offer k source is picked =
     ((is.exact source).0 (Contains-from_slice_get offer k source picked)).0
 
 -- at most 4,096 sessions are opened
-pub opened_few : (events : List Event) → IsFormed events → opened events ≤ 4096
-opened_few events =
-    along (λ (h : List Event). IsFormed h → opened h ≤ 4096)
-    (λ h e holds formed. let both = formed_back h e formed in few h e (holds both.0) both.1)
+pub opened_few : (initial : List (Cell × Value)) (events : List Event) → IsFormed initial events → opened events ≤ 4096
+opened_few initial events =
+    along (λ (h : List Event). IsFormed initial h → opened h ≤ 4096)
+    (λ h e holds formed. let both = formed_back initial h e formed in few h e (holds both.0) both.1)
     [] events (λ formed. omega arith)
   where
     same : (h : List Event) (e : Event) → is_open_event e ≡ false → opened h ≤ 4096 → opened (h ++ e ∷ []) ≤ 4096
     same h e other few = let stays : opened (h ++ e ∷ []) ≡ opened h = opened-push_other h e other in omega arith
 
-    few : (h : List Event) (e : Event) → opened h ≤ 4096 → MayCome h e → opened (h ++ e ∷ []) ≤ 4096
+    few : (h : List Event) (e : Event) → opened h ≤ 4096 → MayCome initial h e → opened (h ++ e ∷ []) ≤ 4096
     few h (Open s) before may =
-        let room : opened h < 4096 = fits_open h s may.fits in
+        let room : opened h < 4096 = fits_open initial h s may.fits in
         let more : opened (h ++ Open s ∷ []) ≡ opened h + 1 = count_by-push is_open_event h (Open s) in
         omega arith
     few h (Define s name) before may = same h (Define s name) refl before
     few h (Close s) before may = same h (Close s) refl before
     few h (Look s count) before may = same h (Look s count) refl before
-    few h (Begin s) before may = same h (Begin s) refl before
+    few h (Begin s level) before may = same h (Begin s level) refl before
     few h (Scan s table keys) before may = same h (Scan s table keys) refl before
     few h (Read s cell source n u v) before may = same h (Read s cell source n u v) refl before
     few h (Own s x v) before may = same h (Own s x v) refl before
@@ -188,14 +156,8 @@ opened_few events =
     few h (Show s number) before may = same h (Show s number) refl before
 
 -- an event that only the load keeps out
-pub load_keeps_out : (events : List Event) → 1048576 ≤ load_of events → full_load events ≡ Some Load
-load_keeps_out events full = grind (arith, nat_tests, full)
-
-pub tables_few : (history : Chronicle) → IsLegalChronicle history → length history.tables ≤ 64
-tables_few history is =
-    let count = tables_defined history is in
-    let few = defined_few history.events is.legal.formed in
-    omega arith
+pub load_keeps_out : (initial : List (Cell × Value)) (events : List Event) → 1048576 ≤ load_of initial events → full_load initial events ≡ Some Load
+load_keeps_out initial events full = grind (arith, nat_tests, full)
 
 name_there : (tables : List Table) (t : Table) → Contains tables t → Contains (map (λ (u : Table). u.name) tables) t.name
 name_there [] t (k, within, at) = absurd (omega arith)

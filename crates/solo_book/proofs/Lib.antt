@@ -1,7 +1,7 @@
-pub mod Trial
+pub mod Further
+pub mod Records
 pub mod OneSession
-pub mod Bridge
-pub mod PairLemmas
+pub mod OfferParts
 pub mod Legality
 pub mod Desks
 pub mod Books

@@ -14,7 +14,7 @@ use Rattle.history_core.specs.Chronicle.{Chronicle}
 use Rattle.history_core.specs.Book.{WritesLast}
 use Rattle.solo_book.specs.declared.desk.Stage.TheVariants.{Pending}
 use Rattle.solo_book.specs.Desk.{last_writes, IsServed}
-use Rattle.solo_book.proofs.Bridge.{Any-from_contains}
+use Rattle.solo_book.proofs.Records.{Any-from_contains}
 use Rattle.solo_book.proofs.Desks.{pending_last}
 use Rattle.solo_book.proofs.Books.{all_noted}
 
@@ -43,7 +43,7 @@ noted_wrote history n cell served (k, (x, v), within, at, same) = record {
 
 -- what an own read gives is noted last
 pub own_last :
-    (history : Chronicle) (n : ℕ) (cell : Cell) (value : Value) → IsServed history n Pending → Follows history.events (Own n cell value) →
+    (history : Chronicle) (n : ℕ) (cell : Cell) (value : Value) → IsServed history n Pending → Follows history.initial history.events (Own n cell value) →
     WritesLast (last_writes history.events) cell value
 own_last history n cell value served (number, is_pending, last) =
     let same : number ≡ begun history.events = pending_last history n served number is_pending in

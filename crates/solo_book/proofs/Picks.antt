@@ -9,21 +9,22 @@ use Rattle.std.proofs.lemmas.List.Elements.{Contains-get_or, Contains-append_lef
 use Rattle.std.proofs.lemmas.Option.{slice_get-get_or, slice_get_within, get_or_from_slice_get}
 use Rattle.std.proofs.lemmas.Bool.{cases_lt}
 use Rattle.cell_base.specs.declared.level.Level.{Level}
-use Rattle.cell_base.specs.declared.level.Level.TheVariants.{Rc}
+use Rattle.cell_base.specs.declared.level.Level.TheVariants.{Rc, Ra, Cc}
 use Rattle.history_core.specs.Chronicle.{Chronicle}
 use Rattle.cell_base.specs.declared.cell.Cell.{Cell}
+use Rattle.cell_base.specs.declared.value.Value.{Value}
 use Rattle.history_core.specs.declared.event.Event.{Event}
 use Rattle.history_core.specs.Events.{begun, opened}
-use Rattle.history_core.specs.Transactions.{IsPending}
-use Rattle.history_core.specs.Relations.{Writes, ReadsFrom}
+use Rattle.history_core.specs.Transactions.{IsPending, RunsAt}
+use Rattle.history_core.specs.Relations.{Writes, ReadsFrom, IsConsistent}
 use Rattle.history_core.specs.Legal.{IsLegal, IsOffer}
 use Rattle.history_core.proofs.Prefixes.{Contains-from_slice_get}
-use Rattle.solo_book.specs.Passed.{IsPassed, AreSources, ArePassed, RaisesTo, left_of, IsPick}
+use Rattle.solo_book.specs.Passed.{IsPassed, IsLastWriter, MaySee, AreSources, ArePassed, AreHidden, RaisesTo, left_of, IsPick}
 use Rattle.solo_book.specs.Desk.{IsChosen}
 use Rattle.solo_book.proofs.Legality.{picked_writes}
 use Rattle.solo_book.specs.Index.{AreWriters}
 use Rattle.solo_book.specs.declared.desk.Choice.{Choice}
-use Rattle.solo_book.proofs.OneSession.{permitted_unpassed, unpassed_permitted}
+use Rattle.solo_book.proofs.OneSession.{IsOneSession, seen_permitted, permitted_seen}
 use Rattle.solo_book.proofs.Indexes.{increasing_less, increasing_same}
 
 -- a place of the initial transaction and the writers
@@ -65,43 +66,52 @@ left_rises xs n rises k within =
     let h = rises (n + k) (omega arith) in
     omega arith
 
--- what is left are the writers that no later writer has passed
-pub left_is_offer :
-    (events : List Event) (s k : ℕ) (x : Cell) (writers sources : List ℕ) (count : ℕ) → IsLegal Rc events → opened events ≤ 1 →
-    IsPending events k s → ((w : ℕ) → 0 < w → Contains sources w ↔ ReadsFrom events w k) → AreWriters events x writers →
-    ArePassed sources writers count → IsOffer Rc events s x (left_of writers count)
-left_is_offer events s k x writers sources count legal one pending hold are passed =
-    let rises : IsStrictlyIncreasing (0 ∷ writers) = full_rises events x writers are in
+pub rises_loosely :
+    (xs : List ℕ) → IsStrictlyIncreasing xs → (i j : ℕ) → i ≤ j → j < length xs → get_or xs i 0 ≤ get_or xs j 0
+rises_loosely xs rises i j le within =
+    elim (cases_lt i j) [
+      | inl less ↦ let h = increasing_less xs rises i j less within in omega arith
+      | inr more ↦ let same : i ≡ j = omega arith in let e : get_or xs i 0 ≡ get_or xs j 0 = ap (λ (k : ℕ). get_or xs k 0) same in omega arith
+    ]
+
+-- where a number stands among those that are left
+left_place : (writers : List ℕ) (count i w : ℕ) → count ≤ i → i < length (0 ∷ writers) → get_or (0 ∷ writers) i 0 ≡ w → Contains (left_of writers count) w
+left_place writers count i w after within is =
     let short : length (left_of writers count) ≡ length (0 ∷ writers) - count = length-drop count (0 ∷ writers) in
-    record {
-      ascending = left_rises (0 ∷ writers) count rises;
-      exact = λ w. (
-        λ there.
-            let within = there.1 in
-            let inside : count + there.0 < length (0 ∷ writers) = omega arith in
-            let at : get_or (0 ∷ writers) (count + there.0) 0 ≡ w =
-            sym (get_or-drop count (0 ∷ writers) there.0 0) ∙ get_or_default (left_of writers count) there.0 0 w within ∙ there.2 in
-            permitted_unpassed events s k w x legal one pending
-            (subst (λ (v : ℕ). Writes events v x) at (full_writes events x writers are (count + there.0) inside))
-            (λ later. none_passes w (count + there.0) (omega arith) inside at later),
-        λ permitted.
-            let there = full_place events x writers are w permitted.0 in
-            let within = there.1.0 in
-            elim (cases_lt there.0 count) [
-              | inl before ↦ absurd (unpassed_permitted events s k w x legal one pending permitted (is_passed w there.0 before within there.1.1))
-              | inr behind ↦
-                  let at : count + (there.0 - count) ≡ there.0 = omega arith in (
-                    there.0 - count,
-                    omega arith,
-                    get_or_default (left_of writers count) (there.0 - count) w 0 (omega arith) ∙ get_or-drop count (0 ∷ writers) (there.0 - count) 0
-                        ∙ ap (λ (i : ℕ). get_or (0 ∷ writers) i 0) at ∙ there.1.1,
-                  )
-            ],
-      );
-    }
+    let at : count + (i - count) ≡ i = omega arith in (
+      i - count,
+      omega arith,
+      get_or_default (left_of writers count) (i - count) w 0 (omega arith) ∙ get_or-drop count (0 ∷ writers) (i - count) 0
+          ∙ ap (λ (j : ℕ). get_or (0 ∷ writers) j 0) at ∙ is,
+    )
+
+place_left : (writers : List ℕ) (count w : ℕ) → Contains (left_of writers count) w → (i : ℕ) × ((count ≤ i) × (i < length (0 ∷ writers)) × (get_or (0 ∷ writers) i 0 ≡ w))
+place_left writers count w there =
+    let short : length (left_of writers count) ≡ length (0 ∷ writers) - count = length-drop count (0 ∷ writers) in
+    let within = there.1 in
+    (count + there.0, (omega arith, omega arith, sym (get_or-drop count (0 ∷ writers) there.0 0) ∙ get_or_default (left_of writers count) there.0 0 w within ∙ there.2))
+
+-- at Read Committed those are left that no later writer has passed
+left_unpassed :
+    (events : List Event) (k : ℕ) (x : Cell) (writers sources : List ℕ) (count : ℕ) → ((w : ℕ) → 0 < w → Contains sources w ↔ ReadsFrom events w k) →
+    AreWriters events x writers → ArePassed sources writers count → (w : ℕ) → Contains (left_of writers count) w ↔ MaySee Rc events k x w
+left_unpassed events k x writers sources count hold are passed w = (
+  λ there.
+      let place = place_left writers count w there in
+      let at = place.1.2 in (
+        subst (λ (v : ℕ). Writes events v x) at (full_writes events x writers are place.0 place.1.1),
+        none_passes w place.0 place.1.0 place.1.1 at,
+      ),
+  λ may.
+      let there = full_place events x writers are w may.0 in
+      elim (cases_lt there.0 count) [
+        | inl before ↦ absurd (may.1 (is_passed w there.0 before there.1.0 there.1.1))
+        | inr after ↦ left_place writers count there.0 w after there.1.0 there.1.1
+      ],
+)
   where
     none_passes : (w i : ℕ) → count ≤ i → i < length (0 ∷ writers) → get_or (0 ∷ writers) i 0 ≡ w → IsPassed events k x w → ⊥
-    none_passes w i behind within at later =
+    none_passes w i after within at later =
         let above = later.above in
         let there = (are.exact later.later).1 (omega arith, later.writes) in
         let inside = there.1 in
@@ -134,7 +144,62 @@ left_is_offer events s k x writers sources count legal one pending hold are pass
         let writer = (are.exact from).0 member in
         record { later = from; above = omega arith; writes = writer.1; read = (hold from writer.0).0 last.1.1 }
 
--- a search behind the first so many that found the source
+-- at the other levels the last writer is left alone
+left_last :
+    (events : List Event) (x : Cell) (writers : List ℕ) (count : ℕ) → AreWriters events x writers → count ≡ length writers → (w : ℕ) →
+    Contains (left_of writers count) w ↔ IsLastWriter events x w
+left_last events x writers count are all w = (
+  λ there.
+      let place = place_left writers count w there in
+      let from = place.1.0 in
+      let within = place.1.1 in
+      let at = place.1.2 in record {
+        writes = subst (λ (v : ℕ). Writes events v x) at (full_writes events x writers are place.0 within);
+        last = λ other writes.
+            let above = full_place events x writers are other writes in
+            let bound = above.1.0 in
+            let up = rises_loosely (0 ∷ writers) (full_rises events x writers are) above.0 place.0 (omega arith) within in
+            let is_other = above.1.1 in
+            omega arith;
+      },
+  λ last.
+      let there = full_place events x writers are w last.writes in
+      let within = there.1.0 in
+      let at = there.1.1 in
+      left_place writers count there.0 w (elim (cases_lt there.0 count) [
+        | inl before ↦
+            let up = increasing_less (0 ∷ writers) (full_rises events x writers are) there.0 count before (omega arith) in
+            let top = last.last (get_or (0 ∷ writers) count 0) (full_writes events x writers are count (omega arith)) in
+            absurd (omega arith)
+        | inr after ↦ after
+      ]) within at,
+)
+
+-- what is left may be seen
+left_seen :
+    (level : Level) (events : List Event) (k : ℕ) (x : Cell) (writers sources : List ℕ) (count : ℕ) →
+    ((w : ℕ) → 0 < w → Contains sources w ↔ ReadsFrom events w k) → AreWriters events x writers → AreHidden level sources writers count → (w : ℕ) →
+    Contains (left_of writers count) w ↔ MaySee level events k x w
+left_seen Rc events k x writers sources count hold are hidden = left_unpassed events k x writers sources count hold are hidden
+left_seen Ra events k x writers sources count hold are hidden = left_last events x writers count are hidden
+left_seen Cc events k x writers sources count hold are hidden = left_last events x writers count are hidden
+
+-- and is the offer
+pub left_is_offer :
+    (initial : List (Cell × Value)) (events : List Event) (s k : ℕ) (level : Level) (x : Cell) (writers sources : List ℕ) (count : ℕ) →
+    IsOneSession initial events → IsConsistent events → IsPending events k s → RunsAt events k level →
+    ((w : ℕ) → 0 < w → Contains sources w ↔ ReadsFrom events w k) → AreWriters events x writers → AreHidden level sources writers count →
+    IsOffer events s x (left_of writers count)
+left_is_offer initial events s k level x writers sources count is consistent pending runs hold are hidden = record {
+  ascending = left_rises (0 ∷ writers) count (full_rises events x writers are);
+  exact = λ w.
+      let seen = left_seen level events k x writers sources count hold are hidden w in (
+        λ there. seen_permitted initial events s k w level x is consistent pending runs (seen.0 there),
+        λ permitted. seen.1 (permitted_seen initial events s k w level x is pending runs permitted),
+      );
+}
+
+-- a search after the first so many that found the source
 pub raised_found :
     (writers : List ℕ) (passed source at : ℕ) → IsStrictlyIncreasing writers → passed ≤ length writers → at < length (drop passed writers) →
     get_or (drop passed writers) at 0 ≡ source → RaisesTo writers passed source (passed + at + 1)
@@ -176,14 +241,6 @@ raised_absent writers passed source within none =
           ];
       last = inl refl;
     }
-
-pub rises_loosely :
-    (xs : List ℕ) → IsStrictlyIncreasing xs → (i j : ℕ) → i ≤ j → j < length xs → get_or xs i 0 ≤ get_or xs j 0
-rises_loosely xs rises i j le within =
-    elim (cases_lt i j) [
-      | inl less ↦ let h = increasing_less xs rises i j less within in omega arith
-      | inr more ↦ let same : i ≡ j = omega arith in let e : get_or xs i 0 ≡ get_or xs j 0 = ap (λ (k : ℕ). get_or xs k 0) same in omega arith
-    ]
 
 -- one source more
 passed_push :
@@ -233,7 +290,7 @@ search_end whole rest writers count none part =
     let all : whole ≡ part.done = part.split ∙ ap (λ (ns : List ℕ). part.done ++ ns) none ∙ append-nil part.done in
     subst (λ (ns : List ℕ). ArePassed ns writers count) (sym all) part.passed
 
--- none of the writers behind the first so many is among the sources
+-- none of the writers after the first so many is among the sources
 pub record NoneBehind (sources writers : List ℕ) (count : ℕ) : Type 0 where
   pub within : count ≤ length writers
   pub all : (k from : ℕ) → slice_get writers k ≡ Some from → Contains sources from → k < count
@@ -265,7 +322,7 @@ pub behind_end :
     (0 < count → (from : ℕ) × ((slice_get writers (count - 1) ≡ Some from) × Contains sources from)) → ArePassed sources writers count
 behind_end sources writers count behind last = record { within = behind.within; all = behind.all; last = last }
 
--- what is left behind the first so many, as a slice
+-- what is left after the first so many, as a slice
 rest_is : (writers : List ℕ) (passed : ℕ) → take (length writers - passed) (drop passed writers) ≡ drop passed writers
 rest_is writers passed =
     let short : length (drop passed writers) ≡ length writers - passed = length-drop passed writers in
@@ -295,24 +352,22 @@ search_absent writers passed source at rises within result =
 
 -- the read of what the word picks of those that are left was offered
 pub chosen_left :
-    (history : Chronicle) (s : ℕ) (x : Cell) (writers sources : List ℕ) (count word : ℕ) (choice : Choice) → history.level ≡ Rc →
-    IsLegal history.level history.events → opened history.events ≤ 1 → IsPending history.events (begun history.events) s →
-    AreSources history.events sources → AreWriters history.events x writers → ArePassed sources writers count → IsPick writers count word choice →
-    IsChosen history s x word choice
-chosen_left history s x writers sources count word choice level legal one pending hold are passed picks =
-    let offer : IsOffer Rc history.events s x (left_of writers count) =
-    left_is_offer history.events s (begun history.events) x writers sources count (subst (λ (l : Level). IsLegal l history.events) level legal) one pending
-    hold are passed in
-    let here : IsOffer history.level history.events s x (left_of writers count) =
-    subst (λ (l : Level). IsOffer l history.events s x (left_of writers count)) (sym level) offer in
+    (history : Chronicle) (s : ℕ) (level : Level) (x : Cell) (writers sources : List ℕ) (count word : ℕ) (choice : Choice) →
+    IsLegal history.initial history.events → IsConsistent history.events → opened history.events ≤ 1 → IsPending history.events (begun history.events) s →
+    RunsAt history.events (begun history.events) level → AreSources history.events sources → AreWriters history.events x writers →
+    AreHidden level sources writers count → IsPick writers count word choice → IsChosen history s x word choice
+chosen_left history s level x writers sources count word choice legal consistent one pending runs hold are hidden picks =
+    let offer : IsOffer history.events s x (left_of writers count) =
+    left_is_offer history.initial history.events s (begun history.events) level x writers sources count (record { formed = legal.formed; one = one }) consistent
+    pending runs hold are hidden in
     record {
-      offered = λ value. (left_of writers count, here, picks.count, picks.source);
-      writes = picked_writes history.level history.events s x (left_of writers count) (word % choice.count) choice.source here picks.source;
+      offered = λ value. (left_of writers count, offer, picks.count, picks.source);
+      writes = picked_writes history.events s x (left_of writers count) (word % choice.count) choice.source offer picks.source;
     }
 
 -- the read of what the word picks of an offer was offered
 pub chosen_tried :
-    (history : Chronicle) (s : ℕ) (x : Cell) (offer first second : List ℕ) (word source : ℕ) → IsOffer history.level history.events s x offer →
+    (history : Chronicle) (s : ℕ) (x : Cell) (offer first second : List ℕ) (word source : ℕ) → IsOffer history.events s x offer →
     first ≡ offer → second ≡ offer → slice_get first (word % length first) ≡ Some source →
     IsChosen history s x word (record { source = source; count = length second })
 chosen_tried history s x offer first second word source is same_first same_second picked =
@@ -322,5 +377,5 @@ chosen_tried history s x offer first second word source is same_first same_secon
     let there : slice_get offer (word % length second) ≡ Some source = ap (λ (n : ℕ). slice_get offer (word % n)) count ∙ here in
     record {
       offered = λ value. (offer, is, count, there);
-      writes = picked_writes history.level history.events s x offer (word % length offer) source is here;
+      writes = picked_writes history.events s x offer (word % length offer) source is here;
     }

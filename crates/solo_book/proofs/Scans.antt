@@ -1,18 +1,25 @@
 -- What a scan lists of the keys that are kept.
-use Rattle.std.proofs.Common.{◌≡◌, Bool, ℕ, ◌+◌, ◌<◌, List, [], ◌∷◌, ◌++◌, Option, Some, None, length, arith, refl, ap, sym, ◌∙◌, subst, inl, inr, ◌↔◌}
+use Rattle.std.proofs.Common.{◌≡◌, Bool, true, ℕ, ◌+◌, ◌<◌, List, [], ◌∷◌, ◌++◌, Option, Some, None, length, arith, refl, ap, sym, ◌∙◌, subst, inl, inr, ◌↔◌}
 use Rattle.std.specs.Bool.{IsTrue}
 use Rattle.std.specs.List.{Contains, slice_get}
 use Rattle.std.proofs.lemmas.Option.{slice_get_within}
 use Rattle.std.proofs.lemmas.List.{append_assoc, append-nil}
 use Rattle.std.proofs.lemmas.List.Elements.{Contains-append_left, Contains-push, Contains-push_cases}
-use Rattle.std.proofs.lemmas.Bool.{cases_lt}
+use Rattle.std.proofs.lemmas.Bool.{cases_lt, cases_order}
+use Rattle.std.proofs.lemmas.Cmp.{tied_itself}
+use Rattle.std.specs.declared.cmp.Ordering.TheVariants.{Less, Equal}
 use Rattle.txn_buffer.proofs.Lists.{slice_get_push_cases, contains_at, at_contains}
 use Rattle.cell_base.specs.declared.key.Key.{Key}
 use Rattle.cell_base.specs.declared.cell.Cell.{Cell}
 use Rattle.cell_base.specs.declared.cell.Cell.TheVariants.{Presence}
+use Rattle.cell_base.specs.contracts.cell.CellOrd.TheImpl as cell_order
+use Rattle.cell_base.specs.contracts.cell.CellOrd.TheImpl.Laws as cell_laws
+use Rattle.cell_base.specs.declared.value.Value.{Value}
+use Rattle.cell_base.specs.declared.value.Value.TheVariants.{Flag}
 use Rattle.history_core.specs.declared.event.Event.{Event}
 use Rattle.history_core.specs.Transactions.{IsPending}
 use Rattle.history_core.specs.Relations.{HasWritten}
+use Rattle.history_core.specs.Initial.{IsInitialState}
 use Rattle.history_core.specs.Legal.{IsKeyBelow, WroteItself, ListsKeys}
 use Rattle.history_core.specs.Book.{IsKeyList}
 use Rattle.history_core.proofs.Places.{slice_get-append_left}
@@ -22,19 +29,19 @@ use Rattle.solo_book.specs.Keys.{HoldWritten, AreAscending, IsListed, AreListed,
 use Rattle.solo_book.proofs.KeyLists.{not_below_itself}
 
 -- of the keys, those before the rest were looked at
-pub record IsScanPart (events : List Event) (session table : ℕ) (whole rest keys : List Key) : Type 0 where
+pub record IsScanPart (initial : List (Cell × Value)) (events : List Event) (session table : ℕ) (whole rest keys : List Key) : Type 0 where
   pub done : List Key
   pub split : whole ≡ done ++ rest
-  pub listed : AreListed events session table done keys
+  pub listed : AreListed initial events session table done keys
 
-none_listed : (events : List Event) (session table : ℕ) → AreListed events session table [] []
-none_listed events session table = record {
+none_listed : (initial : List (Cell × Value)) (events : List Event) (session table : ℕ) → AreListed initial events session table [] []
+none_listed initial events session table = record {
   ascending = λ i j a b less at_i at_j. let within = slice_get_within [] j b at_j in absurd (omega arith);
   exact = λ key. (λ there. let within = there.1 in absurd (omega arith), λ both. both.0);
 }
 
-pub scan_start : (events : List Event) (session table : ℕ) (whole rest : List Key) → rest ≡ whole → IsScanPart events session table whole rest []
-scan_start events session table whole rest same = record { done = []; split = sym same; listed = none_listed events session table }
+pub scan_start : (initial : List (Cell × Value)) (events : List Event) (session table : ℕ) (whole rest : List Key) → rest ≡ whole → IsScanPart initial events session table whole rest []
+scan_start initial events session table whole rest same = record { done = []; split = sym same; listed = none_listed initial events session table }
 
 ascending_push : (keys : List Key) (key : Key) → AreAscending keys → ((a : Key) → Contains keys a → IsKeyBelow a key) → AreAscending (keys ++ key ∷ [])
 ascending_push keys key ascending below i j a b less at_i at_j =
@@ -69,15 +76,15 @@ before_below whole done rest key a ascending split there =
 
 -- one more key is looked at
 pub scan_more :
-    (events : List Event) (session table : ℕ) (whole rest left : List Key) (key : Key) (old new : List Key) → AreAscending whole → rest ≡ key ∷ left →
-    ListsNext events session table key old new → IsScanPart events session table whole rest old → IsScanPart events session table whole left new
-scan_more events session table whole rest left key old new ascending at next part =
+    (initial : List (Cell × Value)) (events : List Event) (session table : ℕ) (whole rest left : List Key) (key : Key) (old new : List Key) → AreAscending whole → rest ≡ key ∷ left →
+    ListsNext initial events session table key old new → IsScanPart initial events session table whole rest old → IsScanPart initial events session table whole left new
+scan_more initial events session table whole rest left key old new ascending at next part =
     let split : whole ≡ part.done ++ key ∷ left = part.split ∙ ap (λ (ks : List Key). part.done ++ ks) at in
     record {
       done = part.done ++ key ∷ [];
       split = split ∙ sym (append_assoc part.done (key ∷ []) left);
       listed = elim next [
-        | inl gains ↦ subst (λ (ks : List Key). AreListed events session table (part.done ++ key ∷ []) ks) (sym gains.1) (record {
+        | inl gains ↦ subst (λ (ks : List Key). AreListed initial events session table (part.done ++ key ∷ []) ks) (sym gains.1) (record {
           ascending = ascending_push old key part.listed.ascending
               (λ a there. before_below whole part.done left key a ascending split ((part.listed.exact a).0 there).0);
           exact = λ other. (
@@ -86,7 +93,7 @@ scan_more events session table whole rest left key old new ascending at next par
                   let both = (part.listed.exact other).0 before in
                   (Contains-append_left part.done (key ∷ []) other both.0, both.1)
               | inr here ↦
-                  subst (λ (k : Key). Contains (part.done ++ key ∷ []) k × IsListed events session (Presence table k)) here
+                  subst (λ (k : Key). Contains (part.done ++ key ∷ []) k × IsListed initial events session (Presence table k)) here
                   (Contains-push part.done key, gains.0)
             ],
             λ both. elim (Contains-push_cases part.done key other both.0) [
@@ -95,7 +102,7 @@ scan_more events session table whole rest left key old new ascending at next par
             ],
           );
         })
-        | inr skips ↦ subst (λ (ks : List Key). AreListed events session table (part.done ++ key ∷ []) ks) (sym skips.1) (record {
+        | inr skips ↦ subst (λ (ks : List Key). AreListed initial events session table (part.done ++ key ∷ []) ks) (sym skips.1) (record {
           ascending = part.listed.ascending;
           exact = λ other. (
             λ there.
@@ -103,7 +110,7 @@ scan_more events session table whole rest left key old new ascending at next par
                 (Contains-append_left part.done (key ∷ []) other both.0, both.1),
             λ both. elim (Contains-push_cases part.done key other both.0) [
               | inl before ↦ (part.listed.exact other).1 (before, both.1)
-              | inr here ↦ absurd (skips.0 (subst (λ (k : Key). IsListed events session (Presence table k)) (sym here) both.1))
+              | inr here ↦ absurd (skips.0 (subst (λ (k : Key). IsListed initial events session (Presence table k)) (sym here) both.1))
             ],
           );
         })
@@ -112,30 +119,31 @@ scan_more events session table whole rest left key old new ascending at next par
 
 -- no key is left
 pub scan_end :
-    (events : List Event) (session table : ℕ) (whole rest keys : List Key) → rest ≡ [] → IsScanPart events session table whole rest keys →
-    AreListed events session table whole keys
-scan_end events session table whole rest keys none part =
+    (initial : List (Cell × Value)) (events : List Event) (session table : ℕ) (whole rest keys : List Key) → rest ≡ [] → IsScanPart initial events session table whole rest keys →
+    AreListed initial events session table whole keys
+scan_end initial events session table whole rest keys none part =
     let all : whole ≡ part.done = part.split ∙ ap (λ (ks : List Key). part.done ++ ks) none ∙ append-nil part.done in
-    subst (λ (ks : List Key). AreListed events session table ks keys) (sym all) part.listed
+    subst (λ (ks : List Key). AreListed initial events session table ks keys) (sym all) part.listed
 
 -- what is listed is among the keys that hold all that was written
 held :
-    (events : List Event) (session table : ℕ) (among : List Key) (key : Key) → HoldWritten events table among →
-    IsListed events session (Presence table key) → Contains among key
-held events session table among key hold (inl (number, positive, inl initial)) = absurd (omega arith)
-held events session table among key hold (inl (number, positive, inr own)) = hold key number own.1
-held events session table among key hold (inr wrote) = hold key wrote.number wrote.written
+    (initial : List (Cell × Value)) (events : List Event) (session table : ℕ) (among : List Key) (key : Key) → HoldWritten initial events table among →
+    IsListed initial events session (Presence table key) → Contains among key
+held initial events session table among key hold (inl there) = hold.initial_ones key there
+held initial events session table among key hold (inr (inl (number, positive, inl first))) = absurd (omega arith)
+held initial events session table among key hold (inr (inl (number, positive, inr own))) = hold.written key number own.1
+held initial events session table among key hold (inr (inr wrote)) = hold.written key wrote.number wrote.written
 
 pub lists_keys :
-    (events : List Event) (session table : ℕ) (among keys : List Key) → HoldWritten events table among → AreListed events session table among keys →
-    ListsKeys events session table keys
-lists_keys events session table among keys hold is = record {
+    (initial : List (Cell × Value)) (events : List Event) (session table : ℕ) (among keys : List Key) → HoldWritten initial events table among → AreListed initial events session table among keys →
+    ListsKeys initial events session table keys
+lists_keys initial events session table among keys hold is = record {
   ascending = λ k a b at_a at_b. is.ascending k (k + 1) a b (omega arith) at_a at_b;
-  listed = λ key. (λ there. ((is.exact key).0 there).1, λ listed. (is.exact key).1 (held events session table among key hold listed, listed));
+  listed = λ key. (λ there. ((is.exact key).0 there).1, λ listed. (is.exact key).1 (held initial events session table among key hold listed, listed));
 }
 
-pub lists_none : (events : List Event) (session table : ℕ) → HoldWritten events table [] → ListsKeys events session table []
-lists_none events session table hold = lists_keys events session table [] [] hold (none_listed events session table)
+pub lists_none : (initial : List (Cell × Value)) (events : List Event) (session table : ℕ) → HoldWritten initial events table [] → ListsKeys initial events session table []
+lists_none initial events session table hold = lists_keys initial events session table [] [] hold (none_listed initial events session table)
 
 pub key_list : (keys : List Key) → AreAscending keys → length keys < 4294967296 → IsKeyList keys
 key_list keys ascending few = record {
@@ -170,23 +178,49 @@ pub none_pending :
     WroteItself events session cell → ⊥
 none_pending events session cell found is pending wrote = let other : None ≡ Some wrote.number = sym is ∙ (pending wrote.number).1 wrote.pending in cc
 
--- a cell without a committed writer is listed where the own transaction wrote it
+-- the initial state has one value of a cell
+pub one_value : (initial : List (Cell × Value)) (cell : Cell) (v w : Value) → IsInitialState initial → Contains initial (cell, v) → Contains initial (cell, w) → v ≡ w
+one_value initial cell v w is first second =
+    let i = at_contains initial (cell, v) first in
+    let j = at_contains initial (cell, w) second in
+    elim (cases_order i.0 j.0) [
+      | inl same ↦
+          let both : Some (cell, v) ≡ Some (cell, w) = sym i.1 ∙ ap (λ (k : ℕ). slice_get initial k) same ∙ j.1 in
+          ap value_in both
+      | inr apart ↦ elim apart [
+        | inl less ↦ absurd (not_itself (is.ascending i.0 j.0 (cell, v) (cell, w) less i.1 j.1))
+        | inr more ↦ absurd (not_itself (is.ascending j.0 i.0 (cell, w) (cell, v) more j.1 i.1))
+      ]
+    ]
+  where
+    value_in : Option (Cell × Value) → Value
+    value_in None = v
+    value_in (Some entry) = entry.1
+
+    not_itself : (cell_order.ghosts).cmp cell cell ≡ Less → ⊥
+    not_itself less = let both : Less ≡ Equal = sym less ∙ tied_itself cell_laws.total-law cell in cc
+
+-- a cell that is neither true in the initial state nor written by another is listed where the own transaction wrote it
 pub listed_own :
-    (events : List Event) (session : ℕ) (cell : Cell) (writers : List ℕ) (own : Bool) → AreWriters events cell writers → length writers ≡ 0 →
-    (IsTrue own ↔ WroteItself events session cell) → IsTrue own ↔ IsListed events session cell
-listed_own events session cell writers own are none is = (
-  λ h. inr (is.0 h),
+    (initial : List (Cell × Value)) (events : List Event) (session : ℕ) (cell : Cell) (writers : List ℕ) (own : Bool) → AreWriters events cell writers →
+    length writers ≡ 0 → (Contains initial (cell, Flag true) → ⊥) → (IsTrue own ↔ WroteItself events session cell) →
+    IsTrue own ↔ IsListed initial events session cell
+listed_own initial events session cell writers own are none absent is = (
+  λ h. inr (inr (is.0 h)),
   λ listed. elim listed [
-    | inl (number, positive, writes) ↦ let there = (are.exact number).1 (positive, writes) in let within = there.1 in absurd (omega arith)
-    | inr wrote ↦ is.1 wrote
+    | inl there ↦ absurd (absent there)
+    | inr written ↦ elim written [
+      | inl (number, positive, writes) ↦ let there = (are.exact number).1 (positive, writes) in let within = there.1 in absurd (omega arith)
+      | inr wrote ↦ is.1 wrote
+    ]
   ],
 )
 
 -- a cell with a committed writer is listed
 pub listed_first :
-    (events : List Event) (session : ℕ) (cell : Cell) (writers : List ℕ) → AreWriters events cell writers → (length writers ≡ 0 → ⊥) →
-    IsListed events session cell
-listed_first events session cell [] are some = absurd (some refl)
-listed_first events session cell (w ∷ ws) are some =
+    (initial : List (Cell × Value)) (events : List Event) (session : ℕ) (cell : Cell) (writers : List ℕ) → AreWriters events cell writers →
+    (length writers ≡ 0 → ⊥) → IsListed initial events session cell
+listed_first initial events session cell [] are some = absurd (some refl)
+listed_first initial events session cell (w ∷ ws) are some =
     let both = (are.exact w).0 (0, omega arith, refl) in
-    inl (w, both.0, both.1)
+    inr (inl (w, both.0, both.1))

@@ -7,7 +7,9 @@ use Rattle.std.specs.List.{Contains}
 use Rattle.std.specs.HashSet.{HashSet, contains, IsReordered, Updates}
 use Rattle.std.proofs.lemmas.Map.Views.{hash_set_contains_iff, exact_unsigned_eq}
 use Rattle.std.proofs.lemmas.Option.{slice_get_within}
+use Rattle.cell_base.specs.declared.level.Level.{Level}
 use Rattle.cell_base.specs.declared.cell.Cell.{Cell}
+use Rattle.cell_base.specs.declared.value.Value.{Value}
 use Rattle.cell_base.specs.declared.cell.Cell.TheVariants.{Presence, Field}
 use Rattle.history_core.specs.declared.event.Event.{Event}
 use Rattle.history_core.specs.declared.event.Event.TheVariants.{Open, Close, Define, Look, Begin, Scan, Read, Own, Write, Commit, Rollback, Show}
@@ -26,7 +28,7 @@ use Rattle.history_core.proofs.Prefixes.{begun-push_start, begun-push_other}
 use Rattle.solo_book.specs.Index.{IsLast}
 use Rattle.solo_book.specs.Passed.{AreSources, GainsSource, AreSame, TakesFrom, KeepsSources}
 use Rattle.solo_book.proofs.Cells.{bool_cases}
-use Rattle.solo_book.proofs.Trial.{reads_kept}
+use Rattle.solo_book.proofs.Further.{reads_kept}
 
 -- a set of numbers by its keys
 pub holds_source : {S : Type 0} (set : HashSet ℕ S) (n : ℕ) → IsTrue (contains nat_eq set n) ↔ Contains set.keys n
@@ -67,7 +69,7 @@ read_gives (Open s) source takes = absurd takes
 read_gives (Close s) source takes = absurd takes
 read_gives (Define s name) source takes = absurd takes
 read_gives (Look s count) source takes = absurd takes
-read_gives (Begin s) source takes = absurd takes
+read_gives (Begin s level) source takes = absurd takes
 read_gives (Scan s table keys) source takes = absurd takes
 read_gives (Own s x v) source takes = absurd takes
 read_gives (Write s x v) source takes = absurd takes
@@ -81,7 +83,7 @@ given_source (Open s) source other cell takes gives = absurd takes
 given_source (Close s) source other cell takes gives = absurd takes
 given_source (Define s name) source other cell takes gives = absurd takes
 given_source (Look s count) source other cell takes gives = absurd takes
-given_source (Begin s) source other cell takes gives = absurd takes
+given_source (Begin s level) source other cell takes gives = absurd takes
 given_source (Scan s table keys) source other cell takes gives = absurd takes
 given_source (Own s x v) source other cell takes gives = absurd takes
 given_source (Write s x v) source other cell takes gives = absurd takes
@@ -95,7 +97,7 @@ read_begins_none (Open s) source takes = absurd takes
 read_begins_none (Close s) source takes = absurd takes
 read_begins_none (Define s name) source takes = absurd takes
 read_begins_none (Look s count) source takes = absurd takes
-read_begins_none (Begin s) source takes = absurd takes
+read_begins_none (Begin s level) source takes = absurd takes
 read_begins_none (Scan s table keys) source takes = absurd takes
 read_begins_none (Own s x v) source takes = absurd takes
 read_begins_none (Write s x v) source takes = absurd takes
@@ -103,19 +105,19 @@ read_begins_none (Commit s) source takes = absurd takes
 read_begins_none (Rollback s) source takes = absurd takes
 read_begins_none (Show s number) source takes = absurd takes
 
-read_pending : (events : List Event) (e : Event) (source : ℕ) → TakesFrom e source → Follows events e → HasPending events (session_in e)
-read_pending events (Read s x from count word value) source takes follows = follows.0
-read_pending events (Open s) source takes follows = absurd takes
-read_pending events (Close s) source takes follows = absurd takes
-read_pending events (Define s name) source takes follows = absurd takes
-read_pending events (Look s count) source takes follows = absurd takes
-read_pending events (Begin s) source takes follows = absurd takes
-read_pending events (Scan s table keys) source takes follows = absurd takes
-read_pending events (Own s x v) source takes follows = absurd takes
-read_pending events (Write s x v) source takes follows = absurd takes
-read_pending events (Commit s) source takes follows = absurd takes
-read_pending events (Rollback s) source takes follows = absurd takes
-read_pending events (Show s number) source takes follows = absurd takes
+read_pending : (initial : List (Cell × Value)) (events : List Event) (e : Event) (source : ℕ) → TakesFrom e source → Follows initial events e → HasPending events (session_in e)
+read_pending initial events (Read s x from count word value) source takes follows = follows.0
+read_pending initial events (Open s) source takes follows = absurd takes
+read_pending initial events (Close s) source takes follows = absurd takes
+read_pending initial events (Define s name) source takes follows = absurd takes
+read_pending initial events (Look s count) source takes follows = absurd takes
+read_pending initial events (Begin s level) source takes follows = absurd takes
+read_pending initial events (Scan s table keys) source takes follows = absurd takes
+read_pending initial events (Own s x v) source takes follows = absurd takes
+read_pending initial events (Write s x v) source takes follows = absurd takes
+read_pending initial events (Commit s) source takes follows = absurd takes
+read_pending initial events (Rollback s) source takes follows = absurd takes
+read_pending initial events (Show s number) source takes follows = absurd takes
 
 -- what keeps the sources begins nothing, and gives nothing but from the initial transaction
 kept_begins_none : (e : Event) → KeepsSources e → is_begin e ≡ false
@@ -124,7 +126,7 @@ kept_begins_none (Open s) keeps = refl
 kept_begins_none (Close s) keeps = refl
 kept_begins_none (Define s name) keeps = refl
 kept_begins_none (Look s count) keeps = refl
-kept_begins_none (Begin s) keeps = absurd keeps
+kept_begins_none (Begin s level) keeps = absurd keeps
 kept_begins_none (Scan s table keys) keeps = refl
 kept_begins_none (Own s x v) keeps = refl
 kept_begins_none (Write s x v) keeps = refl
@@ -140,7 +142,7 @@ kept_gives_none (Open s) cell source keeps positive gives = absurd gives
 kept_gives_none (Close s) cell source keeps positive gives = absurd gives
 kept_gives_none (Define s name) cell source keeps positive gives = absurd gives
 kept_gives_none (Look s count) cell source keeps positive gives = absurd gives
-kept_gives_none (Begin s) cell source keeps positive gives = absurd keeps
+kept_gives_none (Begin s level) cell source keeps positive gives = absurd keeps
 kept_gives_none (Own s x v) cell source keeps positive gives = absurd gives
 kept_gives_none (Write s x v) cell source keeps positive gives = absurd gives
 kept_gives_none (Commit s) cell source keeps positive gives = absurd gives
@@ -183,20 +185,21 @@ sourced_kept events e sources keeps are source positive =
     )
 
 -- a transaction begins
-pub sourced_begin : (events : List Event) (s : ℕ) (sources : List ℕ) → sources ≡ [] → AreSources (events ++ Begin s ∷ []) sources
-sourced_begin events s sources none source positive =
-    let more : begun (events ++ Begin s ∷ []) ≡ begun events + 1 = begun-push_start events s in (
+pub sourced_begin :
+    (events : List Event) (s : ℕ) (level : Level) (sources : List ℕ) → sources ≡ [] → AreSources (events ++ Begin s level ∷ []) sources
+sourced_begin events s level sources none source positive =
+    let more : begun (events ++ Begin s level ∷ []) ≡ begun events + 1 = begun-push_start events s level in (
       λ there. let here : Contains [] source = subst (λ (ns : List ℕ). Contains ns source) none there in let within = here.1 in absurd (omega arith),
-      λ from. absurd (of_none events (Begin s) (begun (events ++ Begin s ∷ [])) from.place from.reads.event (omega arith) from.reads.of_reader),
+      λ from. absurd (of_none events (Begin s level) (begun (events ++ Begin s level ∷ [])) from.place from.reads.event (omega arith) from.reads.of_reader),
     )
 
 -- a read of the transaction that began last, whose source was put in
 pub sourced_read :
-    (events : List Event) (e : Event) (source : ℕ) (old new : List ℕ) → TakesFrom e source → Follows events e → IsLast events (session_in e) →
+    (initial : List (Cell × Value)) (events : List Event) (e : Event) (source : ℕ) (old new : List ℕ) → TakesFrom e source → Follows initial events e → IsLast events (session_in e) →
     GainsSource old source new → AreSources events old → AreSources (events ++ e ∷ []) new
-sourced_read events e source old new takes follows last gains are other positive =
+sourced_read initial events e source old new takes follows last gains are other positive =
     let same : begun (events ++ e ∷ []) ≡ begun events = begun-push_other events e (read_begins_none e source takes) in
-    let has = read_pending events e source takes follows in
+    let has = read_pending initial events e source takes follows in
     let pending : IsPending events (begun events) (session_in e) = subst (λ (k : ℕ). IsPending events k (session_in e)) (last has.0 has.1) has.1 in
     let gives = read_gives e source takes in
     let now : ReadsFrom (events ++ e ∷ []) source (begun events) =
@@ -238,7 +241,7 @@ end_keeps (Scan s table keys) is = tt
 end_keeps (Own s x v) is = tt
 end_keeps (Write s x v) is = tt
 end_keeps (Show s number) is = tt
-end_keeps (Begin s) is = cc
+end_keeps (Begin s level) is = cc
 end_keeps (Read s x from count word value) is = cc
 
 -- the end of a transaction or of a session

@@ -1,6 +1,5 @@
 -- What a book of one session after another keeps, and what it stands for.
 use Rattle.std.specs.Prelude.{◌≡◌, ℕ, List, [], ◌∷◌, ◌++◌, length, Contains}
-use Rattle.cell_base.specs.declared.level.Level.TheVariants.{Rc}
 use Rattle.cell_base.specs.declared.cell.Cell.{Cell}
 use Rattle.cell_base.specs.declared.value.Value.{Value}
 use Rattle.history_core.specs.declared.event.Event.{Event}
@@ -21,7 +20,7 @@ use Rattle.solo_book.specs.declared.desk.Choice.{Choice}
 
 -- what is written since the last Begin, after one more event
 abbrev pub note : List (Cell × Value) → Event → List (Cell × Value)
-note writes (Begin s) = []
+note writes (Begin s level) = []
 note writes (Write s cell value) = writes ++ (cell, value) ∷ []
 note writes _ = writes
 
@@ -53,9 +52,8 @@ Stands InSession session events = IsOpen events session × (¬ HasPending events
 Stands Pending session events =
     IsOpen events session × IsPending events (begun events) session × AreWritesOf events (begun events) (last_writes events)
 
--- a legal history at Read Committed of so many sessions, of which the last one stands so
+-- a legal history of so many sessions, of which the last one stands so
 pub record IsServed (history : Chronicle) (sessions : ℕ) (stage : Stage) : Type 0 where
-  pub level : history.level ≡ Rc
   pub legal : IsLegalChronicle history
   pub count : sessions ≡ opened history.events
   pub stands : Stands stage sessions history.events
@@ -96,5 +94,5 @@ AnswersTo old table (Taken n) new =
 
 -- the read of what was chosen was offered, whatever its value
 pub record IsChosen (history : Chronicle) (session : ℕ) (cell : Cell) (word : ℕ) (choice : Choice) : Type 0 where
-  pub offered : (value : Value) → IsOffered history.level history.events (Read session cell choice.source choice.count word value)
+  pub offered : (value : Value) → IsOffered history.events (Read session cell choice.source choice.count word value)
   pub writes : Writes history.events choice.source cell

@@ -11,7 +11,7 @@ ghost use Rattle.solo_book.specs.Passed.{KeepsSources};
 
 use crate::desk::Choice;
 use crate::indexed::IndexedHistory;
-use cell_base::{Cell, Value};
+use cell_base::{Cell, Level, Value};
 use history_core::{BookFault, Event};
 use sql_tree::Table;
 
@@ -19,14 +19,14 @@ use sql_tree::Table;
 /// nothing changes.
 pub fn append(history: &mut IndexedHistory, event: Event) -> Result<(), BookFault>
     requires legal { IsLegalChronicle history.old }
-    requires follows { Follows history.old.events event }
+    requires follows { Follows history.old.initial history.old.events event }
     requires pushed { IsNoDefinition event }
     requires other { IsNoWrite event }
     requires sources { KeepsSources event }
-    requires offered { IsOffered history.old.level history.old.events event }
+    requires offered { IsOffered history.old.events event }
     ensures legal { IsLegalChronicle history.new }
     ensures ok { OnOk result (history.new ≡ followed_by history.old event) }
-    ensures full { (limit : Limit) → result ≡ Err (BookFault.Full limit) → full_for history.new.events event ≡ Some limit }
+    ensures full { (limit : Limit) → result ≡ Err (BookFault.Full limit) → full_for history.new.initial history.new.events event ≡ Some limit }
     ensures err { OnErr result (history.new ≡ history.old) }
 {
     match history.push(event) {
@@ -35,16 +35,20 @@ pub fn append(history: &mut IndexedHistory, event: Event) -> Result<(), BookFaul
     }
 }
 
-/// Appends a begin. On an error nothing changes.
-pub fn append_begin(history: &mut IndexedHistory, session: u32) -> Result<(), BookFault>
+/// Appends a begin at the level. On an error nothing changes.
+pub fn append_begin(
+    history: &mut IndexedHistory,
+    session: u32,
+    level: Level,
+) -> Result<(), BookFault>
     requires legal { IsLegalChronicle history.old }
-    requires follows { Follows history.old.events (Event.Begin session) }
+    requires follows { Follows history.old.initial history.old.events (Event.Begin session level) }
     ensures legal { IsLegalChronicle history.new }
-    ensures ok { OnOk result (history.new ≡ followed_by history.old (Event.Begin session)) }
-    ensures full { (limit : Limit) → result ≡ Err (BookFault.Full limit) → full_for history.new.events (Event.Begin session) ≡ Some limit }
+    ensures ok { OnOk result (history.new ≡ followed_by history.old (Event.Begin session level)) }
+    ensures full { (limit : Limit) → result ≡ Err (BookFault.Full limit) → full_for history.new.initial history.new.events (Event.Begin session level) ≡ Some limit }
     ensures err { OnErr result (history.new ≡ history.old) }
 {
-    match history.push_begin(session) {
+    match history.push_begin(session, level) {
         Ok(()) => Ok(()),
         Err(fault) => Err(fault),
     }
@@ -60,12 +64,12 @@ pub fn append_read(
     value: Value,
 ) -> Result<(), BookFault>
     requires legal { IsLegalChronicle history.old }
-    requires follows { Follows history.old.events (Event.Read session cell choice.source choice.count word value) }
+    requires follows { Follows history.old.initial history.old.events (Event.Read session cell choice.source choice.count word value) }
     requires last { IsLast history.old.events session }
-    requires offered { IsOffered history.old.level history.old.events (Event.Read session cell choice.source choice.count word value) }
+    requires offered { IsOffered history.old.events (Event.Read session cell choice.source choice.count word value) }
     ensures legal { IsLegalChronicle history.new }
     ensures ok { OnOk result (history.new ≡ followed_by history.old (Event.Read session cell choice.source choice.count word value)) }
-    ensures full { (limit : Limit) → result ≡ Err (BookFault.Full limit) → full_for history.new.events (Event.Read session cell choice.source choice.count word value) ≡ Some limit }
+    ensures full { (limit : Limit) → result ≡ Err (BookFault.Full limit) → full_for history.new.initial history.new.events (Event.Read session cell choice.source choice.count word value) ≡ Some limit }
     ensures err { OnErr result (history.new ≡ history.old) }
 {
     match history.push_read(session, cell, choice, word, value) {
@@ -82,11 +86,11 @@ pub fn append_write(
     value: Value,
 ) -> Result<(), BookFault>
     requires legal { IsLegalChronicle history.old }
-    requires follows { Follows history.old.events (Event.Write session cell value) }
+    requires follows { Follows history.old.initial history.old.events (Event.Write session cell value) }
     requires last { IsLast history.old.events session }
     ensures legal { IsLegalChronicle history.new }
     ensures ok { OnOk result (history.new ≡ followed_by history.old (Event.Write session cell value)) }
-    ensures full { (limit : Limit) → result ≡ Err (BookFault.Full limit) → full_for history.new.events (Event.Write session cell value) ≡ Some limit }
+    ensures full { (limit : Limit) → result ≡ Err (BookFault.Full limit) → full_for history.new.initial history.new.events (Event.Write session cell value) ≡ Some limit }
     ensures err { OnErr result (history.new ≡ history.old) }
 {
     match history.push_write(session, cell, value) {
@@ -102,11 +106,11 @@ pub fn append_define(
     table: Table,
 ) -> Result<(), BookFault>
     requires legal { IsLegalChronicle history.old }
-    requires follows { Follows history.old.events (Event.Define session table.name) }
+    requires follows { Follows history.old.initial history.old.events (Event.Define session table.name) }
     requires sound { IsSound table }
     ensures legal { IsLegalChronicle history.new }
     ensures ok { OnOk result (history.new ≡ with_table history.old session table) }
-    ensures full { (limit : Limit) → result ≡ Err (BookFault.Full limit) → full_for history.new.events (Event.Define session table.name) ≡ Some limit }
+    ensures full { (limit : Limit) → result ≡ Err (BookFault.Full limit) → full_for history.new.initial history.new.events (Event.Define session table.name) ≡ Some limit }
     ensures err { OnErr result (history.new ≡ history.old) }
 {
     match history.push_define(session, table) {
@@ -118,7 +122,7 @@ pub fn append_define(
 /// Appends a Commit, a Rollback or a Close. Takes no memory and always succeeds.
 pub fn append_end(history: &mut IndexedHistory, event: Event)
     requires legal { IsLegalChronicle history.old }
-    requires follows { Follows history.old.events event }
+    requires follows { Follows history.old.initial history.old.events event }
     requires end { IsTrue (is_any_end event) }
     requires last { IsLast history.old.events (session_in event) }
     ensures legal { IsLegalChronicle history.new }

@@ -9,13 +9,14 @@ use crate::own::{own_cell, wrote_cell};
 use crate::reading::read_cell;
 use crate::scanning::scan_table;
 use crate::tables::{define_table, look_at_tables};
-use cell_base::{Cell, Items, Key, Level, Value};
-use history_core::{Book, BookFault, DefineAnswer, History};
+use cell_base::{Cell, Items, Key, Level, Memory, Value};
+use history_core::{Book, BookFault, DefineAnswer, History, InitialState};
 use sql_tree::Table;
 use std::alloc::Global;
 use std::marker::Model;
 
-/// A book of one session after another, over a history of its own at Read Committed. All events of the history are its own.
+/// A book of one session after another, over a history of its own, whose transactions run at any levels. All events of the
+/// history are its own.
 #[derive(Debug, Drop)]
 pub struct SoloBook {
     desk: Desk,
@@ -38,29 +39,30 @@ impl Model for SoloBook {
 }
 
 impl SoloBook {
-    ghost use Rattle.std.specs.Prelude.{◌≡◌, ◌≤◌, [], length};
-    ghost use Rattle.cell_base.specs.declared.level.Level.TheVariants.{Rc};
+    ghost use Rattle.std.specs.Prelude.{◌≡◌, ◌≤◌, [], length, IfOk};
     ghost use Rattle.history_core.specs.Chronicle.{IsLegalChronicle};
     ghost use Rattle.history_core.specs.Book.{no_session};
 
-    /// A book whose history has no events yet. Takes no memory.
-    pub fn new(alloc: Global) -> SoloBook
-        ensures { result ≡ record { seen = record { level = Rc; events = []; tables = [] }; own = []; state = no_session } }
+    /// A book whose history has the served level and the initial state, and no events yet. It takes memory for the keys of the
+    /// initial rows alone.
+    pub fn new(alloc: Global, level: Level, initial: InitialState) -> Result<SoloBook, Memory>
+        ensures { IfOk result (λ book. book ≡ record { seen = record { level = level; initial = initial; events = []; tables = [] }; own = []; state = no_session }) }
     {
-        SoloBook {
+        let history = IndexedHistory::new(alloc, level, initial)?;
+        Ok(SoloBook {
             desk: Desk {
                 alloc,
-                history: IndexedHistory::new(alloc, Level::Rc),
+                history,
                 sessions: 0,
                 stage: Stage::NoSession,
             },
-        }
+        })
     }
 
-    /// The history, which is legal, of at most 64 tables, and whose events are all the book's own.
+    /// The history, which is legal, of at most 64 tables, and whose events are all the book's own. Its level and its initial
+    /// state stay those that the book was made with, as the clauses of `Book` say of each call.
     pub fn history(&self) -> &History
         ensures seen { result.now ≡ self.now.seen }
-        ensures level { self.now.seen.level ≡ Rc }
         ensures legal { IsLegalChronicle self.now.seen }
         ensures own { self.now.own ≡ self.now.seen.events }
         ensures tables { length self.now.seen.tables ≤ 64 }
@@ -90,8 +92,8 @@ impl Book for SoloBook {
         define_table(&mut self.desk, table)
     }
 
-    fn begin(&mut self) -> Result<u32, BookFault> {
-        begin_transaction(&mut self.desk)
+    fn begin(&mut self, level: Level) -> Result<u32, BookFault> {
+        begin_transaction(&mut self.desk, level)
     }
 
     fn scan(&mut self, table: u32) -> Result<Items<Key>, BookFault> {

@@ -3,9 +3,9 @@ ghost use Rattle.std.specs.Prelude.{◌≡◌, ◌-◌, ◌<◌, ◌≤◌, [], 
 ghost use Rattle.history_core.specs.Events.{begun};
 ghost use Rattle.solo_book.specs.Index.{IsIndex, ListsWriters, AreWriters, numbers_at};
 
-use crate::pairs::is_writer;
 use cell_base::{Cell, Memory};
 use history_core::History;
+use saturation::is_writer;
 use std::alloc::Global;
 use std::collections::HashMap;
 use std::marker::Model;
@@ -41,7 +41,7 @@ impl Numbers {
         self.numbers.as_slice()
     }
 
-    /// Puts a number behind the others. On want of memory nothing changes.
+    /// Puts a number after the others. Out of memory nothing changes.
     fn push(&mut self, number: u32) -> Result<(), Memory>
         ensures ok { OnOk result (self.new ≡ self.old ++ number ∷ []) }
         ensures err { OnErr result (self.new ≡ self.old) }
@@ -157,7 +157,7 @@ fn without_other<'a>(numbers: &'a [u32], history: &History, cell: &Cell) -> &'a 
 pub fn writers_of<'a>(index: &'a Index, history: &History, cell: &Cell) -> &'a [u32]
     requires { IsIndex history.now.events index.now }
     ensures writers { AreWriters history.now.events cell.now result.now }
-    ensures few { length result.now ≤ 16383 }
+    ensures few { length result.now ≤ 65535 }
 {
     let _ = history.begun();
     without_other(numbers_of(index, cell), history, cell)

@@ -1,9 +1,11 @@
 // The keys of each table, kept in order as they are written, so that no scan walks over events or transactions.
-ghost use Rattle.std.specs.Prelude.{◌≡◌, [], ℕ, Some, List, Contains, slice_get, IfSome, IfNone, OnOk, OnErr};
+ghost use Rattle.std.specs.Prelude.{◌≡◌, [], ℕ, Some, List, Contains, slice_get, IfSome, IfNone, IfOk, OnOk, OnErr};
 ghost use Rattle.cell_base.specs.declared.key.Key.{Key as KeyValue};
-ghost use Rattle.solo_book.specs.Keys.{keys_at, KeepsKeys, IsKept, GainsKey, AreAscending};
+ghost use Rattle.history_core.specs.Initial.{IsInitialState};
+ghost use Rattle.solo_book.specs.Keys.{keys_at, KeepsKeys, IsKept, GainsKey, AreAscending, HoldInitial};
 
 use cell_base::{Cell, Key, Memory};
+use history_core::InitialState;
 use std::alloc::Global;
 use std::collections::btree_set::Iter;
 use std::collections::{BTreeSet, HashMap};
@@ -34,7 +36,7 @@ impl Keys {
         }
     }
 
-    /// Puts a key in its place, where it isn't there yet. On want of memory nothing changes.
+    /// Puts a key in its place, where it isn't there yet. Out of memory nothing changes.
     fn insert(&mut self, key: Key) -> Result<(), Memory>
         ensures ok { OnOk result (GainsKey self.old key self.new) }
         ensures err { OnErr result (self.new ≡ self.old) }
@@ -52,8 +54,8 @@ impl Keys {
     }
 }
 
-/// For each table the keys whose presence was written, also those of transactions that were rolled back: nothing has to
-/// be undone. A key is put in by a search of the table's tree, which costs the logarithm of the number of its keys.
+/// For each table the keys whose presence stands in the initial state or was written, also by transactions that were rolled
+/// back: nothing has to be undone. A key is put in by a search of the table's tree, which costs the logarithm of the number of its keys.
 #[derive(Debug, Drop)]
 pub struct KeyIndex {
     pub alloc: Global,
@@ -61,7 +63,7 @@ pub struct KeyIndex {
 }
 
 /// No key. Takes no memory.
-pub fn new(alloc: Global) -> KeyIndex
+fn new(alloc: Global) -> KeyIndex
     ensures { (table : ℕ) → keys_at result table ≡ [] }
 {
     KeyIndex {
@@ -105,6 +107,19 @@ pub fn note_key(index: &mut KeyIndex, cell: &Cell) -> Result<(), Memory>
         }
         Cell::Field(_, _, _) => Ok(()),
     }
+}
+
+/// The keys of the initial state's rows.
+pub fn initial_keys(alloc: Global, initial: &InitialState) -> Result<KeyIndex, Memory>
+    ensures ok { IfOk result (HoldInitial initial.now) }
+    ensures is { IsInitialState initial.now }
+{
+    let mut index = new(alloc);
+    let cells = initial.cells();
+    for entry in cells {
+        note_key(&mut index, &entry.0)?;
+    }
+    Ok(index)
 }
 
 /// The keys that are kept of the table.

@@ -1,5 +1,6 @@
 // Own reads: the cells that the pending transaction has written, and what it wrote last to each.
-ghost use Rattle.std.specs.Prelude.{◌≡◌, ◌<◌, ◌≤◌, ◌↔◌, Some, Err, IsTrue, IfOk, OnErr, Any};
+ghost use Rattle.std.specs.Prelude.{◌≡◌, ◌<◌, ◌≤◌, ◌↔◌, Some, Err, IsTrue, IfOk, OnErr, Any, Contains};
+ghost use Rattle.cell_base.specs.declared.value.Value.{Value as CellValue};
 ghost use Rattle.history_core.specs.declared.fault.Limit.{Limit};
 ghost use Rattle.history_core.specs.Events.{begun};
 ghost use Rattle.history_core.specs.Relations.{HasWritten, LastWrites};
@@ -9,19 +10,29 @@ ghost use Rattle.solo_book.specs.Desk.{IsDesk, GoesTo, last_writes};
 
 use crate::append::append;
 use crate::desk::Desk;
-use crate::tests_of_records::writes_cell;
 use cell_base::{Cell, Memory, Value};
 use history_core::{BookFault, Event, History, Limit};
 use std::alloc::Global;
+use txn_buffer::TxnBuffer;
+
+/// Whether the buffer holds the cell.
+fn writes_cell(buffer: &TxnBuffer, cell: &Cell) -> bool
+    ensures { IsTrue result ↔ ((value : CellValue) × Contains buffer.now.writes (cell.now, value)) }
+{
+    match buffer.get(cell) {
+        Some(_) => true,
+        None => false,
+    }
+}
 
 /// Whether the pending transaction of the session wrote the cell.
 pub fn wrote_itself(history: &History, session: u32, cell: &Cell) -> bool
     ensures { IsTrue result ↔ WroteItself history.now.events session cell.now }
 {
-    match history.pending(session) {
-        Some(number) => writes_cell(&history.txn(number).buffer, cell),
-        None => false,
-    }
+    let Some(number) = history.pending(session) else {
+        return false;
+    };
+    writes_cell(&history.txn(number).buffer, cell)
 }
 
 /// What the transaction of the number wrote last to the cell.
@@ -48,7 +59,7 @@ pub fn last_write(
 /// What the pending transaction of the session wrote last to the cell.
 fn own_value(alloc: Global, history: &History, session: u32, cell: &Cell) -> Result<Value, Memory>
     requires { WroteItself history.now.events session cell.now }
-    ensures { IfOk result (λ value. Follows history.now.events (Event.Own session cell.now value)) }
+    ensures { IfOk result (λ value. Follows history.now.initial history.now.events (Event.Own session cell.now value)) }
 {
     match history.pending(session) {
         Some(number) => last_write(alloc, history, number, cell),
@@ -72,8 +83,8 @@ pub fn own_cell(desk: &mut Desk, cell: &Cell) -> Result<Value, BookFault>
     requires written { WroteItself desk.old.history.events desk.old.sessions cell.now }
     ensures kept { IsDesk desk.new }
     ensures ok { IfOk result (λ value. GoesTo desk.old (Event.Own desk.old.sessions cell.now value) desk.old.sessions stages.Pending desk.new) }
-    ensures last { IfOk result (λ value. Follows desk.old.history.events (Event.Own desk.old.sessions cell.now value)) }
-    ensures full { (limit : Limit) → result ≡ Err (BookFault.Full limit) → full_load desk.new.history.events ≡ Some limit }
+    ensures last { IfOk result (λ value. Follows desk.old.history.initial desk.old.history.events (Event.Own desk.old.sessions cell.now value)) }
+    ensures full { (limit : Limit) → result ≡ Err (BookFault.Full limit) → full_load desk.new.history.initial desk.new.history.events ≡ Some limit }
     ensures err { OnErr result (desk.new ≡ desk.old) }
 {
     if desk.history.load() >= 1_048_576 {
@@ -89,7 +100,12 @@ pub fn own_cell(desk: &mut Desk, cell: &Cell) -> Result<Value, BookFault>
     let Ok(read) = cell.copy(desk.alloc) else {
         return Err(BookFault::Memory);
     };
-    match append(&mut desk.history, Event::Own(session, read, value)) {
+    let event = Event::Own {
+        session,
+        cell: read,
+        value,
+    };
+    match append(&mut desk.history, event) {
         Ok(()) => Ok(told),
         Err(fault) => Err(fault),
     }

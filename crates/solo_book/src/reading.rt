@@ -1,7 +1,8 @@
 // A read: what the word picks of the permitted list, and its value.
 ghost use Rattle.std.specs.Prelude.{◌≡◌, ◌<◌, ◌≤◌, ◌%◌, length, slice_get, Some, Err, IfOk, OnErr};
 ghost use Rattle.history_core.specs.declared.fault.Limit.{Limit};
-ghost use Rattle.history_core.specs.Events.{begun, table_of, initial_value};
+ghost use Rattle.history_core.specs.Events.{begun, table_of};
+ghost use Rattle.history_core.specs.Initial.{WritesInitially, absent_value};
 ghost use Rattle.history_core.specs.Relations.{Writes, WritesValue};
 ghost use Rattle.history_core.specs.Legal.{WroteItself, full_load};
 ghost use Rattle.solo_book.specs.declared.desk.Stage.TheVariants as stages;
@@ -13,12 +14,12 @@ use crate::offering::tried_choice;
 use crate::own::last_write;
 use crate::single::single_choice;
 use cell_base::{Cell, Memory, Value};
-use history_core::{BookFault, History, Limit};
+use history_core::{BookFault, History, InitialState, Limit};
 use std::alloc::Global;
 
-/// What the initial transaction wrote.
-fn initial(cell: &Cell) -> Value
-    ensures { result ≡ initial_value cell.now }
+/// What stands in a cell that the initial state doesn't have.
+fn absent(cell: &Cell) -> Value
+    ensures { result ≡ absent_value cell.now }
 {
     match cell {
         Cell::Presence(_, _) => Value::Flag(false),
@@ -26,13 +27,26 @@ fn initial(cell: &Cell) -> Value
     }
 }
 
+/// What the initial transaction wrote to the cell.
+fn initial_value(alloc: Global, initial: &InitialState, cell: &Cell) -> Result<Value, Memory>
+    ensures { IfOk result (λ value. WritesInitially initial.now cell.now value) }
+{
+    match initial.value(cell) {
+        Some(value) => {
+            let copy = value.copy(alloc)?;
+            Ok(copy)
+        }
+        None => Ok(absent(cell)),
+    }
+}
+
 /// What the writer wrote to the cell.
 fn value_of(alloc: Global, history: &History, source: u32, cell: &Cell) -> Result<Value, Memory>
     requires { Writes history.now.events source cell.now }
-    ensures { IfOk result (λ value. WritesValue history.now.events source cell.now value) }
+    ensures { IfOk result (λ value. WritesValue history.now.initial history.now.events source cell.now value) }
 {
     if source == 0 {
-        return Ok(initial(cell));
+        return initial_value(alloc, history.initial(), cell);
     }
     last_write(alloc, history, source, cell)
 }
@@ -58,7 +72,7 @@ pub fn read_cell(desk: &mut Desk, cell: &Cell, word: u32) -> Result<Value, BookF
     requires defined { table_of cell.now < length desk.old.history.tables }
     ensures kept { IsDesk desk.new }
     ensures ok { IfOk result (λ value. ReadsTo desk.old cell.now word value desk.new) }
-    ensures full { (limit : Limit) → result ≡ Err (BookFault.Full limit) → full_load desk.new.history.events ≡ Some limit }
+    ensures full { (limit : Limit) → result ≡ Err (BookFault.Full limit) → full_load desk.new.history.initial desk.new.history.events ≡ Some limit }
     ensures err { OnErr result (desk.new ≡ desk.old) }
 {
     if desk.history.load() >= 1_048_576 {

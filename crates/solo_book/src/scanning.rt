@@ -1,7 +1,9 @@
-// A scan: the keys of a table whose presence has a committed writer, or that the pending transaction wrote.
-ghost use Rattle.std.specs.Prelude.{◌≡◌, ◌↔◌, ◌<◌, ℕ, length, Some, Err, IsTrue, IfOk, OnOk, OnErr};
+// A scan: the keys of a table whose row is there from the start, whose presence has a committed writer, or that the pending
+// transaction wrote.
+ghost use Rattle.std.specs.Prelude.{◌≡◌, ◌↔◌, ◌<◌, ℕ, true, length, Some, Err, IsTrue, IfOk, OnOk, OnErr, Contains};
 ghost use Rattle.cell_base.specs.declared.key.Key.{Key as KeyValue};
 ghost use Rattle.history_core.specs.declared.fault.Limit.{Limit};
+ghost use Rattle.history_core.specs.Initial.{IsInitialState};
 ghost use Rattle.history_core.specs.Legal.{ListsKeys, full_load};
 ghost use Rattle.history_core.specs.Book.{IsKeyList};
 ghost use Rattle.solo_book.specs.declared.desk.Stage.TheVariants as stages;
@@ -13,18 +15,40 @@ use crate::desk::Desk;
 use crate::indexed::IndexedHistory;
 use crate::keys::Keys;
 use crate::own::wrote_itself;
-use cell_base::{Cell, Items, Key, Memory};
-use history_core::{BookFault, Event, Limit};
+use cell_base::{Cell, Items, Key, Memory, Value};
+use history_core::{BookFault, Event, InitialState, Limit};
 use std::alloc::Global;
+
+/// Whether the value says that a row is there.
+fn is_true(value: &Value) -> bool
+    ensures { IsTrue result ↔ (value.now ≡ Value.Flag true) }
+{
+    matches!(value, Value::Flag(true))
+}
+
+/// Whether the cell is true in the initial state.
+fn is_there(initial: &InitialState, cell: &Cell) -> bool
+    requires { IsInitialState initial.now }
+    ensures { IsTrue result ↔ Contains initial.now (cell.now, Value.Flag true) }
+{
+    match initial.value(cell) {
+        Some(value) => is_true(value),
+        None => false,
+    }
+}
 
 /// Whether a scan lists the key of the presence cell.
 fn is_listed(history: &IndexedHistory, session: u32, cell: &Cell) -> bool
-    ensures { IsTrue result ↔ IsListed history.now.events session cell.now }
+    requires { IsInitialState history.now.initial }
+    ensures { IsTrue result ↔ IsListed history.now.initial history.now.events session cell.now }
 {
-    if history.writers(cell).is_empty() {
-        return wrote_itself(history.history(), session, cell);
+    if !history.writers(cell).is_empty() {
+        return true;
     }
-    true
+    if is_there(history.history().initial(), cell) {
+        return true;
+    }
+    wrote_itself(history.history(), session, cell)
 }
 
 /// The key of the cell.
@@ -37,7 +61,7 @@ fn key_of(cell: Cell) -> Key
     }
 }
 
-/// Puts a key behind the others, where a scan lists it.
+/// Puts a key after the others, where a scan lists it.
 fn add_listed(
     alloc: Global,
     history: &IndexedHistory,
@@ -46,7 +70,8 @@ fn add_listed(
     key: &Key,
     listed: &mut Items<Key>,
 ) -> Result<(), Memory>
-    ensures { OnOk result (ListsNext history.now.events session table key.now listed.old listed.new) }
+    requires { IsInitialState history.now.initial }
+    ensures { OnOk result (ListsNext history.now.initial history.now.events session table key.now listed.old listed.new) }
 {
     let cell = Cell::Presence(table, key.copy(alloc)?);
     if is_listed(history, session, &cell) {
@@ -63,7 +88,8 @@ fn listed_among(
     table: u32,
     keys: &Keys,
 ) -> Result<Items<Key>, Memory>
-    ensures { IfOk result (λ listed. AreListed history.now.events session table keys.now listed) }
+    requires { IsInitialState history.now.initial }
+    ensures { IfOk result (λ listed. AreListed history.now.initial history.now.events session table keys.now listed) }
 {
     let mut listed = Items::new(alloc);
     for key in keys.iter() {
@@ -73,14 +99,15 @@ fn listed_among(
 }
 
 /// The keys that a scan of the table lists. It looks at each key of the table once, and at no event and no other
-/// transaction. As many as 2 ^ 32 keys are refused as a want of memory, which the load never lets come.
+/// transaction. As many as 2 ^ 32 keys are refused as out of memory, which the load never lets come.
 fn listed_keys(
     alloc: Global,
     history: &IndexedHistory,
     session: u32,
     table: u32,
 ) -> Result<Items<Key>, Memory>
-    ensures lists { IfOk result (λ keys. ListsKeys history.now.events session table keys) }
+    requires { IsInitialState history.now.initial }
+    ensures lists { IfOk result (λ keys. ListsKeys history.now.initial history.now.events session table keys) }
     ensures listed { IfOk result IsKeyList }
 {
     let Some(keys) = history.keys(table) else {
@@ -103,7 +130,8 @@ fn copy_keys(alloc: Global, keys: &[Key]) -> Result<Items<Key>, Memory>
     Ok(copies)
 }
 
-/// Lists the keys of a table that a committed transaction or the pending one has made or removed.
+/// Lists the keys of a table whose rows are there from the start, or that a committed transaction or the pending one has made
+/// or removed.
 pub fn scan_table(desk: &mut Desk, table: u32) -> Result<Items<Key>, BookFault>
     requires kept { IsDesk desk.old }
     requires pending { desk.old.stage ≡ stages.Pending }
@@ -111,7 +139,7 @@ pub fn scan_table(desk: &mut Desk, table: u32) -> Result<Items<Key>, BookFault>
     ensures kept { IsDesk desk.new }
     ensures ok { IfOk result (λ keys. GoesTo desk.old (Event.Scan desk.old.sessions table keys) desk.old.sessions stages.Pending desk.new) }
     ensures listed { IfOk result IsKeyList }
-    ensures full { (limit : Limit) → result ≡ Err (BookFault.Full limit) → full_load desk.new.history.events ≡ Some limit }
+    ensures full { (limit : Limit) → result ≡ Err (BookFault.Full limit) → full_load desk.new.history.initial desk.new.history.events ≡ Some limit }
     ensures err { OnErr result (desk.new ≡ desk.old) }
 {
     if desk.history.load() >= 1_048_576 {
@@ -124,7 +152,12 @@ pub fn scan_table(desk: &mut Desk, table: u32) -> Result<Items<Key>, BookFault>
     let Ok(told) = copy_keys(desk.alloc, keys.as_slice()) else {
         return Err(BookFault::Memory);
     };
-    match append(&mut desk.history, Event::Scan(session, table, keys)) {
+    let event = Event::Scan {
+        session,
+        table,
+        keys,
+    };
+    match append(&mut desk.history, event) {
         Ok(()) => Ok(told),
         Err(fault) => Err(fault),
     }

@@ -4,7 +4,8 @@ ghost use Rattle.sql_tree.specs.declared.table.Table.{Table};
 ghost use Rattle.sound_table.specs.Sound.{IsSound};
 ghost use Rattle.history_core.specs.declared.fault.Limit.{Limit};
 ghost use Rattle.history_core.specs.declared.fault.Limit.TheVariants as limits;
-ghost use Rattle.history_core.specs.Events.{names, load_of};
+ghost use Rattle.history_core.specs.Events.{names};
+ghost use Rattle.history_core.specs.Initial.{load_of};
 ghost use Rattle.history_core.specs.Legal.{full_for, full_load};
 ghost use Rattle.solo_book.specs.declared.desk.Stage.TheVariants as stages;
 ghost use Rattle.solo_book.specs.Desk.{IsDesk, GoesTo, LooksTo, DefinesTo, AnswersTo};
@@ -40,12 +41,16 @@ fn append_look(desk: &mut Desk) -> Result<u32, BookFault>
     ensures kept { IsDesk desk.new }
     ensures count { IfOk result (λ n. n ≡ length desk.old.history.tables) }
     ensures ok { IfOk result (λ n. GoesTo desk.old (Event.Look desk.old.sessions n) desk.old.sessions desk.old.stage desk.new) }
-    ensures full { (limit : Limit) → result ≡ Err (BookFault.Full limit) → full_load desk.new.history.events ≡ Some limit }
+    ensures full { (limit : Limit) → result ≡ Err (BookFault.Full limit) → full_load desk.new.history.initial desk.new.history.events ≡ Some limit }
     ensures err { OnErr result (desk.new ≡ desk.old) }
 {
     let count = desk.history.tables().len() as u32;
     let session = desk.sessions;
-    match append(&mut desk.history, Event::Look(session, count)) {
+    let event = Event::Look {
+        session,
+        tables: count,
+    };
+    match append(&mut desk.history, event) {
         Ok(()) => Ok(count),
         Err(fault) => Err(fault),
     }
@@ -58,7 +63,7 @@ pub fn look_at_tables(desk: &mut Desk, known: u32) -> Result<Items<Table>, BookF
     requires known { known ≤ length desk.old.history.tables }
     ensures kept { IsDesk desk.new }
     ensures ok { IfOk result (λ tables. LooksTo desk.old known tables desk.new) }
-    ensures full { (limit : Limit) → result ≡ Err (BookFault.Full limit) → full_load desk.new.history.events ≡ Some limit }
+    ensures full { (limit : Limit) → result ≡ Err (BookFault.Full limit) → full_load desk.new.history.initial desk.new.history.events ≡ Some limit }
     ensures err { OnErr result (desk.new ≡ desk.old) }
 {
     if desk.history.load() >= 1_048_576 {
@@ -79,11 +84,11 @@ fn append_table(desk: &mut Desk, table: &Table) -> Result<u32, BookFault>
     requires open { desk.old.stage ≢ stages.NoSession }
     requires sound { IsSound table.now }
     requires untaken { ¬ Contains (names desk.old.history.events) table.now.name }
-    requires load { load_of desk.old.history.events < 1048576 }
+    requires load { load_of desk.old.history.initial desk.old.history.events < 1048576 }
     ensures kept { IsDesk desk.new }
     ensures count { IfOk result (λ n. n ≡ length desk.old.history.tables) }
     ensures ok { IfOk result (λ n. DefinesTo desk.old table.now desk.new) }
-    ensures full { (limit : Limit) → result ≡ Err (BookFault.Full limit) → full_for desk.new.history.events (Event.Define 0 table.now.name) ≡ Some limit }
+    ensures full { (limit : Limit) → result ≡ Err (BookFault.Full limit) → full_for desk.new.history.initial desk.new.history.events (Event.Define 0 table.now.name) ≡ Some limit }
     ensures err { OnErr result (desk.new ≡ desk.old) }
 {
     let count = desk.history.tables().len() as u32;
@@ -107,7 +112,7 @@ pub fn define_table(desk: &mut Desk, table: &Table) -> Result<DefineAnswer, Book
     requires sound { IsSound table.now }
     ensures kept { IsDesk desk.new }
     ensures ok { IfOk result (λ answer. AnswersTo desk.old table.now answer desk.new) }
-    ensures full { (limit : Limit) → result ≡ Err (BookFault.Full limit) → full_for desk.new.history.events (Event.Define 0 table.now.name) ≡ Some limit }
+    ensures full { (limit : Limit) → result ≡ Err (BookFault.Full limit) → full_for desk.new.history.initial desk.new.history.events (Event.Define 0 table.now.name) ≡ Some limit }
     ensures load_first { (limit : Limit) → limit ≢ limits.Load → result ≡ Err (BookFault.Full limit) → ¬ Contains (names desk.new.history.events) table.now.name }
     ensures err { OnErr result (desk.new ≡ desk.old) }
 {

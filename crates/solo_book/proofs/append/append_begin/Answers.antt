@@ -8,10 +8,10 @@ use Rattle.solo_book.proofs.append.append_begin.Goals as goal
 pub returns-in-Ok-clause-legal : goal.returns-in-Ok-clause-legal
 returns-in-Ok-clause-legal c =
     rw c.in-Ok.ensures.ok
-    (legal_with c.args.history.now (Begin c.args.session) c.requires.legal c.requires.follows
-    (fits_from_ok c.args.history.now.events (Begin c.args.session) c.push_begin.result _ c.in-Ok.is c.push_begin.ensures.full) tt tt)
+    (legal_with c.args.history.now (Begin c.args.session c.args.level) c.requires.legal c.requires.follows
+    (fits_from_ok c.args.history.now.initial c.args.history.now.events (Begin c.args.session c.args.level) c.push_begin.result _ c.in-Ok.is c.push_begin.ensures.full) tt tt)
 
 pub returns-in-Err-clause-full : goal.returns-in-Err-clause-full
 returns-in-Err-clause-full c = λ limit is.
-    subst (λ (h : Chronicle). full_for h.events (Begin c.args.session) ≡ Some limit) (sym c.in-Err.ensures.err)
+    subst (λ (h : Chronicle). full_for h.initial h.events (Begin c.args.session c.args.level) ≡ Some limit) (sym c.in-Err.ensures.err)
     ((c.push_begin.ensures.full limit).0 (c.in-Err.is ∙ is))

@@ -9,9 +9,9 @@ pub returns-in-Ok-clause-legal : goal.returns-in-Ok-clause-legal
 returns-in-Ok-clause-legal c =
     rw c.in-Ok.ensures.ok
     (legal_with c.args.history.now (Write c.args.session c.args.cell c.args.value) c.requires.legal c.requires.follows
-    (fits_from_ok c.args.history.now.events (Write c.args.session c.args.cell c.args.value) c.push_write.result _ c.in-Ok.is c.push_write.ensures.full) tt tt)
+    (fits_from_ok c.args.history.now.initial c.args.history.now.events (Write c.args.session c.args.cell c.args.value) c.push_write.result _ c.in-Ok.is c.push_write.ensures.full) tt tt)
 
 pub returns-in-Err-clause-full : goal.returns-in-Err-clause-full
 returns-in-Err-clause-full c = λ limit is.
-    subst (λ (h : Chronicle). full_for h.events (Write c.args.session c.args.cell c.args.value) ≡ Some limit) (sym c.in-Err.ensures.err)
+    subst (λ (h : Chronicle). full_for h.initial h.events (Write c.args.session c.args.cell c.args.value) ≡ Some limit) (sym c.in-Err.ensures.err)
     ((c.push_write.ensures.full limit).0 (c.in-Err.is ∙ is))

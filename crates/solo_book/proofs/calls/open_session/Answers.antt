@@ -6,7 +6,7 @@ use Rattle.solo_book.proofs.calls.open_session.Goals as goal
 
 pub overflow_add-session : goal.overflow_add-session
 overflow_add-session c =
-    let few = opened_few c.args.desk.now.history.events c.requires.legal.legal.formed in
+    let few = opened_few c.args.desk.now.history.initial c.args.desk.now.history.events c.requires.legal.legal.formed in
     let count = c.requires.count in
     omega arith
 

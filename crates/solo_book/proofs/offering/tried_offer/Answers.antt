@@ -1,16 +1,10 @@
-use Rattle.std.proofs.Common.{◌≡◌, Some, None, sym, ◌∙◌, subst, arith}
+use Rattle.std.proofs.Common.{sym, ◌∙◌, arith}
 use Rattle.std.proofs.lemmas.Bool.{false≢true}
-use Rattle.cell_base.specs.declared.level.Level.{Level}
 use Rattle.history_core.specs.Legal.{IsOffer}
-use Rattle.solo_book.proofs.PairLemmas.{offer_push, offer_skip, offer_whole, offer_some}
+use Rattle.history_core.proofs.Offers.{some_permitted}
+use Rattle.solo_book.proofs.OfferParts.{offer_push, offer_skip, offer_whole, offer_some}
 use Rattle.solo_book.proofs.offering.tried_offer.Goals as goal
 use Rattle.solo_book.proofs.offering.tried_offer.Goals.{then-yes+in_ok-push, else-yes}
-
-pub unreachable-requires : goal.unreachable-requires
-unreachable-requires c =
-    let some = (c.pending.ensures c.requires.pending.0).1 c.requires.pending.1 in
-    let both : None ≡ Some c.requires.pending.0 = sym c.in_default.is ∙ some in
-    cc
 
 pub loop-source-preserved : goal.loop-source-preserved
 loop-source-preserved c =
@@ -28,12 +22,12 @@ pub returns : goal.returns
 returns c =
     let number = c.begun-source-end.ensures.number in
     let few = c.begun-source-end.ensures.small in
-    let exact : IsOffer c.args.history.now.level c.args.history.now.events c.args.session c.args.cell.now c.loop-source.offer.items =
-    subst (λ (l : Level). IsOffer l c.args.history.now.events c.args.session c.args.cell.now c.loop-source.offer.items) (sym c.requires.level)
-    (offer_whole c.args.history.now.events c.args.session c.args.cell.now c.loop-source.source c.loop-source.offer.items (omega arith) c.loop-source.invariant)
+    let exact : IsOffer c.args.history.now.events c.args.session c.args.cell.now c.loop-source.offer.items =
+    offer_whole c.args.history.now.events c.args.session c.args.cell.now c.loop-source.source c.loop-source.offer.items (omega arith) c.loop-source.invariant
     in
     record {
       exact = exact;
-      some = offer_some c.args.history.now.level c.args.history.now.events c.args.session c.args.cell.now c.loop-source.offer.items c.requires.legal c.requires.pending exact;
+      some = offer_some c.args.history.now.events c.args.session c.args.cell.now c.loop-source.offer.items
+          (some_permitted c.args.history.now.initial c.args.history.now.events c.args.session c.args.cell.now c.requires.legal c.requires.pending) exact;
       short = let h = c.loop-source.invariant.short in let e = c.loop-source.auto.source-end in omega arith;
     }

@@ -1,4 +1,4 @@
-use Rattle.solo_book.proofs.PairLemmas.{IsOfferPart}
+use Rattle.solo_book.proofs.OfferParts.{IsOfferPart}
 use Rattle.solo_book.proofs.offering.tried_offer.Given as goal
 
 abbrev pub invariant-loop-source : goal.invariant-loop-source

@@ -1,4 +1,4 @@
-use Rattle.solo_book.proofs.Bridge.{none_from_buffer}
+use Rattle.solo_book.proofs.Records.{none_from_buffer}
 use Rattle.solo_book.proofs.own.last_write.Goals as goal
 
 pub unreachable-requires : goal.unreachable-requires

@@ -8,8 +8,8 @@ use Rattle.solo_book.proofs.own.own_cell.Goals as goal
 
 pub append-requires-clause-follows : goal.append-requires-clause-follows
 append-requires-clause-follows c =
-    subst (λ (x : Cell). Follows c.args.desk.now.history.events (Own c.args.desk.now.sessions x c.in-Ok.value)) (sym c.in-Ok-copy-2.ensures)
-    (subst (λ (h : Chronicle). Follows h.events (Own c.args.desk.now.sessions c.args.cell.now c.in-Ok.value)) c.history.ensures c.in-Ok.ensures)
+    subst (λ (x : Cell). Follows c.args.desk.now.history.initial c.args.desk.now.history.events (Own c.args.desk.now.sessions x c.in-Ok.value)) (sym c.in-Ok-copy-2.ensures)
+    (subst (λ (h : Chronicle). Follows h.initial h.events (Own c.args.desk.now.sessions c.args.cell.now c.in-Ok.value)) c.history.ensures c.in-Ok.ensures)
 
 pub returns-in-Ok-append-clause-kept : goal.returns-in-Ok-append-clause-kept
 returns-in-Ok-append-clause-kept c =

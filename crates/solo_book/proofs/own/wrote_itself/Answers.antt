@@ -2,7 +2,7 @@ use Rattle.std.proofs.Common.{sym, ◌∙◌}
 use Rattle.std.proofs.lemmas.Bool.{false≢true}
 use Rattle.history_core.proofs.Next.{pending_bounded}
 use Rattle.history_core.proofs.Numbers.{pending_positive}
-use Rattle.solo_book.proofs.Bridge.{true_unless, written_from_buffer, none_from_buffer}
+use Rattle.solo_book.proofs.Records.{true_unless, written_from_buffer, none_from_buffer}
 use Rattle.solo_book.proofs.Scans.{none_pending, wrote_last}
 use Rattle.solo_book.proofs.own.wrote_itself.Goals as goal
 
@@ -14,8 +14,8 @@ pub txn-requires-clause-begun : goal.txn-requires-clause-begun
 txn-requires-clause-begun c =
     pending_bounded c.args.history.now.events c.in-Some.number c.args.session ((c.pending.ensures c.in-Some.number).0 c.in-Some.is)
 
-pub returns-in-Some : goal.returns-in-Some
-returns-in-Some c = (
+pub returns : goal.returns
+returns c = (
   λ h. record {
     number = c.in-Some.number;
     pending = (c.pending.ensures c.in-Some.number).0 c.in-Some.is;
@@ -27,8 +27,8 @@ returns-in-Some c = (
       (wrote_last c.args.history.now.events c.args.session c.args.cell.now c.in-Some.number c.pending.result c.in-Some.is c.pending.ensures wrote)),
 )
 
-pub returns-in-None : goal.returns-in-None
-returns-in-None c = (
+pub returns-in_default : goal.returns-in_default
+returns-in_default c = (
   λ h. absurd (false≢true h),
-  λ wrote. absurd (none_pending c.args.history.now.events c.args.session c.args.cell.now c.pending.result c.in-None.is c.pending.ensures wrote),
+  λ wrote. absurd (none_pending c.args.history.now.events c.args.session c.args.cell.now c.pending.result c.in_default.is c.pending.ensures wrote),
 )

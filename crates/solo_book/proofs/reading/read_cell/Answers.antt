@@ -10,15 +10,15 @@ use Rattle.solo_book.proofs.reading.read_cell.Goals as goal
 
 pub append_read-requires-clause-follows : goal.append_read-requires-clause-follows
 append_read-requires-clause-follows c =
-    subst (λ (x : Cell). Follows c.args.desk.now.history.events (Read c.args.desk.now.sessions x c.in-Ok.choice.source c.in-Ok.choice.count c.args.word c.in-Ok-value_of.value))
+    subst (λ (x : Cell). Follows c.args.desk.now.history.initial c.args.desk.now.history.events (Read c.args.desk.now.sessions x c.in-Ok.choice.source c.in-Ok.choice.count c.args.word c.in-Ok-value_of.value))
     (sym c.in-Ok-copy-2.ensures)
     (read_follows c.args.desk.now.history c.args.desk.now.sessions c.args.desk.now.stage c.args.cell.now c.in-Ok.choice.source c.in-Ok.choice.count c.args.word
     c.in-Ok-value_of.value c.requires.kept c.requires.pending c.requires.unwritten c.requires.defined
-    (subst (λ (h : Chronicle). WritesValue h.events c.in-Ok.choice.source c.args.cell.now c.in-Ok-value_of.value) c.history.ensures c.in-Ok-value_of.ensures))
+    (subst (λ (h : Chronicle). WritesValue h.initial h.events c.in-Ok.choice.source c.args.cell.now c.in-Ok-value_of.value) c.history.ensures c.in-Ok-value_of.ensures))
 
 pub append_read-requires-clause-offered : goal.append_read-requires-clause-offered
 append_read-requires-clause-offered c =
-    subst (λ (x : Cell). IsOffered c.args.desk.now.history.level c.args.desk.now.history.events
+    subst (λ (x : Cell). IsOffered c.args.desk.now.history.events
     (Read c.args.desk.now.sessions x c.in-Ok.choice.source c.in-Ok.choice.count c.args.word c.in-Ok-value_of.value))
     (sym c.in-Ok-copy-2.ensures) (c.in-Ok.ensures.offered c.in-Ok-value_of.value)
 

@@ -1,10 +1,5 @@
-use Rattle.std.proofs.Common.{arith}
-use Rattle.solo_book.proofs.Legality.{tables_few}
 use Rattle.solo_book.proofs.Desks.{served_defines}
 use Rattle.solo_book.proofs.tables.append_table.Goals as goal
-
-pub overflow_cast-count : goal.overflow_cast-count
-overflow_cast-count c = let few = rw (← c.tables.ensures.items) at (tables_few c.args.desk.now.history c.requires.kept.legal) in omega arith
 
 pub returns-in-Ok-append_define-clause-kept : goal.returns-in-Ok-append_define-clause-kept
 returns-in-Ok-append_define-clause-kept c =

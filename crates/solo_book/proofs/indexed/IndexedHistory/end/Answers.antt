@@ -14,8 +14,8 @@ invariant_of-self c = (
   subst (λ (h : Chronicle). IsIndex h.events c.self.inside.index) (sym c.end.ensures)
       (indexed_end c.self.inside.history.events c.args.event c.self.inside.index c.requires.end
       (subst (λ (h : Chronicle). IsLast h.events (session_in c.args.event)) (sym c.self.view_is) c.requires.last) c.self.invariant.0),
-  subst (λ (h : Chronicle). IsKeyIndex h.events c.self.inside.keys) (sym c.end.ensures)
-      (keyed_end c.self.inside.history.events c.args.event c.self.inside.keys c.requires.end c.self.invariant.1),
+  subst (λ (h : Chronicle). IsKeyIndex h.initial h.events c.self.inside.keys) (sym c.end.ensures)
+      (keyed_end c.self.inside.history.initial c.self.inside.history.events c.args.event c.self.inside.keys c.requires.end c.self.invariant.1),
   subst (λ (h : Chronicle). AreSources h.events c.self.inside.sources.numbers.keys) (sym c.end.ensures)
       (sourced_end c.self.inside.history.events c.args.event c.self.inside.sources.numbers.keys c.requires.end c.self.invariant.2),
 )

@@ -12,8 +12,8 @@ invariant_of-self c = (
       (on_ok _ _ c.push.result (λ is. ap (λ (h : Chronicle). h.events) is) c.push.ensures.ok) c.push.ensures.err
       (indexed_other c.self.inside.history.events c.args.event c.self.inside.index c.requires.other) c.self.invariant.0,
   keyed_either c.self.inside.history c.push.new.self c.args.event c.self.inside.keys c.push.result
-      (on_ok _ _ c.push.result (λ is. ap (λ (h : Chronicle). h.events) is) c.push.ensures.ok) c.push.ensures.err
-      (keyed_other c.self.inside.history.events c.args.event c.self.inside.keys c.requires.other) c.self.invariant.1,
+      c.push.ensures.ok c.push.ensures.err
+      (keyed_other c.self.inside.history.initial c.self.inside.history.events c.args.event c.self.inside.keys c.requires.other) c.self.invariant.1,
   sourced_either c.self.inside.history c.push.new.self c.args.event c.self.inside.sources.numbers.keys c.push.result
       (on_ok _ _ c.push.result (λ is. ap (λ (h : Chronicle). h.events) is) c.push.ensures.ok) c.push.ensures.err
       (sourced_kept c.self.inside.history.events c.args.event c.self.inside.sources.numbers.keys c.requires.sources) c.self.invariant.2,

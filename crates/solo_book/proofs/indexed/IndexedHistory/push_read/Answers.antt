@@ -1,6 +1,7 @@
 use Rattle.std.proofs.Common.{ap, sym, subst}
 use Rattle.history_core.specs.Chronicle.{Chronicle}
 use Rattle.history_core.specs.declared.event.Event.TheVariants.{Read}
+use Rattle.history_core.specs.Legal.{Follows}
 use Rattle.solo_book.specs.Index.{IsLast}
 use Rattle.solo_book.proofs.Books.{on_ok}
 use Rattle.solo_book.proofs.Indexes.{indexed_either, indexed_other}
@@ -12,6 +13,11 @@ pub push_noted-requires-clause-kept : goal.push_noted-requires-clause-kept
 push_noted-requires-clause-kept c =
     sourced_same c.self.inside.history.events c.self.inside.sources.numbers.keys c.take_room.new.sources.numbers.keys c.take_room.ensures.same c.self.invariant.2
 
+pub push_noted-requires-clause-follows : goal.push_noted-requires-clause-follows
+push_noted-requires-clause-follows c =
+    subst (λ (h : Chronicle). Follows h.initial h.events (Read c.args.session c.args.cell c.args.choice.source c.args.choice.count c.args.word c.args.value))
+    (sym c.self.view_is) c.requires.follows
+
 pub push_noted-requires-clause-last : goal.push_noted-requires-clause-last
 push_noted-requires-clause-last c = subst (λ (h : Chronicle). IsLast h.events c.args.session) (sym c.self.view_is) c.requires.last
 
@@ -22,8 +28,8 @@ invariant_of-self c = (
       (indexed_other c.self.inside.history.events (Read c.args.session c.args.cell c.args.choice.source c.args.choice.count c.args.word c.args.value) c.self.inside.index tt)
       c.self.invariant.0,
   keyed_either c.self.inside.history c.push_noted.new.history (Read c.args.session c.args.cell c.args.choice.source c.args.choice.count c.args.word c.args.value) c.self.inside.keys
-      c.push_noted.result (on_ok _ _ c.push_noted.result (λ is. ap (λ (h : Chronicle). h.events) is) c.push_noted.ensures.ok) c.push_noted.ensures.err
-      (keyed_other c.self.inside.history.events (Read c.args.session c.args.cell c.args.choice.source c.args.choice.count c.args.word c.args.value) c.self.inside.keys tt)
+      c.push_noted.result c.push_noted.ensures.ok c.push_noted.ensures.err
+      (keyed_other c.self.inside.history.initial c.self.inside.history.events (Read c.args.session c.args.cell c.args.choice.source c.args.choice.count c.args.word c.args.value) c.self.inside.keys tt)
       c.self.invariant.1,
   c.push_noted.ensures.kept,
 )
