@@ -11,7 +11,6 @@ pub mod LastUser
 pub mod Texts
 pub mod Lawfuls
 pub mod Carrying
-pub mod TablesFew
 pub mod Playing
 pub mod Serving
 pub mod Nearing

@@ -16,9 +16,9 @@ use Rattle.history_core.specs.declared.fault.BookFault.{BookFault}
 use Rattle.history_core.specs.declared.fault.BookFault.TheVariants as faults
 use Rattle.history_core.specs.declared.fault.DefineAnswer.{DefineAnswer}
 use Rattle.history_core.specs.declared.fault.DefineAnswer.TheVariants as defines
-use Rattle.history_core.specs.Chronicle.{IsLegalChronicle}
+use Rattle.history_core.specs.Chronicle.{Chronicle, IsFormedChronicle, IsLegalChronicle}
 use Rattle.history_core.specs.Book.{AnswersTables, AnswersDefine, Past, SessionState, no_session, in_session, pending, Adds, GoesOn, IsIdle, HasSession, IsInTransaction, IsUnwritten, HasWrite, LastWrite, session_of}
-use Rattle.session_core.proofs.TablesFew.{tables_few}
+use Rattle.history_core.proofs.TablesFew.{tables_few}
 use Rattle.statement_course.specs.Course.{Course, scan, touch, write, done, first_demand}
 use Rattle.statement_course.specs.Laws.{ReadsFirst, table_number}
 use Rattle.statement_course.specs.declared.demand.Demand.{Demand}
@@ -105,11 +105,14 @@ sound_behind : (before tables : List Table) → All IsSound (before ++ tables) �
 sound_behind [] tables h = h
 sound_behind (b ∷ bs) tables h = sound_behind bs tables (All-tail IsSound b (bs ++ tables) h)
 
+formed_of : (history : Chronicle) → IsLegalChronicle history → IsFormedChronicle history
+formed_of history legal = record { initial = legal.initial; formed = legal.legal.formed; tables = legal.tables }
+
 pub look_fits : (c : Call) (p q : Past) (known : ℕ) (tables : List Table) → c ≡ calls.Look known → AnswersTables p known tables q →
     IsLegalChronicle q.seen → Fits c (answers.Looked tables)
 look_fits c p q known tables is a legal =
     subst (λ (x : Call). Fits x (answers.Looked tables)) (sym is) (
-      omega (arith, known_all p q known tables a, tables_few q.seen legal),
+      omega (arith, known_all p q known tables a, tables_few q.seen (formed_of q.seen legal)),
       sound_behind a.before tables (subst (λ (ts : List Table). All IsSound ts) a.whole legal.tables.sound),
     )
 
