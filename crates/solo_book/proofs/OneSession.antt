@@ -6,7 +6,7 @@ use Rattle.std.proofs.lemmas.List.Sums.{count_by_more_yes, sum_by-take-le}
 use Rattle.std.proofs.lemmas.Option.{slice_get_within, slice_get-get_or, get_or_from_slice_get}
 use Rattle.std.proofs.lemmas.Bool.{cases_order, cases_lt}
 use Rattle.graph_base.specs.Order.{place_of}
-use Rattle.graph_base.specs.Closure.{IsChain}
+use Rattle.graph_base.specs.Chain.{IsChain}
 use Rattle.cell_base.specs.declared.level.Level.{Level}
 use Rattle.cell_base.specs.declared.level.Level.TheVariants.{Rc, Ra, Cc}
 use Rattle.cell_base.specs.declared.cell.Cell.{Cell}
@@ -134,14 +134,14 @@ sees_back initial events s k x w n u v is pending writes = sees
               (subst (λ (m : ℕ). Precedes events w m) (sym new.1) (inl (writer_below initial events s k w x is pending writes)))
         ]
 
-    chain : (a : ℕ) (middles : List ℕ) (b : ℕ) → IsChain (Precedes (events ++ Read s x w n u v ∷ [])) a middles b → IsChain (Precedes events) a middles b
+    chain : (a : ℕ) (between : List ℕ) (b : ℕ) → IsChain (Precedes (events ++ Read s x w n u v ∷ [])) a between b → IsChain (Precedes events) a between b
     chain a [] b link = precedes a b link
     chain a (m ∷ ms) b (link, rest) = (precedes a m link, chain m ms b rest)
 
     sees : (level : Level) (r p a : ℕ) → p ≤ length events → IsVisibleAt level (events ++ Read s x w n u v ∷ []) r p a → IsVisibleAt level events r p a
     sees Rc r p a within before = before_back events (Read s x w n u v) r p a within before
     sees Ra r p a within before = precedes a r before
-    sees Cc r p a within before = record { middles = before.middles; is = chain a before.middles r before.is }
+    sees Cc r p a within before = record { between = before.between; is = chain a before.between r before.is }
 
 -- a writer that the pending transaction sees is not above one that it may see
 pub seen_below :
@@ -290,7 +290,7 @@ permitted_seen initial events s k w Cc x is pending runs permitted = record {
   writes = permitted.0;
   last = λ other writes. elim (cases_lt w other) [
     | inl less ↦ absurd (overtaken initial events s k w Cc x is pending runs permitted other less writes (record {
-      middles = [];
+      between = [];
       is = precedes_kept events (Read s x w 0 0 Unset) other k (inl (writer_below initial events s k other x is pending writes));
     }))
     | inr more ↦ more
