@@ -1,10 +1,6 @@
-//! Tests of saturation: histories of three sessions at each level, event by event, with the permitted sources, the candidates and the cycles found by
-//! hand. The contracts of `saturation` say what each answer means; no clause says that a call with ample memory succeeds. The crate has nothing but tests.
+//! Tests of saturation: what its calls answer with ample memory over a history without events, which no clause promises. Reads of
+//! histories with events are tested in `book_cases`, since a `SoloBook` of several sessions asks saturation for each writer.
 #![tactic(auto)]
 
 #[cfg(test)]
-mod fits;
-#[cfg(test)]
-mod shapes;
-#[cfg(test)]
-mod steps;
+mod tests;
