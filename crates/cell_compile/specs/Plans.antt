@@ -45,7 +45,7 @@ inserting writes count false = write_all writes (done (Inserted count))
 abbrev pub insertion_course : Insertion → Course
 insertion_course i = read_presences i.table i.keys i.found (inserting i.writes i.count)
 
--- behind the presence of a key
+-- after the presence of a key
 abbrev pub after_presence : Insertion → Value → Course
 after_presence i present = read_presences i.table i.keys (if is_true present then true else i.found) (inserting i.writes i.count)
 

@@ -56,7 +56,7 @@ pub fn parts_of_select(
     )
 }
 
-/// Puts the parts of entries of FROM behind others, where the tables of these numbers stand before them.
+/// Puts the parts of entries of FROM after others, where the tables of these numbers stand before them.
 fn with_parts(
     alloc: Global,
     parts: Items<Part>,
@@ -107,7 +107,7 @@ fn behind(parts: Items<Part>, part: Part) -> Result<Items<Part>, Memory>
     Ok(all)
 }
 
-/// Puts the part of a table behind others, where there is such a table.
+/// Puts the part of a table after others, where there is such a table.
 fn with_part(
     alloc: Global,
     parts: Items<Part>,

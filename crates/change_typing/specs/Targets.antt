@@ -23,7 +23,7 @@ abbrev pub AreColumns : ℕ → List Target → Type 0
 AreColumns count [] = Unit {0}
 AreColumns count (t ∷ ts) = (t.number < count) × ((is_among t.number ts ≡ false) × AreColumns count ts)
 
--- a column that is assigned behind these
+-- a column that is assigned after these
 abbrev pub assigned_target : Table → List Target → List ℕ → Outcome Target
 assigned_target t before name =
     and_then (target_named t.columns name) (λ c. if is_among c.number before then Err S42601 else (if c.number == t.key then Err S0A000 else Ok c))

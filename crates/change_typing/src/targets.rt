@@ -57,7 +57,7 @@ pub fn all_columns<'a>(alloc: Global, columns: &'a [Column]) -> Result<Items<Col
     Ok(all)
 }
 
-/// The column of an assignment behind others: `S42703` where no column has the name, `S42601` where it is assigned before,
+/// The column of an assignment after others: `S42703` where no column has the name, `S42601` where it is assigned before,
 /// `S0A000` where it is the key.
 fn assigned_column<'a>(
     table: &'a Table,

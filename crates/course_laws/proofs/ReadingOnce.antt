@@ -23,7 +23,7 @@ use Rattle.course_laws.proofs.MentionsOnce.{IsOnce}
 abbrev pub Free : (Cell → Type 0) → List Cell → Type 0
 Free P before = AllByRecursion (λ cell. P cell → ⊥) before
 
--- behind these cells, no others were asked for but such
+-- after these cells, no others were asked for but such
 abbrev pub Adds : (Cell → Type 0) → List Cell → List Cell → Type 1
 Adds P before after = (Q : Cell → Type 0) → ((cell : Cell) → P cell → Q cell → ⊥) → Free Q before → Free Q after
 

@@ -30,7 +30,7 @@ pub fn text_as(alloc: Global, kind: SqlType, text: &Text) -> Result<Value, SqlFa
     }
 }
 
-/// An integer behind a minus sign, as a value of the type.
+/// An integer after a minus sign, as a value of the type.
 fn negative_as(alloc: Global, kind: SqlType, number: i64) -> Result<Value, SqlFault>
     ensures { Gives (spec.negative_as kind number) result }
 {

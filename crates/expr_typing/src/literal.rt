@@ -110,7 +110,7 @@ fn integer_of(text: &Text) -> Option<(bool, u64)>
     signed(trimmed(text.bytes()))
 }
 
-/// The greatest number behind a sign, for numbers from -half to half - 1.
+/// The greatest number after a sign, for numbers from -half to half - 1.
 fn most(half: u64, minus: bool) -> u64
     ensures { result ≡ (if minus then half else half - 1) }
 {

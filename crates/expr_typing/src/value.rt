@@ -50,7 +50,7 @@ fn assigned_form(alloc: Global, kind: SqlType, form: Form) -> Result<TypedExpr, 
     }
 }
 
-/// Whether the expression is an integer literal, also behind one minus sign.
+/// Whether the expression is an integer literal, also after one minus sign.
 fn is_integer_literal(expr: &Expr) -> bool
     ensures { result ≡ given.is_integer_literal (out-Expr expr.now) }
 {

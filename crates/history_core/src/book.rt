@@ -77,7 +77,8 @@ pub trait Book {
         ensures legal { IsLegalChronicle (past self.new).seen }
         ensures stays { stays self.old self.new };
 
-    /// Lists the keys of a table that a committed transaction or the pending one has made or removed, ascending.
+    /// Lists the keys of a table, ascending, whose row the initial state has, or a committed transaction or the pending one has made or
+    /// removed.
     fn scan(&mut self, table: u32) -> Result<Items<Key>, BookFault>
         requires pending { IsInTransaction (past self.old).state }
         requires defined { HasTable (past self.old) table }

@@ -7,16 +7,16 @@ use thiserror::Error;
 #[derive(Clone, Copy, Debug, PartialEq, Eq, Error)]
 pub enum Limit {
     /// The load is at least 1,048,576.
-    #[error("its load has reached the limit")]
+    #[error("the load has reached the limit of 1,048,576")]
     Load,
     /// 65,535 transactions were begun.
-    #[error("so many transactions have begun as a history takes")]
+    #[error("65,535 transactions have begun, which is the limit")]
     Transactions,
     /// 4,096 sessions were opened.
-    #[error("so many sessions were opened as a history takes")]
+    #[error("4,096 sessions have been opened, which is the limit")]
     Sessions,
     /// 64 tables are defined.
-    #[error("so many tables are defined as a history takes")]
+    #[error("64 tables are defined, which is the limit")]
     Tables,
 }
 

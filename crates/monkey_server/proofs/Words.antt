@@ -42,7 +42,7 @@ holds_comma text front after e =
     let P : List ℕ → Type 0 = λ t. Contains t 44 in
     subst P (sym e) (Contains-append_right front (44 ∷ after) 44 (0, omega arith, refl))
 
--- a list that is cut at its first comma: a word before it, a list behind it
+-- a list that is cut at its first comma: a word before it, a list after it
 pub lists_at_comma : (text front after words : List ℕ) → text ≡ front ++ (44 ∷ after) → ¬ (Contains front 44) → Lists text words
     → ((n : ℕ) × IsWord front n) × ((more : List ℕ) × Lists after more)
 lists_at_comma text front after [] e none h = absurd h

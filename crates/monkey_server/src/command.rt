@@ -36,7 +36,7 @@ fn number(part: &[u8]) -> Option<u32>
     Some(number)
 }
 
-// What stands before the first comma, and what behind it.
+// What stands before the first comma, and what after it.
 fn at_comma(text: &[u8]) -> Option<(&[u8], &[u8])>
     ensures some { IfSome result (λ x. text.now ≡ x.0.now ++ 44 ∷ x.1.now) }
     ensures no_comma { IfSome result (λ x. ¬ (Contains x.0.now 44)) }

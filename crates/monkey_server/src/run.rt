@@ -96,7 +96,7 @@ fn misuse<H: Host>(host: &mut H) -> Status
 
 /// Does all that the program does with the words of its command line, its own name left out. `pipe LEVEL WORDS` serves one
 /// session over the host's standard link, at Read Committed (`rc`), Read Atomic (`ra`) or Causal Consistency (`cc`), with the numbers of
-/// WORDS as the choice words and 0 behind them; other words print the usage line.
+/// WORDS as the choice words and 0 after them; other words print the usage line.
 ///
 /// The status is 0 where the session ended well or was a cancel request; 1 where its input was cut short or was no messages, where its
 /// start was refused, or where more bytes were wanted than are read; 2 for the usage line; 3 where reading failed; 4 where writing failed;

@@ -34,7 +34,7 @@ fn fault_of(fault: &io::Error) -> WordsFault
     }
 }
 
-// The words of the command line behind the program's own name.
+// The words of the command line after the program's own name.
 fn words_of(rt: &HostRuntime) -> Result<Vec<Text>, WordsFault> {
     let mut words = Vec::new(rt.alloc());
     let args = match env::args(rt) {

@@ -45,7 +45,7 @@ pub record Stopped (p : Past) (v : List ℕ) (c : Call) (a : Answer) (m : Past) 
   pub declines : Declines p c (faults.Full limit) m
   pub draws : Draws DrawsFirst p v c (refused (faults.Full limit)) u
 
--- a ride that asks a call goes on behind its answer
+-- a ride that asks a call goes on after its answer
 pub record Turned (c : Call) (rest : Answer → Script) (said : Said) (p : Past) (v : List ℕ) (out : Said) (end : End) (q : Past) (w : List ℕ) : Type 0 where
   pub answer : Answer
   pub more : List Entry

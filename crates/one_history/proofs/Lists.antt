@@ -25,7 +25,7 @@ contains_later x xs z (k, within, at) = (suc k, omega arith, at)
 pub contains_none : {X : Type 0} (z : X) → Contains [] z → ⊥
 contains_none z (k, within, at) = omega arith
 
--- each is before all that stand behind it
+-- each is before all that stand after it
 abbrev pub Ascends : {X : Type 0} → (X → X → Type 0) → List X → Type 0
 Ascends R [] = Unit {0}
 Ascends {X} R (x ∷ xs) = ((y : X) → Contains xs y → R x y) × Ascends R xs
@@ -46,7 +46,7 @@ ascends {X} R trans (x ∷ z ∷ zs) next =
       on,
     )
 
--- what is in the one and not its first is in the other behind its first
+-- what is in the one and not its first is in the other after its first
 rest_held : {X : Type 0} (R : X → X → Type 0) (x : X) (xs ys : List X) → ((a : X) → R a a → ⊥) → Ascends R (x ∷ xs) →
     (z : X) → Contains xs z → Contains (x ∷ ys) z → Contains ys z
 rest_held {X} R x xs ys never up z there also =

@@ -26,7 +26,7 @@ none_lost : (end : End) (lost : List ℕ) → end ≢ ends.WriteFault → LacksB
 none_lost ends.WriteFault lost never lacks = absurd (never refl)
 none_lost _ lost never lacks = lacks
 
--- where no write failed, all that was told was written behind what stood there
+-- where no write failed, all that was told was written after what stood there
 record Wrote (f g : Sight) (t : Traffic) (sent : List ℕ) : Type 0 where
   pub to : Traffic
   pub is : g.traffic ≡ Some to

@@ -299,7 +299,7 @@ waits_grows phase held said (refused why ∷ es) out end goes = absurd (astray_e
 waits_grows phase held said (short final n ∷ es) out end goes = absurd (astray_ended said out end goes.is)
 waits_grows phase held said (unsent n ∷ es) out end goes = absurd (astray_ended said out end goes.is)
 
--- a ride that waits goes on behind the stop
+-- a ride that waits goes on after the stop
 pub record Halted (phase : Phase) (held : ℕ) (said : Said) (p : Past) (v : List ℕ) (out : Said) (end : End) (q : Past) (w : List ℕ) : Type 0 where
   pub cause : Stop
   pub es : List Entry

@@ -1,4 +1,4 @@
--- Two rides over one call get one answer, and stand at one past behind it.
+-- Two rides over one call get one answer, and stand at one past after it.
 use Rattle.std.proofs.Common.{◌≡◌, inl, inr, ◌⊎◌, ℕ, ◌+◌, List, [], ◌∷◌, ◌++◌, None, length, take, refl, sym, ◌∙◌, ap, subst, arith}
 use Rattle.std.proofs.lemmas.List.{length_push}
 use Rattle.cell_base.specs.declared.cell.Cell.{Cell}
@@ -223,7 +223,7 @@ leads_last : (s : Script) (said : Said) (p : Past) (v : List ℕ) (q : Past) (w 
     Rides s said es p v out end q w → Leads p q
 leads_last s said p v q w out end es rides = lawful_leads DrawsFirst p v rides.calls es q w rides.lawful
 
--- scripts that ask one call agree where they agree behind each answer
+-- scripts that ask one call agree where they agree after each answer
 pub ask_agrees : (E : End → Type 0) → (c : Call) (s t : Answer → Script) → ((a : Answer) → Agree E (s a) (t a)) → Agree E (ask c s) (ask c t)
 ask_agrees E c s t agree = record {
   left = ask_grows c s (λ a. (agree a).left);

@@ -1,7 +1,7 @@
 // Texts with their tokens or fault, found by hand from the rules.
 
 /// Each text with its tokens, or its fault with its place. A word is written `w:`, a quoted name `q:`, a string `s:`, a
-/// number `n:` and a parameter `p:`, each with what it holds, a sign by its name, and behind each token stand its two
+/// number `n:` and a parameter `p:`, each with what it holds, a sign by its name, and after each token stand its two
 /// places.
 pub const LEXEMES: &[(&str, &str)] = &[
     ("select", "w:select 0-6"),

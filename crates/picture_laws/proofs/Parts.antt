@@ -97,7 +97,7 @@ other_new number before part other = one number before part other (number == par
     one number before part other true is = absurd (other (sym (eqb-true number part.table is)))
     one number before part other false is = refl
 
--- the parts of some entries, behind the tables that stand before
+-- the parts of some entries, after the tables that stand before
 abbrev AreFirst : List Table → List ℕ → List ℕ → List (List ℕ) → List (Option Key) → Type 0
 AreFirst tables before numbers columns points =
     parts_from tables before numbers columns points ≡ filter (is_new before) (first_parts (entry_parts tables numbers columns points))

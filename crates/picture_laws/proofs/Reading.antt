@@ -18,7 +18,7 @@ use Rattle.picture_laws.specs.Shown.{point_or, keys_of, is_there, shown_row, sho
 use Rattle.picture_laws.specs.Asked.{asks_key, asks_scan, asks_part}
 use Rattle.picture_laws.proofs.Rows.{row_shown}
 
--- one more item behind those that stand before
+-- one more item after those that stand before
 one_more : {A : Type 0} (before : List A) (x : A) (more : List A) → (before ++ x ∷ []) ++ more ≡ before ++ x ∷ more
 one_more before x more = append_assoc before (x ∷ []) more
 

@@ -58,7 +58,7 @@ fn push_outcome(alloc: Global, out: &mut String, outcome: &Outcome) -> Result<()
     }
 }
 
-/// Puts a demand behind others.
+/// Puts a demand after others.
 pub fn push_demand(alloc: Global, out: &mut String, demand: &Demand) -> Result<(), AllocError> {
     match demand {
         Demand::Scan(table) => out.push_str(format!(in alloc; "scan {table}, ")?.as_str()),

@@ -112,7 +112,7 @@ pub const ORDERS: &[(&str, &str)] = &[
 /// Which fault is told.
 pub const FAULTS: &[(&str, &str)] = &[
     ("SELECT k FROM t WHERE 10 / v = 1", "S22012"),
-    // What stands behind a condition that isn't true is evaluated too.
+    // What stands after a condition that isn't true is evaluated too.
     ("SELECT k FROM t WHERE k = 1 AND 10 / v = 1", "S22012"),
     (
         "SELECT a.k FROM t a JOIN u b ON a.k = b.id WHERE 1 / a.v = 1",

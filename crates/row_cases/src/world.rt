@@ -144,7 +144,7 @@ fn push_long(
     rows.push((Key::Int(key), values))
 }
 
-/// So many rows of `w` with texts of 65,536 bytes, and one with a text of this length behind them.
+/// So many rows of `w` with texts of 65,536 bytes, and one with a text of this length after them.
 pub fn long_picture(alloc: Global, count: u32, last: usize) -> Result<Items<TableRows>, Memory> {
     let mut rows = Items::new(alloc);
     for key in 0..count {

@@ -44,7 +44,7 @@ in_calls : (e a : TypedExpr) (members : List TypedExpr) (denies : Bool) → e.no
 in_calls e a members denies is =
     ap (λ m. m.calls) (at_node e (In a members denies) is) ∙ ap (λ (f : SqlType → Meaning). (f e.kind).calls) (at_In a members denies) ∙ ap (λ cs. (meaning a).calls ++ cs) (members_calls members)
 
--- ---- behind the calls that stand there
+-- ---- after the calls that stand there
 
 abbrev Behind : List Call → List Call → List groups.Call → Type 0
 Behind old new calls = map meant new ≡ map meant old ++ map at_start calls

@@ -27,7 +27,7 @@ more_is f x xs ys y done o cut e before = sym (step_more f x xs y done e) ∙ ap
 pub fault_is : {A B : Type 0} (f : A → Outcome B) (x : A) (xs ys : List A) (code : SqlState) (done : List B) (o : Outcome (List B)) → ys ≡ x ∷ xs → f x ≡ Err code → with_rest f done ys ≡ o → o ≡ Err code
 fault_is f x xs ys code done o cut e before = sym before ∙ ap (with_rest f done) cut ∙ step_fault f x xs code done e
 
--- ---- a list with one item more behind
+-- ---- a list with one item more after
 
 pub all_snoc : {A B : Type 0} (f : A → Outcome B) (xs : List A) (x : A) (ys : List B) (y : B) → all_of (map f xs) ≡ Ok ys → f x ≡ Ok y → all_of (map f (xs ++ x ∷ [])) ≡ Ok (ys ++ y ∷ [])
 all_snoc f [] x [] y h e = rw e refl

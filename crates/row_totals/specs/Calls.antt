@@ -28,7 +28,7 @@ at_start call = (call.operand, started call.kind call.function)
 abbrev pub added_to : Row → Call → Outcome Call
 added_to row call = and_then (operand_value call.operand row) (λ v. Ok (record { operand = call.operand; tally = with_value call.tally v }))
 
--- exactly the outcome, unless memory runs out, where the value stands behind a reference
+-- exactly the outcome, unless memory runs out, where the value stands after a reference
 abbrev pub Leaves : {A B : Type 0} → Result A SqlFault → B → Outcome B → Type 0
 Leaves (Ok a) new outcome = outcome ≡ Ok new
 Leaves (Err (State code)) new outcome = outcome ≡ Err code

@@ -21,7 +21,7 @@ pub struct Call {
     pub tally: Tally,
 }
 
-/// Puts the calls of an expression behind the others.
+/// Puts the calls of an expression after the others.
 #[cycle(collects)]
 pub fn collect(alloc: Global, expr: &TypedExpr, calls: &mut Vec<Call>) -> Result<(), Memory>
     ensures { OnOk result (map meant calls.new.items ≡ map meant calls.old.items ++ map at_start (meaning expr.now).calls) }
@@ -56,7 +56,7 @@ fn copied(alloc: Global, operand: &Option<Boxed<TypedExpr>>) -> Result<Option<Ty
     }
 }
 
-/// Puts the calls of some expressions behind the others.
+/// Puts the calls of some expressions after the others.
 #[cycle(collects)]
 pub fn collect_each(alloc: Global, exprs: &[TypedExpr], calls: &mut Vec<Call>) -> Result<(), Memory>
     ensures { OnOk result (map meant calls.new.items ≡ map meant calls.old.items ++ map at_start (calls_of exprs.now)) }

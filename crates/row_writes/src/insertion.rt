@@ -77,7 +77,7 @@ fn keyed_rows(
 /// No row has more values than the table has columns.
 ///
 /// Row by row: what the conversion of a value to its column's type gives; `S23502` where a column that is never null is null,
-/// `S23514` where a CHECK is false. Behind all rows: `S23505` where a key stands twice (PostgreSQL's documentation,
+/// `S23514` where a CHECK is false. After all rows: `S23505` where a key stands twice (PostgreSQL's documentation,
 /// "INSERT").
 #[tactic(auto, unfolding(row_meaning::specs::Insertion::rows_to_insert))]
 pub fn rows_to_insert(

@@ -150,7 +150,7 @@ list_from_adds Is size edges range adds =
           range _ _ e;
     }
 
--- more pairs behind a list of pairs
+-- more pairs after a list of pairs
 pub list_more :
     (P Q R : ℕ → ℕ → Type 0) (size : ℕ) (old new : List Edge) → ((a b : ℕ) → P a b → R a b) → ((a b : ℕ) → Q a b → R a b) →
     ((a b : ℕ) → R a b → P a b ⊎ Q a b) → ((a b : ℕ) → R a b → (a < size) × (b < size)) → IsPairList P size old → AddsPairs Q old new →

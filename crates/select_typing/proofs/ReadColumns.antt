@@ -66,7 +66,7 @@ any-append : {A : Type 0} (p : A → Bool) (xs ys : List A) → list_any p (xs +
 any-append p [] ys = refl
 any-append p (x ∷ xs) ys = ap (λ b. p x || b) (any-append p xs ys) ∙ sym (or_assoc (p x) (list_any p xs) (list_any p ys))
 
--- three lists of expressions, one behind another
+-- three lists of expressions, one after another
 pub marked_all : {A B : Type 0} (before first second after : List Bool) (p : ℕ → A → Bool) (f : B → A) (xs ys : List A) (zs : List B)
     → IsMarked before first (λ c. list_any (p c) xs) → IsMarked first second (λ c. list_any (p c) ys)
     → IsMarked second after (λ c. list_any (λ z. p c (f z)) zs)

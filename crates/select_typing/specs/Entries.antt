@@ -27,7 +27,7 @@ entry_or (Err code) = Err code
 abbrev pub seen : FromEntry → Seen
 seen e = record { name = e.name; table = e.found.table }
 
--- an entry behind those that stand before
+-- an entry after those that stand before
 abbrev pub entry_of : List Table → List Entry → TableRef → Outcome Entry
 entry_of tables before r =
     and_then (table_named tables r.name) (λ t.

@@ -1,4 +1,4 @@
--- The parts of a SELECT behind FROM, and the typed SELECT of them.
+-- The parts of a SELECT after FROM, and the typed SELECT of them.
 use Rattle.std.specs.Prelude.{Bool, List, ◌++◌, [], map, Option, Ok}
 use Rattle.sql_tree.specs.declared.statement.Select.{Select}
 use Rattle.sql_tree.specs.declared.typed.TypedSelect.{TypedSelect}

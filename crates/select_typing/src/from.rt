@@ -46,7 +46,7 @@ fn name_of<'a>(table: &'a TableRef) -> &'a Text
     }
 }
 
-/// An entry behind those that stand before.
+/// An entry after those that stand before.
 fn entry_of<'a>(
     tables: &'a [Table],
     before: &[FromEntry<'a>],

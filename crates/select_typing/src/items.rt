@@ -58,14 +58,14 @@ fn item_width(item: &Item, scope: &[Entry<'_>]) -> usize
     }
 }
 
-/// Whether an item's columns are too many behind so many.
+/// Whether an item's columns are too many after so many.
 fn is_too_wide(before: usize, item: &Item, scope: &[Entry<'_>]) -> bool
     ensures { result ≡ nat_lt 1664 (before + spec.width (sources scope.now) item.now) }
 {
     before.saturating_add(item_width(item, scope)) > MAX_OUTPUTS
 }
 
-/// The columns of an item behind those that stand before.
+/// The columns of an item after those that stand before.
 fn with_item(
     alloc: Global,
     before: Items<Output>,

@@ -33,7 +33,7 @@ fn with_condition(before: Items<TypedExpr>, last: TypedExpr) -> Result<Items<Typ
     Ok(all)
 }
 
-/// The condition of an entry, where it has one, behind those that stand before.
+/// The condition of an entry, where it has one, after those that stand before.
 fn with_on(
     alloc: Global,
     before: Items<TypedExpr>,

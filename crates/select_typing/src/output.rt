@@ -22,7 +22,7 @@ pub struct Columns {
     pub items: Items<TypedExpr>,
 }
 
-/// The columns with one more behind them.
+/// The columns with one more after them.
 pub fn with_output(before: Items<Output>, last: Output) -> Result<Items<Output>, Memory>
     ensures { IfOk result (λ all. all ≡ before ++ last ∷ []) }
 {

@@ -39,7 +39,7 @@ fn place_of(grouped: bool) -> Place
     if grouped { Place::Group } else { Place::Row }
 }
 
-/// The parts behind FROM, in the order in which they are typed.
+/// The parts after FROM, in the order in which they are typed.
 fn parts_of(
     alloc: Global,
     select: &Select,

@@ -38,7 +38,7 @@ fn column_output(alloc: Global, entry: u32, number: u32, column: &Column) -> Res
     })
 }
 
-/// The columns of an entry's table behind those that stand before.
+/// The columns of an entry's table after those that stand before.
 fn with_columns(
     alloc: Global,
     before: Items<Output>,
@@ -55,7 +55,7 @@ fn with_columns(
     Ok(all)
 }
 
-/// The columns of all entries behind those that stand before.
+/// The columns of all entries after those that stand before.
 fn with_all_columns(
     alloc: Global,
     before: Items<Output>,
@@ -71,7 +71,7 @@ fn with_all_columns(
     Ok(all)
 }
 
-/// The columns that `*` stands for, behind those that stand before.
+/// The columns that `*` stands for, after those that stand before.
 pub fn with_star(
     alloc: Global,
     before: Items<Output>,

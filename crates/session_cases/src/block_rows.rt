@@ -210,7 +210,7 @@ fn update_misses_its_row() -> &'static Row {
     &UPDATE_MISSES_ITS_ROW
 }
 
-/// The session of this number, from 0 on; none behind the last.
+/// The session of this number, from 0 on; none after the last.
 pub fn block_row(number: usize) -> Option<&'static Row> {
     match number {
         0 => Some(cut_inside_a_block()),

@@ -116,7 +116,7 @@ const NEWEST_ROWS: Row = Row {
     session: Some(1),
 };
 
-// Two deletes that read the state before the row and find nothing; a row that is seen behind its deletion, and deleted again.
+// Two deletes that read the state before the row and find nothing; a row that is seen after its deletion, and deleted again.
 const OLDER_STATES: Row = Row {
     words: &[0, 0, 0, 1, 0, 1, 0, 1, 0, 1, 2],
     input: &[
@@ -396,7 +396,7 @@ const FAULTS_AND_NULLS: Row = Row {
     session: Some(1),
 };
 
-// Text keys: two deletes whose conditions name a key beside more, and one that names it behind OR.
+// Text keys: two deletes whose conditions name a key beside more, and one that names it after OR.
 const TEXT_KEYS: Row = Row {
     words: &[0, 0, 1, 0, 0, 1, 0, 0, 1, 0, 0, 1, 2, 2],
     input: &[
@@ -494,7 +494,7 @@ fn text_keys() -> &'static Row {
     &TEXT_KEYS
 }
 
-/// The session of this number, from 0 on; none behind the last.
+/// The session of this number, from 0 on; none after the last.
 pub fn delete_row(number: usize) -> Option<&'static Row> {
     match number {
         0 => Some(newest_rows()),

@@ -180,7 +180,7 @@ const ENDS_INSIDE_A_BLOCK: Row = Row {
     session: Some(1),
 };
 
-// Requests for encryption, and a cancel. What stands behind it isn't looked at.
+// Requests for encryption, and a cancel. What stands after it isn't looked at.
 const CANCELLED: Row = Row {
     words: &[],
     input: &[
@@ -312,7 +312,7 @@ fn shows_level() -> &'static Row {
     &SHOWS_LEVEL
 }
 
-/// The session of this number, from 0 on; none behind the last.
+/// The session of this number, from 0 on; none after the last.
 pub fn extended_row(number: usize) -> Option<&'static Row> {
     match number {
         0 => Some(discards_up_to_sync()),

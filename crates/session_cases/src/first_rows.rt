@@ -366,7 +366,7 @@ fn no_table_yet() -> &'static Row {
     &NO_TABLE_YET
 }
 
-/// The session of this number, from 0 on; none behind the last.
+/// The session of this number, from 0 on; none after the last.
 pub fn first_row(number: usize) -> Option<&'static Row> {
     match number {
         0 => Some(misses_the_row_by_second_word()),

@@ -89,7 +89,7 @@ fn unseen_duplicate() -> &'static Row {
     &UNSEEN_DUPLICATE
 }
 
-/// The session of this number, from 0 on; none behind the last.
+/// The session of this number, from 0 on; none after the last.
 pub fn key_row(number: usize) -> Option<&'static Row> {
     match number {
         0 => Some(seen_duplicate()),

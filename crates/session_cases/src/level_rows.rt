@@ -321,7 +321,7 @@ fn begins_at_the_level_of_the_server() -> &'static Row {
     &BEGINS_AT_THE_LEVEL_OF_THE_SERVER
 }
 
-/// The session of this number at Read Committed, from 0 on; none behind the last.
+/// The session of this number at Read Committed, from 0 on; none after the last.
 pub fn level_row(number: usize) -> Option<&'static Row> {
     match number {
         0 => Some(chooses_a_level()),
@@ -331,7 +331,7 @@ pub fn level_row(number: usize) -> Option<&'static Row> {
     }
 }
 
-/// The session of this number at Causal Consistency, from 0 on; none behind the last.
+/// The session of this number at Causal Consistency, from 0 on; none after the last.
 pub fn causal_row(number: usize) -> Option<&'static Row> {
     match number {
         0 => Some(begins_at_the_level_of_the_server()),

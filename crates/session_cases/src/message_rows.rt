@@ -128,7 +128,7 @@ const FAILED_BLOCK: Row = Row {
     session: Some(1),
 };
 
-// A syntax error behind a good statement.
+// A syntax error after a good statement.
 const SYNTAX_ERROR_BEHIND_A_STATEMENT: Row = Row {
     words: &[0],
     input: &[STARTUP, b"Q\0\0\0\x16SELECT 1; SELEC 2\0", TERMINATE],
@@ -267,7 +267,7 @@ fn driver() -> &'static Row {
     &DRIVER
 }
 
-/// The session of this number, from 0 on; none behind the last.
+/// The session of this number, from 0 on; none after the last.
 pub fn message_row(number: usize) -> Option<&'static Row> {
     match number {
         0 => Some(encryption_refused()),

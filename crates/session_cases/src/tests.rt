@@ -83,7 +83,7 @@ enum Group {
     Causal,
 }
 
-// The session of this number, from 0 on; none behind the last.
+// The session of this number, from 0 on; none after the last.
 fn row_at(group: Group, number: usize) -> Option<&'static Row> {
     match group {
         Group::First => first_row(number),

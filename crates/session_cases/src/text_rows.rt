@@ -290,7 +290,7 @@ fn texts_outside_the_subset() -> &'static Row {
     &TEXTS_OUTSIDE_THE_SUBSET
 }
 
-/// The session of this number, from 0 on; none behind the last.
+/// The session of this number, from 0 on; none after the last.
 pub fn text_row(number: usize) -> Option<&'static Row> {
     match number {
         0 => Some(arithmetic()),

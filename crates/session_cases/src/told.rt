@@ -108,7 +108,7 @@ pub fn words(alloc: Global, bytes: &[u8]) -> Result<Vec<u8>, AllocError> {
     Ok(out)
 }
 
-// The type and the body of the first message, and what stands behind it.
+// The type and the body of the first message, and what stands after it.
 fn first_message(bytes: &[u8]) -> Option<(u8, &[u8], &[u8])> {
     let [kind, _, _, high, low, behind @ ..] = bytes else {
         return None;
@@ -142,7 +142,7 @@ fn push_printed(out: &mut Vec<u8>, body: &[u8]) -> Result<(), AllocError> {
     Ok(())
 }
 
-// The code, which stands behind the two severities.
+// The code, which stands after the two severities.
 fn push_code(out: &mut Vec<u8>, body: &[u8]) -> Result<(), AllocError> {
     let mut ended: u8 = 0;
     for byte in body {

@@ -1,4 +1,4 @@
--- What stands behind an answer, and behind a reply that was sent.
+-- What stands after an answer, and after a reply that was sent.
 use Rattle.std.proofs.Common.{◌≡◌, Bool, true, false, ℕ, List, ◌∷◌, length, refl, sym, ◌∙◌, ap, subst, Option, Some, None}
 use Rattle.std.specs.Vec.Iter.{into_iter_items}
 use Rattle.history_core.specs.declared.event.Event.{Event}
@@ -36,7 +36,7 @@ book_message (calls.Book d) c is = let same : d ≡ c = cc in ap (λ (x : Call).
 book_message calls.Send c is = cc
 book_message calls.Nothing c is = cc
 
--- the message goes on behind its reply
+-- the message goes on after its reply
 pub sends_on : (old new : Runner) (short : Bool) (w : Option Shortage) → running.IsBusy new.stage →
     (short ≡ false → w ≡ None) → (short ≡ true → w ≡ Some shortages.Passing) →
     ((outside : Outside) (said : Said) (es : List Entry) →

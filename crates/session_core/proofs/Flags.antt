@@ -28,7 +28,7 @@ has_short-with_wanting : (w : Option Shortage) (sent : List ℕ) → has_short (
 has_short-with_wanting (Some shortage) sent = refl
 has_short-with_wanting None sent = refl
 
--- a want of memory may stand behind
+-- a want of memory may stand after
 pub flag-fed : (flag now : Bool) (w : Option Shortage) (es : List Entry) (sent : List ℕ) → flag ≡ has_short es → now ≡ (flag || is_some w) →
     now ≡ has_short (es ++ with_wanting w sent [])
 flag-fed flag now w es sent e f =
@@ -61,7 +61,7 @@ is_short-entry answers.Committed e = refl
 is_short-entry answers.RolledBack e = refl
 is_short-entry (answers.Shown n) e = refl
 
--- an answer, and a want of memory that may stand behind it
+-- an answer, and a want of memory that may stand after it
 pub flag-answered : (flag now both a_wants : Bool) (w : Option Shortage) (es : List Entry) (a : Answer) (e : Event) (sent : List ℕ) →
     flag ≡ has_short es → now ≡ (flag || both) → both ≡ (a_wants || is_some w) →
     a_wants ≡ wants_memory a → now ≡ has_short ((es ++ entry_for a e ∷ []) ++ with_wanting w sent [])

@@ -72,7 +72,7 @@ unless_short-twice false k rest said (short false n ∷ es) =
 unless_short-twice final k rest said (unsent n ∷ es) = refl
 unless_short-twice final k rest said (stop cause ∷ es) = refl
 
--- behind more bytes no failed write stands here any more
+-- after more bytes no failed write stands here any more
 pub unless_unsent-passes : (before : ℕ) (k rest : Script) (said : Said) (l : ℕ) (es : List Entry) → before < length said.bytes →
     IsFrom l (length said.bytes) es → unless_unsent before k rest said es ≡ rest said es
 unless_unsent-passes before k rest said l [] b h = refl
@@ -94,7 +94,7 @@ IsFrom-weaker l m sent (short final n ∷ es) h f = omega (arith, h, f)
 IsFrom-weaker l m sent (unsent n ∷ es) h f = f
 IsFrom-weaker l m sent (stop cause ∷ es) h f = f
 
--- what stands behind more bytes stands behind fewer
+-- what stands after more bytes stands after fewer
 pub IsFrom-later : (l : ℕ) (sent reply : List ℕ) (es : List Entry) → 0 < length reply → IsFrom l (length (sent ++ reply)) es →
     IsFrom 1 (length sent) es
 IsFrom-later l sent reply [] some f = f

@@ -116,7 +116,7 @@ look_fits c p q known tables is a legal =
       sound_behind a.before tables (subst (λ (ts : List Table). All IsSound ts) a.whole legal.tables.sound),
     )
 
--- ---- a call behind the question whether a cell was written
+-- ---- a call after the question whether a cell was written
 
 All-both : {A : Type 0} (P : A → Type 0) (xs ys : List A) → All P xs → All P ys → All P (xs ++ ys)
 All-both P xs ys h k = All-append P xs ys h k

@@ -94,7 +94,7 @@ last_more : (es b : List Entry) (sent lost : List ℕ) → IsOfLast es sent lost
 last_more es b sent lost (inl none) = inl none
 last_more es b sent lost (inr (n, has, le)) = inr (n, Contains-append_left es b (unsent n) has, le)
 
--- a call of the book; a want of memory of the session may stand behind it
+-- a call of the book; a want of memory of the session may stand after it
 pub Ran-answered : {W : Type 0} (gives : W → ℕ → W → Type 0) (level : Level) (p : Past) (v : W) (f : Sight) (s r : Session) (q q' : Past)
     (w w' : W) (g : Sight) (many : ℕ) (c : Call)
     (a : Answer) (e : Event) →
@@ -248,7 +248,7 @@ Blames-stopped stops.ReadFault (Some ends.ReadFault) f g taken i k = k
 Blames-stopped stops.Spent (Some ends.Spent) f g taken i k = k
 Blames-stopped _ _ f g taken i k = absurd i
 
--- a stop, behind a read that gave nothing
+-- a stop, after a read that gave nothing
 pub Ran-stopped : {W : Type 0} (gives : W → ℕ → W → Type 0) (level : Level) (p : Past) (v : W) (f : Sight) (s r : Session) (q : Past)
     (w : W) (g h : Sight) (many : ℕ) (cause : Stop) →
     ((taken : List ℕ) (es : List Entry) (asked : List Call) (sent : List ℕ) → Stands s taken es asked sent →

@@ -34,7 +34,7 @@ session-short phase known (faulty f) said es =
     unless_short-takes true (ending (owed_by phase) ends.Memory) (ending (owed_by phase) (ends.Protocol f)) said es
 session-short phase known unread said es = unless_short-takes true (ending (owed_by phase) ends.Memory) lost said es
 
--- what stands before a message that is passed over may stand behind it
+-- what stands before a message that is passed over may stand after it
 session-again : (phase : Phase) (known : Knowledge) (talk : Talk) (said : Said) (es : List Entry) →
     unless_short true (ending (owed_by phase) ends.Memory) (session phase known talk) said es ≡ session phase known talk said es
 session-again phase known (asks a talk) said es =

@@ -97,8 +97,8 @@ StateAfter calls.Commit answers.Committed old new = new ≡ in_session (session_
 StateAfter calls.Rollback answers.RolledBack old new = new ≡ in_session (session_of old)
 StateAfter _ _ old new = new ≡ old
 
--- The calls were answered by the entries in order, from one past and one value of the words on to others. Behind an answer the book's
--- session is where the answer leaves it, and behind a refusal where it was.
+-- The calls were answered by the entries in order, from one past and one value of the words on to others. After an answer the book's
+-- session is where the answer leaves it, and after a refusal where it was.
 abbrev pub Lawful : {W : Type 0} → (W → ℕ → W → Type 0) → Past → W → List Call → List Entry → Past → W → Type 0
 Lawful gives p v [] [] q w = (q ≡ p) × (w ≡ v)
 Lawful gives p v (c ∷ cs) [] q w = ⊥

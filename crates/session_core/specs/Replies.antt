@@ -45,7 +45,7 @@ bytes_of startup replies.Startup = startup
 bytes_of startup (replies.Ready state) = ready_reply state
 bytes_of startup (replies.Unsupported state) = error_reply states.S0A000
 
--- the phase behind a reply
+-- the phase after a reply
 abbrev pub phase_behind : Reply → Phase
 phase_behind replies.NoEncryption = phases.Startup
 phase_behind replies.Startup = phases.Normal ready_states.Idle

@@ -69,7 +69,7 @@ Blames (Some ends.WriteFault) f g taken = Rose f.write_faults g.write_faults
 Blames (Some ends.Spent) f g taken = length taken ≡ most_read
 Blames _ f g taken = Unit {0}
 
--- What a failed write left unsent is a part of the reply that was told last: behind as many bytes as had been told before that reply.
+-- What a failed write left unsent is a part of the reply that was told last: after as many bytes as had been told before that reply.
 abbrev pub IsOfLast : List Entry → List ℕ → List ℕ → Type 0
 IsOfLast es sent lost = (lost ≡ []) ⊎ ((n : ℕ) × Contains es (unsent n) × (n + length lost ≤ length sent))
 

@@ -258,7 +258,7 @@ IsStopped _ _ = ⊥
 
 -- ---- what a state stands for
 
--- Whatever comes, told of the lists grown by it is what the state goes on with. `whole` puts what the client says from here on behind what
+-- Whatever comes, told of the lists grown by it is what the state goes on with. `whole` puts what the client says from here on after what
 -- it said before.
 pub record StandsFor (stage : Stage) (r : Runner) (startup : List ℕ) (held : Held) (taken : List ℕ) (entries : List Entry)
     (asked : List Call) (sent : List ℕ) : Type 0 where

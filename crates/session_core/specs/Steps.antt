@@ -27,7 +27,7 @@ use Rattle.session_core.specs.Stands.{on, goes_on, wants, owed_at, after_reply, 
 
 -- ---- steps
 
--- the session goes on behind a want of memory, where there was one
+-- the session goes on after a want of memory, where there was one
 abbrev pub IsPassing : Option Shortage → Type 0
 IsPassing None = Unit {0}
 IsPassing (Some shortages.Passing) = Unit {0}
@@ -58,7 +58,7 @@ abbrev pub LeadsTo : Stage → Script → Type 0
 LeadsTo stage script = IsLast stage × ((r : Runner) (startup : List ℕ) (talk : Talk) (said : Said) (es : List Entry) →
     script said es ≡ goes_on stage r startup talk said es)
 
--- the message stands behind the startup
+-- the message stands after the startup
 abbrev pub is_main : FrontendMessage → Bool
 is_main Ssl = false
 is_main Gss = false
@@ -131,13 +131,13 @@ Feeds phase piece before stage wanting after =
     ((after ≡ record before { rest = before.rest ++ piece }) × (wanting ≡ None) × (stage ≡ stages.Taking phase))
     ⊎ ((after ≡ before) × (wanting ≡ Some shortages.Ending) × LeadsTo stage (ending (owed_by phase) ends.Memory))
 
--- A reply that was sent leads on, with a want of memory behind it where there was one.
+-- A reply that was sent leads on, with a want of memory after it where there was one.
 abbrev pub Sends : Stage → Runner → Stage → Runner → Option Shortage → Type 0
 Sends stage r next after wanting =
     (startup : List ℕ) (talk : Talk) (said : Said) (es : List Entry) → IsFrom (least next) (length said.bytes) es →
     after_reply stage r talk said (with_wanting wanting said.bytes es) ≡ goes_on next after startup talk said es
 
--- An answer to a stage's call leads on, with a want of memory behind it where there was one.
+-- An answer to a stage's call leads on, with a want of memory after it where there was one.
 pub record Advances (stage : Stage) (r : Runner) (answer : Answer) (next : Stage) (after : Runner) (wanting : Option Shortage)
     (startup : List ℕ) : Type 0 where
   pub goes : (c : Call) (before : List ℕ) (talk : Talk) (said : Said) (es : List Entry) (e : Event) → wants stage r ≡ wishes.Book c →

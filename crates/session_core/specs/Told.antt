@@ -27,7 +27,7 @@ use Rattle.session_core.specs.declared.phase.Phase.TheVariants as phases
 use Rattle.session_core.specs.Talk.{Ask, encryption, cancel, start, userless, version, query, unread_query, terminate, sync, nothing, extended, function, Talk, asks, partial, faulty, unread}
 use Rattle.session_core.specs.Replies.{no_encryption, startup_reply, fatal_reply}
 
--- the session that is open behind an answer
+-- the session that is open after an answer
 abbrev pub opened_after : Option ℕ → Answer → Option ℕ
 opened_after number (answers.Opened session) = Some session
 opened_after number _ = number

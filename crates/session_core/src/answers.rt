@@ -1,4 +1,4 @@
-// What stands behind the answers that a session gets, and behind the replies that it has sent.
+// What stands after the answers that a session gets, and after the replies that it has sent.
 ghost use Rattle.std.specs.Prelude.{◌≡◌, ℕ, ◌+◌, ◌<◌, List, [], Bool, true, None, Option};
 ghost use Rattle.block_machine.specs.Calls.{Call as Asked};
 ghost use Rattle.block_machine.specs.Stages.{IsKnownAfter, IsSameButLevel, owed_after, wants_memory};
@@ -19,7 +19,7 @@ use cell_base::Memory;
 use history_core::BookFault;
 use std::alloc::Global;
 
-// The step behind a reply of a message that runs.
+// The step after a reply of a message that runs.
 fn run_on(runner: &mut Runner) -> Step
     requires holding { IsHolding Stage.Running runner.old }
     requires fit { IsFit runner.old }
@@ -49,7 +49,7 @@ fn run_on(runner: &mut Runner) -> Step
     }
 }
 
-/// The step behind a reply that was sent.
+/// The step after a reply that was sent.
 pub fn after_sent(stage: Stage, runner: &mut Runner) -> Step
     requires holding { IsHolding stage runner.old }
     requires fit { IsFit runner.old }
@@ -111,7 +111,7 @@ fn tell_startup(alloc: Global, session: u32, startup: &mut Vec<u8>) -> Step
     }
 }
 
-// The step behind the answer to a call of the session's own.
+// The step after the answer to a call of the session's own.
 fn answer_own(alloc: Global, stage: Stage, answer: Answer, startup: &mut Vec<u8>) -> Step
     requires fits { FitsWant (own_want stage) answer }
     ensures goes { (r : Machine) → Advances stage r answer result.stage r result.wanting startup.new.items }
@@ -131,7 +131,7 @@ fn answer_own(alloc: Global, stage: Stage, answer: Answer, startup: &mut Vec<u8>
     }
 }
 
-// The step behind the answer to a call of a message that runs.
+// The step after the answer to a call of a message that runs.
 fn answer_message(runner: &mut Runner, answer: Answer) -> Step
     requires fits { FitsWant (wants Stage.Running runner.old) answer }
     requires fit { IsFit runner.old }
@@ -154,7 +154,7 @@ fn answer_message(runner: &mut Runner, answer: Answer) -> Step
     }
 }
 
-/// The step behind the answer to a stage's call.
+/// The step after the answer to a stage's call.
 pub fn answered(
     alloc: Global,
     stage: Stage,
@@ -192,7 +192,7 @@ pub fn is_want(answer: &Answer) -> bool
     matches!(answer, Answer::Refused(BookFault::Memory))
 }
 
-/// The session that is open behind an answer.
+/// The session that is open after an answer.
 pub fn number_after(number: Option<u32>, answer: &Answer) -> Option<u32>
     ensures { result ≡ opened_after number answer.now }
 {

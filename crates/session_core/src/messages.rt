@@ -23,7 +23,7 @@ use client_framing::{FrameFault, Frames, FrontendMessage};
 use pg_framing::TransactionState;
 use std::alloc::Global;
 
-/// A want of memory behind which the session goes on, where there was one.
+/// A want of memory after which the session goes on, where there was one.
 pub fn passing(wanting: bool) -> Option<Shortage>
     ensures passing { IsPassing result }
     ensures calm { wanting ≡ false → result ≡ None }
@@ -233,7 +233,7 @@ pub fn take_message(alloc: Global, frames: &mut Frames, phase: Phase, runner: &m
     }
 }
 
-/// The step behind a piece that comes in where bytes are wanted.
+/// The step after a piece that comes in where bytes are wanted.
 pub fn feed_piece(frames: &mut Frames, phase: Phase, piece: &[u8]) -> Step
     requires started { frames.old.started ≡ has_started phase }
     ensures feeds { Feeds phase piece.now frames.old result.stage result.wanting frames.new }

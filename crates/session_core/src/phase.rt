@@ -8,7 +8,7 @@ pub enum Phase {
     Startup,
     /// The next message is served. The state of the transaction block is the one that was last told.
     Normal(TransactionState),
-    /// A message of the extended query has failed: messages are discarded up to the next Sync. The state is the block's state behind that
+    /// A message of the extended query has failed: messages are discarded up to the next Sync. The state is the block's state after that
     /// failure.
     Discarding(TransactionState),
 }

@@ -27,7 +27,7 @@ pub enum Finish {
     Fatal(Fatal),
 }
 
-/// A reply of the session's own, behind which the next message follows.
+/// A reply of the session's own, after which the next message follows.
 #[derive(Clone, Copy, Debug, PartialEq, Eq)]
 pub enum Reply {
     /// A request for encryption is refused.

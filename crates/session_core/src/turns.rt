@@ -1,4 +1,4 @@
-// The stages of a session that need no memory: what it owes, its ends, and what stands behind an answer of its own.
+// The stages of a session that need no memory: what it owes, its ends, and what stands after an answer of its own.
 ghost use Rattle.std.specs.Prelude.{◌≡◌, ◌≢◌, ℕ, ◌<◌, ◌≤◌, List, [], Bool, true, false, None};
 ghost use Rattle.block_machine.specs.Calls.{Call as Asked};
 ghost use Rattle.block_machine.specs.Messages as blocks;
@@ -21,7 +21,7 @@ use cell_base::SqlState;
 use history_core::BookFault;
 use pg_framing::TransactionState;
 
-/// A want of memory, by whether the session goes on behind it.
+/// A want of memory, by whether the session goes on after it.
 #[derive(Clone, Copy, Debug, PartialEq, Eq)]
 pub enum Shortage {
     /// It goes on.
@@ -67,7 +67,7 @@ pub fn end_at(finish: Finish) -> End
     }
 }
 
-/// The stage of an end behind its close.
+/// The stage of an end after its close.
 pub fn part(finish: Finish) -> Stage
     ensures leads { LeadsTo result (closed (end_of finish)) }
     ensures owed { (r : Runner) → owed_at result r ≡ Owed.Nothing }
@@ -110,7 +110,7 @@ pub fn leave(owed: Owed, finish: Finish) -> Stage
     }
 }
 
-/// The phase behind a reply of the session's own.
+/// The phase after a reply of the session's own.
 pub fn phase_behind(reply: Reply) -> Phase
     ensures { result ≡ replies_spec.phase_behind reply }
 {
@@ -166,7 +166,7 @@ pub fn refuse(state: TransactionState) -> Stage
     }
 }
 
-/// The stage behind the answer to a call of the session's own, where no memory is needed for it.
+/// The stage after the answer to a call of the session's own, where no memory is needed for it.
 pub fn advance(stage: Stage, answer: &Answer) -> Stage
     requires fits { FitsWant (own_want stage) answer.now }
     requires plain { IsPlain stage answer.now }

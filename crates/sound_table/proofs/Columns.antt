@@ -37,7 +37,7 @@ new_at before [] j c h e = absurd (cc)
 new_at before (x ∷ xs) zero c h e = let same : x ≡ c = cc in subst (λ (c : Column). has_name before c.name ≡ false) same h.0
 new_at before (x ∷ xs) (suc j) c h e = (without_last before (x.name ∷ []) c.name (new_at (before ++ x.name ∷ []) xs j c h.1 e)).0
 
--- what stands behind a column has another name
+-- what stands after a column has another name
 other_name : (before : List (List ℕ)) (x : Column) (xs : List Column) (j : ℕ) (c : Column)
     → AreNew before (x ∷ xs) → slice_get xs j ≡ Some c → x.name ≡ c.name → ⊥
 other_name before x xs j c h e same =
@@ -71,7 +71,7 @@ column_is before d =
     (λ v is. record { named = refl; new = new; column = record { width = width; default = is } }))
     (λ _. tt))
 
--- the columns of so many definitions, behind columns of these names
+-- the columns of so many definitions, after columns of these names
 pub record AreAdded (before : List (List ℕ)) (ds : List ColumnDef) (cs : List Column) : Type 0 where
   pub new : AreNew before cs
   pub long : length cs ≡ length ds

@@ -233,7 +233,7 @@ module _ (room : ℕ) (deep : Level → Parser Node) where
         (rw (c, q.reads r (omega arith), made_fits room (t.Binary o x y) (1 + max d f) r h) refl);
   }
 
-  -- ---- what stands in parentheses or behind NOT or a sign
+  -- ---- what stands in parentheses or after NOT or a sign
 
   abbrev pub Deeply : Level → List Mark → Expr → ℕ → Type 0
   Deeply l ts x d = (r : List Mark) → Ends l r → deep l (ts ++ r) ≡ Some (node x d, r)

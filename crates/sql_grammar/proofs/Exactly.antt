@@ -133,7 +133,7 @@ long (repeat a b) ts zs o n =
     let e = ap length o.parts.splits in
     omega (arith, length-append o.parts.front o.parts.rest)
 
--- ---- items one behind the other
+-- ---- items one after the other
 
 module _ {A : Type 0} (R : List Mark → List A → Type 0) (first f : List Pattern) (item : Parser (List A))
     (begun : (ts : List Mark) (x : List A) → R ts x → (r : List Mark) → any (first ++ f) (kind (front r)) ≡ true → any first (kind (front (ts ++ r))) ≡ true)

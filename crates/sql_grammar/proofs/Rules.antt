@@ -66,7 +66,7 @@ expression_sound most ts x r e =
     let f = expr_sound most ts a.value a.after a.first in
     same (spells (expression most)) ts a.value.tree a.after x r a.second (record { taken = f.taken; splits = f.splits; spelled = f.is })
 
--- lists behind what was found
+-- lists after what was found
 record TakesMore {A : Type 0} (R : List Mark → List A → Type 0) (whole : List Mark) (found zs : List A) (after : List Mark) : Type 0 where
   taken : List Mark
   items : List A

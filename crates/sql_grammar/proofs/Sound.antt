@@ -16,7 +16,7 @@ use Rattle.sql_grammar.proofs.Taken.{bind, Took, done, made_takes, pair_of, none
 abbrev pub SoundFor : ℕ → Level → Parser Node → Type 0
 SoundFor room l p = (ts : List Mark) (x : Node) (r : List Mark) → p ts ≡ Some (x, r) → Took room l ts x r
 
--- the marks in front of the rest spell the trees behind those that were found
+-- the marks in front of the rest spell the trees after those that were found
 pub record TookList (whole : List Mark) (found : List Expr) (before : ℕ) (y : List Expr × ℕ) (after : List Mark) : Type 0 where
   pub taken : List Mark
   pub trees : List Expr

@@ -117,7 +117,7 @@ abbrev pub comparison_at : Option Mark → Option Op
 comparison_at (Some m) = comparison m
 comparison_at None = None
 
--- Trees have at most the depth room. What stands in parentheses or behind NOT or a sign is read by deep.
+-- Trees have at most the depth room. What stands in parentheses or after NOT or a sign is read by deep.
 module _ (room : ℕ) (deep : Level → Parser Node) where
   unfoldable pub parens : Parser Node
   parens = do
@@ -216,7 +216,7 @@ module _ (room : ℕ) (deep : Level → Parser Node) where
     high ← read_sum
     made room (negation n (within left.tree low.tree high.tree)) (16 + max left.depth (max low.depth high.depth))
 
-  -- behind NOT
+  -- after NOT
   abbrev pub not_range_by : Node → Option Mark → Parser Node
   not_range_by left (Some (Key k.In)) = skip >> among true left
   not_range_by left (Some (Key k.Between)) = skip >> between true left
@@ -250,7 +250,7 @@ module _ (room : ℕ) (deep : Level → Parser Node) where
   unfoldable pub read_cmp : Parser Node
   read_cmp = read_rng >>= compared
 
-  -- behind IS
+  -- after IS
   unfoldable pub null_test : Node → Parser Node
   null_test left = do
     n ← not_word

@@ -40,7 +40,7 @@ key v = one (sought.Key v)
 abbrev pub sign : Sign → Syntax (Unit {0})
 sign v = one (sought.Sign v)
 
--- one behind the other, with the value of the second, or of the first
+-- one after the other, with the value of the second, or of the first
 infixr 20 ◌▹◌
 abbrev pub ◌▹◌ : {A B : Type 0} → Syntax A → Syntax B → Syntax B
 a ▹ b = map (λ p. p.1) (a ⨟ b)
@@ -254,17 +254,17 @@ assigned but = map (λ p. tree.Set p.0 p.1) (dotted but ⨟ setting_values)
 unfoldable pub transaction_modes : Syntax Statement
 transaction_modes = for tree.SetModes (word w.Transaction ▹ modes)
 
--- behind SET SESSION: CHARACTERISTICS AS TRANSACTION modes, or a setting whose first name is characteristics
+-- after SET SESSION: CHARACTERISTICS AS TRANSACTION modes, or a setting whose first name is characteristics
 unfoldable pub characteristics : Syntax Statement
 characteristics =
     word w.Characteristics ▹ either (reserved w.As ▹ transaction_modes) (map (λ p. tree.Set (join_names (codes "characteristics") p.0) p.1) (suffix ⨟ setting_values))
 
--- behind SET SESSION, where the word CHARACTERISTICS is looked at first
+-- after SET SESSION, where the word CHARACTERISTICS is looked at first
 unfoldable pub session_setting : Syntax Statement
 session_setting = either characteristics (assigned (w.Characteristics ∷ []))
 
 -- set := SET TRANSACTION modes | SET SESSION CHARACTERISTICS AS TRANSACTION modes | SET [SESSION | LOCAL] dotted ( TO | '=' ) sval { ',' sval }
--- Directly behind SET the words TRANSACTION, SESSION and LOCAL are no names.
+-- Directly after SET the words TRANSACTION, SESSION and LOCAL are no names.
 unfoldable pub set : Syntax Statement
 set =
     word w.Set ▹ either transaction_modes

@@ -71,7 +71,7 @@ begins (only test a) = begins a
 begins (either a b) = begins a ++ begins b
 begins (repeat a b) = if empty a then begins a ++ begins b else begins a
 
--- Lists one behind the other, put behind what was found. Each takes a mark, so there are no more than marks.
+-- Lists one after the other, put after what was found. Each takes a mark, so there are no more than marks.
 unfoldable pub repeat_from : {A : Type 0} → (Kind → Bool) → Parser (List A) → ℕ → List A → Parser (List A)
 repeat_from first item zero found = pure found
 repeat_from first item (suc turns) found = λ ts.

@@ -70,19 +70,19 @@ pub data Syntax : Type 0 → Type 1 where
   text : Syntax (List ℕ)
   -- an expression whose spelling is at most so deep
   expression : ℕ → Syntax Expr
-  -- one behind the other
+  -- one after the other
   ◌⨟◌ : {A B : Type 0} → Syntax A → Syntax B → Syntax (A × B)
   -- another value of it, or those alone that pass a test
   map : {A B : Type 0} → (A → B) → Syntax A → Syntax B
   only : {A : Type 0} → (A → Bool) → Syntax A → Syntax A
   -- the one or the other
   either : {A : Type 0} → Syntax A → Syntax A → Syntax A
-  -- a list, and any number of further ones behind it
+  -- a list, and any number of further ones after it
   repeat : {A : Type 0} → Syntax (List A) → Syntax (List A) → Syntax (List A)
 
 -- ---- what they spell
 
--- any number of lists one behind the other
+-- any number of lists one after the other
 pub data Repeats {A : Type 0} (R : List Mark → List A → Type 0) : List Mark → List A → Type 0 where
   none : Repeats R [] []
   more : {ts us : List Mark} {xs ys : List A} → R ts xs → Repeats R us ys → Repeats R (ts ++ us) (xs ++ ys)

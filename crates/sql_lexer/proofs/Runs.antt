@@ -33,7 +33,7 @@ pub rest_stops : (p : ℕ → Bool) (z : List ℕ) → begins p (drop (prefix_le
 rest_stops p [] = refl
 rest_stops p (b ∷ z) = rest_step p b z (rest_stops p z) (p b) refl
 
--- A text behind its first byte, as the longest run of a class and what follows it.
+-- A text after its first byte, as the longest run of a class and what follows it.
 pub record Run (p : ℕ → Bool) (z : List ℕ) (size : ℕ) : Type 0 where
   pub front : List ℕ
   pub after : List ℕ

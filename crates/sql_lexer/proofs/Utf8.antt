@@ -37,7 +37,7 @@ pub from : (a : List ℕ) (b : ℕ) (z : List ℕ) → b < 128 → IsUtf8 (a ++ 
 from a b z h u =
     rw (drop-append_seam a (b ∷ z)) at (IsUtf8-drop (a ++ b ∷ z) (length a) u (IsCharBoundary-before_ascii (a ++ b ∷ z) (length a) (seam_within a b z) (seam_low a b z h)))
 
--- a text behind an ASCII byte at its front
+-- a text after an ASCII byte at its front
 pub behind : (b : ℕ) (z : List ℕ) → b < 128 → IsUtf8 (b ∷ z) → IsUtf8 z
 behind b z h u = IsUtf8-drop (b ∷ z) 1 u (IsCharBoundary-after_ascii (b ∷ z) 0 u (omega arith) h)
 
@@ -105,7 +105,7 @@ past_word_low b e = leb-false 128 b ((or_parts (is_ascii_alphanumeric b || b == 
 pub word_text : (z : List ℕ) (end : ℕ) → IsUtf8 z → end ≤ length z → (end < length z → is_in_word (slice_index z end) ≡ false) → IsUtf8 (take end z)
 word_text z end u within stops = IsUtf8-take z end u (within, λ lt high. let low = past_word_low (slice_index z end) (stops lt) in omega arith)
 
--- ---- behind a lexeme
+-- ---- after a lexeme
 
 run_behind : (p : ℕ → Bool) → ((b : ℕ) → p b ≡ true → b < 128) → (bytes after : List ℕ) → AllAre p bytes → IsUtf8 (bytes ++ after) → IsUtf8 after
 run_behind p low [] after all u = u

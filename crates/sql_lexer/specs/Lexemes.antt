@@ -33,7 +33,7 @@ abbrev pub doubled : ℕ → List ℕ → List ℕ
 doubled q [] = []
 doubled q (b ∷ t) = if b == q then q ∷ q ∷ doubled q t else b ∷ doubled q t
 
--- what stands behind an opening quote: the text, each quote in it twice, and the closing quote
+-- what stands after an opening quote: the text, each quote in it twice, and the closing quote
 abbrev pub to_quote : ℕ → List ℕ → List ℕ
 to_quote q t = doubled q t ++ q ∷ []
 
@@ -56,7 +56,7 @@ sign_of_two b c =
 abbrev pub is_pair : ℕ → ℕ → Bool
 is_pair b c = is_some (sign_of_two b c) || (b == 45 && c == 45) || is_comment_start b c
 
--- whether a point directly behind the token is never the start of a number: behind a word, a quoted name and a closing parenthesis
+-- whether a point directly after the token is never the start of a number: after a word, a quoted name and a closing parenthesis
 abbrev pub joins : TokenKind → Bool
 joins (k.Word w) = true
 joins (k.Quoted w) = true
@@ -98,7 +98,7 @@ pub data IsToken : Bool → List ℕ → List ℕ → TokenKind → Type 0 where
       → is_digit b ≡ true → AllAre is_digit bytes → begins is_in_word after ≡ false → begins_fraction after ≡ false
       → decimal (b ∷ bytes) ≤ most
       → IsToken joined (b ∷ bytes) after (k.Number (pos (decimal (b ∷ bytes))))
-  -- `$` and one to five digits: only behind five another digit may come
+  -- `$` and one to five digits: only after five another digit may come
   parameter : (joined : Bool) (b : ℕ) (bytes after : List ℕ)
       → is_digit b ≡ true → AllAre is_digit bytes → length (b ∷ bytes) ≤ 5
       → (begins is_digit after ≡ true → length (b ∷ bytes) ≡ 5)
@@ -115,11 +115,11 @@ pub data IsToken : Bool → List ℕ → List ℕ → TokenKind → Type 0 where
 
 -- ---- faults
 
--- no closing quote ends what stands behind an opening one
+-- no closing quote ends what stands after an opening one
 abbrev pub Unclosed : ℕ → List ℕ → Type 0
 Unclosed q z = (t after : List ℕ) → z ≡ to_quote q t ++ after → begins (λ c. c == q) after ≡ false → ⊥
 
--- no end of a comment stands behind its start
+-- no end of a comment stands after its start
 abbrev pub UnclosedComment : List ℕ → Type 0
 UnclosedComment z = (bytes after : List ℕ) → z ≡ bytes ++ after → EndsComments 0 bytes → ⊥
 

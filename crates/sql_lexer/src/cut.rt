@@ -50,7 +50,7 @@ fn cut(alloc: Global, text: &[u8]) -> Result<Vec<Token>, LexFault>
     Ok(found)
 }
 
-/// The tokens that stand for the text, in order, each with the place of its first byte and the place behind its last,
+/// The tokens that stand for the text, in order, each with the place of its first byte and the place after its last,
 /// or the fault of the first place at which nothing fits. The text has fewer than 4,294,967,296 bytes.
 pub fn tokens(alloc: Global, text: &Text) -> Result<Vec<Token>, LexFault>
     requires { length text.now < 2 ^ 32 }

@@ -245,7 +245,7 @@ pub fn front(alloc: Global, joined: bool, at: u32, z: &[u8]) -> Result<Found, Le
     }
 }
 
-/// Whether a point directly behind this is never the start of a number.
+/// Whether a point directly after this is never the start of a number.
 pub fn joins(kind: &TokenKind) -> bool
     ensures { result ≡ lexemes.joins kind.now }
 {

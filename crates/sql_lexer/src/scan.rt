@@ -57,7 +57,7 @@ pub fn past(class: Class, z: &[u8], at: usize) -> usize
     end
 }
 
-/// The place behind the closing quote, for a text that begins at 1.
+/// The place after the closing quote, for a text that begins at 1.
 pub fn closing(quote: u8, mut z: &[u8]) -> Option<usize>
     requires { length z.now < 2 ^ 63 }
     ensures value { result ≡ spec.closing quote false 1 z.entry.now }
@@ -76,7 +76,7 @@ pub fn closing(quote: u8, mut z: &[u8]) -> Option<usize>
     None
 }
 
-/// The place behind the end of a comment, for a text that begins at 2.
+/// The place after the end of a comment, for a text that begins at 2.
 pub fn comment(mut z: &[u8]) -> Option<usize>
     requires { length z.now < 2 ^ 63 }
     ensures value { result ≡ spec.comment_from 0 false 2 z.entry.now }

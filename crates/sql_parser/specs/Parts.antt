@@ -1,4 +1,4 @@
--- What functions ensure that read one part behind the other.
+-- What functions ensure that read one part after the other.
 use Rattle.std.specs.Prelude.{◌≡◌, List, [], ◌∷◌, ◌++◌, length, Option, Some, None, Result, Ok, Err}
 use Rattle.sql_tree.specs.declared.token.Sign.TheVariants as s
 use Rattle.sql_grammar.specs.declared.mark.Mark.{Mark}
@@ -15,7 +15,7 @@ Finds outcome (Ok u) found new = outcome ≡ Some (found, new)
 Finds outcome (Err Memory) found new = Unit {0}
 Finds outcome (Err NotInGrammar) found new = outcome ≡ None
 
--- a list behind what was found
+-- a list after what was found
 abbrev pub behind : {A : Type 0} → List A → Option (List A × List Mark) → Option (List A × List Mark)
 behind found outcome = and_then outcome (λ xs ts. Some (found ++ xs, ts))
 

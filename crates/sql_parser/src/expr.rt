@@ -1,4 +1,4 @@
-//! Expressions, a function for each level. The parser of what stands in parentheses or behind NOT or a sign is a
+//! Expressions, a function for each level. The parser of what stands in parentheses or after NOT or a sign is a
 //! parameter, so that each function is proved by itself.
 
 ghost use Rattle.std.specs.Prelude.{◌≡◌, ◌+◌, [], MatchResult};

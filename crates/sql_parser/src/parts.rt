@@ -1,4 +1,4 @@
-// Parts that stand one behind the other.
+// Parts that stand one after the other.
 ghost use Rattle.std.specs.Prelude.{◌≡◌, ℕ, Bool, List, [], ◌∷◌, length, Option};
 ghost use Rattle.sql_tree.specs.declared.token.Sign.TheVariants as s;
 ghost use Rattle.sql_grammar.specs.declared.mark.Mark.{Mark};
@@ -65,7 +65,7 @@ pub fn repeat<N: Next>(
     Ok(())
 }
 
-/// A part behind a comma.
+/// A part after a comma.
 #[derive(Drop)]
 struct AfterComma<'a, P> {
     part: &'a P,

@@ -179,7 +179,7 @@ fn in_front(first: TableRef, rest: Items<TableRef>) -> Result<Items<TableRef>, M
     Ok(Items::from_vec(all))
 }
 
-/// Further tables, each behind a comma.
+/// Further tables, each after a comma.
 #[tactic(auto, unfolding(sql_grammar::specs::Statements::next_tabs))]
 fn more_tabs(alloc: Global, tokens: &mut Tokens<'_>) -> Result<Items<TableRef>, Refusal>
     ensures { Reads (reading (syntax.repeat st.next_tabs st.next_tabs) tokens.old) result tokens.new }

@@ -173,7 +173,7 @@ fn characteristics(alloc: Global, tokens: &mut Tokens<'_>) -> Result<Statement, 
     Ok(Statement::Set(joined(alloc, first, second)?, values))
 }
 
-/// Behind SET SESSION.
+/// After SET SESSION.
 #[tactic(auto, unfolding(sql_grammar::specs::Statements::session_setting, sql_grammar::specs::Statements::characteristics))]
 fn session_setting(alloc: Global, tokens: &mut Tokens<'_>) -> Result<Statement, Refusal>
     ensures { Reads (reading st.session_setting tokens.old) result tokens.new }

@@ -67,7 +67,7 @@ fn column(
     })
 }
 
-/// Puts the CHECKs of a column behind the others.
+/// Puts the CHECKs of a column after the others.
 fn add_checks(
     alloc: Global,
     mut constraints: &[Constraint],
@@ -97,7 +97,7 @@ fn all_columns(alloc: Global, mut elements: &[Element]) -> Result<Items<ColumnDe
     Ok(columns)
 }
 
-/// Puts the names of a PRIMARY KEY list behind the others.
+/// Puts the names of a PRIMARY KEY list after the others.
 fn add_keys(alloc: Global, mut names: &[Text], keys: &mut Items<Text>) -> Result<(), Memory>
     ensures { OnOk result (keys.new ≡ keys.old ++ names.entry.now) }
 {
@@ -121,7 +121,7 @@ fn all_keys(alloc: Global, mut elements: &[Element]) -> Result<Items<Text>, Memo
     Ok(keys)
 }
 
-/// Puts the CHECKs of an element behind the others.
+/// Puts the CHECKs of an element after the others.
 fn add_all_checks(alloc: Global, element: &Element, checks: &mut Items<Expr>) -> Result<(), Memory>
     ensures { OnOk result (checks.new ≡ checks.old ++ st.checks_in element.now) }
 {

@@ -59,10 +59,10 @@ named (Plain w text) name e = refl
 named (Quoted text) name e = refl
 named _ name e = absurd (none_some e)
 
--- ---- forms one behind the other
+-- ---- forms one after the other
 
 module _ (E : Level → List Mark → Type 0) where
-  -- a part with nothing behind it
+  -- a part with nothing after it
   alone : {a b : Form} {ts : List Mark} → Spelled E a ts → Spelled E b [] → Spelled E (a ▸ b) ts
   alone {a = a} {b = b} {ts = ts} x y = let P : List Mark → Type 0 = λ z. Spelled E (a ▸ b) z in subst P (append-nil ts) (Forms.both x y)
 

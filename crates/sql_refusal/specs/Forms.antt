@@ -201,7 +201,7 @@ chain l links = part l ▸ many (mark links ▸ part l)
 abbrev pub list : Form
 list = sign s.Open ▸ part expr ▸ many (sign s.Comma ▸ part expr) ▸ sign s.Close
 
--- behind a name: '.' name | '(' ( '*' | expr ) ')' | nothing
+-- after a name: '.' name | '(' ( '*' | expr ) ')' | nothing
 abbrev pub behind_name : Form
 behind_name = either (sign s.Dot ▸ mark (a_name [] ∷ [])) (either (sign s.Open ▸ either (sign s.Star) (part expr) ▸ sign s.Close) nothing)
 

@@ -52,17 +52,17 @@ unfoldable pub some : (List Token → Bool) → List (List Token) → Bool
 some test [] = false
 some test (piece ∷ pieces) = test piece || some test pieces
 
--- ---- places of a piece: a token, what stands before it, and what stands behind it
+-- ---- places of a piece: a token, what stands before it, and what stands after it
 
 abbrev pub Place : Type 0
 Place = List Token → Token → List Token → Bool
 
--- how many places of the rest are so, behind what stands before it
+-- how many places of the rest are so, after what stands before it
 unfoldable pub places : Place → List Token → List Token → ℕ
 places test before [] = 0
 places test before (token ∷ after) = (if test before token after then 1 else 0) + places test (before ++ token ∷ []) after
 
--- whether some place of the rest is so, behind what stands before it
+-- whether some place of the rest is so, after what stands before it
 unfoldable pub some_place : Place → List Token → List Token → Bool
 some_place test before [] = false
 some_place test before (token ∷ after) = test before token after || some_place test (before ++ token ∷ []) after
@@ -72,11 +72,11 @@ unfoldable pub tokens_that : (TokenKind → Bool) → List Token → ℕ
 tokens_that test [] = 0
 tokens_that test (token ∷ tokens) = (if test token.kind then 1 else 0) + tokens_that test tokens
 
--- whether the level behind these tokens of a piece is 0: as many `)` as `(`
+-- whether the level after these tokens of a piece is 0: as many `)` as `(`
 abbrev pub at_level_0 : List Token → Bool
 at_level_0 before = eqb (tokens_that is_open before) (tokens_that is_close before)
 
--- whether the level behind these tokens of a piece is above 66
+-- whether the level after these tokens of a piece is above 66
 abbrev pub too_deep : List Token → Bool
 too_deep before = nat_lt (66 + tokens_that is_close before) (tokens_that is_open before)
 
@@ -122,7 +122,7 @@ ends_with word [] = false
 ends_with word (token ∷ []) = is_word word token.kind
 ends_with word (first ∷ second ∷ tokens) = ends_with word (second ∷ tokens)
 
--- SELECT but as the first word of a piece, VALUES as the first, TABLE but behind CREATE, ON before CONFLICT, and the words of the table
+-- SELECT but as the first word of a piece, VALUES as the first, TABLE but after CREATE, ON before CONFLICT, and the words of the table
 abbrev pub is_unsupported_word : List Token → List ℕ → List Token → Bool
 is_unsupported_word before word after =
     (bytes_eq word (codes "select") && holds_a_token before)

@@ -85,7 +85,7 @@ fn piece_len(tokens: &[Token]) -> usize
     len
 }
 
-/// The first piece, and what stands behind its `;`.
+/// The first piece, and what stands after its `;`.
 pub fn split(tokens: &[Token]) -> (&[Token], Option<&[Token]>)
     ensures piece { result.0.now ≡ streams.first_piece tokens.now }
     ensures behind { streams.tokens_in result.1 ≡ streams.behind_piece tokens.now }

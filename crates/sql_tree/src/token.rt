@@ -42,7 +42,7 @@ pub enum TokenKind {
     Sign(Sign),
 }
 
-/// A token, and where its spelling stands in the text: its first byte's place, and the place behind its last byte.
+/// A token, and where its spelling stands in the text: its first byte's place, and the place after its last byte.
 #[derive(Debug, Drop)]
 pub struct Token {
     pub kind: TokenKind,

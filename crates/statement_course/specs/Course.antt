@@ -33,7 +33,7 @@ FitsDemand (touch cell rest) (answers.Value value) = ⊤
 FitsDemand (write cell value rest) answers.Written = ⊤
 FitsDemand _ _ = ⊥
 
--- how a course goes on behind an answer; one that doesn't fit changes nothing
+-- how a course goes on after an answer; one that doesn't fit changes nothing
 abbrev pub behind : Course → PlanAnswer → Course
 behind (scan table rest) (answers.Keys keys) = rest keys
 behind (touch cell rest) (answers.Value value) = rest value

@@ -20,13 +20,13 @@ pub record Part : Type 0 where
   pub point : Option Key
   pub columns : List ℕ
 
--- the columns of a row, behind those that were read
+-- the columns of a row, after those that were read
 abbrev pub read_columns : ℕ → Key → List ℕ → List (ℕ × Value) → (List (ℕ × Value) → Course) → Course
 read_columns table key [] read rest = rest read
 read_columns table key (column ∷ columns) read rest =
     touch (Field table key column) (λ v. read_columns table key columns (read ++ (column, v) ∷ []) rest)
 
--- the row of a key, where it is there, behind the rows that were found
+-- the row of a key, where it is there, after the rows that were found
 abbrev pub read_row : Part → Key → List TableRow → (List TableRow → Course) → Course
 read_row part key found rest =
     touch (Presence part.table key) (λ present.
@@ -45,7 +45,7 @@ read_keys table (Some key) rest = rest (key ∷ [])
 abbrev pub read_part : Part → (List TableRow → Course) → Course
 read_part part rest = read_keys part.table part.point (λ keys. read_rows part keys [] rest)
 
--- all parts in order, behind the tables that were read; and then what follows, given all of them
+-- all parts in order, after the tables that were read; and then what follows, given all of them
 abbrev pub read_parts : List Part → List TableRows → (List TableRows → Course) → Course
 read_parts [] picture rest = rest picture
 read_parts (part ∷ parts) picture rest =
@@ -60,7 +60,7 @@ abbrev pub part_before : ℕ → Option Table → List ℕ → Option Key → Li
 part_before number None columns point parts = parts
 part_before number (Some table) columns point parts = part_of number table columns point ∷ parts
 
--- The parts of a SELECT: a table that stands several times in FROM is read once, at its first place. Behind the tables that stand before.
+-- The parts of a SELECT: a table that stands several times in FROM is read once, at its first place. After the tables that stand before.
 abbrev pub parts_from : List Table → List ℕ → List ℕ → List (List ℕ) → List (Option Key) → List Part
 parts_from tables before (number ∷ numbers) (columns ∷ more) (point ∷ points) =
     if list_any (λ n. n == number) before then parts_from tables before numbers more points

@@ -30,29 +30,29 @@ tables_course parts picture rest = read_parts (map part_of parts) picture rest
 abbrev pub part_here : Tables → course.Part
 part_here t = record { table = t.table; width = t.width; key_column = t.key_column; point = None; columns = t.columns }
 
--- the rows of these keys, behind those that were found, and then the other tables
+-- the rows of these keys, after those that were found, and then the other tables
 abbrev pub rows_course : Tables → List Key → List TableRow → (List TableRows → Course) → Course
 rows_course t keys found rest =
     read_rows (part_here t) keys found
     (λ rows. tables_course t.parts (t.picture ++ record { table = t.table; rows = rows } ∷ []) rest)
 
--- these columns of the row of a key, behind those that were read, and then the other rows
+-- these columns of the row of a key, after those that were read, and then the other rows
 abbrev pub columns_course : Tables → List Key → List TableRow → Key → List ℕ → List (ℕ × Value) → (List TableRows → Course) → Course
 columns_course t keys found key columns read rest =
     read_columns t.table key columns read
     (λ all. rows_course t keys (found ++ (key, row_values t.width t.key_column key all) ∷ []) rest)
 
--- behind the keys of a scan
+-- after the keys of a scan
 abbrev pub after_keys : Reading → List Key → (List TableRows → Course) → Course
 after_keys r keys rest = rows_course r.tables keys [] rest
 
--- behind the presence of a key
+-- after the presence of a key
 abbrev pub after_presence : Reading → Key → Value → (List TableRows → Course) → Course
 after_presence r key present rest =
     if is_true present then columns_course r.tables r.keys r.found key r.tables.columns [] rest
     else rows_course r.tables r.keys r.found rest
 
--- behind the value of a column
+-- after the value of a column
 abbrev pub after_field : Reading → Key → ℕ → Value → (List TableRows → Course) → Course
 after_field r key column v rest = columns_course r.tables r.keys r.found key r.columns (r.read ++ (column, v) ∷ []) rest
 

@@ -47,7 +47,7 @@ pub enum Question {
     Field(u32, Key, u32),
 }
 
-/// What comes behind an answer.
+/// What comes after an answer.
 #[derive(Debug, Drop)]
 pub enum Step {
     /// The next question.

@@ -39,7 +39,7 @@ impl Catalogue {
         }
     }
 
-    /// Puts a table of a new name behind the others. Out of memory, nothing changes.
+    /// Puts a table of a new name after the others. Out of memory, nothing changes.
     pub fn add(&mut self, table: Table) -> Result<(), Memory>
         requires new { IsNew self.old table.name }
         requires room { length self.old < 4294967295 }

@@ -128,7 +128,7 @@ fn four_threads_split_inside_and_join_in_another_order(rt: HostRuntime) -> Resul
     Ok(())
 }
 
-// The first note of a list with one note, and that of all that a writer has added behind it.
+// The first note of a list with one note, and that of all that a writer has added after it.
 fn show_first<R: Wait>(rt: &R, alloc: Global) -> Option<(Note, Note)> {
     let mut notes = Notes::new(alloc);
     notes.start()?;

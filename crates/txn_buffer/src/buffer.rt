@@ -63,7 +63,7 @@ impl TxnBuffer {
         Ok(())
     }
 
-    /// Puts the value at the cell, behind all others where the cell is new. Takes no memory, and at most one spare place.
+    /// Puts the value at the cell, after all others where the cell is new. Takes no memory, and at most one spare place.
     pub fn put(&mut self, cell: Cell, value: Value)
         requires { 0 < self.old.spare }
         ensures value { Puts self.old.writes self.new.writes cell value }

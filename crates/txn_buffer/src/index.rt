@@ -52,7 +52,7 @@ impl Index {
         }
     }
 
-    /// Puts one more cell of the hash behind all others, in the room that was taken.
+    /// Puts one more cell of the hash after all others, in the room that was taken.
     pub(crate) fn push(&mut self, hash: u64)
         requires last { 0 < spare self.old.last }
         requires before { length self.old.before.items < vec_capacity self.old.before }

@@ -1,4 +1,4 @@
-// Typed expressions as text: the type stands behind each node, and operands stand in parentheses behind their operator.
+// Typed expressions as text: the type stands after each node, and operands stand in parentheses after their operator.
 //
 // Types are `b` boolean, `i` integer, `l` bigint, `t` text, `v` varchar, `v3` varchar(3) and `n` numeric. A column is the number
 // of its entry, a point and its number in its table: `=(0.0:l 1:i):b` is k = 1 with a bigint k.
@@ -14,7 +14,7 @@ fn push_length(alloc: Global, out: &mut String, length: u32) -> Result<(), Alloc
     Ok(())
 }
 
-/// The type, behind a colon.
+/// The type, after a colon.
 pub fn push_kind(alloc: Global, out: &mut String, kind: SqlType) -> Result<(), AllocError> {
     out.push_str(":")?;
     match kind {
@@ -134,7 +134,7 @@ fn push_one(
     out.push_str(")")
 }
 
-/// The expressions, each behind a blank.
+/// The expressions, each after a blank.
 #[cycle(show)]
 pub fn push_each(alloc: Global, out: &mut String, exprs: &[TypedExpr]) -> Result<(), AllocError> {
     for expr in exprs {

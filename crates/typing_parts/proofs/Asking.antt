@@ -21,7 +21,7 @@ of_neg : (e k : ℕ) (a : TypedExpr) → node_reading e k (Neg a) ≡ reading_no
 of_neg e k a = ap (node_reading e k) (sym (rolls-Neg a))
     ∙ fold-roll-TypedNode Reading Reading (reading_node e k) (λ (x : TypedExpr-F Reading Reading). x.node) (TypedNode-F.Neg a)
 
--- a number behind a minus sign
+-- a number after a minus sign
 pub constant-neg : (e k : ℕ) (x a : TypedExpr) → x.node ≡ Neg a → (reading e k x).constant ≡ negative_key (reading e k a).literal
 constant-neg e k x a is = ap (λ (r : Reading). r.constant) (by_node e k x ∙ ap (node_reading e k) is ∙ of_neg e k a)
 

@@ -19,7 +19,7 @@ or_assoc false b c = refl
 pub marked_none : (marks : List Bool) → IsMarked marks marks (λ c. false)
 marked_none marks = record { same = refl; each = λ c h. sym (or_none (get_or marks c false)) }
 
--- one walk behind another
+-- one walk after another
 pub marked_then : (a b d : List Bool) (p q : ℕ → Bool) → IsMarked a b p → IsMarked b d q → IsMarked a d (λ c. p c || q c)
 marked_then a b d p q first then = record {
   same = then.same ∙ first.same;

@@ -9,7 +9,7 @@ use sql_tree::{Op, TypedExpr, TypedNode};
 use std::alloc::Global;
 
 /// The key that the first of the condition's conjuncts of the form `key = constant` or `constant = key` asks, where this
-/// column of this entry is the key. A constant is a literal of the key's types, also an integer behind one minus sign.
+/// column of this entry is the key. A constant is a literal of the key's types, also an integer after one minus sign.
 pub fn point_of(
     alloc: Global,
     filter: Option<&TypedExpr>,
@@ -70,7 +70,7 @@ fn is_column(expr: &TypedExpr, entry: u32, column: u32) -> bool
     }
 }
 
-/// A literal, also an integer behind one minus sign, as a key.
+/// A literal, also an integer after one minus sign, as a key.
 fn constant_key(alloc: Global, expr: &TypedExpr) -> Result<Option<Key>, Memory>
     ensures { IfOk result (λ key. (e c : ℕ) → key ≡ (reading e c expr.now).constant) }
 {

@@ -11,7 +11,7 @@ use Rattle.typing_rules.specs.Names.{Source, Found, column_from, is_meant, colum
 use Rattle.typing_rules.specs.WellTyped.{ColumnTypes, column_type}
 use Rattle.typing_rules.specs.Sound.{Holds, column_types}
 
--- the column of this number, behind so many others, has the type
+-- the column of this number, after so many others, has the type
 record IsAt (kinds : List SqlType) (e c : ℕ) (f : Found) : Type 0 where
   at : ℕ
   entry : f.entry ≡ e
@@ -45,7 +45,7 @@ in_entry : (qualifier : Option (List ℕ)) (name : List ℕ) (e : ℕ) (s : Sour
 unfolding column_in
 in_entry qualifier name e s f h = by_entry e s f (is_meant qualifier s.name) (column_from name e 0 s.columns) (in_columns name e 0 s.columns f) h
 
--- the column is there, of an entry behind so many others, and of its type
+-- the column is there, of an entry after so many others, and of its type
 pub record IsIn (types : ColumnTypes) (e : ℕ) (f : Found) : Type 0 where
   pub at : ℕ
   pub entry : f.entry ≡ e + at

@@ -30,7 +30,7 @@ abbrev pub default_of : SqlType → Option Expr → Outcome Value
 default_of kind None = Ok Null
 default_of kind (Some e) = constant kind e
 
--- a column behind columns of these names
+-- a column after columns of these names
 unfoldable pub column_of : List (List ℕ) → ColumnDef → Outcome Column
 column_of before d =
     if list_any (λ name. bytes_eq name d.name) before then Err S42701

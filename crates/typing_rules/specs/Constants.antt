@@ -20,7 +20,7 @@ text_as type.Integer text = quoted type.Integer text
 text_as type.Bigint text = quoted type.Bigint text
 text_as kind text = assigned kind (value.Text text)
 
--- an integer behind a minus sign
+-- an integer after a minus sign
 abbrev pub negative_as : SqlType → ℤ → Outcome Value
 negative_as kind n = if fits type.Bigint (neg_ℤ n) then assigned kind (value.Int (neg_ℤ n)) else Err S22003
 

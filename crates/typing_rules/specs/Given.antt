@@ -32,7 +32,7 @@ abbrev pub is_integer : Expr-F Expr → Bool
 is_integer (Expr-F.Int n) = true
 is_integer _ = false
 
--- an integer literal, also behind one minus sign
+-- an integer literal, also after one minus sign
 abbrev pub is_integer_literal : Expr-F Expr → Bool
 is_integer_literal (Expr-F.Int n) = true
 is_integer_literal (Expr-F.Neg e) = is_integer (out-Expr e)

@@ -14,7 +14,7 @@ use Rattle.typing_rules.specs.Expressions.{typed_node}
 use Rattle.typing_rules.specs.Tables.{table_named, Target, target_named, all_targets, is_among}
 use Rattle.typing_rules.specs.Given.{cell}
 
--- the columns of a written list, behind those that stand before: unknown 42703, twice 42701
+-- the columns of a written list, after those that stand before: unknown 42703, twice 42701
 abbrev pub listed_from : List Column → List Target → List (List ℕ) → Outcome (List Target)
 listed_from columns before [] = Ok before
 listed_from columns before (name ∷ names) =

@@ -16,7 +16,7 @@ is_blank b = (nat_le 9 b && nat_le b 13) || b == 32
 abbrev pub is_digit : ℕ → Bool
 is_digit b = nat_le 48 b && nat_le b 57
 
--- what stands behind the blanks at the front
+-- what stands after the blanks at the front
 abbrev pub behind_blanks : List ℕ → List ℕ
 behind_blanks [] = []
 behind_blanks (b ∷ bs) = if is_blank b then behind_blanks bs else b ∷ bs

@@ -40,7 +40,7 @@ abbrev pub name_or : List ℕ → Option (List ℕ) → List ℕ
 name_or name None = name
 name_or name (Some alias) = alias
 
--- the entries from left to right behind those that stand before: an unknown table, and a name that stands twice
+-- the entries from left to right after those that stand before: an unknown table, and a name that stands twice
 abbrev pub entries_from : List Table → List Entry → List TableRef → Outcome (List Entry)
 entries_from tables before [] = Ok before
 entries_from tables before (r ∷ rs) =
@@ -140,7 +140,7 @@ outputs_of place sources item.Star = star_of place sources
 outputs_of place sources (item.Expr e alias) =
     and_then (typing sources e place) (λ x. and_then (forms.item x) (λ t. Ok (record { name = name_or (plain_name (out-Expr e)) alias; expr = t } ∷ [])))
 
--- the columns of the result behind those that stand before; more than 1,664 are 54000 before the item is typed
+-- the columns of the result after those that stand before; more than 1,664 are 54000 before the item is typed
 abbrev pub items_from : Place → List Source → List Output → List Item → Outcome (List Output)
 items_from place sources before [] = Ok before
 items_from place sources before (i ∷ is) =

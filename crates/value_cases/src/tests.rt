@@ -284,7 +284,7 @@ fn looks_among_members(rt: HostRuntime) -> Result<(), Fail> {
     Ok(())
 }
 
-/// `1 IN (1, 1 / 0)`: the member behind one that is equal is evaluated too.
+/// `1 IN (1, 1 / 0)`: the member after one that is equal is evaluated too.
 fn among_failing(alloc: Global) -> Result<String, Fail> {
     let mut members = Items::new(alloc);
     members.push(integer(1))?;

@@ -137,7 +137,7 @@ fn prints<H: Host>(host: &mut H, bytes: &[u8]) -> bool
     printed
 }
 
-// The first call is to fail, the second hands the link out, and behind it there is none.
+// The first call is to fail, the second hands the link out, and after it there is none.
 #[test]
 fn hands_out_and_takes_back(rt: HostRuntime) -> Result<(), Fail> {
     let alloc = rt.alloc();

@@ -65,7 +65,7 @@ fn welcome(alloc: Global) -> Result<Vec<u8>, Memory> {
     Ok(out)
 }
 
-// Whether the column `v` of this type is described by these bytes behind its name.
+// Whether the column `v` of this type is described by these bytes after its name.
 fn is_described_so(alloc: Global, kind: SqlType, tail: &[u8]) -> Result<bool, Memory>
     requires { IsShortType kind }
 {
@@ -131,7 +131,7 @@ fn is_short(value: &Value) -> bool
     }
 }
 
-// Whether a row of this short value has these bytes behind its type byte.
+// Whether a row of this short value has these bytes after its type byte.
 fn is_row_so(alloc: Global, value: Value, tail: &[u8]) -> Result<bool, Memory> {
     if !is_short(&value) {
         return Ok(false);

@@ -127,7 +127,7 @@ pub fn table(alloc: Global, key: u32) -> Result<Table, Fail> {
     })
 }
 
-/// Constants, one behind another.
+/// Constants, one after another.
 pub fn constants(alloc: Global, lits: &[Lit]) -> Result<Items<TypedExpr>, Fail> {
     let mut exprs = Items::new(alloc);
     for lit in lits {

@@ -117,7 +117,7 @@ pub(crate) const DEFINITIONS: &[(&str, &str)] = &[
         "CREATE TABLE z (a int, k bigint NULL, CONSTRAINT c PRIMARY KEY (k))",
         "z: a:i k:l! key 1",
     ),
-    // CHECKs in text order, as conditions over all columns, behind the key.
+    // CHECKs in text order, as conditions over all columns, after the key.
     (
         "CREATE TABLE z (k int PRIMARY KEY CHECK (k < b), b int CONSTRAINT c CHECK (z.b > 0), CHECK (NULL))",
         "z: k:i! b:i key 0 check <(0.0:i 0.1:i):b check >(0.1:i 0:i):b check null:b",
@@ -148,7 +148,7 @@ pub(crate) const DEFINITIONS: &[(&str, &str)] = &[
 ];
 
 /// The first part of a text, a part that is repeated, how many times, the last part, and what the text comes to. Where the code is
-/// that of a name behind the part, the part is accepted.
+/// that of a name after the part, the part is accepted.
 pub(crate) const LONG: &[(&str, &str, u32, &str, &str)] = &[
     // 32 columns and no more, before their names.
     ("CREATE TABLE z (", "a int, ", 31, "a int)", "S42701"),

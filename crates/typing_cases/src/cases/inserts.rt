@@ -52,7 +52,7 @@ pub(crate) const INSERTS: &[(&str, &str)] = &[
     ("INSERT INTO t VALUES (t.k, 1)", "S42P01"),
     ("INSERT INTO t VALUES (count(*), 1)", "S42803"),
     ("INSERT INTO t VALUES (foo(1), 1)", "S0A000"),
-    // Literals are converted at once, also behind one minus sign.
+    // Literals are converted at once, also after one minus sign.
     ("INSERT INTO t VALUES (1, -5)", "into 0 row 1:l -5:l"),
     ("INSERT INTO t VALUES ('7', ' -8 ')", "into 0 row 7:l -8:l"),
     (

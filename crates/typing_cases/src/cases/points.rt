@@ -19,7 +19,7 @@ pub(crate) const POINTS: &[(&str, &str)] = &[
         "SELECT 1 FROM t WHERE true AND (k > 0 AND k = 2)",
         "?column?:i <- 1:i from 0 reads () at 2 where and(true:b and(>(0.0:l 0:i):b =(0.0:l 2:i):b):b):b",
     ),
-    // Constants are integers, also behind one minus sign, and quoted literals.
+    // Constants are integers, also after one minus sign, and quoted literals.
     (
         "SELECT 1 FROM t WHERE k = -1",
         "?column?:i <- 1:i from 0 reads () at -1 where =(0.0:l neg(1:i):i):b",

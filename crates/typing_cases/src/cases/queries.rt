@@ -114,7 +114,7 @@ pub(crate) const QUERIES: &[(&str, &str)] = &[
     ("SELECT count(1 + max(k)) FROM t", "S42803"),
     ("SELECT sum(count(nosuch)) FROM t", "S42703"),
     ("SELECT count(foo(k)) FROM t", "S0A000"),
-    // Beside an aggregate a column stands in one, and is refused at its place. PostgreSQL looks at it behind all items.
+    // Beside an aggregate a column stands in one, and is refused at its place. PostgreSQL looks at it after all items.
     ("SELECT v, count(*) FROM t", "S42803"),
     ("SELECT count(*), v + 1 FROM t", "S42803"),
     ("SELECT *, count(*) FROM t", "S42803"),

@@ -1,4 +1,4 @@
--- The columns that an UPDATE reads, by three walks behind one another.
+-- The columns that an UPDATE reads, by three walks after one another.
 use Rattle.std.specs.Option.{option_map}
 use Rattle.typing_rules.specs.Changes.{update_reads}
 use Rattle.change_typing.proofs.Reading.{columns_answered, update_marked}

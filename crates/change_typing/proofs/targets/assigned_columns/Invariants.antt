@@ -1,4 +1,4 @@
--- The assignments that are left, behind the columns so far.
+-- The assignments that are left, after the columns so far.
 use Rattle.std.proofs.Common.{◌≡◌, [], drop}
 use Rattle.typing_rules.specs.Changes.{assigned_from}
 use Rattle.change_typing.specs.Targets.{targets}

@@ -1,4 +1,4 @@
--- The rows that are left, behind the one before them, decide.
+-- The rows that are left, after the one before them, decide.
 use Rattle.std.proofs.Common.{◌≡◌, drop}
 use Rattle.row_writes.specs.Twins as twins
 use Rattle.row_writes.proofs.keys.has_twins_behind.Given as goal

@@ -1,4 +1,4 @@
--- What is left of FROM, behind the entries so far.
+-- What is left of FROM, after the entries so far.
 use Rattle.std.proofs.Common.{◌≡◌, [], drop}
 use Rattle.typing_rules.specs.Select.{entries_from}
 use Rattle.select_typing.specs.Entries.{entries}

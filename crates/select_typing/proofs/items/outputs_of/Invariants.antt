@@ -1,4 +1,4 @@
--- What is left of the items, behind the columns so far.
+-- What is left of the items, after the columns so far.
 use Rattle.std.proofs.Common.{◌≡◌, [], drop}
 use Rattle.typing_rules.specs.Select.{items_from}
 use Rattle.expr_typing.specs.Scope.{sources}

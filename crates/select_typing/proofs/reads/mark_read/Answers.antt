@@ -1,4 +1,4 @@
--- Three walks, one behind another.
+-- Three walks, one after another.
 use Rattle.std.proofs.Common.{Bool}
 use Rattle.sql_tree.specs.declared.typed_expr.TypedExpr.{TypedExpr}
 use Rattle.typing_rules.specs.Select.{mentions_table}

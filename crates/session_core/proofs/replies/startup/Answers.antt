@@ -1,4 +1,4 @@
--- The longest of the names has no zero byte, and the messages stand one behind another.
+-- The longest of the names has no zero byte, and the messages stand one after another.
 use Rattle.std.proofs.Common.{codes, refl, append_assoc}
 use Rattle.session_core.specs.Replies.{startup_reply}
 use Rattle.session_core.proofs.Texts.{no_zero_by_test}

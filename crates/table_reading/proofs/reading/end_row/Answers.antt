@@ -1,4 +1,4 @@
--- The row is put behind those that were found.
+-- The row is put after those that were found.
 use Rattle.std.proofs.Common.{List, [], ◌∷◌, ◌++◌, ap, ◌∙◌}
 use Rattle.cell_base.specs.declared.value.Value.{Value}
 use Rattle.row_meaning.specs.Pictures.{TableRow}

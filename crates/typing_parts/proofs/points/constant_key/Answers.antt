@@ -1,4 +1,4 @@
--- An integer behind a minus sign, as a key.
+-- An integer after a minus sign, as a key.
 use Rattle.std.proofs.Common.{◌∙◌, sym, ap}
 use Rattle.typing_rules.specs.Points.{negative_key}
 use Rattle.typing_parts.specs.Readings.{reading}
