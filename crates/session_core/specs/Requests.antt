@@ -10,30 +10,30 @@ use Rattle.block_machine.specs.Messages.{IsMessage}
 use Rattle.session_core.specs.Users.{HasUser}
 
 -- what a message asks for
-pub data Ask : Type 0 where
+pub data Request : Type 0 where
   -- a request for encryption, of either kind
-  encryption : Ask
+  encryption : Request
   -- a cancel request
-  cancel : Ask
+  cancel : Request
   -- a startup that names a user
-  start : Ask
+  start : Request
   -- a startup that names none
-  userless : Ask
+  userless : Request
   -- a startup of another version
-  version : Ask
-  query : Message → Ask
-  -- a query that nobody reads: it is discarded, or memory is wanting
-  unread_query : Ask
-  terminate : Ask
-  sync : Ask
+  version : Request
+  query : Message → Request
+  -- a query that nobody reads: it is discarded, or memory runs out
+  unread_query : Request
+  terminate : Request
+  sync : Request
   -- nothing: a Flush, or a message of a copy
-  nothing : Ask
+  nothing : Request
   -- a step of the extended query
-  extended : Ask
+  extended : Request
   -- a function call
-  function : Ask
+  function : Request
 
-abbrev pub Says : FrontendMessage → Ask → Type 0
+abbrev pub Says : FrontendMessage → Request → Type 0
 Says Ssl encryption = Unit {0}
 Says Gss encryption = Unit {0}
 Says (Cancel pid secret) cancel = Unit {0}
@@ -52,16 +52,16 @@ Says _ _ = ⊥
 
 -- a stream as a session hears it: what is asked for, message after message, and then bytes that are no whole message, or a
 -- fault, or what nobody has looked at
-pub data Talk : Type 0 where
-  asks : Ask → Talk → Talk
-  partial : List ℕ → Talk
-  faulty : FrameFault → Talk
-  unread : Talk
+pub data Requests : Type 0 where
+  asks : Request → Requests → Requests
+  partial : List ℕ → Requests
+  faulty : FrameFault → Requests
+  unread : Requests
 
--- the bytes, before the startup or after it, are that talk
-abbrev pub IsTalk : Bool → List ℕ → Talk → Type 0
-IsTalk started bytes (asks ask talk) =
-    (front : FrontendMessage) × (more : List ℕ) × TakesFront started bytes front more × Says front ask × IsTalk (phase_after started front) more talk
-IsTalk started bytes (partial rest) = (rest ≡ bytes) × IsPartial started bytes
-IsTalk started bytes (faulty fault) = HasFault started bytes fault
-IsTalk started bytes unread = Unit {0}
+-- the bytes, before the startup or after it, are these requests
+abbrev pub AreRequests : Bool → List ℕ → Requests → Type 0
+AreRequests started bytes (asks ask requests) =
+    (front : FrontendMessage) × (more : List ℕ) × TakesFront started bytes front more × Says front ask × AreRequests (phase_after started front) more requests
+AreRequests started bytes (partial rest) = (rest ≡ bytes) × IsPartial started bytes
+AreRequests started bytes (faulty fault) = HasFault started bytes fault
+AreRequests started bytes unread = Unit {0}

@@ -29,13 +29,13 @@ use Rattle.session_core.specs.declared.phase.Phase.{Phase}
 use Rattle.session_core.specs.declared.phase.Phase.TheVariants as phases
 use Rattle.session_core.specs.Replies.{no_encryption, startup_reply}
 use Rattle.session_core.specs.Users.{HasUser}
-use Rattle.session_core.specs.Talk.{Ask, encryption, cancel, start, userless, version, query, unread_query, terminate, sync, nothing, extended, function, Talk, asks, partial, faulty, unread, IsTalk, Says}
-use Rattle.session_core.specs.Record.{Lawful}
+use Rattle.session_core.specs.Requests.{Request, encryption, cancel, start, userless, version, query, unread_query, terminate, sync, nothing, extended, function, Requests, asks, partial, faulty, unread, AreRequests, Says}
+use Rattle.session_core.specs.Record.{IsValidRecord}
 use Rattle.session_core.specs.Told as told
 use Rattle.session_core.specs.Told.{broken, closed, closing, ending, owed_by, outside_of, refusal_end, stop_end, tells_startup, waiting, unless_memory_ends}
 use Rattle.choice_stream.specs.Choices.{DrawsFirst}
 use Rattle.one_history.specs.Laws.{WantsMore, ReadsPart}
-use Rattle.one_history.proofs.Rides.{Goes, Grows, Rides, Agree, IsNever, lost_never, lost_agrees, never_left, never_right, tell_agrees, calm_agrees, calm_on, astray_ended}
+use Rattle.one_history.proofs.Rides.{Goes, Grows, Rides, Agree, IsNever, lost_never, lost_agrees, never_left, never_right, tell_agrees, at_rest_agrees, at_rest_on, astray_ended}
 use Rattle.one_history.proofs.Turning.{ask_agrees}
 use Rattle.one_history.proofs.Cases.{opened_agrees}
 use Rattle.one_history.proofs.Statements.{fails}
@@ -54,7 +54,7 @@ FollowAlike E s t = (p : Phase) (k : Knowledge) → Agree E (s p k) (t p k)
 
 startup_told : (E : End → Type 0) → (session : ℕ) (s t : Script) → Agree E s t → Agree E (tells_startup session s) (tells_startup session t)
 startup_told E session s t agree =
-    calm_agrees E true (closing ends.Memory) (closing ends.Memory) (tell (startup_reply session) (broken owes.Close) s)
+    at_rest_agrees E true (closing ends.Memory) (closing ends.Memory) (tell (startup_reply session) (broken owes.Close) s)
     (tell (startup_reply session) (broken owes.Close) t)
     (tell_agrees E (startup_reply session) (broken owes.Close) (broken owes.Close) s t (breaks owes.Close) (breaks owes.Close) agree)
 
@@ -65,7 +65,7 @@ opens E s t agree =
     (λ a. opened_agrees E a (λ session. tells_startup session s) (λ session. tells_startup session t) (λ why. closed (refusal_end why))
     (λ why. closed (refusal_end why)) (λ session. startup_told E session s t agree) (λ why. closed_agrees E (refusal_end why) (refusal_end why) (inl refl)))
 
-starting : (E : End → Type 0) → (asked : Ask) (known : Knowledge) (s t : Follow) → FollowAlike E s t → Agree E (told.starting asked known s) (told.starting asked known t)
+starting : (E : End → Type 0) → (asked : Request) (known : Knowledge) (s t : Follow) → FollowAlike E s t → Agree E (told.starting asked known s) (told.starting asked known t)
 starting E encryption known s t h =
     tell_agrees E no_encryption (broken owes.Nothing) (broken owes.Nothing) (s phases.Startup known) (t phases.Startup known)
     (breaks owes.Nothing) (breaks owes.Nothing) (h phases.Startup known)
@@ -103,18 +103,18 @@ refuses E state known s t h =
     })
     states.S0A000 (block_at state) known
 
--- a query that nobody reads needs a want of memory
+-- a query that nobody reads needs a lack of memory
 unread_never : (state : TransactionState) (known : Knowledge) (s : Follow) → IsNever (told.serving unread_query state known s)
 unread_never state known s said es out end goes =
     lost_never said es out end
-    (calm_on false (messages.message (asked_by.Unread states.S53200) state known (outside_of s)) lost said es out end
-    (record { is = goes.is; calm = goes.calm; written = goes.written }))
+    (at_rest_on false (messages.message (asked_by.Unread states.S53200) state known (outside_of s)) lost said es out end
+    (record { is = goes.is; at_rest = goes.at_rest; written = goes.written }))
 
-serving : (E : End → Type 0) → (asked : Ask) (state : TransactionState) (known : Knowledge) (s t : Follow) → FollowAlike E s t →
+serving : (E : End → Type 0) → (asked : Request) (state : TransactionState) (known : Knowledge) (s t : Follow) → FollowAlike E s t →
     Agree E (told.serving asked state known s) (told.serving asked state known t)
 serving E (query asked) state known s t h = message E (outside_of s) (outside_of t) (beside E s t h) asked state known
 serving E unread_query state known s t h =
-    calm_agrees E false (messages.message (asked_by.Unread states.S53200) state known (outside_of s))
+    at_rest_agrees E false (messages.message (asked_by.Unread states.S53200) state known (outside_of s))
     (messages.message (asked_by.Unread states.S53200) state known (outside_of t)) lost lost (lost_agrees E)
 serving E terminate state known s t h = ending_agrees E (owed_between state) ends.Terminated ends.Terminated (inl refl)
 serving E sync state known s t h = readied E (outside_of s) (outside_of t) (beside E s t h) state known
@@ -128,19 +128,19 @@ serving E start state known s t h = (lost_agrees E)
 serving E userless state known s t h = (lost_agrees E)
 serving E version state known s t h = (lost_agrees E)
 
-discarding : (E : End → Type 0) → (asked : Ask) (state : TransactionState) (known : Knowledge) (s t : Follow) → FollowAlike E s t →
+discarding : (E : End → Type 0) → (asked : Request) (state : TransactionState) (known : Knowledge) (s t : Follow) → FollowAlike E s t →
     Agree E (told.discarding asked state known s) (told.discarding asked state known t)
 discarding E terminate state known s t h = ending_agrees E (owed_between state) ends.Terminated ends.Terminated (inl refl)
 discarding E sync state known s t h = readied E (outside_of s) (outside_of t) (beside E s t h) state known
 discarding E _ state known s t h = h (phases.Discarding state) known
 
-handled : (E : End → Type 0) → (asked : Ask) (phase : Phase) (known : Knowledge) (s t : Follow) → FollowAlike E s t →
+handled : (E : End → Type 0) → (asked : Request) (phase : Phase) (known : Knowledge) (s t : Follow) → FollowAlike E s t →
     Agree E (told.handled asked phase known s) (told.handled asked phase known t)
 handled E asked phases.Startup known s t h = starting E asked known s t h
 handled E asked (phases.Normal state) known s t h = serving E asked state known s t h
 handled E asked (phases.Discarding state) known s t h = discarding E asked state known s t h
 
--- the same bytes are read by the one session and discarded by the other, which then needs a want of memory
+-- the same bytes are read by the one session and discarded by the other, which then needs a lack of memory
 read_unread : (E : End → Type 0) → (asked : Message) (phase : Phase) (known : Knowledge) (s t : Follow) → FollowAlike E s t →
     Agree E (told.handled (query asked) phase known s) (told.handled unread_query phase known t)
 read_unread E asked phases.Startup known s t h = (lost_agrees E)
@@ -158,10 +158,10 @@ unread_read E asked (phases.Normal state) known s t h =
 unread_read E asked (phases.Discarding state) known s t h = h (phases.Discarding state) known
 
 -- two readings of one message
-same_asks : (E : End → Type 0) → (a b : Ask) (phase : Phase) (known : Knowledge) (s t : Follow) → FollowAlike E s t → a ≡ b →
+same_asks : (E : End → Type 0) → (a b : Request) (phase : Phase) (known : Knowledge) (s t : Follow) → FollowAlike E s t → a ≡ b →
     Agree E (told.handled a phase known s) (told.handled b phase known t)
 same_asks E a b phase known s t h same =
-    subst (λ (x : Ask). Agree E (told.handled a phase known s) (told.handled x phase known t)) same (handled E a phase known s t h)
+    subst (λ (x : Request). Agree E (told.handled a phase known s) (told.handled x phase known t)) same (handled E a phase known s t h)
 
 -- a front that asks for one thing, and what it is
 abbrev IsPlain : FrontendMessage → Type 0
@@ -169,7 +169,7 @@ IsPlain (Startup pairs) = ⊥
 IsPlain (Query text) = ⊥
 IsPlain _ = Unit {0}
 
-abbrev ask_of : FrontendMessage → Ask
+abbrev ask_of : FrontendMessage → Request
 ask_of Ssl = encryption
 ask_of Gss = encryption
 ask_of (Cancel pid secret) = cancel
@@ -182,7 +182,7 @@ ask_of (Extended step) = extended
 ask_of FunctionCall = function
 ask_of _ = nothing
 
-only_ask : (front : FrontendMessage) (a : Ask) → IsPlain front → Says front a → a ≡ ask_of front
+only_ask : (front : FrontendMessage) (a : Request) → IsPlain front → Says front a → a ≡ ask_of front
 only_ask (Startup pairs) a plain x = absurd plain
 only_ask (Query text) a plain x = absurd plain
 only_ask Ssl encryption plain x = refl
@@ -198,13 +198,13 @@ only_ask FunctionCall function plain x = refl
 only_ask _ _ plain x = absurd x
 
 -- what a startup asks for
-start_asks : (pairs : List ((List ℕ) × (List ℕ))) (a : Ask) → Says (Startup pairs) a →
+start_asks : (pairs : List ((List ℕ) × (List ℕ))) (a : Request) → Says (Startup pairs) a →
     ((a ≡ start) × HasUser pairs) ⊎ ((a ≡ userless) × (¬ (HasUser pairs)))
 start_asks pairs start x = inl (refl, x)
 start_asks pairs userless x = inr (refl, x)
 start_asks pairs _ x = absurd x
 
-one_start : (pairs : List ((List ℕ) × (List ℕ))) (a b : Ask) → ((a ≡ start) × HasUser pairs) ⊎ ((a ≡ userless) × (¬ (HasUser pairs))) →
+one_start : (pairs : List ((List ℕ) × (List ℕ))) (a b : Request) → ((a ≡ start) × HasUser pairs) ⊎ ((a ≡ userless) × (¬ (HasUser pairs))) →
     ((b ≡ start) × HasUser pairs) ⊎ ((b ≡ userless) × (¬ (HasUser pairs))) → a ≡ b
 one_start pairs a b (inl x) (inl y) = x.0 ∙ sym y.0
 one_start pairs a b (inl x) (inr y) = absurd (y.1 x.1)
@@ -212,22 +212,22 @@ one_start pairs a b (inr x) (inl y) = absurd (x.1 y.1)
 one_start pairs a b (inr x) (inr y) = x.0 ∙ sym y.0
 
 -- what a query asks for
-abbrev QueryAsks : List ℕ → Ask → Type 0
+abbrev QueryAsks : List ℕ → Request → Type 0
 QueryAsks text a = ((m : Message) × (a ≡ query m) × IsMessage text m) ⊎ (a ≡ unread_query)
 
-query_asks : (text : List ℕ) (a : Ask) → Says (Query text) a → QueryAsks text a
+query_asks : (text : List ℕ) (a : Request) → Says (Query text) a → QueryAsks text a
 query_asks text (query m) x = inl (m, refl, x)
 query_asks text unread_query x = inr refl
 query_asks text _ x = absurd x
 
-both_ask : (E : End → Type 0) → (a b c d : Ask) (phase : Phase) (known : Knowledge) (s t : Follow) → a ≡ c → b ≡ d →
+both_ask : (E : End → Type 0) → (a b c d : Request) (phase : Phase) (known : Knowledge) (s t : Follow) → a ≡ c → b ≡ d →
     Agree E (told.handled c phase known s) (told.handled d phase known t) →
     Agree E (told.handled a phase known s) (told.handled b phase known t)
 both_ask E a b c d phase known s t left right agree =
-    subst (λ (x : Ask). Agree E (told.handled x phase known s) (told.handled b phase known t)) (sym left)
-    (subst (λ (x : Ask). Agree E (told.handled c phase known s) (told.handled x phase known t)) (sym right) agree)
+    subst (λ (x : Request). Agree E (told.handled x phase known s) (told.handled b phase known t)) (sym left)
+    (subst (λ (x : Request). Agree E (told.handled c phase known s) (told.handled x phase known t)) (sym right) agree)
 
-one_query : (E : End → Type 0) → (text : List ℕ) (a b : Ask) (phase : Phase) (known : Knowledge) (s t : Follow) → FollowAlike E s t →
+one_query : (E : End → Type 0) → (text : List ℕ) (a b : Request) (phase : Phase) (known : Knowledge) (s t : Follow) → FollowAlike E s t →
     QueryAsks text a → QueryAsks text b → Agree E (told.handled a phase known s) (told.handled b phase known t)
 one_query E text a b phase known s t h (inl x) (inl y) =
     same_asks E a b phase known s t h (x.1 ∙ ap (λ (z : Message). query z) (one_message text x.0 y.0 x.2 y.2) ∙ sym y.1)
@@ -237,7 +237,7 @@ one_query E text a b phase known s t h (inr x) (inl y) =
     both_ask E a b unread_query (query y.0) phase known s t x y.1 (unread_read E y.0 phase known s t h)
 one_query E text a b phase known s t h (inr x) (inr y) = same_asks E a b phase known s t h (x ∙ sym y)
 
-asked_alike : (E : End → Type 0) → (front : FrontendMessage) (a b : Ask) (phase : Phase) (known : Knowledge) (s t : Follow) → FollowAlike E s t →
+asked_alike : (E : End → Type 0) → (front : FrontendMessage) (a b : Request) (phase : Phase) (known : Knowledge) (s t : Follow) → FollowAlike E s t →
     Says front a → Says front b → Agree E (told.handled a phase known s) (told.handled b phase known t)
 asked_alike E (Query text) a b phase known s t h x y = one_query E text a b phase known s t h (query_asks text a x) (query_asks text b y)
 asked_alike E (Startup pairs) a b phase known s t h x y =
@@ -293,7 +293,7 @@ waits_grows : (phase : Phase) (held : ℕ) → Grows (waiting phase held)
 waits_grows phase held said [] out end goes = absurd (more_ended said out end goes.is)
 waits_grows phase held said (stop cause ∷ es) out end goes =
     (ending_agrees (λ (e : End). ⊥) (owed_by phase) (stop_end cause held) (stop_end cause held) (inl refl)).left said es out end
-    (record { is = goes.is; calm = goes.calm; written = goes.written })
+    (record { is = goes.is; at_rest = goes.at_rest; written = goes.written })
 waits_grows phase held said (did a e ∷ es) out end goes = absurd (astray_ended said out end goes.is)
 waits_grows phase held said (refused why ∷ es) out end goes = absurd (astray_ended said out end goes.is)
 waits_grows phase held said (short final n ∷ es) out end goes = absurd (astray_ended said out end goes.is)
@@ -305,10 +305,10 @@ pub record Halted (phase : Phase) (held : ℕ) (said : Said) (p : Past) (v : Lis
   pub es : List Entry
   pub rides : Rides (ending (owed_by phase) (stop_end cause held)) said es p v out end q w
 
-lawful_behind : (p : Past) (v : List ℕ) (cs : List Call) (cause : Stop) (es : List Entry) (q : Past) (w : List ℕ) →
-    Lawful DrawsFirst p v cs (stop cause ∷ es) q w → Lawful DrawsFirst p v cs es q w
-lawful_behind p v [] cause es q w l = l
-lawful_behind p v (c ∷ cs) cause es q w l = l
+valid_after : (p : Past) (v : List ℕ) (cs : List Call) (cause : Stop) (es : List Entry) (q : Past) (w : List ℕ) →
+    IsValidRecord DrawsFirst p v cs (stop cause ∷ es) q w → IsValidRecord DrawsFirst p v cs es q w
+valid_after p v [] cause es q w l = l
+valid_after p v (c ∷ cs) cause es q w l = l
 
 halted : (phase : Phase) (held : ℕ) (said : Said) (es : List Entry) (p : Past) (v : List ℕ) (out : Said) (end : End) (q : Past) (w : List ℕ) →
     Rides (waiting phase held) said es p v out end q w → Halted phase held said p v out end q w
@@ -317,10 +317,10 @@ halted phase held said (stop cause ∷ es) p v out end q w rides = record {
   cause = cause;
   es = es;
   rides = record {
-    goes = record { is = rides.goes.is; calm = rides.goes.calm; written = rides.goes.written };
+    goes = record { is = rides.goes.is; at_rest = rides.goes.at_rest; written = rides.goes.written };
     calls = rides.calls;
     asked = rides.asked;
-    lawful = lawful_behind p v rides.calls cause es q w rides.lawful;
+    valid = valid_after p v rides.calls cause es q w rides.valid;
     alone = rides.alone;
     last = rides.last;
   };
@@ -343,29 +343,29 @@ waits E phase held = record {
 
 -- ---- the whole stream
 
-calm_memory : (E : End → Type 0) → (phase : Phase) (s t : Script) → Agree E s t → Agree E (unless_memory_ends phase s) (unless_memory_ends phase t)
-calm_memory E phase s t agree = calm_agrees E true (ending (owed_by phase) ends.Memory) (ending (owed_by phase) ends.Memory) s t agree
+at_rest_memory : (E : End → Type 0) → (phase : Phase) (s t : Script) → Agree E s t → Agree E (unless_memory_ends phase s) (unless_memory_ends phase t)
+at_rest_memory E phase s t agree = at_rest_agrees E true (ending (owed_by phase) ends.Memory) (ending (owed_by phase) ends.Memory) s t agree
 
 -- a session agrees with itself
-pub session_itself : (E : End → Type 0) → (phase : Phase) (known : Knowledge) (talk : Talk) →
-    Agree E (told.session phase known talk) (told.session phase known talk)
-session_itself E phase known (asks asked talk) =
-    calm_memory E phase (told.handled asked phase known (λ p k. told.session p k talk))
-    (told.handled asked phase known (λ p k. told.session p k talk))
-    (handled E asked phase known (λ p k. told.session p k talk) (λ p k. told.session p k talk)
-    (λ p k. session_itself E p k talk))
+pub session_itself : (E : End → Type 0) → (phase : Phase) (known : Knowledge) (requests : Requests) →
+    Agree E (told.session phase known requests) (told.session phase known requests)
+session_itself E phase known (asks asked requests) =
+    at_rest_memory E phase (told.handled asked phase known (λ p k. told.session p k requests))
+    (told.handled asked phase known (λ p k. told.session p k requests))
+    (handled E asked phase known (λ p k. told.session p k requests) (λ p k. told.session p k requests)
+    (λ p k. session_itself E p k requests))
 session_itself E phase known (partial rest) =
-    calm_memory E phase (waiting phase (length rest)) (waiting phase (length rest)) (waits E phase (length rest))
+    at_rest_memory E phase (waiting phase (length rest)) (waiting phase (length rest)) (waits E phase (length rest))
 session_itself E phase known (faulty fault) =
-    calm_memory E phase (ending (owed_by phase) (ends.Protocol fault)) (ending (owed_by phase) (ends.Protocol fault))
+    at_rest_memory E phase (ending (owed_by phase) (ends.Protocol fault)) (ending (owed_by phase) (ends.Protocol fault))
     (ending_agrees E (owed_by phase) (ends.Protocol fault) (ends.Protocol fault) (inl refl))
-session_itself E phase known unread = calm_memory E phase lost lost (lost_agrees E)
+session_itself E phase known unread = at_rest_memory E phase lost lost (lost_agrees E)
 
 -- bytes that nobody has looked at take no session to its end
 unheard : (phase : Phase) (known : Knowledge) → IsNever (told.session phase known unread)
 unheard phase known said es out end goes =
     lost_never said es out end
-    (calm_on true (ending (owed_by phase) ends.Memory) lost said es out end (record { is = goes.is; calm = goes.calm; written = goes.written }))
+    (at_rest_on true (ending (owed_by phase) ends.Memory) lost said es out end (record { is = goes.is; at_rest = goes.at_rest; written = goes.written }))
 
 -- ---- the one session may hear more
 
@@ -380,7 +380,7 @@ waits_want : (phase : Phase) (held : ℕ) (said : Said) (es : List Entry) (out :
 waits_want phase held said [] out end goes = absurd (more_ended said out end goes.is)
 waits_want phase held said (stop cause ∷ es) out end goes =
     let to : end ≡ stop_end cause held = ending_end (owed_by phase) (stop_end cause held) said es out end
-    (record { is = goes.is; calm = goes.calm; written = goes.written }) in
+    (record { is = goes.is; at_rest = goes.at_rest; written = goes.written }) in
     subst WantsMore (sym to) (stop_wants cause held)
 waits_want phase held said (did a e ∷ es) out end goes = absurd (astray_ended said out end goes.is)
 waits_want phase held said (refused why ∷ es) out end goes = absurd (astray_ended said out end goes.is)
@@ -391,12 +391,12 @@ partial_wants : (phase : Phase) (known : Knowledge) (rest : List ℕ) (said : Sa
     Goes (told.session phase known (partial rest)) said es out end → WantsMore end
 partial_wants phase known rest said es out end goes =
     waits_want phase (length rest) said es out end
-    (calm_on true (ending (owed_by phase) ends.Memory) (waiting phase (length rest)) said es out end
-    (record { is = goes.is; calm = goes.calm; written = goes.written }))
+    (at_rest_on true (ending (owed_by phase) ends.Memory) (waiting phase (length rest)) said es out end
+    (record { is = goes.is; at_rest = goes.at_rest; written = goes.written }))
 
 -- bytes of no whole message, which no more follow
-last_agrees : (E : End → Type 0) → (phase : Phase) (known : Knowledge) (started : Bool) (bytes rest : List ℕ) (other : Talk) →
-    IsTalk started bytes (partial rest) → IsTalk started bytes other →
+last_agrees : (E : End → Type 0) → (phase : Phase) (known : Knowledge) (started : Bool) (bytes rest : List ℕ) (other : Requests) →
+    AreRequests started bytes (partial rest) → AreRequests started bytes other →
     Agree E (told.session phase known (partial rest)) (told.session phase known other)
 last_agrees E phase known started bytes rest unread a b =
     never_right E (told.session phase known (partial rest)) (told.session phase known unread) (unheard phase known)
@@ -407,11 +407,11 @@ last_agrees E phase known started bytes rest (partial other) a b =
     (session_itself E phase known (partial rest))
 last_agrees E phase known started bytes rest (faulty fault) a b = absurd (a.1.no_fault fault b)
 
-partial_agrees : (extra : List ℕ) (phase : Phase) (known : Knowledge) (started : Bool) (bytes rest : List ℕ) (other : Talk) →
-    IsTalk started bytes (partial rest) → IsTalk started (bytes ++ extra) other →
+partial_agrees : (extra : List ℕ) (phase : Phase) (known : Knowledge) (started : Bool) (bytes rest : List ℕ) (other : Requests) →
+    AreRequests started bytes (partial rest) → AreRequests started (bytes ++ extra) other →
     Agree (IsSpared extra) (told.session phase known (partial rest)) (told.session phase known other)
 partial_agrees [] phase known started bytes rest other a b =
-    last_agrees (IsSpared []) phase known started bytes rest other a (subst (λ (bs : List ℕ). IsTalk started bs other) (append-nil bytes) b)
+    last_agrees (IsSpared []) phase known started bytes rest other a (subst (λ (bs : List ℕ). AreRequests started bs other) (append-nil bytes) b)
 partial_agrees (z ∷ zs) phase known started bytes rest other a b = record {
   left = (session_itself (IsSpared (z ∷ zs)) phase known (partial rest)).left;
   right = (session_itself (IsSpared (z ∷ zs)) phase known other).right;
@@ -427,9 +427,9 @@ takes_further started bytes extra front behind takes = record {
   whole = ap (λ (bs : List ℕ). bs ++ extra) takes.whole ∙ append_assoc takes.taken behind extra;
 }
 
--- two talks, of the same bytes and of more
-pub sessions_agree : (extra : List ℕ) (phase : Phase) (known : Knowledge) (started : Bool) (bytes : List ℕ) (one other : Talk) →
-    IsTalk started bytes one → IsTalk started (bytes ++ extra) other →
+-- two request_streams, of the same bytes and of more
+pub sessions_agree : (extra : List ℕ) (phase : Phase) (known : Knowledge) (started : Bool) (bytes : List ℕ) (one other : Requests) →
+    AreRequests started bytes one → AreRequests started (bytes ++ extra) other →
     Agree (IsSpared extra) (told.session phase known one) (told.session phase known other)
 sessions_agree extra phase known started bytes unread other a b =
     never_left (IsSpared extra) (told.session phase known unread) (told.session phase known other) (unheard phase known)
@@ -444,11 +444,11 @@ sessions_agree extra phase known started bytes (asks x one) (asks y other) a b =
     let front : a.0 ≡ b.0 = front_unique started a.0 b.0 (bytes ++ extra) (a.1 ++ extra) b.1 further b.2 in
     let behind : a.1 ++ extra ≡ b.1 = behind_unique started a.0 b.0 (bytes ++ extra) (a.1 ++ extra) b.1 further b.2 in
     let says : Says a.0 y = subst (λ (f : FrontendMessage). Says f y) (sym front) b.3 in
-    let after : IsTalk (phase_after started a.0) b.1 other =
-    subst (λ (f : FrontendMessage). IsTalk (phase_after started f) b.1 other) (sym front) b.4 in
-    let rest : IsTalk (phase_after started a.0) (a.1 ++ extra) other =
-    subst (λ (bs : List ℕ). IsTalk (phase_after started a.0) bs other) (sym behind) after in
-    calm_memory (IsSpared extra) phase (told.handled x phase known (λ p k. told.session p k one))
+    let after : AreRequests (phase_after started a.0) b.1 other =
+    subst (λ (f : FrontendMessage). AreRequests (phase_after started f) b.1 other) (sym front) b.4 in
+    let rest : AreRequests (phase_after started a.0) (a.1 ++ extra) other =
+    subst (λ (bs : List ℕ). AreRequests (phase_after started a.0) bs other) (sym behind) after in
+    at_rest_memory (IsSpared extra) phase (told.handled x phase known (λ p k. told.session p k one))
     (told.handled y phase known (λ p k. told.session p k other))
     (asked_alike (IsSpared extra) a.0 x y phase known (λ p k. told.session p k one) (λ p k. told.session p k other)
     (λ p k. sessions_agree extra p k (phase_after started a.0) a.1 one other a.4 rest) a.3 says)
@@ -465,5 +465,5 @@ sessions_agree extra phase known started bytes (faulty fault) (partial rest) a b
     absurd (b.1.no_fault fault (fault_stays started bytes extra fault a))
 sessions_agree extra phase known started bytes (faulty fault) (faulty other) a b =
     let same : fault ≡ other = fault_unique started (bytes ++ extra) fault other (fault_stays started bytes extra fault a) b in
-    calm_memory (IsSpared extra) phase (ending (owed_by phase) (ends.Protocol fault)) (ending (owed_by phase) (ends.Protocol other))
+    at_rest_memory (IsSpared extra) phase (ending (owed_by phase) (ends.Protocol fault)) (ending (owed_by phase) (ends.Protocol other))
     (ending_agrees (IsSpared extra) (owed_by phase) (ends.Protocol fault) (ends.Protocol other) (inl (ap (λ (f : FrameFault). ends.Protocol f) same)))
