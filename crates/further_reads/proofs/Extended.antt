@@ -14,10 +14,12 @@ use Rattle.graph_base.proofs.Places.{place_of-first}
 use Rattle.cell_base.specs.declared.level.Level.{Level}
 use Rattle.cell_base.specs.declared.cell.Cell.{Cell}
 use Rattle.cell_base.specs.declared.value.Value.{Value}
+use Rattle.cell_base.specs.declared.value.Value.TheVariants.{Null}
 use Rattle.history_core.specs.declared.event.Event.{Event}
 use Rattle.history_core.specs.Events.{begun}
 use Rattle.history_core.specs.Transactions.{RunsAt, IsPending}
 use Rattle.history_core.specs.Relations.{Writes, Meets, IsConsistent}
+use Rattle.history_core.specs.Legal.{IsPermitted}
 use Rattle.history_core.specs.Forced.{IsForced}
 use Rattle.history_core.proofs.Prefixes.{IsSound, found_once}
 use Rattle.history_core.proofs.Offers.{writer_bounded}
@@ -177,3 +179,18 @@ pub no_cycle_with :
     IsConsistent (with_read events s x w n u v) → HasCycle (pairs ++ edges) → ⊥
 no_cycle_with level events s k x w n u v pairs edges pending runs have are (order, meets) (cycle, is) =
     no_cycle_extended (pairs ++ edges) order (extends_with level events s k x w n u v pairs edges order pending runs have are meets) cycle is
+
+-- ---- the read as such, whatever its count, word and value
+
+pub permitted_with :
+    (level : Level) (events : List Event) → IsSound events → (s k : ℕ) (x : Cell) (w : ℕ) (pairs edges : List Edge) → IsPending events k s →
+    RunsAt events k level → Writes events w x → HaveForcedClosure events pairs → AreNewDemands level events k x w edges →
+    (HasCycle (pairs ++ edges) → ⊥) → IsPermitted events s x w
+permitted_with level events sound s k x w pairs edges pending runs writes have are none =
+    (writes, λ n u v. consistent_with level events sound s k x w n u v pairs edges pending runs writes have are none)
+
+pub no_cycle_permitted :
+    (level : Level) (events : List Event) (s k : ℕ) (x : Cell) (w : ℕ) (pairs edges : List Edge) → IsPending events k s → RunsAt events k level →
+    HaveForcedClosure events pairs → AreNewDemands level events k x w edges → IsPermitted events s x w → HasCycle (pairs ++ edges) → ⊥
+no_cycle_permitted level events s k x w pairs edges pending runs have are permitted =
+    no_cycle_with level events s k x w 0 0 Null pairs edges pending runs have are (permitted.1 0 0 Null)

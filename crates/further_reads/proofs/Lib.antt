@@ -6,3 +6,5 @@ pub mod Extended
 pub mod Pending
 pub mod Still
 pub mod Begins
+pub mod Lasts
+pub mod Sources

@@ -1,5 +1,5 @@
 -- What a pending transaction sees with a further read.
-use Rattle.std.proofs.Common.{ℕ, ◌≤◌, List, [], ◌∷◌, ◌++◌, length, sym, subst, inl, inr, ◌⊎◌}
+use Rattle.std.proofs.Common.{ℕ, ◌≤◌, List, [], ◌∷◌, ◌++◌, length, refl, sym, subst, inl, inr, ◌⊎◌}
 use Rattle.std.proofs.lemmas.Option.{slice_get_within}
 use Rattle.graph_base.specs.Chain.{IsChain}
 use Rattle.graph_base.proofs.Chains.{chained_one, chained_first, chained_on, chained_wider}
@@ -10,12 +10,12 @@ use Rattle.cell_base.specs.declared.value.Value.{Value}
 use Rattle.history_core.specs.declared.event.Event.{Event}
 use Rattle.history_core.specs.declared.event.Event.TheVariants.{Read}
 use Rattle.history_core.specs.Transactions.{IsPending}
-use Rattle.history_core.specs.Relations.{Precedes, IsVisibleAt}
+use Rattle.history_core.specs.Relations.{Precedes, PrecedesCausally, IsVisibleAt}
 use Rattle.history_core.proofs.Prefixes.{IsSound}
-use Rattle.history_core.proofs.Offers.{precedes_read}
+use Rattle.history_core.proofs.Offers.{precedes_read, initial_precedes}
 use Rattle.saturation.specs.Laws.{with_read}
 use Rattle.saturation.proofs.After.{reads_kept, precedes_kept, precedes_now, before_kept, before_back}
-use Rattle.further_reads.specs.Further.{SeesWith, IsNewlySeen}
+use Rattle.further_reads.specs.Further.{Sees, SeesWith, IsNewlySeen}
 use Rattle.further_reads.proofs.Decided.{precedes_decided, past_decided}
 
 -- what a read sees it sees after any event
@@ -106,3 +106,24 @@ pub newly_sees :
 newly_sees Rc events s k x w n u v pending p a (sees, none) = absurd (none sees)
 newly_sees Ra events s k x w n u v pending p a (sees, none) = with_sees Ra events s k x w n u v pending a sees
 newly_sees Cc events s k x w n u v pending p a (sees, none) = with_sees Cc events s k x w n u v pending a sees
+
+-- ---- a source that the reader sees already
+
+-- with a read from it the reader sees no more than before
+pub seen_source : (level : Level) (events : List Event) (k w a : ℕ) → Sees level events k w → SeesWith level events k w a → Sees level events k a
+seen_source Rc events k w a seen sees = sees
+seen_source Ra events k w a seen (inl old) = old
+seen_source Ra events k w a seen (inr same) = subst (λ (c : ℕ). Precedes events c k) (sym same) seen
+seen_source Cc events k w a seen (inl old) = old
+seen_source Cc events k w a seen (inr (inl same)) = subst (λ (c : ℕ). PrecedesCausally events c k) (sym same) seen
+seen_source Cc events k w a seen (inr (inr on)) = chained_on (Precedes events) a w k on seen
+
+-- what the reader sees it sees with any read
+pub sees_more : (level : Level) (events : List Event) (k w a : ℕ) → Sees level events k a → SeesWith level events k w a
+sees_more Rc events k w a sees = sees
+sees_more Ra events k w a sees = inl sees
+sees_more Cc events k w a sees = inl sees
+
+-- the initial transaction precedes the reader
+pub initial_seen : (events : List Event) (s k : ℕ) → IsPending events k s → Precedes events 0 k
+initial_seen events s k pending = initial_precedes events s k 0 pending refl
