@@ -1,7 +1,7 @@
-use Rattle.std.proofs.Common.{◌≡◌, refl, get_or}
+use Rattle.std.proofs.Common.{refl, get_or}
 use Rattle.graph_base.specs.declared.Edge.{Edge}
 use Rattle.reach_rows.specs.Rows.{edge_of}
-use Rattle.reach_rows.proofs.Trials.{AreStarsOf, stars_of_more}
+use Rattle.reach_rows.proofs.Trials.{stars_of_more}
 use Rattle.reach_rows.proofs.stars.stars_of_edges.Goals as goal
 
 pub loop-edge-preserved : goal.loop-edge-preserved

@@ -1,4 +1,4 @@
-use Rattle.std.proofs.Common.{◌≡◌, List, sym, subst}
+use Rattle.std.proofs.Common.{List, sym, subst}
 use Rattle.std.specs.List.{All}
 use Rattle.reach_rows.specs.declared.Star.{Star}
 use Rattle.reach_rows.specs.Stars.{IsStarInRange}
