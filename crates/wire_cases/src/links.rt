@@ -1,12 +1,13 @@
 // What no clause says: that calls succeed where there is memory, and that the adapters pass the bytes on.
 ghost use Rattle.std.specs.Prelude.{◌≡◌, ◌<◌, length, IfOk, IsSome};
 
-use cell_base::{Items, Memory};
+use cell_base::{Items, Memory, Text};
 use link_traits::{
-    Failed, Host, HostFault, MemHost, MemLink, MemPlan, MemSink, MemSource, Sink, Source, StdHost,
-    StdLink, StdOut, send_all,
+    Failed, FileSource, Host, HostFault, HostFile, MemHost, MemLink, MemPlan, MemReturned,
+    MemSink, MemSource, Sink, Source, StdHost, StdLink, StdOut, send_all,
 };
 use std::alloc::Global;
+use std::fs;
 use std::io::{self, ErrorKind, Read, Write};
 use std::test::Fail;
 
@@ -129,7 +130,7 @@ fn writes_over_link<H: Host>(host: &mut H) -> Result<bool, HostFault> {
 
 // Prints to the output, and hands it back.
 fn prints<H: Host>(host: &mut H, bytes: &[u8]) -> bool
-    requires { IsSome (H.out host.old) }
+    requires { IsSome (H.hosted host.old).out }
 {
     let mut out = host.take_out();
     let printed = sends(&mut out, bytes);
@@ -137,10 +138,16 @@ fn prints<H: Host>(host: &mut H, bytes: &[u8]) -> bool
     printed
 }
 
-// The first call is to fail, the second hands the link out, and after it there is none.
-#[test]
-fn hands_out_and_takes_back(rt: HostRuntime) -> Result<(), Fail> {
-    let alloc = rt.alloc();
+// A path, or any other text.
+fn text(alloc: Global, bytes: &[u8]) -> Result<Text, Memory> {
+    match Text::from_bytes(alloc, bytes) {
+        Ok(text) => Ok(text),
+        Err(_) => Err(Memory),
+    }
+}
+
+// A host with a link, a file `log` of the bytes `open` and an output. Its first call is to fail, and so is its sixth.
+fn host(alloc: Global) -> Result<MemHost, Memory> {
     let bytes = Vec::from_slice(alloc, b"in")?;
     let link = MemLink::new(
         alloc,
@@ -148,17 +155,79 @@ fn hands_out_and_takes_back(rt: HostRuntime) -> Result<(), Fail> {
         plan(alloc, 9, &[], 9, 9)?,
         plan(alloc, 9, &[], 9, 9)?,
     )?;
+    let mut files = Items::new(alloc);
+    files.push(HostFile {
+        path: text(alloc, b"log")?,
+        bytes: Items::from_slice(alloc, b"open")?,
+    })?;
     let sink = MemSink::new(alloc, plan(alloc, 9, &[], 9, 0)?)?;
-    let mut host = MemHost::new(alloc, Some(link), sink, Items::from_slice(alloc, &[1])?)?;
+    let fails = Items::from_slice(alloc, &[1, 6])?;
+    let opened = plan(alloc, 9, &[], 9, 9)?;
+    let made = plan(alloc, 9, &[], 9, 0)?;
+    Ok(MemHost::new(
+        alloc,
+        Some(link),
+        files,
+        sink,
+        fails,
+        opened,
+        made,
+    ))
+}
+
+// The first call is to fail, the second hands the link out, and after it there is none.
+#[test]
+fn hands_out_and_takes_back(rt: HostRuntime) -> Result<(), Fail> {
+    let mut host = host(rt.alloc())?;
     assert!(rt; prints(&mut host, b"line"));
     assert!(rt; hands_out_nothing(&mut host));
     assert!(rt; writes_over_link(&mut host)?);
     assert!(rt; hands_out_nothing(&mut host));
-    let [link] = host.back() else {
+    let [MemReturned::Link(link)] = host.back() else {
         return Err(Fail::new("one link came back"));
     };
     assert_eq!(rt; link.written(), b"sent".as_slice());
     assert!(rt; matches!(host.output(), Some(sink) if sink.written() == b"line".as_slice()));
+    Ok(())
+}
+
+// Whether the file of the path has these bytes, up to four. It is handed back.
+fn opens<H: Host>(host: &mut H, path: &Text, bytes: &[u8]) -> Result<bool, HostFault> {
+    let mut file = host.open_file(path)?;
+    let given = gives(&mut file, bytes);
+    host.file_back(file);
+    Ok(given)
+}
+
+// Whether a file of the path is made and takes these bytes. It is handed back.
+fn makes<H: Host>(host: &mut H, path: &Text, bytes: &[u8]) -> Result<bool, HostFault> {
+    let mut file = host.make_file(path)?;
+    let written = sends(&mut file, bytes);
+    host.new_file_back(file);
+    Ok(written)
+}
+
+// Whether the last object that came back is a file that was made, with these bytes.
+fn last_is_made(host: &MemHost, bytes: &[u8]) -> bool {
+    matches!(host.back(), [.., MemReturned::NewFile(file)] if file.written() == bytes)
+}
+
+// The first call is to fail; the second opens the file, the third finds none of its path, the fourth makes one, the fifth opens the file
+// again, and the sixth is to fail.
+#[test]
+fn opens_and_makes_files(rt: HostRuntime) -> Result<(), Fail> {
+    let alloc = rt.alloc();
+    let mut host = host(alloc)?;
+    let log = text(alloc, b"log")?;
+    let other = text(alloc, b"logs")?;
+    assert_eq!(rt; opens(&mut host, &log, b"open"), Err(HostFault::Failed));
+    assert_eq!(rt; opens(&mut host, &log, b"open"), Ok(true));
+    assert_eq!(rt; opens(&mut host, &other, b"open"), Err(HostFault::Failed));
+    assert_eq!(rt; makes(&mut host, &other, b"new"), Ok(true));
+    assert!(rt; last_is_made(&host, b"new"));
+    assert_eq!(rt; opens(&mut host, &log, b"open"), Ok(true));
+    assert_eq!(rt; makes(&mut host, &other, b"new"), Err(HostFault::Failed));
+    assert_eq!(rt; host.back().len(), 3);
     Ok(())
 }
 
@@ -196,6 +265,11 @@ fn passes_bytes_on(rt: HostRuntime) -> Result<(), Fail> {
     let mut printed: Vec<u8> = Vec::new(rt.alloc());
     assert!(rt; sends(&mut StdOut::new(&mut printed), b"line"));
     assert_eq!(rt; printed.as_slice(), b"line".as_slice());
+    let mut reader: &[u8] = b"file";
+    let mut file = FileSource::new(&mut reader);
+    assert!(rt; gives(&mut file, b"file"));
+    assert!(rt; gives(&mut file, b""));
+    assert!(rt; reads_nothing(&mut FileSource::new(Broken)));
     let mut broken = StdLink::new(Broken, Broken);
     assert!(rt; reads_nothing(&mut broken));
     assert!(rt; takes_nothing(&mut broken, b"x"));
@@ -203,12 +277,21 @@ fn passes_bytes_on(rt: HostRuntime) -> Result<(), Fail> {
     Ok(())
 }
 
-// The real host hands out and takes back.
+// The real host hands out and takes back. What is written to a file that it makes is read from the file when it is opened; a path
+// where no file can be made, and one where none is, have none.
 #[test]
-fn lends_the_standard_streams(rt: HostRuntime) -> Result<(), Fail> {
-    let mut host = StdHost::new(rt.alloc(), rt.stdin(), rt.stdout())?;
+fn lends_streams_and_files(rt: HostRuntime) -> Result<(), Fail> {
+    let alloc = rt.alloc();
+    let mut host = StdHost::new(alloc, &rt, rt.stdin(), rt.stdout());
     assert!(rt; prints(&mut host, b""));
     let link = host.standard_link()?;
     host.link_back(link);
+    let path = text(alloc, b"host_log")?;
+    assert_eq!(rt; makes(&mut host, &path, b"bytes"), Ok(true));
+    assert_eq!(rt; opens(&mut host, &path, b"byte"), Ok(true));
+    let nowhere = text(alloc, b"no_folder/log")?;
+    assert_eq!(rt; makes(&mut host, &nowhere, b"bytes"), Err(HostFault::Failed));
+    assert_eq!(rt; opens(&mut host, &nowhere, b"byte"), Err(HostFault::Failed));
+    fs::remove_file(&rt, "host_log")?;
     Ok(())
 }
