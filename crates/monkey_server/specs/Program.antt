@@ -6,13 +6,11 @@ use Rattle.link_traits.specs.Traffic.{Both, Wrote, WrotePart, Sight}
 use Rattle.link_traits.specs.Host.{HostCall, standard_link_called}
 use Rattle.history_core.specs.Chronicle.{IsLegalChronicle}
 use Rattle.history_core.specs.Book.{Past, no_session}
-use Rattle.block_machine.specs.Calls.{Call}
-use Rattle.block_machine.specs.Script.{Entry}
 use Rattle.block_machine.specs.declared.end.End.{End}
 use Rattle.block_machine.specs.declared.end.End.TheVariants as ends
-use Rattle.session_core.specs.Requests.{Requests}
+use Rattle.session_core.specs.declared.served.Served.{Served}
 use Rattle.session_core.specs.Record.{events_of}
-use Rattle.session_core.specs.Serve.{Serves}
+use Rattle.session_core.specs.Serve.{scene_of, Account, Serves}
 use Rattle.choice_stream.specs.Choices.{DrawsFirst}
 use Rattle.monkey_server.specs.Command.{IsPipe}
 
@@ -45,21 +43,15 @@ no_past level = record { seen = record { level = level; initial = []; events = [
 
 -- A session was served at a level over a link, from no history to a legal one whose events are the session's alone. Its reads drew these
 -- words in order, and then 0.
-pub record ServesAlone (level : Level) (words : List ℕ) (f g : Sight) (end : End) (out_of_memory : Bool) : Type 0 where
+pub record ServesAlone (level : Level) (words : List ℕ) (before : Sight) (outcome : Served) (after : Sight) : Type 0 where
   pub past : Past
   pub rest : List ℕ
-  pub number : Option ℕ
-  pub requests : Requests
-  pub taken : List ℕ
-  pub es : List Entry
-  pub asked : List Call
-  pub sent : List ℕ
-  pub lost : List ℕ
-  pub serves : Serves DrawsFirst level (no_past level) words f number end out_of_memory past rest g requests taken es asked sent lost
+  pub account : Account
+  pub serves : Serves DrawsFirst level (scene_of (no_past level) words before) outcome (scene_of past rest after) account
   pub level_is : past.seen.level ≡ level
   pub initial : past.seen.initial ≡ []
   pub legal : IsLegalChronicle past.seen
-  pub events : past.seen.events ≡ events_of es
+  pub events : past.seen.events ≡ events_of account.entries
   pub closed : past.state ≡ no_session
 
 -- the status of an end. A lack of memory stands before it.
@@ -84,14 +76,13 @@ pub record Untouched (before : Hosted) (code : ℕ) (after : Hosted) : Type 0 wh
 pub record Piped (level : Level) (words : List ℕ) (before : Hosted) (code : ℕ) (after : Hosted) : Type 0 where
   pub given : Sight
   pub returned : Sight
-  pub end : End
-  pub out_of_memory : Bool
+  pub outcome : Served
   pub told : IfSome before.next_link (λ next. given ≡ next)
   pub calls : after.calls ≡ before.calls ++ standard_link_called (Some given) ∷ []
   pub back : after.back ≡ before.back ++ returned ∷ []
   pub out : after.out ≡ before.out
-  pub serves : ServesAlone level words given returned end out_of_memory
-  pub code_is : code ≡ status_of end out_of_memory
+  pub serves : ServesAlone level words given outcome returned
+  pub code_is : code ≡ status_of outcome.end outcome.short
 
 -- the host gave no link, and counted that
 pub record Linkless (before : Hosted) (code : ℕ) (after : Hosted) : Type 0 where

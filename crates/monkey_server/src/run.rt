@@ -48,7 +48,7 @@ fn serve_alone<L: Link>(
     words: Items<u32>,
 ) -> Served
     requires { book.old ≡ no_past level }
-    ensures { ServesAlone level words (sight_of L.traffic L.read_faults L.write_faults link.old) (sight_of L.traffic L.read_faults L.write_faults link.new) result.end result.short }
+    ensures { ServesAlone level words (sight_of L.traffic L.read_faults L.write_faults link.old) result (sight_of L.traffic L.read_faults L.write_faults link.new) }
 {
     let mut words = ListWords::new(words);
     let served = serve_link(alloc, level, book, link, &mut words);

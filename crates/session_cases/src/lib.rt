@@ -22,6 +22,8 @@ mod level_rows;
 #[cfg(test)]
 mod links;
 #[cfg(test)]
+mod marks;
+#[cfg(test)]
 mod message_rows;
 #[cfg(test)]
 mod rows;

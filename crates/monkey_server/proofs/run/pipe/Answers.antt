@@ -24,8 +24,7 @@ pub returns-clause-pipes : goal.returns-clause-pipes
 returns-clause-pipes g c = inl record {
   given = sight_of g.H.Link.Sides.traffic g.H.Link.Sides.read_faults g.H.Link.Sides.write_faults c.in-Ok-standard_link.link;
   returned = sight_of g.H.Link.Sides.traffic g.H.Link.Sides.read_faults g.H.Link.Sides.write_faults c.serve_alone-served.new.link;
-  end = c.serve_alone-served.result.end;
-  out_of_memory = c.serve_alone-served.result.short;
+  outcome = c.serve_alone-served.result;
   told = c.in-Ok-standard_link.ensures.told;
   calls = c.link_back.ensures.calls ∙ c.in-Ok-standard_link.ensures.ok;
   back = c.link_back.ensures.back
