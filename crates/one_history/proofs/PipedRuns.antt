@@ -3,11 +3,12 @@ use Rattle.std.proofs.Common.{◌≡◌, ◌≢◌, true, false, Bool, ℕ, ◌<
 use Rattle.std.proofs.lemmas.List.{append-nil}
 use Rattle.cell_base.specs.declared.level.Level.{Level}
 use Rattle.link_traits.specs.Traffic.{Traffic, Sight}
+use Rattle.link_traits.specs.Host.{Hosted}
 use Rattle.block_machine.specs.declared.end.End.{End}
 use Rattle.block_machine.specs.declared.end.End.TheVariants as ends
 use Rattle.session_core.specs.declared.served.Served.{Served}
 use Rattle.session_core.specs.Ends.{LacksBy}
-use Rattle.monkey_server.specs.Program.{ServesAlone, Hosted, Piped, status_of}
+use Rattle.monkey_server.specs.Program.{ServesAlone, Piped, status_of}
 use Rattle.one_history.proofs.Piped.{carried, piped}
 
 -- ---- what a code below 2 says of the end

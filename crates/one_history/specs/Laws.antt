@@ -17,7 +17,8 @@ use Rattle.session_core.specs.Told.{told}
 use Rattle.session_core.specs.Record.{IsValidRecord, events_of}
 use Rattle.choice_stream.specs.Choices.{DrawsFirst}
 use Rattle.link_traits.specs.Traffic.{Traffic, Sight}
-use Rattle.monkey_server.specs.Program.{ServesAlone, Hosted, Does}
+use Rattle.link_traits.specs.Host.{Hosted, link_returned}
+use Rattle.monkey_server.specs.Program.{ServesAlone, Does}
 
 -- what a session is told last, by the way it ends
 abbrev pub farewell : End → List ℕ
@@ -119,7 +120,7 @@ pub record Offers (host : Hosted) (input output : List ℕ) : Type 0 where
 pub record CameBack (before after : Hosted) (written : List ℕ) : Type 0 where
   pub link : Sight
   pub traffic : Traffic
-  pub back : after.back ≡ before.back ++ link ∷ []
+  pub back : after.back ≡ before.back ++ link_returned link ∷ []
   pub traffic_is : link.traffic ≡ Some traffic
   pub written_is : traffic.written ≡ written
 
