@@ -5,6 +5,8 @@
 #![tactic(auto)]
 
 mod command;
+mod printing;
 mod run;
 
-pub use run::{Status, monkey_main};
+pub use printing::Status;
+pub use run::monkey_main;

@@ -1,23 +1,18 @@
 // The program.
-ghost use Rattle.std.specs.Prelude.{◌≡◌, IsSome, Some, None};
-ghost use Rattle.monkey_server.specs.Program.{hosted_of, no_past, status_of, ServesAlone, Pipes, Misused, Does};
+ghost use Rattle.std.specs.Prelude.{◌≡◌};
+ghost use Rattle.link_traits.specs.Host.{objects_out};
+ghost use Rattle.monkey_server.specs.Program.{no_past, status_of, ServesAlone, Pipes, Does};
 ghost use Rattle.link_traits.specs.Traffic.{sight_of};
 
 use crate::command::{PipeCommand, command_of};
+use crate::printing::{Status, print};
 use cell_base::{Items, Level, Memory, Text};
 use choice_stream::ListWords;
 use history_core::InitialState;
-use link_traits::{Host, HostFault, Link, send_all};
+use link_traits::{Host, HostFault, Link};
 use session_core::{End, Served, serve_link};
 use solo_book::SoloBook;
 use std::alloc::Global;
-
-/// How the program ends.
-#[derive(Clone, Copy, Debug, PartialEq, Eq)]
-pub struct Status {
-    /// The exit status, 0 to 6.
-    pub code: u8,
-}
 
 const USAGE: &str =
     "usage: monkeydb pipe LEVEL WORDS | serve [OPTIONS] | check PATH | sim LEVEL SEED SESSIONS QUERIES\n";
@@ -48,7 +43,7 @@ fn serve_alone<L: Link>(
     words: Items<u32>,
 ) -> Served
     requires { book.old ≡ no_past level }
-    ensures { ServesAlone level words (sight_of L.traffic L.read_faults L.write_faults link.old) (sight_of L.traffic L.read_faults L.write_faults link.new) result.end result.short }
+    ensures { ServesAlone level words (sight_of L.traffic L.read_faults L.write_faults link.old) result (sight_of L.traffic L.read_faults L.write_faults link.new) }
 {
     let mut words = ListWords::new(words);
     let served = serve_link(alloc, level, book, link, &mut words);
@@ -59,9 +54,9 @@ fn serve_alone<L: Link>(
 
 // Serves one session over the standard link.
 fn pipe<H: Host>(alloc: Global, host: &mut H, command: PipeCommand) -> Status
-    requires { H.objects_out host.old ≡ 0 }
-    ensures pipes { Pipes command.level command.words (hosted_of H.calls H.back H.out H.objects_out H.link_faults H.next_link host.old) result.code (hosted_of H.calls H.back H.out H.objects_out H.link_faults H.next_link host.new) }
-    ensures none_out { H.objects_out host.new ≡ 0 }
+    requires { objects_out (H.hosted host.old) ≡ 0 }
+    ensures pipes { Pipes command.level command.words (H.hosted host.old) result.code (H.hosted host.new) }
+    ensures none_out { objects_out (H.hosted host.new) ≡ 0 }
 {
     let PipeCommand { level, words } = command;
     let mut book = match SoloBook::new(alloc, level, InitialState::empty(alloc)) {
@@ -78,22 +73,6 @@ fn pipe<H: Host>(alloc: Global, host: &mut H, command: PipeCommand) -> Status
     status_for(served)
 }
 
-// Prints the usage line.
-fn misuse<H: Host>(host: &mut H) -> Status
-    requires objects { H.objects_out host.old ≡ 0 }
-    requires out { IsSome (H.out host.old) }
-    ensures misused { Misused (hosted_of H.calls H.back H.out H.objects_out H.link_faults H.next_link host.old) result.code (hosted_of H.calls H.back H.out H.objects_out H.link_faults H.next_link host.new) }
-    ensures none_out { H.objects_out host.new ≡ 0 }
-{
-    let mut out = host.take_out();
-    let printed = send_all(&mut out, USAGE.as_bytes());
-    host.out_back(out);
-    match printed {
-        Ok(()) => Status { code: 2 },
-        Err(_) => Status { code: 4 },
-    }
-}
-
 /// Does all that the program does with the words of its command line, its own name left out. `pipe LEVEL WORDS` serves one
 /// session over the host's standard link, at Read Committed (`rc`), Read Atomic (`ra`) or Causal Consistency (`cc`), with the numbers of
 /// WORDS as the choice words and 0 after them; other words print the usage line.
@@ -102,14 +81,13 @@ fn misuse<H: Host>(host: &mut H) -> Status
 /// start was refused, or where more bytes were wanted than are read; 2 for the usage line; 3 where reading failed; 4 where writing failed;
 /// 5 where memory ran out; and 6 where the host counted that it gave no link.
 pub fn monkey_main<H: Host>(alloc: Global, host: &mut H, words: &[Text]) -> Status
-    requires objects { H.objects_out host.old ≡ 0 }
-    requires out { IsSome (H.out host.old) }
-    ensures does { Does words.now (hosted_of H.calls H.back H.out H.objects_out H.link_faults H.next_link host.old) result.code (hosted_of H.calls H.back H.out H.objects_out H.link_faults H.next_link host.new) }
-    ensures none_out { H.objects_out host.new ≡ 0 }
+    requires { objects_out (H.hosted host.old) ≡ 0 }
+    ensures does { Does words.now (H.hosted host.old) result.code (H.hosted host.new) }
+    ensures none_out { objects_out (H.hosted host.new) ≡ 0 }
 {
     match command_of(alloc, words) {
         Ok(Some(command)) => pipe(alloc, host, command),
-        Ok(None) => misuse(host),
+        Ok(None) => print(host, USAGE.as_bytes(), Status { code: 2 }),
         Err(Memory) => Status { code: 5 },
     }
 }

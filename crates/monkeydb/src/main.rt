@@ -56,9 +56,7 @@ fn words_of(rt: &HostRuntime) -> Result<Vec<Text>, WordsFault> {
 }
 
 fn main(rt: HostRuntime) -> ExitCode {
-    let Ok(mut host) = StdHost::new(rt.alloc(), rt.stdin(), rt.stdout()) else {
-        return ExitCode::from(NO_MEMORY.code);
-    };
+    let mut host = StdHost::new(rt.alloc(), &rt, rt.stdin(), rt.stdout());
     let status = match words_of(&rt) {
         Ok(words) => monkey_main(rt.alloc(), &mut host, &words),
         // Words that aren't text are none that the program knows.

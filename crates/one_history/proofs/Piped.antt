@@ -3,21 +3,22 @@ use Rattle.std.proofs.Common.{◌≡◌, ◌≢◌, inl, inr, ◌⊎◌, false, 
 use Rattle.std.proofs.lemmas.List.{append-nil, length-append}
 use Rattle.cell_base.specs.declared.level.Level.{Level}
 use Rattle.link_traits.specs.Traffic.{Traffic, Both, Sight}
-use Rattle.block_machine.specs.Script.{Entry}
 use Rattle.block_machine.specs.declared.end.End.{End}
 use Rattle.block_machine.specs.declared.end.End.TheVariants as ends
-use Rattle.session_core.specs.Serve.{Carries, Blames, IsAtEnd, most_read}
-use Rattle.session_core.specs.Stands.{outer_end}
+use Rattle.session_core.specs.declared.served.Served.{Served as Outcome}
+use Rattle.session_core.specs.Serve.{Account, Carries, Blames, IsAtEnd, most_read}
+use Rattle.session_core.specs.Ends.{outer_end}
 use Rattle.monkey_server.specs.Program.{ServesAlone}
 use Rattle.one_history.specs.Laws.{Served, WantsMore, EndsApart, EndsAlike, PipeHasOneHistory}
 use Rattle.one_history.proofs.OneHistory.{one_history}
 
-served : (level : Level) (words : List ℕ) (f g : Sight) (end : End) (a : ServesAlone level words f g end false) → end ≢ ends.WriteFault →
-    Served level [] a.taken words a.past.seen a.rest a.sent end
-served level words f g end a written = record {
-  requests = a.requests;
-  es = a.es;
-  asked = a.asked;
+served : (level : Level) (words : List ℕ) (f g : Sight) (outcome : Outcome) (a : ServesAlone level words f outcome g) →
+    outcome.short ≡ false → outcome.end ≢ ends.WriteFault →
+    Served level [] a.account.taken words a.past.seen a.rest a.account.sent outcome.end
+served level words f g outcome a at_rest written = record {
+  requests = a.serves.requests;
+  es = a.account.entries;
+  asked = a.account.calls;
   past = a.past;
   requests_are = a.serves.requests_are;
   told_is = a.serves.told_is;
@@ -25,7 +26,7 @@ served level words f g end a written = record {
   history_is = refl;
   legal = a.legal;
   alone = a.events;
-  at_rest = sym a.serves.short;
+  at_rest = sym a.serves.short ∙ at_rest;
   written = written;
 }
 
@@ -45,13 +46,13 @@ record Takes (input taken : List ℕ) (end : End) : Type 0 where
   pub within : length taken ≤ most_read
   pub whole : WantsMore end → (behind ≡ []) ⊎ (length taken ≡ most_read)
 
-pub carried : (level : Level) (taken : List ℕ) (es : List Entry) (sent lost : List ℕ) (old new : Option Traffic) (t : Traffic) →
-    Both (Carries level taken es sent lost) old new → old ≡ Some t → (u : Traffic) × (new ≡ Some u) × Carries level taken es sent lost t u
-carried level taken es sent lost None None t both is = absurd (let h : None ≡ Some t = is in cc)
-carried level taken es sent lost None (Some u) t both is = absurd both
-carried level taken es sent lost (Some x) None t both is = absurd both
-carried level taken es sent lost (Some x) (Some u) t both is =
-    let same : x ≡ t = cc in (u, refl, subst (λ (z : Traffic). Carries level taken es sent lost z u) same both)
+pub carried : (level : Level) (account : Account) (old new : Option Traffic) (t : Traffic) → Both (Carries level account) old new →
+    old ≡ Some t → (u : Traffic) × (new ≡ Some u) × Carries level account t u
+carried level account None None t both is = absurd (let h : None ≡ Some t = is in cc)
+carried level account None (Some u) t both is = absurd both
+carried level account (Some x) None t both is = absurd both
+carried level account (Some x) (Some u) t both is =
+    let same : x ≡ t = cc in (u, refl, subst (λ (z : Traffic). Carries level account z u) same both)
 
 reaches : (end : End) (f g : Sight) (taken : List ℕ) → Blames (outer_end end) f g taken → Reached end (length taken)
 reaches ends.Closed f g taken blames = blames.0
@@ -67,15 +68,15 @@ at_end ends.ReadFault f g taken u blames is reads wants = absurd (reads refl)
 at_end ends.Spent f g taken u blames is reads wants = inr blames
 at_end _ f g taken u blames is reads wants = absurd wants
 
-takes : (level : Level) (words : List ℕ) (f g : Sight) (end : End) (a : ServesAlone level words f g end false) (t : Traffic) → f.traffic ≡ Some t →
-    end ≢ ends.ReadFault → Takes t.left a.taken end
-takes level words f g end a t is reads =
-    let to = carried level a.taken a.es a.sent a.lost f.traffic g.traffic t a.serves.carries is in
+takes : (level : Level) (words : List ℕ) (f g : Sight) (outcome : Outcome) (a : ServesAlone level words f outcome g) (t : Traffic) →
+    f.traffic ≡ Some t → outcome.end ≢ ends.ReadFault → Takes t.left a.account.taken outcome.end
+takes level words f g outcome a t is reads =
+    let to = carried level a.account f.traffic g.traffic t a.serves.carries is in
     record {
       behind = to.0.left;
       split = to.2.left;
       within = a.serves.within;
-      whole = λ wants. at_end end f g a.taken to.0 a.serves.blames to.1 reads wants;
+      whole = λ wants. at_end outcome.end f g a.account.taken to.0 a.serves.blames to.1 reads wants;
     }
 
 -- ---- of two fronts of one list the one is a front of the other
@@ -160,34 +161,40 @@ same_ends sent told one other (inl both) never = both
 same_ends sent told one other (inr apart) never = absurd (never apart.0)
 
 -- two runs have one history, end alike and were told the same
-abbrev pub OneRun : (level : Level) (words : List ℕ) (f g h k : Sight) (one other : End) → ServesAlone level words f g one false → ServesAlone level words h k other false → Type 0
-OneRun level words f g h k one other a b = (a.past.seen ≡ b.past.seen) × (a.rest ≡ b.rest) × (one ≡ other) × (a.sent ≡ b.sent)
+abbrev pub OneRun : (level : Level) (words : List ℕ) (f g h k : Sight) (one other : Outcome) → ServesAlone level words f one g →
+    ServesAlone level words h other k → Type 0
+OneRun level words f g h k one other a b =
+    (a.past.seen ≡ b.past.seen) × (a.rest ≡ b.rest) × (one.end ≡ other.end) × (a.account.sent ≡ b.account.sent)
 
 -- the second run took what the first one took, and more
-run_longer : (level : Level) (words : List ℕ) (f g h k : Sight) (one other : End) (a : ServesAlone level words f g one false) (b : ServesAlone level words h k other false)
-    (more : List ℕ) → one ≢ ends.WriteFault → other ≢ ends.WriteFault → one ≢ ends.ReadFault → other ≢ ends.ReadFault →
-    b.taken ≡ a.taken ++ more → (more ≡ []) ⊎ (¬ (WantsMore one)) → OneRun level words f g h k one other a b
-run_longer level words f g h k one other a b more written sent reads reads_too longer either =
+run_longer : (level : Level) (words : List ℕ) (f g h k : Sight) (one other : Outcome) (a : ServesAlone level words f one g)
+    (b : ServesAlone level words h other k) (more : List ℕ) → one.short ≡ false → other.short ≡ false → one.end ≢ ends.WriteFault →
+    other.end ≢ ends.WriteFault → one.end ≢ ends.ReadFault → other.end ≢ ends.ReadFault →
+    b.account.taken ≡ a.account.taken ++ more → (more ≡ []) ⊎ (¬ (WantsMore one.end)) → OneRun level words f g h k one other a b
+run_longer level words f g h k one other a b more rest rests written sent reads reads_too longer either =
     let is =
-    one_history level [] a.taken more words a.past.seen b.past.seen a.rest b.rest a.sent b.sent one other (served level words f g one a written)
-    (subst (λ (bytes : List ℕ). Served level [] bytes words b.past.seen b.rest b.sent other) longer (served level words h k other b sent)) either in
-    let never : EndsApart one other → ⊥ =
+    one_history level [] a.account.taken more words a.past.seen b.past.seen a.rest b.rest a.account.sent b.account.sent one.end other.end
+    (served level words f g one a rest written)
+    (subst (λ (bytes : List ℕ). Served level [] bytes words b.past.seen b.rest b.account.sent other.end) longer
+    (served level words h k other b rests sent)) either in
+    let never : EndsApart one.end other.end → ⊥ =
     λ apart.
-    never_apart one other (length a.taken) reads reads_too (reaches one f g a.taken a.serves.blames)
-    (subst (λ (n : ℕ). Reached other n) (as_many a.taken b.taken more one longer either apart.first) (reaches other h k b.taken b.serves.blames))
+    never_apart one.end other.end (length a.account.taken) reads reads_too (reaches one.end f g a.account.taken a.serves.blames)
+    (subst (λ (n : ℕ). Reached other.end n) (as_many a.account.taken b.account.taken more one.end longer either apart.first)
+    (reaches other.end h k b.account.taken b.serves.blames))
     apart in
-    let both = same_ends a.sent b.sent one other is.2 never in (is.0, is.1, both.0, both.1)
+    let both = same_ends a.account.sent b.account.sent one.end other.end is.2 never in (is.0, is.1, both.0, both.1)
 
 pub piped : PipeHasOneHistory
-piped level words f g h k t u one other a b at also input written sent reads reads_too =
-    let first : Takes t.left a.taken one = takes level words f g one a t at reads in
-    let second : Takes u.left b.taken other = takes level words h k other b u also reads_too in
-    elim (fronts a.taken b.taken first.behind second.behind (sym first.split ∙ input ∙ second.split)) [
+piped level words f g h k t u one other a b rest rests at also input written sent reads reads_too =
+    let first : Takes t.left a.account.taken one.end = takes level words f g one a t at reads in
+    let second : Takes u.left b.account.taken other.end = takes level words h k other b u also reads_too in
+    elim (fronts a.account.taken b.account.taken first.behind second.behind (sym first.split ∙ input ∙ second.split)) [
       | inl on ↦
-          run_longer level words f g h k one other a b on.more written sent reads reads_too on.longer
-          (took_all t.left a.taken b.taken second.behind one first on second.within)
+          run_longer level words f g h k one other a b on.more rest rests written sent reads reads_too on.longer
+          (took_all t.left a.account.taken b.account.taken second.behind one.end first on second.within)
       | inr on ↦
-          let back = run_longer level words h k f g other one b a on.more sent written reads_too reads on.longer
-          (took_all u.left b.taken a.taken first.behind other second on first.within) in
+          let back = run_longer level words h k f g other one b a on.more rests rest sent written reads_too reads on.longer
+          (took_all u.left b.account.taken a.account.taken first.behind other.end second on first.within) in
           (sym back.0, sym back.1, sym back.2, sym back.3)
     ]

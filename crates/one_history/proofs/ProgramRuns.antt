@@ -3,8 +3,9 @@ use Rattle.std.proofs.Common.{◌≡◌, inl, inr, ℕ, ◌<◌, ◌≤◌, List
 use Rattle.std.specs.Prelude.{IfSome}
 use Rattle.cell_base.specs.declared.level.Level.{Level}
 use Rattle.link_traits.specs.Traffic.{Sight}
+use Rattle.link_traits.specs.Host.{Hosted}
 use Rattle.monkey_server.specs.Command.{IsPipe}
-use Rattle.monkey_server.specs.Program.{Hosted, Piped, Untouched, Prints, Pipes, Does}
+use Rattle.monkey_server.specs.Program.{Piped, Untouched, Prints, Pipes, Does, usage_line}
 use Rattle.one_history.specs.Laws.{ProgramRunsAreAlike}
 use Rattle.one_history.proofs.Commands.{pipe_same}
 use Rattle.one_history.proofs.PipedRuns.{piped_runs}
@@ -15,22 +16,22 @@ not_small : (code n : ℕ) → code ≡ n → 2 ≤ n → code < 2 → ⊥
 not_small code n is large small = omega (arith, is, large, small)
 
 untouched_large : (before after : Hosted) (code : ℕ) → Untouched before code after → code < 2 → ⊥
-untouched_large before after code u small = not_small code 5 u.code_is (omega arith) small
+untouched_large before after code u small = not_small code 5 u.0 (omega arith) small
 
-prints_large : (o p : Sight) (code : ℕ) → Prints o code p → code < 2 → ⊥
-prints_large o p code (inl whole) small = not_small code 2 whole.0 (omega arith) small
-prints_large o p code (inr part) small = not_small code 4 part.0 (omega arith) small
+prints_large : (line : List ℕ) (o p : Sight) (code : ℕ) → Prints line 2 o code p → code < 2 → ⊥
+prints_large line o p code (inl whole) small = not_small code 2 whole.0 (omega arith) small
+prints_large line o p code (inr part) small = not_small code 4 part.0 (omega arith) small
 
 piped_of : (level : Level) (words : List ℕ) (before after : Hosted) (code : ℕ) → Pipes level words before code after → code < 2 → Piped level words before code after
 piped_of level words before after code (inl piped) small = piped
-piped_of level words before after code (inr (inl linkless)) small = absurd (not_small code 6 linkless.code_is (omega arith) small)
+piped_of level words before after code (inr (inl linkless)) small = absurd (not_small code 6 linkless.0 (omega arith) small)
 piped_of level words before after code (inr (inr untouched)) small = absurd (untouched_large before after code untouched small)
 
 served_of : (args : List (List ℕ)) (before after : Hosted) (code : ℕ) → Does args before code after → code < 2 →
     (level : Level) × (words : List ℕ) × IsPipe args level words × Piped level words before code after
 served_of args before after code (inl (level, words, is, pipes)) small = (level, words, is, piped_of level words before after code pipes small)
-served_of args before after code (inr (inl (never, misused))) small =
-    absurd (prints_large misused.old_out misused.new_out code misused.prints small)
+served_of args before after code (inr (inl (never, printed))) small =
+    absurd (prints_large usage_line printed.old_out printed.new_out code printed.prints small)
 served_of args before after code (inr (inr untouched)) small = absurd (untouched_large before after code untouched small)
 
 -- ---- two runs
@@ -56,7 +57,7 @@ program_runs args before after then later code status input output does also off
       is.0,
       (
         is.2.one.written,
-        record { link = a.returned; traffic = is.2.one; back = a.back; traffic_is = is.2.one_is; written_is = refl },
-        record { link = b.returned; traffic = is.2.other; back = b.back; traffic_is = is.2.other_is; written_is = sym is.2.same },
+        record { link = a.returned; traffic = is.2.one; back = ap (λ (h : Hosted). h.back) a.after_is; traffic_is = is.2.one_is; written_is = refl },
+        record { link = b.returned; traffic = is.2.other; back = ap (λ (h : Hosted). h.back) b.after_is; traffic_is = is.2.other_is; written_is = sym is.2.same },
       ),
     )

@@ -10,13 +10,15 @@ use Rattle.block_machine.specs.Calls.{Call}
 use Rattle.block_machine.specs.Script.{Entry, ended, has_short}
 use Rattle.block_machine.specs.declared.end.End.{End}
 use Rattle.block_machine.specs.declared.end.End.TheVariants as ends
+use Rattle.session_core.specs.declared.served.Served.{Served as Outcome}
 use Rattle.session_core.specs.Replies.{fatal_reply}
 use Rattle.session_core.specs.Requests.{Requests, AreRequests}
 use Rattle.session_core.specs.Told.{told}
 use Rattle.session_core.specs.Record.{IsValidRecord, events_of}
 use Rattle.choice_stream.specs.Choices.{DrawsFirst}
 use Rattle.link_traits.specs.Traffic.{Traffic, Sight}
-use Rattle.monkey_server.specs.Program.{ServesAlone, Hosted, Does}
+use Rattle.link_traits.specs.Host.{Hosted, link_returned}
+use Rattle.monkey_server.specs.Program.{ServesAlone, Does}
 
 -- what a session is told last, by the way it ends
 abbrev pub farewell : End → List ℕ
@@ -99,11 +101,11 @@ OneHistory =
 -- bytes.
 abbrev pub PipeHasOneHistory : Type 0
 PipeHasOneHistory =
-    (level : Level) (words : List ℕ) (f g h k : Sight) (t u : Traffic) (one other : End) →
-    (a : ServesAlone level words f g one false) (b : ServesAlone level words h k other false) →
+    (level : Level) (words : List ℕ) (f g h k : Sight) (t u : Traffic) (one other : Outcome) →
+    (a : ServesAlone level words f one g) (b : ServesAlone level words h other k) → one.short ≡ false → other.short ≡ false →
     f.traffic ≡ Some t → h.traffic ≡ Some u → t.left ≡ u.left →
-    one ≢ ends.WriteFault → other ≢ ends.WriteFault → one ≢ ends.ReadFault → other ≢ ends.ReadFault →
-    (a.past.seen ≡ b.past.seen) × (a.rest ≡ b.rest) × (one ≡ other) × (a.sent ≡ b.sent)
+    one.end ≢ ends.WriteFault → other.end ≢ ends.WriteFault → one.end ≢ ends.ReadFault → other.end ≢ ends.ReadFault →
+    (a.past.seen ≡ b.past.seen) × (a.rest ≡ b.rest) × (one.end ≡ other.end) × (a.account.sent ≡ b.account.sent)
 
 -- The link that a host hands out next is told beforehand, and tells these bytes: those left to be read, and those written.
 pub record Offers (host : Hosted) (input output : List ℕ) : Type 0 where
@@ -118,7 +120,7 @@ pub record Offers (host : Hosted) (input output : List ℕ) : Type 0 where
 pub record CameBack (before after : Hosted) (written : List ℕ) : Type 0 where
   pub link : Sight
   pub traffic : Traffic
-  pub back : after.back ≡ before.back ++ link ∷ []
+  pub back : after.back ≡ before.back ++ link_returned link ∷ []
   pub traffic_is : link.traffic ≡ Some traffic
   pub written_is : traffic.written ≡ written
 

@@ -1,10 +1,12 @@
 // The program over a host in memory: what it sends over the standard link, or prints.
-ghost use Rattle.std.specs.Prelude.{◌≡◌, ◌<◌};
+ghost use Rattle.std.specs.Prelude.{◌≡◌, ◌<◌, IfOk};
+ghost use Rattle.link_traits.specs.Host.{objects_out};
+ghost use Rattle.link_traits.specs.Hosts.{mem_hosted};
 
 use cell_base::{Items, Level, Memory, Text};
 use choice_stream::ListWords;
 use history_core::InitialState;
-use link_traits::{MemHost, MemLink, MemPlan, MemSink};
+use link_traits::{MemHost, MemLink, MemPlan, MemReturned, MemSink};
 use monkey_server::monkey_main;
 use session_core::serve_link;
 use solo_book::SoloBook;
@@ -32,6 +34,26 @@ fn link(alloc: Global, input: &[u8], piece: u32) -> Result<MemLink, Memory>
     )
 }
 
+// A host that has this link, and no files. Nothing is out.
+fn host(alloc: Global, link: MemLink) -> Result<MemHost, Memory>
+    ensures { IfOk result (λ host. objects_out (mem_hosted host) ≡ 0) }
+{
+    let out = MemSink::new(alloc, plan(alloc, 64))?;
+    let opened = plan(alloc, 64);
+    let made = plan(alloc, 64);
+    let nothing = Items::new(alloc);
+    let fails = Items::new(alloc);
+    Ok(MemHost::new(
+        alloc,
+        Some(link),
+        nothing,
+        out,
+        fails,
+        opened,
+        made,
+    ))
+}
+
 fn text(alloc: Global, bytes: &[u8]) -> Result<Text, Memory> {
     match Text::from_bytes(alloc, bytes) {
         Ok(text) => Ok(text),
@@ -52,8 +74,7 @@ pub fn answers_at(
     requires { 0 < piece }
 {
     let link = link(alloc, input, piece)?;
-    let out = MemSink::new(alloc, plan(alloc, 64))?;
-    let mut host = MemHost::new(alloc, Some(link), out, Items::new(alloc))?;
+    let mut host = host(alloc, link)?;
     let words = [
         text(alloc, b"pipe")?,
         text(alloc, level)?,
@@ -61,7 +82,7 @@ pub fn answers_at(
     ];
     let status = monkey_main(alloc, &mut host, words.as_slice());
     Ok(match host.back() {
-        [link] => status.code == code && link.written() == sent,
+        [MemReturned::Link(link)] => status.code == code && link.written() == sent,
         _ => false,
     })
 }
@@ -83,8 +104,7 @@ pub fn answers(
 // Whether `pipe LEVEL LIST` ends with status 2, takes no link, and prints these bytes.
 pub fn prints(alloc: Global, level: &[u8], list: &[u8], line: &[u8]) -> Result<bool, Memory> {
     let link = link(alloc, b"", 64)?;
-    let out = MemSink::new(alloc, plan(alloc, 64))?;
-    let mut host = MemHost::new(alloc, Some(link), out, Items::new(alloc))?;
+    let mut host = host(alloc, link)?;
     let words = [
         text(alloc, b"pipe")?,
         text(alloc, level)?,

@@ -31,7 +31,7 @@ least_busy : (stage : Inner) → running.IsBusy stage → running.least stage �
 least_busy (inners.Over state) h = absurd h
 least_busy _ h = refl
 
-pub book_message : (w : calls.Want) (c : Call) → of_message w ≡ wishes.Book c → w ≡ calls.Book c
+pub book_message : (w : calls.MessageWant) (c : Call) → of_message w ≡ wishes.Book c → w ≡ calls.Book c
 book_message (calls.Book d) c is = let same : d ≡ c = cc in ap (λ (x : Call). calls.Book x) same
 book_message calls.Send c is = cc
 book_message calls.Nothing c is = cc

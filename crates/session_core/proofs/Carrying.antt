@@ -3,111 +3,142 @@ use Rattle.std.proofs.Common.{◌≡◌, false, ℕ, ◌+◌, ◌≤◌, List, [
 use Rattle.std.proofs.lemmas.List.{append-nil, take-append-drop}
 use Rattle.link_traits.specs.Traffic.{Traffic, Took, Wrote, WrotePart, Both, Sight}
 use Rattle.cell_base.specs.declared.level.Level.{Level}
-use Rattle.block_machine.specs.Calls.{Call}
 use Rattle.block_machine.specs.declared.end.End.{End}
 use Rattle.block_machine.specs.declared.end.End.TheVariants as ends
 use Rattle.session_core.specs.Requests.{Requests, AreRequests}
 use Rattle.block_machine.specs.Script.{Entry, more}
 use Rattle.session_core.specs.Told.{told}
-use Rattle.session_core.specs.Serve.{IsMark, AreMarks, Carries, IsAtEnd, Blames}
+use Rattle.session_core.specs.Serve.{Account, IsMark, AreMarks, Carries, IsAtEnd, Blames}
 
-IsMark-more : (level : Level) (t : Traffic) (taken : List ℕ) (es : List Entry) (sent : List ℕ) (m : ℕ × ℕ) (a : List ℕ) (b : List Entry)
-    (c : List ℕ) → IsMark level t taken es sent m → IsMark level t (taken ++ a) (es ++ b) (sent ++ c) m
-IsMark-more level t taken es sent m a b c k = record {
+-- an account that has gone on by these lists
+pub record Extends (old new : Account) : Type 0 where
+  pub more_taken : List ℕ
+  pub more_entries : List Entry
+  pub more_sent : List ℕ
+  pub taken : new.taken ≡ old.taken ++ more_taken
+  pub entries : new.entries ≡ old.entries ++ more_entries
+  pub sent : new.sent ≡ old.sent ++ more_sent
+
+IsMark-more : (level : Level) (old new : Account) (t : Traffic) (m : ℕ × ℕ) → Extends old new → IsMark level old t m → IsMark level new t m
+IsMark-more level old new t m on k = record {
   front = k.front;
-  rest = k.rest ++ a;
+  rest = k.rest ++ on.more_taken;
   early = k.early;
-  late = k.late ++ b;
+  late = k.late ++ on.more_entries;
   asked = k.asked;
   said = k.said;
-  unsaid = k.unsaid ++ c;
+  unsaid = k.unsaid ++ on.more_sent;
   requests = k.requests;
-  taken_is = ap (λ x. x ++ a) k.taken_is ∙ append_assoc k.front k.rest a;
-  es_is = ap (λ x. x ++ b) k.es_is ∙ append_assoc k.early k.late b;
-  sent_is = ap (λ x. x ++ c) k.sent_is ∙ append_assoc k.said k.unsaid c;
+  taken_is = on.taken ∙ ap (λ x. x ++ on.more_taken) k.taken_is ∙ append_assoc k.front k.rest on.more_taken;
+  entries_are = on.entries ∙ ap (λ x. x ++ on.more_entries) k.entries_are ∙ append_assoc k.early k.late on.more_entries;
+  sent_is = on.sent ∙ ap (λ x. x ++ on.more_sent) k.sent_is ∙ append_assoc k.said k.unsaid on.more_sent;
   mark_is = k.mark_is;
   requests_are = k.requests_are;
   told_is = k.told_is;
 }
 
-pub AreMarks-more : (level : Level) (t : Traffic) (taken : List ℕ) (es : List Entry) (sent : List ℕ) (ms : List (ℕ × ℕ)) (a : List ℕ)
-    (b : List Entry) (c : List ℕ) → AreMarks level t taken es sent ms → AreMarks level t (taken ++ a) (es ++ b) (sent ++ c) ms
-AreMarks-more level t taken es sent [] a b c k = tt
-AreMarks-more level t taken es sent (m ∷ ms) a b c k =
-    (IsMark-more level t taken es sent m a b c k.0, AreMarks-more level t taken es sent ms a b c k.1)
+pub AreMarks-more : (level : Level) (old new : Account) (t : Traffic) (ms : List (ℕ × ℕ)) → Extends old new → AreMarks level old t ms →
+    AreMarks level new t ms
+AreMarks-more level old new t [] on k = tt
+AreMarks-more level old new t (m ∷ ms) on k = (IsMark-more level old new t m on k.0, AreMarks-more level old new t ms on k.1)
 
-AreMarks-one : (level : Level) (t : Traffic) (taken : List ℕ) (es : List Entry) (sent : List ℕ) (ms : List (ℕ × ℕ)) (m : ℕ × ℕ) →
-    AreMarks level t taken es sent ms → IsMark level t taken es sent m → AreMarks level t taken es sent (ms ++ m ∷ [])
-AreMarks-one level t taken es sent [] m k h = (h, tt)
-AreMarks-one level t taken es sent (x ∷ ms) m k h = (k.0, AreMarks-one level t taken es sent ms m k.1 h)
+AreMarks-one : (level : Level) (account : Account) (t : Traffic) (ms : List (ℕ × ℕ)) (m : ℕ × ℕ) → AreMarks level account t ms →
+    IsMark level account t m → AreMarks level account t (ms ++ m ∷ [])
+AreMarks-one level account t [] m k h = (h, tt)
+AreMarks-one level account t (x ∷ ms) m k h = (k.0, AreMarks-one level account t ms m k.1 h)
 
 -- a longer record alone
-pub Carries-record : (level : Level) (taken : List ℕ) (es b : List Entry) (sent lost : List ℕ) (t u : Traffic) →
-    Carries level taken es sent lost t u → Carries level taken (es ++ b) sent lost t u
-Carries-record level taken es b sent lost t u k = record {
-  left = k.left;
-  read_is = k.read_is;
-  written_is = k.written_is;
+pub Carries-record : (level : Level) (old new : Account) (b : List Entry) (t u : Traffic) → new.taken ≡ old.taken → new.sent ≡ old.sent →
+    new.lost ≡ old.lost → new.entries ≡ old.entries ++ b → Carries level old t u → Carries level new t u
+Carries-record level old new b t u taken sent lost entries k = record {
+  left = k.left ∙ ap (λ (x : List ℕ). x ++ u.left) (sym taken);
+  read_is = k.read_is ∙ ap (λ (x : List ℕ). t.read ++ x) (sym taken);
+  written_is = ap (λ (x : List ℕ). u.written ++ x) lost ∙ k.written_is ∙ ap (λ (x : List ℕ). t.written ++ x) (sym sent);
   marks = (
     k.marks.0,
     k.marks.1,
-    subst (λ (x : List ℕ). AreMarks level t x (es ++ b) sent k.marks.0) (append-nil taken)
-        (subst (λ (x : List ℕ). AreMarks level t (taken ++ []) (es ++ b) x k.marks.0) (append-nil sent)
-        (AreMarks-more level t taken es sent k.marks.0 [] b [] k.marks.2)),
+    AreMarks-more level old new t k.marks.0 (record {
+      more_taken = [];
+      more_entries = b;
+      more_sent = [];
+      taken = taken ∙ sym (append-nil old.taken);
+      entries = entries;
+      sent = sent ∙ sym (append-nil old.sent);
+    }) k.marks.2,
   );
 }
 
 -- a write, whole or in part
-pub Carries-wrote : (level : Level) (taken : List ℕ) (es b : List Entry) (sent reply part lost : List ℕ) (t u r : Traffic) →
-    reply ≡ part ++ lost → Carries level taken es sent [] t u → Wrote part u r → Carries level taken (es ++ b) (sent ++ reply) lost t r
-Carries-wrote level taken es b sent reply part lost t u r e k w = record {
-  left = k.left ∙ ap (λ x. taken ++ x) (sym w.left);
-  read_is = w.read ∙ k.read_is;
-  written_is = ap (λ x. x ++ lost) w.written ∙ append_assoc u.written part lost ∙ ap (λ x. u.written ++ x) (sym e)
-      ∙ ap (λ x. x ++ reply) (sym (append-nil u.written) ∙ k.written_is) ∙ append_assoc t.written sent reply;
+pub Carries-wrote : (level : Level) (old new : Account) (b : List Entry) (reply part : List ℕ) (t u r : Traffic) → new.taken ≡ old.taken →
+    new.entries ≡ old.entries ++ b → new.sent ≡ old.sent ++ reply → old.lost ≡ [] → reply ≡ part ++ new.lost → Carries level old t u →
+    Wrote part u r → Carries level new t r
+Carries-wrote level old new b reply part t u r taken entries sent none_lost e k w = record {
+  left = k.left ∙ ap (λ x. old.taken ++ x) (sym w.left) ∙ ap (λ (x : List ℕ). x ++ r.left) (sym taken);
+  read_is = w.read ∙ k.read_is ∙ ap (λ (x : List ℕ). t.read ++ x) (sym taken);
+  written_is = ap (λ x. x ++ new.lost) w.written ∙ append_assoc u.written part new.lost ∙ ap (λ x. u.written ++ x) (sym e)
+      ∙ ap (λ x. x ++ reply) (sym (append-nil u.written) ∙ ap (λ (x : List ℕ). u.written ++ x) (sym none_lost) ∙ k.written_is)
+      ∙ append_assoc t.written old.sent reply ∙ ap (λ (x : List ℕ). t.written ++ x) (sym sent);
   marks = (
     k.marks.0,
     w.marks ∙ k.marks.1,
-    subst (λ (x : List ℕ). AreMarks level t x (es ++ b) (sent ++ reply) k.marks.0) (append-nil taken)
-        (AreMarks-more level t taken es sent k.marks.0 [] b reply k.marks.2),
+    AreMarks-more level old new t k.marks.0 (record {
+      more_taken = [];
+      more_entries = b;
+      more_sent = reply;
+      taken = taken ∙ sym (append-nil old.taken);
+      entries = entries;
+      sent = sent;
+    }) k.marks.2,
   );
 }
 
 -- a read, where nothing was held back
-pub Carries-took : (level : Level) (taken piece : List ℕ) (es b : List Entry) (asked : List Call) (sent : List ℕ) (t u r : Traffic) →
-    (requests : Requests) → AreRequests false taken requests → told level requests es ≡ (record { bytes = sent; calls = asked }, more) →
-    Carries level taken es sent [] t u → Took piece u r → Carries level (taken ++ piece) (es ++ b) sent [] t r
-Carries-took level taken piece es b asked sent t u r requests is shows k w = record {
-  left = k.left ∙ ap (λ x. taken ++ x) w.left ∙ sym (append_assoc taken piece r.left);
-  read_is = w.read ∙ ap (λ x. x ++ piece) k.read_is ∙ append_assoc t.read taken piece;
-  written_is = ap (λ x. x ++ []) w.written ∙ k.written_is;
-  marks = (
-    k.marks.0 ++ (length u.read, length u.written) ∷ [],
-    w.marks ∙ ap (λ x. x ++ (length u.read, length u.written) ∷ []) k.marks.1
-        ∙ append_assoc t.marks k.marks.0 ((length u.read, length u.written) ∷ []),
-    subst (λ (x : List ℕ). AreMarks level t (taken ++ piece) (es ++ b) x (k.marks.0 ++ (length u.read, length u.written) ∷ []))
-        (append-nil sent)
-        (AreMarks-more level t taken es sent (k.marks.0 ++ (length u.read, length u.written) ∷ []) piece b []
-        (AreMarks-one level t taken es sent k.marks.0 (length u.read, length u.written) k.marks.2 (record {
-          front = taken;
+pub Carries-took : (level : Level) (old new : Account) (piece : List ℕ) (b : List Entry) (t u r : Traffic) (requests : Requests) →
+    new.taken ≡ old.taken ++ piece → new.entries ≡ old.entries ++ b → new.sent ≡ old.sent → old.lost ≡ [] → new.lost ≡ [] →
+    AreRequests false old.taken requests →
+    told level requests old.entries ≡ (record { bytes = old.sent; calls = old.calls }, more) → Carries level old t u → Took piece u r →
+    Carries level new t r
+Carries-took level old new piece b t u r requests taken entries sent none_lost none is shows k w =
+    let all_written : u.written ≡ t.written ++ old.sent =
+    sym (append-nil u.written) ∙ ap (λ (x : List ℕ). u.written ++ x) (sym none_lost) ∙ k.written_is in
+    let all_read : u.read ≡ t.read ++ old.taken = k.read_is in
+    record {
+      left = k.left ∙ ap (λ x. old.taken ++ x) w.left ∙ sym (append_assoc old.taken piece r.left)
+          ∙ ap (λ (x : List ℕ). x ++ r.left) (sym taken);
+      read_is = w.read ∙ ap (λ x. x ++ piece) k.read_is ∙ append_assoc t.read old.taken piece ∙ ap (λ (x : List ℕ). t.read ++ x) (sym taken);
+      written_is = ap (λ x. x ++ new.lost) w.written ∙ ap (λ (x : List ℕ). u.written ++ x) none ∙ append-nil u.written ∙ all_written
+          ∙ ap (λ (x : List ℕ). t.written ++ x) (sym sent);
+      marks = (
+        k.marks.0 ++ (length u.read, length u.written) ∷ [],
+        w.marks ∙ ap (λ x. x ++ (length u.read, length u.written) ∷ []) k.marks.1
+            ∙ append_assoc t.marks k.marks.0 ((length u.read, length u.written) ∷ []),
+        AreMarks-more level old new t (k.marks.0 ++ (length u.read, length u.written) ∷ []) (record {
+          more_taken = piece;
+          more_entries = b;
+          more_sent = [];
+          taken = taken;
+          entries = entries;
+          sent = sent ∙ sym (append-nil old.sent);
+        }) (AreMarks-one level old t k.marks.0 (length u.read, length u.written) k.marks.2 (record {
+          front = old.taken;
           rest = [];
-          early = es;
+          early = old.entries;
           late = [];
-          asked = asked;
-          said = sent;
+          asked = old.calls;
+          said = old.sent;
           unsaid = [];
           requests = requests;
-          taken_is = sym (append-nil taken);
-          es_is = sym (append-nil es);
-          sent_is = sym (append-nil sent);
-          mark_is = ap (λ x. (length x, length u.written)) k.read_is ∙ ap (λ x. (x, length u.written)) (length-append t.read taken)
-              ∙ ap (λ x. (length t.read + length taken, length x)) (sym (append-nil u.written) ∙ k.written_is)
-              ∙ ap (λ x. (length t.read + length taken, x)) (length-append t.written sent);
+          taken_is = sym (append-nil old.taken);
+          entries_are = sym (append-nil old.entries);
+          sent_is = sym (append-nil old.sent);
+          mark_is = ap (λ x. (length x, length u.written)) all_read ∙ ap (λ x. (x, length u.written)) (length-append t.read old.taken)
+              ∙ ap (λ x. (length t.read + length old.taken, length x)) all_written
+              ∙ ap (λ x. (length t.read + length old.taken, x)) (length-append t.written old.sent);
           requests_are = is;
           told_is = shows;
-        }))),
-  );
-}
+        })),
+      );
+    }
 
 -- a fact of a link that follows from two
 pub Both-then : {P Q R : Traffic → Traffic → Type 0} (a b c : Option Traffic) → ((t u r : Traffic) → P t u → Q u r → R t r) → Both P a b →

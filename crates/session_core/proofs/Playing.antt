@@ -47,7 +47,7 @@ use Rattle.session_core.specs.Wants as wishes
 use Rattle.session_core.specs.Record.{StateAfter, Draws, Happens, ReadsBack, ReadsFrom, may_be_refused, limit_for, HasNewName}
 use Rattle.session_core.specs.Plays.{Plays, MayAsk, owed_of}
 use Rattle.session_core.specs.Stands.{IsFit, owed_at, wants}
-use Rattle.session_core.specs.Serve.{Sits}
+use Rattle.session_core.specs.Running.{IsAnswered, Sits}
 use Rattle.session_core.proofs.ValidRecords.{Happens-leaves, Declines-goes}
 
 -- ---- one call
@@ -271,7 +271,7 @@ may_ask_message (message_stage.Readying state) known past c o k t s w = absurd (
 wish_of : (d c : Call) → wishes.Book d ≡ wishes.Book c → d ≡ c
 wish_of d c h = cc h
 
-message_wish : (w : calls.Want) (c : Call) → of_message w ≡ wishes.Book c → w ≡ calls.Book c
+message_wish : (w : calls.MessageWant) (c : Call) → of_message w ≡ wishes.Book c → w ≡ calls.Book c
 message_wish (calls.Book d) c h = ap calls.Book (wish_of d c h)
 message_wish calls.Send c h = absurd (cc h)
 message_wish calls.Nothing c h = absurd (cc h)
@@ -420,3 +420,13 @@ sits_after gives s next p v c a e q w sits wants_c may fits plays state owed aft
       (stage_look s.stage s.runner c wants_c) after_is;
   fit = fit;
 }
+
+-- the same, where the session took the answer to the call that it wanted
+pub sits_answered : {W : Type 0} (gives : W → ℕ → W → Type 0) (s next : Session) (p : Past) (v : W) (answer : Answer) (q : Past) (w : W) →
+    Sits s p → IsAnswered gives s p v answer q w →
+    ((c : Call) → wants s.stage s.runner ≡ wishes.Book c →
+    owed_at next.stage next.runner ≡ owed_after c answer (owed_at s.stage s.runner)) →
+    IsKnownAfter (knowledge_of s.runner) answer (knowledge_of next.runner) → IsFit next.runner → Sits next q
+sits_answered gives s next p v answer q w sits a owed after_is fit =
+    sits_after gives s next p v a.call answer a.event q w sits a.wanted_is (may_ask s p a.call sits a.wanted_is) a.fits a.plays a.state
+    (owed a.call a.wanted_is) after_is fit

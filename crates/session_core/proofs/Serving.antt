@@ -1,5 +1,5 @@
 -- A run over a link goes on.
-use Rattle.std.proofs.Common.{◌≡◌, inl, inr, ◌↔◌, IfSome, Bool, true, false, ℕ, ◌+◌, ◌<◌, ◌≤◌, List, [], ◌∷◌, ◌++◌, length, take, refl, sym, ◌∙◌, ap, subst, arith, Option, Some, None, length-append}
+use Rattle.std.proofs.Common.{Contains, ◌≡◌, inl, inr, ◌↔◌, IfSome, Bool, true, false, ℕ, ◌+◌, ◌<◌, ◌≤◌, List, [], ◌∷◌, ◌++◌, length, take, refl, sym, ◌∙◌, ap, subst, arith, Option, Some, None, length-append, append_assoc}
 use Rattle.std.proofs.lemmas.List.{append-nil}
 use Rattle.std.proofs.lemmas.List.Elements.{Contains-append_left, Contains-push}
 use Rattle.std.proofs.lemmas.Grind.{common_steps}
@@ -7,11 +7,11 @@ use Rattle.cell_base.specs.declared.level.Level.{Level}
 use Rattle.link_traits.specs.Faults.{Rose}
 use Rattle.link_traits.specs.Traffic.{Traffic, Took, Wrote, Both, Sight}
 use Rattle.history_core.specs.declared.event.Event.{Event}
-use Rattle.history_core.specs.Book.{Past, SessionState, no_session, in_session, pending}
+use Rattle.history_core.specs.Book.{Past, SessionState, no_session, in_session, pending, GoesOn}
 use Rattle.block_machine.specs.Calls.{Call}
 use Rattle.block_machine.specs.Calls as calls
 use Rattle.block_machine.specs.Script.{Entry, ended, short, unsent, stop, more, has_short}
-use Rattle.block_machine.specs.Stages.{entry_for}
+use Rattle.block_machine.specs.Stages.{entry_for, running_at}
 use Rattle.block_machine.specs.Runners.{tables_of, wanted}
 use Rattle.block_machine.specs.declared.block.Owed.TheVariants as owes
 use Rattle.block_machine.specs.declared.call.Answer.{Answer}
@@ -20,6 +20,8 @@ use Rattle.block_machine.specs.declared.end.End.TheVariants as ends
 use Rattle.block_machine.specs.declared.end.Stop.{Stop}
 use Rattle.block_machine.specs.declared.end.Stop.TheVariants as stops
 use Rattle.block_machine.specs.declared.runner.Runner.{Runner}
+use Rattle.block_machine.specs.declared.stage.MessageStage.{MessageStage}
+use Rattle.block_machine.specs.declared.stage.MessageStage.TheVariants as message_stages
 use Rattle.session_core.specs.declared.phase.Phase.{Phase}
 use Rattle.session_core.specs.declared.phase.Phase.TheVariants as phases
 use Rattle.session_core.specs.declared.stage.Finish.{Finish}
@@ -31,17 +33,19 @@ use Rattle.session_core.specs.Wants as wishes
 use Rattle.session_core.specs.Requests.{Requests, AreRequests, unread}
 use Rattle.session_core.specs.Told.{told, opened_in}
 use Rattle.session_core.specs.Sessions.{Stands, StandsShort}
-use Rattle.session_core.specs.Record.{StateAfter}
-use Rattle.session_core.specs.Plays.{Plays, owed_of}
-use Rattle.session_core.specs.Stands.{IsFit, Lacks, LacksBy, served_of, owed_at, outer_end, IsStopped, outer, end_of, wants, IsHolding, Shows, IsLast}
-use Rattle.session_core.specs.Serve.{IsOfLast, Carries, IsAtEnd, Blames, Ran, Serves, Sits, most_read}
+use Rattle.session_core.specs.Plays.{owed_of}
+use Rattle.session_core.specs.Ends.{LacksBy, outer_end}
+use Rattle.session_core.specs.Stands.{IsFit, Lacks, served_of, owed_at, IsStopped, outer, end_of, wants, IsHolding, Shows, IsLast, statement_at}
+use Rattle.session_core.specs.declared.served.Served.{Served}
+use Rattle.session_core.specs.Serve.{Scene, scene_of, Account, IsOfLast, Carries, IsAtEnd, Blames, Serves, most_read}
+use Rattle.session_core.specs.Running.{IsAnswered, MakesCall, Ran, Sits, SitsWhileOthersGoOn}
 use Rattle.session_core.proofs.Grows.{IsAsked, Shows-stands}
-use Rattle.session_core.proofs.ValidRecords.{IsValidRecord-plays, IsValidRecord-short, IsValidRecord-quiet, own_events}
+use Rattle.session_core.proofs.ValidRecords.{IsValidRecord-append, IsValidRecord-plays, IsValidRecord-short, IsValidRecord-quiet, own_events}
 use Rattle.session_core.proofs.Carrying.{Carries-record, Carries-wrote, Carries-took, Both-then, Both-weaker, Blames-same, Blames-none, Blames-wrote}
 
 -- ---- what a want says of the stage
 
-message_rests : (w : calls.Want) → (of_message w ≡ wishes.Bytes → ⊥) × ((end : End) → of_message w ≡ wishes.Ended end → ⊥) ×
+message_rests : (w : calls.MessageWant) → (of_message w ≡ wishes.Bytes → ⊥) × ((end : End) → of_message w ≡ wishes.Ended end → ⊥) ×
     (of_message w ≡ wishes.Message → ⊥)
 message_rests (calls.Book c) = ((λ e. cc e), (λ end e. cc e), (λ e. cc e))
 message_rests calls.Send = ((λ e. cc e), (λ end e. cc e), (λ e. cc e))
@@ -87,146 +91,166 @@ shows_more s level taken es asked sent served w st =
     (subst (λ (x : Want). Shows (served_of s.runner) x taken es asked sent) w
     (Shows-stands s.stage s.runner s.startup.items s.frames taken es asked sent not_running st.stage))
 
+-- ---- the call that a session wants
+
+-- the call that was made, with the answer that the session then took
+pub makes_call : {W : Type 0} (gives : W → ℕ → W → Type 0) (s r : Session) (p : Past) (v : W) (answer : Answer) (q : Past) (w : W) →
+    IsAnswered gives s p v answer q w →
+    ((taken : List ℕ) (es : List Entry) (asked : List Call) (sent : List ℕ) (c : Call) (e : Event) → Stands s taken es asked sent →
+    wants s.stage s.runner ≡ wishes.Book c → StandsShort r taken (es ++ entry_for answer e ∷ []) (asked ++ c ∷ []) sent) →
+    MakesCall gives s p v r q w
+makes_call gives s r p v answer q w a grown = record {
+  call = a.call;
+  entry = entry_for answer a.event;
+  wanted_is = a.wanted_is;
+  valid = IsValidRecord-plays gives p v [] [] p v a.call answer a.event q w (refl, refl) a.plays a.state;
+  grown = λ taken es asked sent st. grown taken es asked sent a.call a.event st a.wanted_is;
+}
+
+-- at most one statement runs
+message_runs : (stage : MessageStage) → running_at stage ≤ 1
+message_runs (message_stages.Running run p) = omega arith
+message_runs _ = omega arith
+
+pub one_at_most : (stage : SessionStage) (r : Runner) → statement_at stage r ≤ 1
+one_at_most stages.Running r = message_runs r.stage
+one_at_most _ r = omega arith
+
 -- ---- one step more
 
 -- what is lost stays a part of the last reply where the record goes on
-last_more : (es b : List Entry) (sent lost : List ℕ) → IsOfLast es sent lost → IsOfLast (es ++ b) sent lost
-last_more es b sent lost (inl none) = inl none
-last_more es b sent lost (inr (n, has, le)) = inr (n, Contains-append_left es b (unsent n) has, le)
+last_more : (old new : Account) (b : List Entry) → new.entries ≡ old.entries ++ b → new.sent ≡ old.sent → new.lost ≡ old.lost →
+    IsOfLast old → IsOfLast new
+last_more old new b entries sent lost (inl none) = inl (lost ∙ none)
+last_more old new b entries sent lost (inr (n, has, le)) = inr (
+  n,
+  subst (λ (x : List Entry). Contains x (unsent n)) (sym entries) (Contains-append_left old.entries b (unsent n) has),
+  omega (arith, le, ap length sent, ap length lost),
+)
 
 -- a call of the book; a lack of memory of the session may stand after it
-pub Ran-answered : {W : Type 0} (gives : W → ℕ → W → Type 0) (level : Level) (p : Past) (v : W) (f : Sight) (s r : Session) (q q' : Past)
-    (w w' : W) (g : Sight) (many : ℕ) (c : Call)
-    (a : Answer) (e : Event) →
-    ((taken : List ℕ) (es : List Entry) (asked : List Call) (sent : List ℕ) → Stands s taken es asked sent →
-    StandsShort r taken (es ++ entry_for a e ∷ []) (asked ++ c ∷ []) sent) →
-    served_of r.runner ≡ served_of s.runner → outer r.stage ≡ outer s.stage → ((lost : List ℕ) → Lacks s.stage lost → Lacks r.stage lost) →
-    Plays gives q w c a e q' w' → StateAfter c a q.state q'.state → Ran gives level p v f s q w g many → Ran gives level p v f r q' w' g many
-Ran-answered gives level p v f s r q q' w w' g many c a e grown same outer_is lacks plays state ran =
-    let (taken, es, asked, sent, lost, many_is, run) = ran in
-    let (added, is_short, stands) = grown taken es asked sent run.stands in (
-      taken,
-      (es ++ entry_for a e ∷ []) ++ added,
-      asked ++ c ∷ [],
-      sent,
-      lost,
+pub Ran-called : {W : Type 0} (gives : W → ℕ → W → Type 0) (level : Level) (before : Scene W) (s r : Session) (q q' : Past) (w w' : W)
+    (g : Sight) (many : ℕ) → MakesCall gives s q w r q' w' → served_of r.runner ≡ served_of s.runner → outer r.stage ≡ outer s.stage →
+    ((lost : List ℕ) → Lacks s.stage lost → Lacks r.stage lost) → Ran gives level before s (scene_of q w g) many →
+    Ran gives level before r (scene_of q' w' g) many
+Ran-called gives level before s r q q' w w' g many makes same outer_is lacks ran =
+    let (old, many_is, run) = ran in
+    let (added, is_short, stands) = makes.grown old.taken old.entries old.calls old.sent run.stands in
+    let new : Account = record old {
+      calls = old.calls ++ makes.call ∷ [];
+      entries = (old.entries ++ makes.entry ∷ []) ++ added;
+    } in
+    let more : (old.entries ++ makes.entry ∷ []) ++ added ≡ old.entries ++ makes.entry ∷ added =
+    append_assoc old.entries (makes.entry ∷ []) added in (
+      new,
       many_is,
       record {
         stands = stands;
         served_level = same ∙ run.served_level;
-        valid = IsValidRecord-short gives p v (asked ++ c ∷ []) (es ++ entry_for a e ∷ []) q' w' sent added is_short
-            (IsValidRecord-plays gives p v asked es q w c a e q' w' run.valid plays state);
-        carries = Both-weaker f.traffic g.traffic
-            (λ x y k. Carries-record level taken (es ++ entry_for a e ∷ []) added sent lost x y
-            (Carries-record level taken es (entry_for a e ∷ []) sent lost x y k)) run.carries;
-        lacks = lacks lost run.lacks;
-        last = last_more (es ++ entry_for a e ∷ []) added sent lost (last_more es (entry_for a e ∷ []) sent lost run.last);
-        blames = Blames-same (outer s.stage) (outer r.stage) f g taken outer_is run.blames;
+        valid = IsValidRecord-short gives before.past before.words (old.calls ++ makes.call ∷ []) (old.entries ++ makes.entry ∷ []) q' w'
+            old.sent added is_short
+            (IsValidRecord-append gives before.past before.words old.calls old.entries q w (makes.call ∷ []) (makes.entry ∷ []) q' w'
+            run.valid makes.valid);
+        carries = Both-weaker before.link.traffic g.traffic
+            (λ x y k. Carries-record level old new (makes.entry ∷ added) x y refl refl refl more k) run.carries;
+        lacks = lacks old.lost run.lacks;
+        last = last_more old new (makes.entry ∷ added) more refl refl run.last;
+        blames = Blames-same (outer s.stage) (outer r.stage) before.link g old.taken outer_is run.blames;
         reads = run.reads;
         writes = run.writes;
       },
     )
 
 -- a message was looked at
-pub Ran-taken : {W : Type 0} (gives : W → ℕ → W → Type 0) (level : Level) (p : Past) (v : W) (f : Sight) (s r : Session) (q : Past) (w : W)
+pub Ran-taken : {W : Type 0} (gives : W → ℕ → W → Type 0) (level : Level) (before : Scene W) (s r : Session) (q : Past) (w : W)
     (g : Sight) (many : ℕ) →
     ((taken : List ℕ) (es : List Entry) (asked : List Call) (sent : List ℕ) → Stands s taken es asked sent →
     StandsShort r taken es asked sent) →
     wants s.stage s.runner ≡ wishes.Message → served_of r.runner ≡ served_of s.runner → outer r.stage ≡ None → Lacks r.stage [] →
-    Ran gives level p v f s q w g many → Ran gives level p v f r q w g many
-Ran-taken gives level p v f s r q w g many grown taking same outer_is lacks ran =
-    let (taken, es, asked, sent, lost, many_is, run) = ran in
-    let (added, is_short, stands) = grown taken es asked sent run.stands in
-    let none_lost : lost ≡ [] = Lacks-taking s.stage s.runner lost taking run.lacks in (
-      taken,
-      es ++ added,
-      asked,
-      sent,
-      lost,
+    Ran gives level before s (scene_of q w g) many → Ran gives level before r (scene_of q w g) many
+Ran-taken gives level before s r q w g many grown taking same outer_is lacks ran =
+    let (old, many_is, run) = ran in
+    let (added, is_short, stands) = grown old.taken old.entries old.calls old.sent run.stands in
+    let none_lost : old.lost ≡ [] = Lacks-taking s.stage s.runner old.lost taking run.lacks in
+    let new : Account = record old { entries = old.entries ++ added } in (
+      new,
       many_is,
       record {
         stands = stands;
         served_level = same ∙ run.served_level;
-        valid = IsValidRecord-short gives p v asked es q w sent added is_short run.valid;
-        carries = Both-weaker f.traffic g.traffic (λ x y k. Carries-record level taken es added sent lost x y k) run.carries;
+        valid = IsValidRecord-short gives before.past before.words old.calls old.entries q w old.sent added is_short run.valid;
+        carries = Both-weaker before.link.traffic g.traffic
+            (λ x y k. Carries-record level old new added x y refl refl refl refl k) run.carries;
         lacks = subst (λ (o : List ℕ). Lacks r.stage o) (sym none_lost) lacks;
         last = inl none_lost;
-        blames = Blames-none (outer r.stage) f g taken outer_is;
+        blames = Blames-none (outer r.stage) before.link g old.taken outer_is;
         reads = run.reads;
         writes = run.writes;
       },
     )
 
 -- a reply was sent
-pub Ran-sent : {W : Type 0} (gives : W → ℕ → W → Type 0) (level : Level) (p : Past) (v : W) (f : Sight) (s r : Session) (q : Past) (w : W)
+pub Ran-sent : {W : Type 0} (gives : W → ℕ → W → Type 0) (level : Level) (before : Scene W) (s r : Session) (q : Past) (w : W)
     (g h : Sight) (many : ℕ) (reply : List ℕ) →
     ((taken : List ℕ) (es : List Entry) (asked : List Call) (sent : List ℕ) → Stands s taken es asked sent →
     StandsShort r taken es asked (sent ++ reply)) →
     IsHolding s.stage s.runner → served_of r.runner ≡ served_of s.runner → outer r.stage ≡ outer s.stage → Lacks r.stage [] →
     Both (Wrote reply) g.traffic h.traffic → h.read_faults ≡ g.read_faults → g.write_faults ≤ h.write_faults →
-    Ran gives level p v f s q w g many → Ran gives level p v f r q w h many
-Ran-sent gives level p v f s r q w g h many reply grown holds same outer_is lacks wrote same_reads more_writes ran =
-    let (taken, es, asked, sent, lost, many_is, run) = ran in
-    let (added, is_short, stands) = grown taken es asked sent run.stands in
-    let none_lost : lost ≡ [] = Lacks-holding s.stage s.runner lost holds run.lacks in (
-      taken,
-      es ++ added,
-      asked,
-      sent ++ reply,
-      [],
+    Ran gives level before s (scene_of q w g) many → Ran gives level before r (scene_of q w h) many
+Ran-sent gives level before s r q w g h many reply grown holds same outer_is lacks wrote same_reads more_writes ran =
+    let (old, many_is, run) = ran in
+    let (added, is_short, stands) = grown old.taken old.entries old.calls old.sent run.stands in
+    let none_lost : old.lost ≡ [] = Lacks-holding s.stage s.runner old.lost holds run.lacks in
+    let new : Account = record old { entries = old.entries ++ added; sent = old.sent ++ reply; lost = [] } in (
+      new,
       many_is,
       record {
         stands = stands;
         served_level = same ∙ run.served_level;
-        valid = IsValidRecord-short gives p v asked es q w (sent ++ reply) added is_short run.valid;
-        carries = Both-then f.traffic g.traffic h.traffic
-            (λ x y z k l. Carries-wrote level taken es added sent reply reply [] x y z (sym (append-nil reply))
-            (subst (λ (o : List ℕ). Carries level taken es sent o x y) none_lost k) l) run.carries wrote;
+        valid = IsValidRecord-short gives before.past before.words old.calls old.entries q w (old.sent ++ reply) added is_short run.valid;
+        carries = Both-then before.link.traffic g.traffic h.traffic
+            (λ x y z k l. Carries-wrote level old new added reply reply x y z refl refl refl none_lost (sym (append-nil reply)) k l)
+            run.carries wrote;
         lacks = lacks;
         last = inl refl;
-        blames = Blames-wrote (outer r.stage) f g h taken reply wrote same_reads more_writes
-            (Blames-same (outer s.stage) (outer r.stage) f g taken outer_is run.blames);
+        blames = Blames-wrote (outer r.stage) before.link g h old.taken reply wrote same_reads more_writes
+            (Blames-same (outer s.stage) (outer r.stage) before.link g old.taken outer_is run.blames);
         reads = omega (arith, run.reads, same_reads);
         writes = omega (arith, run.writes, more_writes);
       },
     )
 
 -- a reply was not sent whole
-pub Ran-unsent : {W : Type 0} (gives : W → ℕ → W → Type 0) (level : Level) (p : Past) (v : W) (f : Sight) (s r : Session) (q : Past) (w : W)
-    (g h : Sight) (many : ℕ)
-    (reply part lost : List ℕ) →
+pub Ran-unsent : {W : Type 0} (gives : W → ℕ → W → Type 0) (level : Level) (before : Scene W) (s r : Session) (q : Past) (w : W)
+    (g h : Sight) (many : ℕ) (reply part lost : List ℕ) →
     ((taken : List ℕ) (es : List Entry) (asked : List Call) (sent : List ℕ) → Stands s taken es asked sent →
     Stands r taken (es ++ unsent (length sent) ∷ []) asked (sent ++ reply)) →
     IsHolding s.stage s.runner → served_of r.runner ≡ served_of s.runner → outer r.stage ≡ Some ends.WriteFault →
     ((l : List ℕ) → Lacks r.stage l) →
     reply ≡ part ++ lost → Both (Wrote part) g.traffic h.traffic → h.read_faults ≡ g.read_faults → Rose g.write_faults h.write_faults →
     g.write_faults ≤ h.write_faults →
-    Ran gives level p v f s q w g many → Ran gives level p v f r q w h many
-Ran-unsent gives level p v f s r q w g h many reply part lost grown holds same outer_is lacks reply_is wrote same_reads rose more_writes
+    Ran gives level before s (scene_of q w g) many → Ran gives level before r (scene_of q w h) many
+Ran-unsent gives level before s r q w g h many reply part lost grown holds same outer_is lacks reply_is wrote same_reads rose more_writes
     ran =
-    let (taken, es, asked, sent, before, many_is, run) = ran in
-    let none_lost : before ≡ [] = Lacks-holding s.stage s.runner before holds run.lacks in
-    let now : List ℕ = sent ++ reply in (
-      taken,
-      es ++ unsent (length sent) ∷ [],
-      asked,
-      now,
-      lost,
+    let (old, many_is, run) = ran in
+    let none_lost : old.lost ≡ [] = Lacks-holding s.stage s.runner old.lost holds run.lacks in
+    let failed : List Entry = unsent (length old.sent) ∷ [] in
+    let new : Account = record old { entries = old.entries ++ failed; sent = old.sent ++ reply; lost = lost } in (
+      new,
       many_is,
       record {
-        stands = grown taken es asked sent run.stands;
+        stands = grown old.taken old.entries old.calls old.sent run.stands;
         served_level = same ∙ run.served_level;
-        valid = IsValidRecord-quiet gives p v asked es q w (unsent (length sent)) tt run.valid;
-        carries = Both-then f.traffic g.traffic h.traffic
-            (λ x y z k l. Carries-wrote level taken es (unsent (length sent) ∷ []) sent reply part lost x y z reply_is
-            (subst (λ (o : List ℕ). Carries level taken es sent o x y) none_lost k) l) run.carries wrote;
+        valid = IsValidRecord-quiet gives before.past before.words old.calls old.entries q w (unsent (length old.sent)) tt run.valid;
+        carries = Both-then before.link.traffic g.traffic h.traffic
+            (λ x y z k l. Carries-wrote level old new failed reply part x y z refl refl refl none_lost reply_is k l) run.carries wrote;
         lacks = lacks lost;
         last = inr (
-          length sent,
-          Contains-push es (unsent (length sent)),
-          omega (arith, ap length reply_is, length-append part lost, length-append sent reply),
+          length old.sent,
+          Contains-push old.entries (unsent (length old.sent)),
+          omega (arith, ap length reply_is, length-append part lost, length-append old.sent reply),
         );
-        blames = subst (λ (z : Option End). Blames z f h taken) (sym outer_is) (omega (arith, run.writes, rose));
+        blames = subst (λ (z : Option End). Blames z before.link h old.taken) (sym outer_is) (omega (arith, run.writes, rose));
         reads = omega (arith, run.reads, same_reads);
         writes = omega (arith, run.writes, more_writes);
       },
@@ -249,104 +273,91 @@ Blames-stopped stops.Spent (Some ends.Spent) f g taken i k = k
 Blames-stopped _ _ f g taken i k = absurd i
 
 -- a stop, after a read that gave nothing
-pub Ran-stopped : {W : Type 0} (gives : W → ℕ → W → Type 0) (level : Level) (p : Past) (v : W) (f : Sight) (s r : Session) (q : Past)
-    (w : W) (g h : Sight) (many : ℕ) (cause : Stop) →
+pub Ran-stopped : {W : Type 0} (gives : W → ℕ → W → Type 0) (level : Level) (before : Scene W) (s r : Session) (q : Past) (w : W)
+    (g h : Sight) (many : ℕ) (cause : Stop) →
     ((taken : List ℕ) (es : List Entry) (asked : List Call) (sent : List ℕ) → Stands s taken es asked sent →
     Stands r taken (es ++ stop cause ∷ []) asked sent) →
     wants s.stage s.runner ≡ wishes.Bytes → r.runner ≡ s.runner → IsStopped cause (outer r.stage) → Lacks r.stage [] →
     Both (Took []) g.traffic h.traffic → g.read_faults ≤ h.read_faults → h.write_faults ≡ g.write_faults →
-    ((taken : List ℕ) → length taken ≡ many → f.read_faults ≤ g.read_faults → IsCause cause f h taken) →
-    Ran gives level p v f s q w g many → Ran gives level p v f r q w h (many + 0)
-Ran-stopped gives level p v f s r q w g h many cause grown bytes same outer_is lacks took more_reads same_writes why ran =
-    let (taken, es, asked, sent, lost, many_is, run) = ran in
-    let none_lost : lost ≡ [] = Lacks-bytes s.stage s.runner lost bytes run.lacks in
-    let (requests, is, shows) = shows_more s level taken es asked sent run.served_level bytes run.stands in (
-      taken,
-      es ++ stop cause ∷ [],
-      asked,
-      sent,
-      [],
+    ((taken : List ℕ) → length taken ≡ many → before.link.read_faults ≤ g.read_faults → IsCause cause before.link h taken) →
+    Ran gives level before s (scene_of q w g) many → Ran gives level before r (scene_of q w h) (many + 0)
+Ran-stopped gives level before s r q w g h many cause grown bytes same outer_is lacks took more_reads same_writes why ran =
+    let (old, many_is, run) = ran in
+    let none_lost : old.lost ≡ [] = Lacks-bytes s.stage s.runner old.lost bytes run.lacks in
+    let (requests, is, shows) = shows_more s level old.taken old.entries old.calls old.sent run.served_level bytes run.stands in
+    let new : Account = record old { entries = old.entries ++ stop cause ∷ []; lost = [] } in (
+      new,
       omega (arith, many_is),
       record {
-        stands = grown taken es asked sent run.stands;
+        stands = grown old.taken old.entries old.calls old.sent run.stands;
         served_level = ap served_of same ∙ run.served_level;
-        valid = IsValidRecord-quiet gives p v asked es q w (stop cause) tt run.valid;
-        carries = Both-then f.traffic g.traffic h.traffic
-            (λ x y z k l. subst (λ (o : List ℕ). Carries level o (es ++ stop cause ∷ []) sent [] x z) (append-nil taken)
-            (Carries-took level taken [] es (stop cause ∷ []) asked sent x y z requests is shows
-            (subst (λ (o : List ℕ). Carries level taken es sent o x y) none_lost k) l)) run.carries took;
+        valid = IsValidRecord-quiet gives before.past before.words old.calls old.entries q w (stop cause) tt run.valid;
+        carries = Both-then before.link.traffic g.traffic h.traffic
+            (λ x y z k l. Carries-took level old new [] (stop cause ∷ []) x y z requests (sym (append-nil old.taken)) refl refl none_lost refl
+            is shows k l) run.carries took;
         lacks = lacks;
         last = inl refl;
-        blames = Blames-stopped cause (outer r.stage) f h taken outer_is (why taken many_is run.reads);
+        blames = Blames-stopped cause (outer r.stage) before.link h old.taken outer_is (why old.taken many_is run.reads);
         reads = omega (arith, run.reads, more_reads);
         writes = omega (arith, run.writes, same_writes);
       },
     )
 
 -- a stop where the link told nothing new: no read, or one that failed
-pub Ran-halted : {W : Type 0} (gives : W → ℕ → W → Type 0) (level : Level) (p : Past) (v : W) (f : Sight) (s r : Session) (q : Past) (w : W)
+pub Ran-halted : {W : Type 0} (gives : W → ℕ → W → Type 0) (level : Level) (before : Scene W) (s r : Session) (q : Past) (w : W)
     (g h : Sight) (many : ℕ) (cause : Stop) →
     ((taken : List ℕ) (es : List Entry) (asked : List Call) (sent : List ℕ) → Stands s taken es asked sent →
     Stands r taken (es ++ stop cause ∷ []) asked sent) →
     wants s.stage s.runner ≡ wishes.Bytes → r.runner ≡ s.runner → IsStopped cause (outer r.stage) → Lacks r.stage [] →
     h.traffic ≡ g.traffic → g.read_faults ≤ h.read_faults → h.write_faults ≡ g.write_faults →
-    ((taken : List ℕ) → length taken ≡ many → f.read_faults ≤ g.read_faults → IsCause cause f h taken) →
-    Ran gives level p v f s q w g many → Ran gives level p v f r q w h (many + 0)
-Ran-halted gives level p v f s r q w g h many cause grown bytes same outer_is lacks told_same more_reads same_writes why ran =
-    let (taken, es, asked, sent, lost, many_is, run) = ran in
-    let none_lost : lost ≡ [] = Lacks-bytes s.stage s.runner lost bytes run.lacks in (
-      taken,
-      es ++ stop cause ∷ [],
-      asked,
-      sent,
-      [],
+    ((taken : List ℕ) → length taken ≡ many → before.link.read_faults ≤ g.read_faults → IsCause cause before.link h taken) →
+    Ran gives level before s (scene_of q w g) many → Ran gives level before r (scene_of q w h) (many + 0)
+Ran-halted gives level before s r q w g h many cause grown bytes same outer_is lacks told_same more_reads same_writes why ran =
+    let (old, many_is, run) = ran in
+    let none_lost : old.lost ≡ [] = Lacks-bytes s.stage s.runner old.lost bytes run.lacks in
+    let new : Account = record old { entries = old.entries ++ stop cause ∷ []; lost = [] } in (
+      new,
       omega (arith, many_is),
       record {
-        stands = grown taken es asked sent run.stands;
+        stands = grown old.taken old.entries old.calls old.sent run.stands;
         served_level = ap served_of same ∙ run.served_level;
-        valid = IsValidRecord-quiet gives p v asked es q w (stop cause) tt run.valid;
-        carries = subst (λ (o : Option Traffic). Both (Carries level taken (es ++ stop cause ∷ []) sent []) f.traffic o) (sym told_same)
-            (Both-weaker f.traffic g.traffic (λ x y k.
-            subst (λ (o : List ℕ). Carries level taken (es ++ stop cause ∷ []) sent o x y) none_lost
-            (Carries-record level taken es (stop cause ∷ []) sent lost x y k)) run.carries);
+        valid = IsValidRecord-quiet gives before.past before.words old.calls old.entries q w (stop cause) tt run.valid;
+        carries = subst (λ (o : Option Traffic). Both (Carries level new) before.link.traffic o) (sym told_same)
+            (Both-weaker before.link.traffic g.traffic (λ x y k.
+            Carries-record level old new (stop cause ∷ []) x y refl refl (sym none_lost) refl k) run.carries);
         lacks = lacks;
         last = inl refl;
-        blames = Blames-stopped cause (outer r.stage) f h taken outer_is (why taken many_is run.reads);
+        blames = Blames-stopped cause (outer r.stage) before.link h old.taken outer_is (why old.taken many_is run.reads);
         reads = omega (arith, run.reads, more_reads);
         writes = omega (arith, run.writes, same_writes);
       },
     )
 
 -- a piece
-pub Ran-fed : {W : Type 0} (gives : W → ℕ → W → Type 0) (level : Level) (p : Past) (v : W) (f : Sight) (s r : Session) (q : Past) (w : W)
-    (g h : Sight) (many : ℕ) (piece : List ℕ)
-    (n : ℕ) →
+pub Ran-fed : {W : Type 0} (gives : W → ℕ → W → Type 0) (level : Level) (before : Scene W) (s r : Session) (q : Past) (w : W)
+    (g h : Sight) (many : ℕ) (piece : List ℕ) (n : ℕ) →
     ((taken : List ℕ) (es : List Entry) (asked : List Call) (sent : List ℕ) → Stands s taken es asked sent →
     StandsShort r (taken ++ piece) es asked sent) →
     wants s.stage s.runner ≡ wishes.Bytes → r.runner ≡ s.runner → outer r.stage ≡ None → Lacks r.stage [] →
     Both (Took piece) g.traffic h.traffic → g.read_faults ≤ h.read_faults → h.write_faults ≡ g.write_faults → length piece ≡ n →
-    Ran gives level p v f s q w g many → Ran gives level p v f r q w h (many + n)
-Ran-fed gives level p v f s r q w g h many piece n grown bytes same outer_is lacks took more_reads same_writes size ran =
-    let (taken, es, asked, sent, lost, many_is, run) = ran in
-    let none_lost : lost ≡ [] = Lacks-bytes s.stage s.runner lost bytes run.lacks in
-    let (requests, is, shows) = shows_more s level taken es asked sent run.served_level bytes run.stands in
-    let (added, is_short, stands) = grown taken es asked sent run.stands in (
-      taken ++ piece,
-      es ++ added,
-      asked,
-      sent,
-      [],
-      omega (arith, many_is, size, length-append taken piece),
+    Ran gives level before s (scene_of q w g) many → Ran gives level before r (scene_of q w h) (many + n)
+Ran-fed gives level before s r q w g h many piece n grown bytes same outer_is lacks took more_reads same_writes size ran =
+    let (old, many_is, run) = ran in
+    let none_lost : old.lost ≡ [] = Lacks-bytes s.stage s.runner old.lost bytes run.lacks in
+    let (requests, is, shows) = shows_more s level old.taken old.entries old.calls old.sent run.served_level bytes run.stands in
+    let (added, is_short, stands) = grown old.taken old.entries old.calls old.sent run.stands in
+    let new : Account = record old { taken = old.taken ++ piece; entries = old.entries ++ added; lost = [] } in (
+      new,
+      omega (arith, many_is, size, length-append old.taken piece),
       record {
         stands = stands;
         served_level = ap served_of same ∙ run.served_level;
-        valid = IsValidRecord-short gives p v asked es q w sent added is_short run.valid;
-        carries = Both-then f.traffic g.traffic h.traffic
-            (λ x y z k l. Carries-took level taken piece es added asked sent x y z requests is shows
-            (subst (λ (o : List ℕ). Carries level taken es sent o x y) none_lost k) l) run.carries took;
+        valid = IsValidRecord-short gives before.past before.words old.calls old.entries q w old.sent added is_short run.valid;
+        carries = Both-then before.link.traffic g.traffic h.traffic
+            (λ x y z k l. Carries-took level old new piece added x y z requests refl refl refl none_lost refl is shows k l) run.carries took;
         lacks = lacks;
         last = inl refl;
-        blames = Blames-none (outer r.stage) f h (taken ++ piece) outer_is;
+        blames = Blames-none (outer r.stage) before.link h (old.taken ++ piece) outer_is;
         reads = omega (arith, run.reads, more_reads);
         writes = omega (arith, run.writes, same_writes);
       },
@@ -364,48 +375,48 @@ at_end n (Some a) (Some b) e h k = sym k.left ∙ h.0 e
 
 -- ---- the whole run
 
-pub Serves-ran : {W : Type 0} (gives : W → ℕ → W → Type 0) (level : Level) (p : Past) (v : W) (f : Sight) (s : Session) (number : Option ℕ)
-    (end : End) (out_of_memory : Bool) (q : Past)
-    (w : W)
-    (g : Sight) (many : ℕ) →
-    many ≤ most_read → wants s.stage s.runner ≡ wishes.Ended end →
-    ((taken : List ℕ) (es : List Entry) (asked : List Call) (sent : List ℕ) → Stands s taken es asked sent → number ≡ opened_in es) →
-    ((taken : List ℕ) (es : List Entry) (asked : List Call) (sent : List ℕ) → Stands s taken es asked sent → out_of_memory ≡ has_short es) →
-    Ran gives level p v f s q w g many →
-    (requests : Requests) × (taken : List ℕ) × (es : List Entry) × (asked : List Call) × (sent : List ℕ) × (lost : List ℕ) ×
-    Serves gives level p v f number end out_of_memory q w g requests taken es asked sent lost
-Serves-ran gives level p v f s number end out_of_memory q w g many within over opened flag ran =
-    let (taken, es, asked, sent, lost, many_is, run) = ran in
+pub Serves-ran : {W : Type 0} (gives : W → ℕ → W → Type 0) (level : Level) (before : Scene W) (s : Session) (outcome : Served)
+    (after : Scene W) (many : ℕ) →
+    many ≤ most_read → wants s.stage s.runner ≡ wishes.Ended outcome.end →
+    ((taken : List ℕ) (es : List Entry) (asked : List Call) (sent : List ℕ) → Stands s taken es asked sent →
+    outcome.session ≡ opened_in es) →
+    ((taken : List ℕ) (es : List Entry) (asked : List Call) (sent : List ℕ) → Stands s taken es asked sent →
+    outcome.short ≡ has_short es) →
+    Ran gives level before s after many → (account : Account) × Serves gives level before outcome after account
+Serves-ran gives level before s outcome after many within over opened flag ran =
+    let (account, many_is, run) = ran in
+    let end : End = outcome.end in
     let (finish, is, end_is) = stage_over s.stage s.runner end over in
     let not_running : s.stage ≡ stages.Running →
     IsAsked s.runner = λ e. absurd (let clash : stages.Ended finish ≡ stages.Running = sym is ∙ e in cc clash) in
-    let shows : Shows level (wishes.Ended end) taken es asked sent =
-    subst (λ (l : Level). Shows l (wishes.Ended end) taken es asked sent) run.served_level
-    (subst (λ (x : Want). Shows (served_of s.runner) x taken es asked sent) over
-    (Shows-stands s.stage s.runner s.startup.items s.frames taken es asked sent not_running run.stands.stage)) in (
-      shows.0,
-      taken,
-      es,
-      asked,
-      sent,
-      lost,
+    let shows : Shows level (wishes.Ended end) account.taken account.entries account.calls account.sent =
+    subst (λ (l : Level). Shows l (wishes.Ended end) account.taken account.entries account.calls account.sent) run.served_level
+    (subst (λ (x : Want). Shows (served_of s.runner) x account.taken account.entries account.calls account.sent) over
+    (Shows-stands s.stage s.runner s.startup.items s.frames account.taken account.entries account.calls account.sent not_running
+    run.stands.stage)) in (
+      account,
       record {
         within = omega (arith, many_is, within);
+        requests = shows.0;
         requests_are = shows.1;
         told_is = shows.2;
         valid = run.valid;
-        own = own_events gives p v asked es q w run.valid;
+        own = own_events gives before.past before.words account.calls account.entries after.past after.words run.valid;
         carries = run.carries;
         last = run.last;
-        lacks = subst (λ (x : End). LacksBy x lost) end_is (subst (λ (x : SessionStage). Lacks x lost) is run.lacks);
-        blames = subst (λ (x : End). Blames (outer_end x) f g taken) end_is
-            (subst (λ (x : SessionStage). Blames (outer x) f g taken) is run.blames);
-        opened = opened taken es asked sent run.stands;
-        short = flag taken es asked sent run.stands;
+        lacks = subst (λ (x : End). LacksBy x account.lost) end_is (subst (λ (x : SessionStage). Lacks x account.lost) is run.lacks);
+        blames = subst (λ (x : End). Blames (outer_end x) before.link after.link account.taken) end_is
+            (subst (λ (x : SessionStage). Blames (outer x) before.link after.link account.taken) is run.blames);
+        opened = opened account.taken account.entries account.calls account.sent run.stands;
+        short = flag account.taken account.entries account.calls account.sent run.stands;
       },
     )
 
-carries_nothing : (level : Level) (es : List Entry) (t : Option Traffic) → Both (Carries level [] es [] []) t t
+-- the account of a session over whose link nothing went, with this record
+abbrev pub nothing_with : List Entry → Account
+nothing_with entries = record { taken = []; calls = []; entries = entries; sent = []; lost = [] }
+
+carries_nothing : (level : Level) (es : List Entry) (t : Option Traffic) → Both (Carries level (nothing_with es)) t t
 carries_nothing level es None = tt
 carries_nothing level es (Some t) = record {
   left = refl;
@@ -416,29 +427,25 @@ carries_nothing level es (Some t) = record {
 }
 
 -- at the start
-pub Ran-new : {W : Type 0} (gives : W → ℕ → W → Type 0) (level : Level) (p : Past) (v : W) (f : Sight) (s : Session) →
-    Stands s [] [] [] [] → served_of s.runner ≡ level → s.stage ≡ stages.Waiting phases.Startup → Ran gives level p v f s p v f 0
-Ran-new gives level p v f s st served is = (
-  [],
-  [],
-  [],
-  [],
-  [],
+pub Ran-new : {W : Type 0} (gives : W → ℕ → W → Type 0) (level : Level) (before : Scene W) (s : Session) →
+    Stands s [] [] [] [] → served_of s.runner ≡ level → s.stage ≡ stages.Waiting phases.Startup → Ran gives level before s before 0
+Ran-new gives level before s st served is = (
+  nothing_with [],
   refl,
   record {
     stands = st;
     served_level = served;
     valid = (refl, refl);
-    carries = carries_nothing level [] f.traffic;
+    carries = carries_nothing level [] before.link.traffic;
     lacks = subst (λ (x : SessionStage). Lacks x []) (sym is) refl;
     last = inl refl;
-    blames = subst (λ (x : SessionStage). Blames (outer x) f f []) (sym is) tt;
+    blames = subst (λ (x : SessionStage). Blames (outer x) before.link before.link []) (sym is) tt;
     reads = omega arith;
     writes = omega arith;
   },
 )
 
-message_resting : (w : calls.Want) → IsResting (of_message w) → ⊥
+message_resting : (w : calls.MessageWant) → IsResting (of_message w) → ⊥
 message_resting (calls.Book c) h = h
 message_resting calls.Send h = h
 message_resting calls.Nothing h = h
@@ -479,12 +486,20 @@ pub sits_kept : (s next : Session) (p : Past) → Sits s p → owed_at next.stag
     next.runner ≡ s.runner → Sits next p
 sits_kept s next p sits owed same = sits_same s next p sits owed (ap tables_of same) (subst IsFit (sym same) sits.fit)
 
+-- others may add to the history meanwhile
+pub sits_on : SitsWhileOthersGoOn
+sits_on s old new sits goes = record {
+  owed = ap owed_of goes.state ∙ sits.owed;
+  known_tables = omega (arith, sits.known_tables, ap length goes.tables, length-append old.seen.tables goes.more);
+  fit = sits.fit;
+}
+
 is_away : (state : SessionState) → owed_of state ≡ owes.Nothing → state ≡ no_session
 is_away no_session h = refl
 is_away (in_session s) h = absurd (cc h)
 is_away (pending s writes) h = absurd (cc h)
 
-message_over : (w : calls.Want) → IsOver (of_message w) → ⊥
+message_over : (w : calls.MessageWant) → IsOver (of_message w) → ⊥
 message_over (calls.Book c) h = h
 message_over calls.Send h = h
 message_over calls.Nothing h = h
@@ -503,23 +518,18 @@ unfolding told
 told_short level = refl
 
 -- no memory to begin with
-pub Serves-none : {W : Type 0} (gives : W → ℕ → W → Type 0) (level : Level) (p : Past) (v : W) (f : Sight) →
-    (requests : Requests) × (taken : List ℕ) × (es : List Entry) × (asked : List Call) × (sent : List ℕ) × (lost : List ℕ) ×
-    Serves gives level p v f None ends.Memory true p v f requests taken es asked sent lost
-Serves-none gives level p v f = (
-  unread,
-  [],
-  short true 0 ∷ [],
-  [],
-  [],
-  [],
+pub Serves-none : {W : Type 0} (gives : W → ℕ → W → Type 0) (level : Level) (before : Scene W) →
+    (account : Account) × Serves gives level before (record { session = None; end = ends.Memory; short = true }) before account
+Serves-none gives level before = (
+  nothing_with (short true 0 ∷ []),
   record {
     within = omega arith;
+    requests = unread;
     requests_are = tt;
     told_is = told_short level;
-    valid = IsValidRecord-quiet gives p v [] [] p v (short true 0) tt (refl, refl);
-    own = sym (append-nil p.own);
-    carries = carries_nothing level (short true 0 ∷ []) f.traffic;
+    valid = IsValidRecord-quiet gives before.past before.words [] [] before.past before.words (short true 0) tt (refl, refl);
+    own = sym (append-nil before.past.own);
+    carries = carries_nothing level (short true 0 ∷ []) before.link.traffic;
     lacks = refl;
     last = inl refl;
     blames = tt;

@@ -136,6 +136,43 @@ IsValidRecord-plays gives p v cs es q w c answers.Committed e r u l h k = IsVali
 IsValidRecord-plays gives p v cs es q w c answers.RolledBack e r u l h k = IsValidRecord-did gives p v cs es q w c answers.RolledBack e r u l h.0 h.1 k
 IsValidRecord-plays gives p v cs es q w c (answers.Shown n) e r u l h k = IsValidRecord-did gives p v cs es q w c (answers.Shown n) e r u l h.0 h.1 k
 
+-- an entry that no call made may stand before
+quiet_before : {W : Type 0} (gives : W → ℕ → W → Type 0) (p : Past) (v : W) (cs : List Call) (es : List Entry) (q : Past) (w : W) (x : Entry) →
+    IsQuiet x → IsValidRecord gives p v cs es q w → IsValidRecord gives p v cs (x ∷ es) q w
+quiet_before gives p v cs es q w (did a e) i l = absurd i
+quiet_before gives p v cs es q w (refused why) i l = absurd i
+quiet_before gives p v [] es q w (short final n) i l = l
+quiet_before gives p v (c ∷ cs) es q w (short final n) i l = l
+quiet_before gives p v [] es q w (unsent n) i l = l
+quiet_before gives p v (c ∷ cs) es q w (unsent n) i l = l
+quiet_before gives p v [] es q w (stop cause) i l = l
+quiet_before gives p v (c ∷ cs) es q w (stop cause) i l = l
+
+-- two valid records, the second from where the first leads to
+pub IsValidRecord-append : {W : Type 0} (gives : W → ℕ → W → Type 0) (p : Past) (v : W) (cs : List Call) (es : List Entry) (m : Past) (u : W)
+    (ds : List Call) (fs : List Entry) (q : Past) (w : W) → IsValidRecord gives p v cs es m u → IsValidRecord gives m u ds fs q w →
+    IsValidRecord gives p v (cs ++ ds) (es ++ fs) q w
+IsValidRecord-append {W} gives p v [] [] m u ds fs q w l k =
+    subst (λ (x : Past). IsValidRecord gives x v ds fs q w) l.0 (subst (λ (x : W). IsValidRecord gives m x ds fs q w) l.1 k)
+IsValidRecord-append gives p v [] (did b y ∷ es) m u ds fs q w l k = absurd l
+IsValidRecord-append gives p v [] (refused why ∷ es) m u ds fs q w l k = absurd l
+IsValidRecord-append gives p v [] (short final n ∷ es) m u ds fs q w l k =
+    quiet_before gives p v ds (es ++ fs) q w (short final n) tt (IsValidRecord-append gives p v [] es m u ds fs q w l k)
+IsValidRecord-append gives p v [] (unsent n ∷ es) m u ds fs q w l k =
+    quiet_before gives p v ds (es ++ fs) q w (unsent n) tt (IsValidRecord-append gives p v [] es m u ds fs q w l k)
+IsValidRecord-append gives p v [] (stop cause ∷ es) m u ds fs q w l k =
+    quiet_before gives p v ds (es ++ fs) q w (stop cause) tt (IsValidRecord-append gives p v [] es m u ds fs q w l k)
+IsValidRecord-append gives p v (x ∷ cs) [] m u ds fs q w l k = absurd l
+IsValidRecord-append gives p v (x ∷ cs) (did b y ∷ es) m u ds fs q w l k =
+    (l.0, l.1, l.2, l.3, IsValidRecord-append gives l.0 l.1 cs es m u ds fs q w l.4 k, l.5)
+IsValidRecord-append gives p v (x ∷ cs) (refused why ∷ es) m u ds fs q w l k =
+    (l.0, l.1, l.2, l.3, IsValidRecord-append gives l.0 l.1 cs es m u ds fs q w l.4 k)
+IsValidRecord-append gives p v (x ∷ cs) (short final n ∷ es) m u ds fs q w l k =
+    IsValidRecord-append gives p v (x ∷ cs) es m u ds fs q w l k
+IsValidRecord-append gives p v (x ∷ cs) (unsent n ∷ es) m u ds fs q w l k = IsValidRecord-append gives p v (x ∷ cs) es m u ds fs q w l k
+IsValidRecord-append gives p v (x ∷ cs) (stop cause ∷ es) m u ds fs q w l k =
+    IsValidRecord-append gives p v (x ∷ cs) es m u ds fs q w l k
+
 -- what an answered call leaves of the level, the initial state, the own events and the tables
 pub record Leaves (p q : Past) (e : Event) : Type 0 where
   pub level : q.seen.level ≡ p.seen.level

@@ -5,7 +5,9 @@ pub mod Replies
 pub mod Told
 pub mod Record
 pub mod Plays
+pub mod Ends
 pub mod Stands
 pub mod Steps
 pub mod Sessions
 pub mod Serve
+pub mod Running

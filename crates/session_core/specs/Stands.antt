@@ -33,6 +33,7 @@ use Rattle.session_core.specs.Wants.{Want, of_message}
 use Rattle.session_core.specs.Wants as wishes
 use Rattle.session_core.specs.Requests.{Requests, AreRequests}
 use Rattle.session_core.specs.Replies.{fatal_reply, fatal_state, bytes_of, phase_after_reply}
+use Rattle.session_core.specs.Ends.{outer_end, LacksBy}
 use Rattle.session_core.specs.Told.{owed_by, done, closing, ending, broken, opens, outside_of, refuses, session, told}
 
 -- ---- what the parts of a stage stand for
@@ -221,15 +222,7 @@ least (stages.Waiting phase) = 0
 least (stages.Taking phase) = 0
 least _ = 1
 
--- an end whose cause is the link
-abbrev pub outer_end : End → Option End
-outer_end ends.Closed = Some ends.Closed
-outer_end ends.Cut = Some ends.Cut
-outer_end ends.ReadFault = Some ends.ReadFault
-outer_end ends.WriteFault = Some ends.WriteFault
-outer_end ends.Spent = Some ends.Spent
-outer_end _ = None
-
+-- the end of a stage, where its cause is the link
 abbrev pub outer : SessionStage → Option End
 outer (stages.Leaving finish) = outer_end (end_of finish)
 outer (stages.Closing finish) = outer_end (end_of finish)
@@ -237,11 +230,7 @@ outer (stages.Parting fatal) = outer_end (fatal_end fatal)
 outer (stages.Ended finish) = outer_end (end_of finish)
 outer _ = None
 
--- what a failed write left unsent: a part of the last reply, and nothing elsewhere
-abbrev pub LacksBy : End → List ℕ → Type 0
-LacksBy ends.WriteFault gone = Unit {0}
-LacksBy _ gone = gone ≡ []
-
+-- what a failed write left unsent, and nothing elsewhere
 abbrev pub Lacks : SessionStage → List ℕ → Type 0
 Lacks (stages.Leaving finish) gone = LacksBy (end_of finish) gone
 Lacks (stages.Closing finish) gone = LacksBy (end_of finish) gone

@@ -17,7 +17,7 @@ pub data Want : Type 0 where
   Ended : End → Want
 
 -- what is wanted of a session while a message runs
-abbrev pub of_message : calls.Want → Want
+abbrev pub of_message : calls.MessageWant → Want
 of_message (calls.Book c) = Book c
 of_message calls.Send = Send
 of_message calls.Nothing = Send

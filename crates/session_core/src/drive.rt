@@ -1,95 +1,23 @@
 // The turns of a session: a call is made, a reply sent or a message looked at, until bytes are wanted or the end is there.
 ghost use Rattle.std.specs.Prelude.{◌≡◌, ℕ, ◌+◌, ◌<◌, ◌≤◌, true, false};
-ghost use Rattle.sql_tree.specs.declared.table.Table.{Table as Defined};
 ghost use Rattle.history_core.specs.Chronicle.{IsLegalChronicle};
-ghost use Rattle.history_core.specs.Book.{Past};
 ghost use Rattle.link_traits.specs.Faults.{Rose};
 ghost use Rattle.link_traits.specs.Traffic.{Both, Sight, Wrote, WrotePart, sight_of};
-ghost use Rattle.block_machine.specs.Calls.{call_of};
-ghost use Rattle.block_machine.specs.Calls as calls;
-ghost use Rattle.block_machine.specs.Runners.{Runs};
 ghost use Rattle.session_core.specs.declared.stage.SessionStage.TheVariants as stages;
 ghost use Rattle.session_core.specs.Wants as wishes;
 ghost use Rattle.session_core.specs.Wants.{IsResting};
 ghost use Rattle.session_core.specs.Stands.{IsHolding, IsLast, left_at, message_at, message_work, statement_at};
 ghost use Rattle.session_core.specs.Sessions.{wanted, work_of};
-ghost use Rattle.session_core.specs.Serve.{Sits, Ran};
+ghost use Rattle.session_core.specs.Serve.{Scene, scene_of};
+ghost use Rattle.session_core.specs.Running.{Sits, Ran};
 ghost use Rattle.cell_base.specs.declared.level.Level.{Level};
 
-use crate::calls::{ask, call, define};
+use crate::calling::make_call;
 use crate::session::Session;
 use crate::want::Want;
-use block_machine::Call;
 use history_core::Book;
 use link_traits::{Link, Words, send_all};
 use std::alloc::Global;
-
-// Defines the table that the session wants defined.
-fn answer_define<B: Book, W: Words>(session: &mut Session, book: &mut B, words: &W)
-    requires wanted { (table : Defined) × (wanted session.old ≡ wishes.Book (calls.Define table)) }
-    requires sits { Sits session.old (B.past book.old) }
-    ensures ran { (level : Level) (p : Past) (v : W) (f g : Sight) (many : ℕ) →
-        Ran W.gives level p v f session.old (B.past book.old) words.now g many →
-        Ran W.gives level p v f session.new (B.past book.new) words.now g many }
-    ensures sits { Sits session.new (B.past book.new) }
-    ensures work { work_of session.new < work_of session.old + message_at session.new.stage }
-    ensures message { session.old.stage ≡ stages.Running →
-        message_work session.new.stage session.new.runner <
-        message_work session.old.stage session.old.runner + statement_at session.new.stage session.new.runner }
-    ensures last { IsLast session.old.stage → IsLast session.new.stage }
-    ensures legal { IsLegalChronicle (B.past book.old).seen → IsLegalChronicle (B.past book.new).seen }
-    ensures stays { B.stays book.old book.new }
-{
-    let answer = define(book, words, session.table());
-    session.answer(answer);
-}
-
-// Makes another call that the session wants.
-fn answer_call<B: Book, W: Words>(session: &mut Session, book: &mut B, words: &W, c: Call)
-    requires wanted { wanted session.old ≡ wishes.Book (call_of c) }
-    requires sits { Sits session.old (B.past book.old) }
-    ensures ran { (level : Level) (p : Past) (v : W) (f g : Sight) (many : ℕ) →
-        Ran W.gives level p v f session.old (B.past book.old) words.now g many →
-        Ran W.gives level p v f session.new (B.past book.new) words.now g many }
-    ensures sits { Sits session.new (B.past book.new) }
-    ensures work { work_of session.new < work_of session.old + message_at session.new.stage }
-    ensures message { session.old.stage ≡ stages.Running →
-        message_work session.new.stage session.new.runner <
-        message_work session.old.stage session.old.runner + statement_at session.new.stage session.new.runner }
-    ensures last { IsLast session.old.stage → IsLast session.new.stage }
-    ensures legal { IsLegalChronicle (B.past book.old).seen → IsLegalChronicle (B.past book.new).seen }
-    ensures stays { B.stays book.old book.new }
-{
-    let answer = call(book, words, c);
-    session.answer(answer);
-}
-
-// Makes the call that the running statement demands.
-fn answer_cells<B: Book, W: Words>(
-    alloc: Global,
-    session: &mut Session,
-    book: &mut B,
-    words: &mut W,
-)
-    requires running { session.old.stage ≡ stages.Running }
-    requires runs { Runs session.old.runner }
-    requires sits { Sits session.old (B.past book.old) }
-    ensures ran { (level : Level) (p : Past) (v : W) (f g : Sight) (many : ℕ) →
-        Ran W.gives level p v f session.old (B.past book.old) words.old g many →
-        Ran W.gives level p v f session.new (B.past book.new) words.new g many }
-    ensures sits { Sits session.new (B.past book.new) }
-    ensures work { work_of session.new < work_of session.old + message_at session.new.stage }
-    ensures message { session.old.stage ≡ stages.Running →
-        message_work session.new.stage session.new.runner <
-        message_work session.old.stage session.old.runner + statement_at session.new.stage session.new.runner }
-    ensures left { left_at session.new.stage session.new.runner < left_at session.old.stage session.old.runner }
-    ensures last { IsLast session.old.stage → IsLast session.new.stage }
-    ensures legal { IsLegalChronicle (B.past book.old).seen → IsLegalChronicle (B.past book.new).seen }
-    ensures stays { B.stays book.old book.new }
-{
-    let answer = ask(alloc, book, words, session.demanded());
-    session.answer(answer);
-}
 
 // Sends a reply. Answers whether it was sent whole.
 fn send_whole<L: Link>(link: &mut L, reply: &[u8]) -> bool
@@ -106,9 +34,9 @@ fn send_whole<L: Link>(link: &mut L, reply: &[u8]) -> bool
 fn send<B: Book, L: Link, W: Words>(session: &mut Session, book: &B, link: &mut L, words: &W)
     requires holding { IsHolding session.old.stage session.old.runner }
     requires sits { Sits session.old (B.past book.now) }
-    ensures ran { (level : Level) (p : Past) (v : W) (f : Sight) (many : ℕ) →
-        Ran W.gives level p v f session.old (B.past book.now) words.now (sight_of L.traffic L.read_faults L.write_faults link.old) many →
-        Ran W.gives level p v f session.new (B.past book.now) words.now (sight_of L.traffic L.read_faults L.write_faults link.new) many }
+    ensures ran { (level : Level) (before : Scene W) (many : ℕ) →
+        Ran W.gives level before session.old (scene_of (B.past book.now) words.now (sight_of L.traffic L.read_faults L.write_faults link.old)) many →
+        Ran W.gives level before session.new (scene_of (B.past book.now) words.now (sight_of L.traffic L.read_faults L.write_faults link.new)) many }
     ensures sits { Sits session.new (B.past book.now) }
     ensures work { work_of session.new < work_of session.old + message_at session.new.stage }
     ensures message { session.old.stage ≡ stages.Running →
@@ -126,9 +54,9 @@ fn send<B: Book, L: Link, W: Words>(session: &mut Session, book: &B, link: &mut 
 fn take<B: Book, W: Words>(session: &mut Session, book: &B, words: &W)
     requires wanted { wanted session.old ≡ wishes.Message }
     requires sits { Sits session.old (B.past book.now) }
-    ensures ran { (level : Level) (p : Past) (v : W) (f g : Sight) (many : ℕ) →
-        Ran W.gives level p v f session.old (B.past book.now) words.now g many →
-        Ran W.gives level p v f session.new (B.past book.now) words.now g many }
+    ensures ran { (level : Level) (before : Scene W) (seen : Sight) (many : ℕ) →
+        Ran W.gives level before session.old (scene_of (B.past book.now) words.now seen) many →
+        Ran W.gives level before session.new (scene_of (B.past book.now) words.now seen) many }
     ensures sits { Sits session.new (B.past book.now) }
     ensures work { work_of session.new < work_of session.old }
 {
@@ -144,9 +72,9 @@ fn serve_want<B: Book, L: Link, W: Words>(
     words: &mut W,
 ) -> bool
     requires sits { Sits session.old (B.past book.old) }
-    ensures ran { (level : Level) (p : Past) (v : W) (f : Sight) (many : ℕ) →
-        Ran W.gives level p v f session.old (B.past book.old) words.old (sight_of L.traffic L.read_faults L.write_faults link.old) many →
-        Ran W.gives level p v f session.new (B.past book.new) words.new (sight_of L.traffic L.read_faults L.write_faults link.new) many }
+    ensures ran { (level : Level) (before : Scene W) (many : ℕ) →
+        Ran W.gives level before session.old (scene_of (B.past book.old) words.old (sight_of L.traffic L.read_faults L.write_faults link.old)) many →
+        Ran W.gives level before session.new (scene_of (B.past book.new) words.new (sight_of L.traffic L.read_faults L.write_faults link.new)) many }
     ensures sits { Sits session.new (B.past book.new) }
     ensures work { result ≡ true → work_of session.new < work_of session.old + message_at session.new.stage }
     ensures message { session.old.stage ≡ stages.Running →
@@ -164,20 +92,12 @@ fn serve_want<B: Book, L: Link, W: Words>(
             take(session, book, words);
             true
         }
-        Want::Define => {
-            answer_define(session, book, words);
-            true
-        }
-        Want::Cells => {
-            answer_cells(alloc, session, book, words);
-            true
-        }
-        Want::Book(c) => {
-            answer_call(session, book, words, c);
-            true
-        }
         Want::Send => {
             send(session, book, link, words);
+            true
+        }
+        Want::Define | Want::Cells | Want::Book(_) => {
+            make_call(alloc, session, book, words);
             true
         }
         Want::Bytes | Want::Ended(_) => false,
@@ -192,9 +112,9 @@ fn step_on<B: Book, W: Words>(
     words: &mut W,
 ) -> bool
     requires sits { Sits session.old (B.past book.old) }
-    ensures ran { (level : Level) (p : Past) (v : W) (f g : Sight) (many : ℕ) →
-        Ran W.gives level p v f session.old (B.past book.old) words.old g many →
-        Ran W.gives level p v f session.new (B.past book.new) words.new g many }
+    ensures ran { (level : Level) (before : Scene W) (seen : Sight) (many : ℕ) →
+        Ran W.gives level before session.old (scene_of (B.past book.old) words.old seen) many →
+        Ran W.gives level before session.new (scene_of (B.past book.new) words.new seen) many }
     ensures sits { Sits session.new (B.past book.new) }
     ensures work { work_of session.new + message_at session.old.stage ≤ work_of session.old + message_at session.new.stage }
     ensures message { message_work session.new.stage session.new.runner + statement_at session.old.stage session.old.runner ≤
@@ -207,7 +127,7 @@ fn step_on<B: Book, W: Words>(
 {
     match session.demand() {
         Want::Cells => {
-            answer_cells(alloc, session, book, words);
+            make_call(alloc, session, book, words);
             true
         }
         _ => false,
@@ -217,9 +137,9 @@ fn step_on<B: Book, W: Words>(
 // Makes all calls that a running statement demands.
 fn run_on<B: Book, W: Words>(alloc: Global, session: &mut Session, book: &mut B, words: &mut W)
     requires sits { Sits session.old (B.past book.old) }
-    ensures ran { (level : Level) (p : Past) (v : W) (f g : Sight) (many : ℕ) →
-        Ran W.gives level p v f session.old (B.past book.old) words.old g many →
-        Ran W.gives level p v f session.new (B.past book.new) words.new g many }
+    ensures ran { (level : Level) (before : Scene W) (seen : Sight) (many : ℕ) →
+        Ran W.gives level before session.old (scene_of (B.past book.old) words.old seen) many →
+        Ran W.gives level before session.new (scene_of (B.past book.new) words.new seen) many }
     ensures sits { Sits session.new (B.past book.new) }
     ensures work { work_of session.new + message_at session.old.stage ≤ work_of session.old + message_at session.new.stage }
     ensures message { message_work session.new.stage session.new.runner + statement_at session.old.stage session.old.runner ≤
@@ -240,9 +160,9 @@ fn step_message<B: Book, L: Link, W: Words>(
     words: &mut W,
 ) -> bool
     requires sits { Sits session.old (B.past book.old) }
-    ensures ran { (level : Level) (p : Past) (v : W) (f : Sight) (many : ℕ) →
-        Ran W.gives level p v f session.old (B.past book.old) words.old (sight_of L.traffic L.read_faults L.write_faults link.old) many →
-        Ran W.gives level p v f session.new (B.past book.new) words.new (sight_of L.traffic L.read_faults L.write_faults link.new) many }
+    ensures ran { (level : Level) (before : Scene W) (many : ℕ) →
+        Ran W.gives level before session.old (scene_of (B.past book.old) words.old (sight_of L.traffic L.read_faults L.write_faults link.old)) many →
+        Ran W.gives level before session.new (scene_of (B.past book.new) words.new (sight_of L.traffic L.read_faults L.write_faults link.new)) many }
     ensures sits { Sits session.new (B.past book.new) }
     ensures work { work_of session.new + message_at session.old.stage ≤ work_of session.old + message_at session.new.stage }
     ensures message { result ≡ true → message_work session.new.stage session.new.runner <
@@ -269,9 +189,9 @@ fn run_message<B: Book, L: Link, W: Words>(
     words: &mut W,
 )
     requires sits { Sits session.old (B.past book.old) }
-    ensures ran { (level : Level) (p : Past) (v : W) (f : Sight) (many : ℕ) →
-        Ran W.gives level p v f session.old (B.past book.old) words.old (sight_of L.traffic L.read_faults L.write_faults link.old) many →
-        Ran W.gives level p v f session.new (B.past book.new) words.new (sight_of L.traffic L.read_faults L.write_faults link.new) many }
+    ensures ran { (level : Level) (before : Scene W) (many : ℕ) →
+        Ran W.gives level before session.old (scene_of (B.past book.old) words.old (sight_of L.traffic L.read_faults L.write_faults link.old)) many →
+        Ran W.gives level before session.new (scene_of (B.past book.new) words.new (sight_of L.traffic L.read_faults L.write_faults link.new)) many }
     ensures sits { Sits session.new (B.past book.new) }
     ensures work { work_of session.new + message_at session.old.stage ≤ work_of session.old }
     ensures last { IsLast session.old.stage → IsLast session.new.stage }
@@ -291,9 +211,9 @@ fn turn<B: Book, L: Link, W: Words>(
     words: &mut W,
 ) -> bool
     requires sits { Sits session.old (B.past book.old) }
-    ensures ran { (level : Level) (p : Past) (v : W) (f : Sight) (many : ℕ) →
-        Ran W.gives level p v f session.old (B.past book.old) words.old (sight_of L.traffic L.read_faults L.write_faults link.old) many →
-        Ran W.gives level p v f session.new (B.past book.new) words.new (sight_of L.traffic L.read_faults L.write_faults link.new) many }
+    ensures ran { (level : Level) (before : Scene W) (many : ℕ) →
+        Ran W.gives level before session.old (scene_of (B.past book.old) words.old (sight_of L.traffic L.read_faults L.write_faults link.old)) many →
+        Ran W.gives level before session.new (scene_of (B.past book.new) words.new (sight_of L.traffic L.read_faults L.write_faults link.new)) many }
     ensures sits { Sits session.new (B.past book.new) }
     ensures work { result ≡ true → work_of session.new < work_of session.old }
     ensures rests { result ≡ false → IsResting (wanted session.new) }
@@ -317,9 +237,9 @@ pub fn drive<B: Book, L: Link, W: Words>(
     words: &mut W,
 )
     requires sits { Sits session.old (B.past book.old) }
-    ensures ran { (level : Level) (p : Past) (v : W) (f : Sight) (many : ℕ) →
-        Ran W.gives level p v f session.old (B.past book.old) words.old (sight_of L.traffic L.read_faults L.write_faults link.old) many →
-        Ran W.gives level p v f session.new (B.past book.new) words.new (sight_of L.traffic L.read_faults L.write_faults link.new) many }
+    ensures ran { (level : Level) (before : Scene W) (many : ℕ) →
+        Ran W.gives level before session.old (scene_of (B.past book.old) words.old (sight_of L.traffic L.read_faults L.write_faults link.old)) many →
+        Ran W.gives level before session.new (scene_of (B.past book.new) words.new (sight_of L.traffic L.read_faults L.write_faults link.new)) many }
     ensures sits { Sits session.new (B.past book.new) }
     ensures rests { IsResting (wanted session.new) }
     ensures last { IsLast session.old.stage → IsLast session.new.stage }

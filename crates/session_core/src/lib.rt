@@ -8,6 +8,7 @@
 #![tactic(auto)]
 
 mod answers;
+mod calling;
 mod calls;
 mod drive;
 mod messages;
@@ -15,6 +16,7 @@ mod phase;
 mod prepared;
 mod replies;
 mod serve;
+mod served;
 mod session;
 mod stage;
 mod turns;
@@ -22,6 +24,8 @@ mod user;
 mod want;
 
 pub use block_machine::{Answer, Call, End, Stop};
-pub use serve::{Served, serve_link};
+pub use calling::{make_call, sessions_sit_while_others_go_on};
+pub use serve::serve_link;
+pub use served::Served;
 pub use session::Session;
 pub use want::Want;

@@ -1,8 +1,8 @@
 // Serves a session over a link.
 ghost use Rattle.std.specs.Prelude.{◌≡◌, ℕ, ◌+◌, ◌<◌, ◌≤◌, List, [], length, IfOk};
 ghost use Rattle.history_core.specs.Chronicle.{IsLegalChronicle};
-ghost use Rattle.history_core.specs.Book.{Past, no_session};
-ghost use Rattle.link_traits.specs.Traffic.{Sight, sight_of};
+ghost use Rattle.history_core.specs.Book.{no_session};
+ghost use Rattle.link_traits.specs.Traffic.{sight_of};
 ghost use Rattle.block_machine.specs.Calls.{Call as Asked};
 ghost use Rattle.block_machine.specs.Knowledge.{at_start};
 ghost use Rattle.block_machine.specs.Script.{Entry, has_short};
@@ -11,13 +11,14 @@ ghost use Rattle.session_core.specs.declared.phase.Phase.TheVariants as phases;
 ghost use Rattle.session_core.specs.declared.stage.SessionStage.TheVariants as stages;
 ghost use Rattle.session_core.specs.Wants as wishes;
 ghost use Rattle.session_core.specs.Wants.{IsOver};
-ghost use Rattle.session_core.specs.Requests.{Requests};
 ghost use Rattle.session_core.specs.Told.{opened_in};
 ghost use Rattle.session_core.specs.Stands.{IsFit, IsLast, served_of};
 ghost use Rattle.session_core.specs.Sessions.{Stands, wanted};
-ghost use Rattle.session_core.specs.Serve.{Sits, Ran, Serves};
+ghost use Rattle.session_core.specs.Serve.{Scene, scene_of, Account, Serves};
+ghost use Rattle.session_core.specs.Running.{Sits, Ran};
 
 use crate::drive::drive;
+use crate::served::Served;
 use crate::session::Session;
 use crate::want::Want;
 use block_machine::{End, Stop};
@@ -32,17 +33,6 @@ pub const MOST_READ: usize = 1_073_741_824;
 // How many bytes are read at once.
 const ROOM: usize = 8192;
 
-/// What became of a session.
-#[derive(Clone, Copy, Debug, PartialEq, Eq)]
-pub struct Served {
-    /// The number of the session that was opened, if one was.
-    pub session: Option<u32>,
-    /// How it ended.
-    pub end: End,
-    /// Whether memory ran out.
-    pub short: bool,
-}
-
 // Reads a piece of at most so many bytes into the session, or tells it to stop. Answers how many bytes were read.
 fn take_in<B: Book, L: Link, W: Words>(
     session: &mut Session,
@@ -55,9 +45,9 @@ fn take_in<B: Book, L: Link, W: Words>(
     requires wanted { wanted session.old ≡ wishes.Bytes }
     requires room { 0 < length room.old }
     requires sits { Sits session.old (B.past book.now) }
-    ensures ran { (level : Level) (p : Past) (v : W) (f : Sight) (many : ℕ) → many + most ≡ 1073741824 →
-        Ran W.gives level p v f session.old (B.past book.now) words.now (sight_of L.traffic L.read_faults L.write_faults link.old) many →
-        Ran W.gives level p v f session.new (B.past book.now) words.now (sight_of L.traffic L.read_faults L.write_faults link.new)
+    ensures ran { (level : Level) (before : Scene W) (many : ℕ) → many + most ≡ 1073741824 →
+        Ran W.gives level before session.old (scene_of (B.past book.now) words.now (sight_of L.traffic L.read_faults L.write_faults link.old)) many →
+        Ran W.gives level before session.new (scene_of (B.past book.now) words.now (sight_of L.traffic L.read_faults L.write_faults link.new))
         (many + result) }
     ensures sits { Sits session.new (B.past book.now) }
     ensures within { result ≤ most }
@@ -142,10 +132,10 @@ fn run<B: Book, L: Link, W: Words>(
     requires fit { IsFit session.old.runner }
     requires room { 0 < length room.old }
     requires no_session { (B.past book.old).state ≡ no_session }
-    ensures served { (requests : Requests) × (taken : List ℕ) × (es : List Entry) × (asked : List Asked) × (sent : List ℕ) × (lost : List ℕ) ×
-        Serves W.gives (served_of session.old.runner) (B.past book.old) words.old (sight_of L.traffic L.read_faults L.write_faults link.old)
-        result.session result.end result.short
-        (B.past book.new) words.new (sight_of L.traffic L.read_faults L.write_faults link.new) requests taken es asked sent lost }
+    ensures served { (account : Account) ×
+        Serves W.gives (served_of session.old.runner)
+        (scene_of (B.past book.old) words.old (sight_of L.traffic L.read_faults L.write_faults link.old)) result
+        (scene_of (B.past book.new) words.new (sight_of L.traffic L.read_faults L.write_faults link.new)) account }
     ensures no_session { (B.past book.new).state ≡ no_session }
     ensures legal { IsLegalChronicle (B.past book.old).seen → IsLegalChronicle (B.past book.new).seen }
     ensures stays { B.stays book.old book.new }
@@ -177,10 +167,9 @@ pub fn serve_link<B: Book, L: Link, W: Words>(
     words: &mut W,
 ) -> Served
     requires { (B.past book.old).state ≡ no_session }
-    ensures served { (requests : Requests) × (taken : List ℕ) × (es : List Entry) × (asked : List Asked) × (sent : List ℕ) × (lost : List ℕ) ×
-        Serves W.gives level (B.past book.old) words.old (sight_of L.traffic L.read_faults L.write_faults link.old) result.session
-        result.end result.short
-        (B.past book.new) words.new (sight_of L.traffic L.read_faults L.write_faults link.new) requests taken es asked sent lost }
+    ensures served { (account : Account) ×
+        Serves W.gives level (scene_of (B.past book.old) words.old (sight_of L.traffic L.read_faults L.write_faults link.old)) result
+        (scene_of (B.past book.new) words.new (sight_of L.traffic L.read_faults L.write_faults link.new)) account }
     ensures no_session { (B.past book.new).state ≡ no_session }
     ensures legal { IsLegalChronicle (B.past book.old).seen → IsLegalChronicle (B.past book.new).seen }
     ensures stays { B.stays book.old book.new }

@@ -11,7 +11,8 @@ ghost use Rattle.session_core.specs.Wants as wishes;
 ghost use Rattle.session_core.specs.Requests.{Requests};
 ghost use Rattle.session_core.specs.Told as told_spec;
 ghost use Rattle.session_core.specs.Told.{closed, ending, refuses, stop_end};
-ghost use Rattle.session_core.specs.Stands.{FitsWant, InPhase, IsBusy, IsStopped, IsUnder, Lacks, LacksBy, NoBuilt, end_of, goes_on, on, outer, outer_end, own_want, owed_at, wants, work_at};
+ghost use Rattle.session_core.specs.Ends.{LacksBy, outer_end};
+ghost use Rattle.session_core.specs.Stands.{FitsWant, InPhase, IsBusy, IsStopped, IsUnder, Lacks, NoBuilt, end_of, goes_on, on, outer, own_want, owed_at, wants, work_at};
 ghost use Rattle.session_core.specs.Steps.{LeadsTo, Advances, IsPlain};
 
 use crate::phase::Phase;

@@ -1,12 +1,14 @@
 // What no clause says: that calls succeed where there is memory, and that the adapters pass the bytes on.
 ghost use Rattle.std.specs.Prelude.{◌≡◌, ◌<◌, length, IfOk, IsSome};
+ghost use Rattle.link_traits.specs.Hosts.{mem_hosted};
 
-use cell_base::{Items, Memory};
+use cell_base::{Items, Memory, Text};
 use link_traits::{
-    Failed, Host, HostFault, MemHost, MemLink, MemPlan, MemSink, MemSource, Sink, Source, StdHost,
-    StdLink, StdOut, send_all,
+    Failed, FileSource, Host, HostFault, HostFile, MemHost, MemLink, MemPlan, MemReturned, MemSink,
+    MemSource, Sink, Source, StdHost, StdLink, StdOut, send_all,
 };
 use std::alloc::Global;
+use std::fs;
 use std::io::{self, ErrorKind, Read, Write};
 use std::test::Fail;
 
@@ -129,7 +131,7 @@ fn writes_over_link<H: Host>(host: &mut H) -> Result<bool, HostFault> {
 
 // Prints to the output, and hands it back.
 fn prints<H: Host>(host: &mut H, bytes: &[u8]) -> bool
-    requires { IsSome (H.out host.old) }
+    requires { IsSome (H.hosted host.old).out }
 {
     let mut out = host.take_out();
     let printed = sends(&mut out, bytes);
@@ -137,28 +139,118 @@ fn prints<H: Host>(host: &mut H, bytes: &[u8]) -> bool
     printed
 }
 
-// The first call is to fail, the second hands the link out, and after it there is none.
-#[test]
-fn hands_out_and_takes_back(rt: HostRuntime) -> Result<(), Fail> {
-    let alloc = rt.alloc();
-    let bytes = Vec::from_slice(alloc, b"in")?;
+// A path, or any other text.
+fn text(alloc: Global, bytes: &[u8]) -> Result<Text, Memory> {
+    match Text::from_bytes(alloc, bytes) {
+        Ok(text) => Ok(text),
+        Err(_) => Err(Memory),
+    }
+}
+
+// A host with a link, a file `log` of the bytes `open` and an output. Its first call is to fail, and so is its sixth.
+fn host(alloc: Global) -> Result<MemHost, Memory>
+    ensures { IfOk result (λ host. IsSome (mem_hosted host).out) }
+{
     let link = MemLink::new(
         alloc,
-        bytes,
+        Vec::from_slice(alloc, b"in")?,
         plan(alloc, 9, &[], 9, 9)?,
         plan(alloc, 9, &[], 9, 9)?,
     )?;
     let sink = MemSink::new(alloc, plan(alloc, 9, &[], 9, 0)?)?;
-    let mut host = MemHost::new(alloc, Some(link), sink, Items::from_slice(alloc, &[1])?)?;
-    assert!(rt; prints(&mut host, b"line"));
-    assert!(rt; hands_out_nothing(&mut host));
-    assert!(rt; writes_over_link(&mut host)?);
-    assert!(rt; hands_out_nothing(&mut host));
-    let [link] = host.back() else {
-        return Err(Fail::new("one link came back"));
-    };
-    assert_eq!(rt; link.written(), b"sent".as_slice());
-    assert!(rt; matches!(host.output(), Some(sink) if sink.written() == b"line".as_slice()));
+    let fails = Items::from_slice(alloc, &[1, 6])?;
+    let opened = plan(alloc, 9, &[], 9, 9)?;
+    let made = plan(alloc, 9, &[], 9, 0)?;
+    let files = files(alloc)?;
+    Ok(MemHost::new(alloc, Some(link), files, sink, fails, opened, made))
+}
+
+fn files(alloc: Global) -> Result<Items<HostFile>, Memory> {
+    let mut files = Items::new(alloc);
+    files.push(HostFile {
+        path: text(alloc, b"log")?,
+        bytes: Items::from_slice(alloc, b"open")?,
+    })?;
+    Ok(files)
+}
+
+// The first call is to fail, the second hands the link out, and after it there is none.
+fn lends_the_link<H: Host>(host: &mut H) -> Result<bool, HostFault>
+where
+    H::Link: Drop,
+{
+    Ok(hands_out_nothing(host) && writes_over_link(host)? && hands_out_nothing(host))
+}
+
+// Whether the one object that came back is the link, with these bytes.
+fn link_came_back(host: &MemHost, bytes: &[u8]) -> bool {
+    matches!(host.back(), [MemReturned::Link(link)] if link.written() == bytes)
+}
+
+// Whether the output has these bytes.
+fn has_printed(host: &MemHost, bytes: &[u8]) -> bool {
+    matches!(host.output(), Some(sink) if sink.written() == bytes)
+}
+
+#[test]
+fn hands_out_and_takes_back(rt: HostRuntime) -> Result<(), Fail> {
+    let mut host = host(rt.alloc())?;
+    let right = prints(&mut host, b"line")
+        && lends_the_link(&mut host)?
+        && link_came_back(&host, b"sent")
+        && has_printed(&host, b"line");
+    assert!(rt; right);
+    Ok(())
+}
+
+// Whether the file of the path has these bytes, up to four. It is handed back.
+fn opens<H: Host>(host: &mut H, path: &Text, bytes: &[u8]) -> bool {
+    match host.open_file(path) {
+        Ok(mut file) => {
+            let given = gives(&mut file, bytes);
+            host.file_back(file);
+            given
+        }
+        Err(_) => false,
+    }
+}
+
+// Whether a file of the path is made and takes these bytes. It is handed back.
+fn makes<H: Host>(host: &mut H, path: &Text, bytes: &[u8]) -> bool {
+    match host.make_file(path) {
+        Ok(mut file) => {
+            let written = sends(&mut file, bytes);
+            host.new_file_back(file);
+            written
+        }
+        Err(_) => false,
+    }
+}
+
+// The first call is to fail; the second opens the file, the third finds none of its path, the fourth makes one, the fifth opens the file
+// again, and the sixth is to fail.
+fn opens_and_makes<H: Host>(host: &mut H, log: &Text, other: &Text) -> bool {
+    !opens(host, log, b"open")
+        && opens(host, log, b"open")
+        && !opens(host, other, b"open")
+        && makes(host, other, b"new")
+        && opens(host, log, b"open")
+        && !makes(host, other, b"new")
+}
+
+// Whether two files that were opened came back, with one between them that was made, of these bytes.
+fn files_came_back(host: &MemHost, bytes: &[u8]) -> bool {
+    matches!(host.back(), [MemReturned::File(_), MemReturned::NewFile(file), MemReturned::File(_)] if file.written() == bytes)
+}
+
+#[test]
+fn opens_and_makes_files(rt: HostRuntime) -> Result<(), Fail> {
+    let alloc = rt.alloc();
+    let log = text(alloc, b"log")?;
+    let other = text(alloc, b"logs")?;
+    let mut host = host(alloc)?;
+    let right = opens_and_makes(&mut host, &log, &other) && files_came_back(&host, b"new");
+    assert!(rt; right);
     Ok(())
 }
 
@@ -203,12 +295,47 @@ fn passes_bytes_on(rt: HostRuntime) -> Result<(), Fail> {
     Ok(())
 }
 
+// A file passes its bytes on, and a read that fails has failed.
+#[test]
+fn reads_files(rt: HostRuntime) -> Result<(), Fail> {
+    let mut reader: &[u8] = b"file";
+    let mut file = FileSource::new(&mut reader);
+    assert!(rt; gives(&mut file, b"file"));
+    assert!(rt; gives(&mut file, b""));
+    assert!(rt; reads_nothing(&mut FileSource::new(Broken)));
+    Ok(())
+}
+
+// What is written to a file that is made is read from the file when it is opened. Where no file can be made none is opened.
+fn makes_and_opens<H: Host>(host: &mut H, path: &Text, nowhere: &Text) -> bool {
+    makes(host, path, b"bytes")
+        && opens(host, path, b"byte")
+        && !makes(host, nowhere, b"bytes")
+        && !opens(host, nowhere, b"byte")
+}
+
+// Hands the standard link out and takes it back.
+fn passes_the_link<H: Host>(host: &mut H) -> bool {
+    match host.standard_link() {
+        Ok(link) => {
+            host.link_back(link);
+            true
+        }
+        Err(_) => false,
+    }
+}
+
 // The real host hands out and takes back.
 #[test]
-fn lends_the_standard_streams(rt: HostRuntime) -> Result<(), Fail> {
-    let mut host = StdHost::new(rt.alloc(), rt.stdin(), rt.stdout())?;
-    assert!(rt; prints(&mut host, b""));
-    let link = host.standard_link()?;
-    host.link_back(link);
+fn lends_streams_and_files(rt: HostRuntime) -> Result<(), Fail> {
+    let alloc = rt.alloc();
+    let path = text(alloc, b"host_log")?;
+    let nowhere = text(alloc, b"no_folder/log")?;
+    let mut host = StdHost::new(alloc, &rt, rt.stdin(), rt.stdout());
+    let right = prints(&mut host, b"")
+        && passes_the_link(&mut host)
+        && makes_and_opens(&mut host, &path, &nowhere);
+    fs::remove_file(&rt, "host_log")?;
+    assert!(rt; right);
     Ok(())
 }

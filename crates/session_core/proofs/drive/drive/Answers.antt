@@ -2,7 +2,7 @@ use Rattle.session_core.proofs.drive.drive.Goals as goal
 
 pub loop-alloc-preserved : goal.loop-alloc-preserved
 loop-alloc-preserved g c = record {
-  ran = λ level p v f many ran. c.turn.ensures.ran level p v f many (c.loop-alloc.invariant.ran level p v f many ran);
+  ran = λ level before many ran. c.turn.ensures.ran level before many (c.loop-alloc.invariant.ran level before many ran);
   sits = c.turn.ensures.sits;
   last = λ last. c.turn.ensures.last (c.loop-alloc.invariant.last last);
   legal = λ legal. c.turn.ensures.legal (c.loop-alloc.invariant.legal legal);
@@ -10,5 +10,5 @@ loop-alloc-preserved g c = record {
 }
 
 pub returns-clause-ran : goal.returns-clause-ran
-returns-clause-ran g c = λ level p v f many ran.
-    c.turn.ensures.ran level p v f many (c.loop-alloc.invariant.ran level p v f many ran)
+returns-clause-ran g c = λ level before many ran.
+    c.turn.ensures.ran level before many (c.loop-alloc.invariant.ran level before many ran)

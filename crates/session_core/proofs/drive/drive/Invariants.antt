@@ -1,20 +1,20 @@
 use Rattle.std.proofs.Common.{ℕ}
 use Rattle.cell_base.specs.declared.level.Level.{Level}
 use Rattle.history_core.specs.Chronicle.{IsLegalChronicle}
-use Rattle.history_core.specs.Book.{Past}
 use Rattle.link_traits.specs.Traffic.{Sight, sight_of}
 use Rattle.session_core.specs.Sessions.{work_of}
 use Rattle.session_core.specs.Stands.{IsLast}
-use Rattle.session_core.specs.Serve.{Ran, Sits}
+use Rattle.session_core.specs.Serve.{Scene, scene_of}
+use Rattle.session_core.specs.Running.{Ran, Sits}
 use Rattle.session_core.proofs.drive.drive.Given as goal
 
 abbrev pub invariant-loop-alloc : goal.invariant-loop-alloc
 invariant-loop-alloc g l = record {
-  ran : (level : Level) (p : Past) (v : _) (f : Sight) (many : ℕ) →
-      Ran g.W.Words.gives level p v f l.initial.session (g.B.Book.past l.initial.book) l.initial.words
-      (sight_of g.L.Sides.traffic g.L.Sides.read_faults g.L.Sides.write_faults l.initial.link) many →
-      Ran g.W.Words.gives level p v f l.session (g.B.Book.past l.book) l.words
-      (sight_of g.L.Sides.traffic g.L.Sides.read_faults g.L.Sides.write_faults l.link) many;
+  ran : (level : Level) (before : Scene _) (many : ℕ) →
+      Ran g.W.Words.gives level before l.initial.session (scene_of (g.B.Book.past l.initial.book) l.initial.words
+      (sight_of g.L.Sides.traffic g.L.Sides.read_faults g.L.Sides.write_faults l.initial.link)) many →
+      Ran g.W.Words.gives level before l.session (scene_of (g.B.Book.past l.book) l.words
+      (sight_of g.L.Sides.traffic g.L.Sides.read_faults g.L.Sides.write_faults l.link)) many;
   sits : Sits l.session (g.B.Book.past l.book);
   last : IsLast l.initial.session.stage → IsLast l.session.stage;
   legal : IsLegalChronicle (g.B.Book.past l.initial.book).seen → IsLegalChronicle (g.B.Book.past l.book).seen;

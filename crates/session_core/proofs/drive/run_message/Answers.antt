@@ -3,7 +3,7 @@ use Rattle.session_core.proofs.drive.run_message.Goals as goal
 
 pub loop-alloc-preserved : goal.loop-alloc-preserved
 loop-alloc-preserved g c = record {
-  ran = λ level p v f many ran. c.step_message.ensures.ran level p v f many (c.loop-alloc.invariant.ran level p v f many ran);
+  ran = λ level before many ran. c.step_message.ensures.ran level before many (c.loop-alloc.invariant.ran level before many ran);
   sits = c.step_message.ensures.sits;
   work = omega (arith, c.loop-alloc.invariant.work, c.step_message.ensures.work);
   last = λ last. c.step_message.ensures.last (c.loop-alloc.invariant.last last);
@@ -12,5 +12,5 @@ loop-alloc-preserved g c = record {
 }
 
 pub returns-clause-ran : goal.returns-clause-ran
-returns-clause-ran g c = λ level p v f many ran.
-    c.step_message.ensures.ran level p v f many (c.loop-alloc.invariant.ran level p v f many ran)
+returns-clause-ran g c = λ level before many ran.
+    c.step_message.ensures.ran level before many (c.loop-alloc.invariant.ran level before many ran)

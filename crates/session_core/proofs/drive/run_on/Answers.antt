@@ -3,8 +3,8 @@ use Rattle.session_core.proofs.drive.run_on.Goals as goal
 
 pub loop-alloc-preserved : goal.loop-alloc-preserved
 loop-alloc-preserved g c = record {
-  ran = λ level p v f seen many ran.
-      c.step_on.ensures.ran level p v f seen many (c.loop-alloc.invariant.ran level p v f seen many ran);
+  ran = λ level before seen many ran.
+      c.step_on.ensures.ran level before seen many (c.loop-alloc.invariant.ran level before seen many ran);
   sits = c.step_on.ensures.sits;
   work = omega (arith, c.loop-alloc.invariant.work, c.step_on.ensures.work);
   message = omega (arith, c.loop-alloc.invariant.message, c.step_on.ensures.message);
@@ -14,5 +14,5 @@ loop-alloc-preserved g c = record {
 }
 
 pub returns-clause-ran : goal.returns-clause-ran
-returns-clause-ran g c = λ level p v f seen many ran.
-    c.step_on.ensures.ran level p v f seen many (c.loop-alloc.invariant.ran level p v f seen many ran)
+returns-clause-ran g c = λ level before seen many ran.
+    c.step_on.ensures.ran level before seen many (c.loop-alloc.invariant.ran level before seen many ran)

@@ -1,18 +1,18 @@
 use Rattle.std.proofs.Common.{ℕ, ◌+◌, ◌≤◌}
 use Rattle.cell_base.specs.declared.level.Level.{Level}
 use Rattle.history_core.specs.Chronicle.{IsLegalChronicle}
-use Rattle.history_core.specs.Book.{Past}
 use Rattle.link_traits.specs.Traffic.{Sight}
 use Rattle.session_core.specs.Sessions.{work_of}
 use Rattle.session_core.specs.Stands.{IsLast, message_at, message_work, statement_at, left_at}
-use Rattle.session_core.specs.Serve.{Ran, Sits}
+use Rattle.session_core.specs.Serve.{Scene, scene_of}
+use Rattle.session_core.specs.Running.{Ran, Sits}
 use Rattle.session_core.proofs.drive.run_on.Given as goal
 
 abbrev pub invariant-loop-alloc : goal.invariant-loop-alloc
 invariant-loop-alloc g l = record {
-  ran : (level : Level) (p : Past) (v : _) (f seen : Sight) (many : ℕ) →
-      Ran g.W.Words.gives level p v f l.initial.session (g.B.Book.past l.initial.book) l.initial.words seen many →
-      Ran g.W.Words.gives level p v f l.session (g.B.Book.past l.book) l.words seen many;
+  ran : (level : Level) (before : Scene _) (seen : Sight) (many : ℕ) →
+      Ran g.W.Words.gives level before l.initial.session (scene_of (g.B.Book.past l.initial.book) l.initial.words seen) many →
+      Ran g.W.Words.gives level before l.session (scene_of (g.B.Book.past l.book) l.words seen) many;
   sits : Sits l.session (g.B.Book.past l.book);
   work : work_of l.session + message_at l.initial.session.stage ≤ work_of l.initial.session + message_at l.session.stage;
   message : message_work l.session.stage l.session.runner + statement_at l.initial.session.stage l.initial.session.runner ≤

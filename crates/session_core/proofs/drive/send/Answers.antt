@@ -8,8 +8,8 @@ use Rattle.session_core.proofs.Serving.{Ran-sent, Ran-unsent}
 use Rattle.session_core.proofs.drive.send.Goals as goal
 
 pub returns-then-send_whole-clause-ran : goal.returns-then-send_whole-clause-ran
-returns-then-send_whole-clause-ran g c = λ level p v f many ran.
-    Ran-sent g.W.Words.gives level p v f c.args.session.now c.sent.new.self (g.B.Book.past c.args.book.now) c.args.words.now
+returns-then-send_whole-clause-ran g c = λ level before many ran.
+    Ran-sent g.W.Words.gives level before c.args.session.now c.sent.new.self (g.B.Book.past c.args.book.now) c.args.words.now
     (sight_of g.L.Sides.traffic g.L.Sides.read_faults g.L.Sides.write_faults c.args.link.now)
     (sight_of g.L.Sides.traffic g.L.Sides.read_faults g.L.Sides.write_faults c.send_whole.new.link) many
     (reply_of c.args.session.now.stage c.args.session.now.runner c.args.session.now.startup.items)
@@ -20,10 +20,10 @@ returns-then-send_whole-clause-ran g c = λ level p v f many ran.
     c.send_whole.ensures.read_faults c.send_whole.ensures.write_faults ran
 
 pub returns-else-send_whole-clause-ran : goal.returns-else-send_whole-clause-ran
-returns-else-send_whole-clause-ran g c = λ level p v f many ran.
+returns-else-send_whole-clause-ran g c = λ level before many ran.
     let (part, lost, reply_is, wrote) = Both-part c.reply.result.now (g.L.Sides.traffic c.args.link.now)
     (g.L.Sides.traffic c.send_whole.new.link) (c.send_whole.ensures.part c.if-send_whole.false) in
-    Ran-unsent g.W.Words.gives level p v f c.args.session.now c.unsent.new.self (g.B.Book.past c.args.book.now) c.args.words.now
+    Ran-unsent g.W.Words.gives level before c.args.session.now c.unsent.new.self (g.B.Book.past c.args.book.now) c.args.words.now
     (sight_of g.L.Sides.traffic g.L.Sides.read_faults g.L.Sides.write_faults c.args.link.now)
     (sight_of g.L.Sides.traffic g.L.Sides.read_faults g.L.Sides.write_faults c.send_whole.new.link) many
     (reply_of c.args.session.now.stage c.args.session.now.runner c.args.session.now.startup.items) part lost

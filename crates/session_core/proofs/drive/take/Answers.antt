@@ -4,8 +4,8 @@ use Rattle.session_core.proofs.Serving.{Ran-taken, sits_same}
 use Rattle.session_core.proofs.drive.take.Goals as goal
 
 pub returns-clause-ran : goal.returns-clause-ran
-returns-clause-ran g c = λ level p v f seen many ran.
-    Ran-taken g.W.Words.gives level p v f c.args.session.now c.take.new.self (g.B.Book.past c.args.book.now) c.args.words.now seen many
+returns-clause-ran g c = λ level before seen many ran.
+    Ran-taken g.W.Words.gives level before c.args.session.now c.take.new.self (g.B.Book.past c.args.book.now) c.args.words.now seen many
     c.take.ensures.grown c.requires.wanted (served_kept (knowledge_of c.args.session.now.runner) (knowledge_of c.take.new.self.runner) c.take.ensures.known)
     c.take.ensures.outer c.take.ensures.lacks ran
 

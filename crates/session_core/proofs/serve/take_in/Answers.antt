@@ -1,26 +1,28 @@
 use Rattle.std.proofs.Common.{◌+◌, ℕ, [], take, refl, sym, subst, arith}
 use Rattle.link_traits.specs.Traffic.{Both, Took, sight_of}
 use Rattle.block_machine.specs.declared.end.Stop.TheVariants as stops
-use Rattle.session_core.specs.Serve.{Ran}
+use Rattle.session_core.specs.Serve.{scene_of}
+use Rattle.session_core.specs.Running.{Ran}
 use Rattle.session_core.proofs.Serving.{Ran-stopped, Ran-halted, Ran-fed, take-size, at_end, sits_kept}
 use Rattle.session_core.proofs.serve.take_in.Goals as goal
 
 pub returns-then-most-eq0-clause-ran : goal.returns-then-most-eq0-clause-ran
-returns-then-most-eq0-clause-ran g c = λ level p v f many spent ran.
+returns-then-most-eq0-clause-ran g c = λ level before many spent ran.
     let now = sight_of g.L.Sides.traffic g.L.Sides.read_faults g.L.Sides.write_faults c.args.link.now in
-    Ran-halted g.W.Words.gives level p v f c.args.session.now c.stop.new.self (g.B.Book.past c.args.book.now) c.args.words.now now now many
+    Ran-halted g.W.Words.gives level before c.args.session.now c.stop.new.self (g.B.Book.past c.args.book.now) c.args.words.now now now many
     stops.Spent
     c.stop.ensures.grown c.requires.wanted c.stop.ensures.runner c.stop.ensures.outer c.stop.ensures.lacks refl (omega arith) refl
     (λ taken is le. omega (arith, is, spent, c.if-most-eq0.true)) ran
 
 pub returns-then-n-eq0-clause-ran : goal.returns-then-n-eq0-clause-ran
-returns-then-n-eq0-clause-ran g c = λ level p v f many spent ran.
+returns-then-n-eq0-clause-ran g c = λ level before many spent ran.
     let took : Both (Took []) (g.L.Sides.traffic c.args.link.now) (g.L.Sides.traffic c.read.new.self) =
     subst (λ (k : ℕ). Both (Took (take k c.read.new.room)) (g.L.Sides.traffic c.args.link.now) (g.L.Sides.traffic c.read.new.self))
     c.if-n-eq0.true c.in-Ok.ensures.took in
-    subst (λ (k : ℕ). Ran g.W.Words.gives level p v f c.stop-then-n-eq0.new.self (g.B.Book.past c.args.book.now) c.args.words.now
-    (sight_of g.L.Sides.traffic g.L.Sides.read_faults g.L.Sides.write_faults c.read.new.self) (many + k)) (sym c.if-n-eq0.true)
-    (Ran-stopped g.W.Words.gives level p v f c.args.session.now c.stop-then-n-eq0.new.self (g.B.Book.past c.args.book.now) c.args.words.now
+    subst (λ (k : ℕ). Ran g.W.Words.gives level before c.stop-then-n-eq0.new.self
+    (scene_of (g.B.Book.past c.args.book.now) c.args.words.now
+    (sight_of g.L.Sides.traffic g.L.Sides.read_faults g.L.Sides.write_faults c.read.new.self)) (many + k)) (sym c.if-n-eq0.true)
+    (Ran-stopped g.W.Words.gives level before c.args.session.now c.stop-then-n-eq0.new.self (g.B.Book.past c.args.book.now) c.args.words.now
     (sight_of g.L.Sides.traffic g.L.Sides.read_faults g.L.Sides.write_faults c.args.link.now)
     (sight_of g.L.Sides.traffic g.L.Sides.read_faults g.L.Sides.write_faults c.read.new.self) many stops.EndOfInput
     c.stop-then-n-eq0.ensures.grown c.requires.wanted c.stop-then-n-eq0.ensures.runner c.stop-then-n-eq0.ensures.outer
@@ -32,8 +34,8 @@ returns-then-n-eq0-clause-ran g c = λ level p v f many spent ran.
     )) ran)
 
 pub returns-else-n-eq0-clause-ran : goal.returns-else-n-eq0-clause-ran
-returns-else-n-eq0-clause-ran g c = λ level p v f many spent ran.
-    Ran-fed g.W.Words.gives level p v f c.args.session.now c.feed.new.self (g.B.Book.past c.args.book.now) c.args.words.now
+returns-else-n-eq0-clause-ran g c = λ level before many spent ran.
+    Ran-fed g.W.Words.gives level before c.args.session.now c.feed.new.self (g.B.Book.past c.args.book.now) c.args.words.now
     (sight_of g.L.Sides.traffic g.L.Sides.read_faults g.L.Sides.write_faults c.args.link.now)
     (sight_of g.L.Sides.traffic g.L.Sides.read_faults g.L.Sides.write_faults c.read.new.self) many (take c.in-Ok.n c.read.new.room)
     c.in-Ok.n
@@ -41,8 +43,8 @@ returns-else-n-eq0-clause-ran g c = λ level p v f many spent ran.
     c.read.ensures.cause.later c.read.ensures.write_faults (take-size c.in-Ok.n c.read.new.room c.in-Ok.ensures.within) ran
 
 pub returns-in-Err-clause-ran : goal.returns-in-Err-clause-ran
-returns-in-Err-clause-ran g c = λ level p v f many spent ran.
-    Ran-halted g.W.Words.gives level p v f c.args.session.now c.stop-in-Err.new.self (g.B.Book.past c.args.book.now) c.args.words.now
+returns-in-Err-clause-ran g c = λ level before many spent ran.
+    Ran-halted g.W.Words.gives level before c.args.session.now c.stop-in-Err.new.self (g.B.Book.past c.args.book.now) c.args.words.now
     (sight_of g.L.Sides.traffic g.L.Sides.read_faults g.L.Sides.write_faults c.args.link.now)
     (sight_of g.L.Sides.traffic g.L.Sides.read_faults g.L.Sides.write_faults c.read.new.self) many stops.ReadFault
     c.stop-in-Err.ensures.grown c.requires.wanted c.stop-in-Err.ensures.runner c.stop-in-Err.ensures.outer c.stop-in-Err.ensures.lacks
