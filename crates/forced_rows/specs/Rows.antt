@@ -1,5 +1,7 @@
 -- Rows that stand for a history: its forced pairs and its causal past, each as a closure, and the seats of its sessions.
 use Rattle.std.specs.Prelude.{◌≡◌, ◌<◌, ◌+◌, ◌↔◌, ℕ, List, [], ◌∷◌, ◌++◌, length}
+use Rattle.graph_base.specs.declared.Edge.{Edge}
+use Rattle.reach_rows.specs.Ancestry.{Ancestry}
 use Rattle.graph_base.specs.Walk.{IsInRange, Reaches}
 use Rattle.graph_base.specs.Chain.{Chained}
 use Rattle.cell_base.specs.declared.cell.Cell.{Cell}
@@ -44,3 +46,13 @@ pub record AddsBegin (initial : List (Cell × Value)) (events : List Event) (ses
   pub formed : IsFormed initial before
   pub follows : Follows initial before (Begin session level)
   pub room : HaveRoom before session rows
+
+-- one number more, which no pair names
+pub record Grows (old new : Ancestry) : Type 0 where
+  pub size : new.size ≡ old.size + 1
+  pub pairs : new.pairs ≡ old.pairs
+  pub unnamed : IsInRange old.size old.pairs
+
+-- from the initial transaction and the last one of the session to the one that has begun
+abbrev pub begin_edges : ℕ → ℕ → List Edge
+begin_edges last number = record { before = 0; after = number } ∷ record { before = last; after = number } ∷ []
