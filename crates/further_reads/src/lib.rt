@@ -7,6 +7,6 @@
 mod laws;
 
 pub use laws::{
-    begin_forces, further_demands, further_pairs, further_read_is_permitted, nothing_follows_pending,
-    others_force_nothing,
+    begin_forces, further_demands, further_pairs, further_read_is_permitted, last_begun_changes,
+    nothing_follows_pending, others_force_nothing, seen_source_shows_nothing_new, sources_change,
 };
