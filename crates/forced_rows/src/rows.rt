@@ -39,10 +39,8 @@ pub struct ForcedRows {
 fn grow_both(reach: &mut Reach, past: &mut Reach) -> Result<(), Memory>
     requires few { reach.old.size < ROW_BITS }
     requires past_few { past.old.size < ROW_BITS }
-    ensures ok { OnOk result (Grows reach.old reach.new) }
-    ensures past_ok { OnOk result (Grows past.old past.new) }
-    ensures err { OnErr result (reach.new ≡ reach.old) }
-    ensures past_err { OnErr result (past.new ≡ past.old) }
+    ensures ok { OnOk result (Grows reach.old reach.new × Grows past.old past.new) }
+    ensures err { OnErr result ((reach.new ≡ reach.old) × (past.new ≡ past.old)) }
 {
     let _size = reach.size();
     let _past_size = past.size();
