@@ -4,12 +4,12 @@ ghost use Rattle.sound_table.specs.Sound.{IsSound};
 ghost use Rattle.history_core.specs.declared.event.Event.{Event};
 ghost use Rattle.history_core.specs.declared.fault.Limit.{Limit};
 ghost use Rattle.history_core.specs.Initial.{load_of};
-ghost use Rattle.history_core.specs.Transactions.{HasPending, IsPending};
+ghost use Rattle.history_core.specs.Transactions.{HasPending};
 ghost use Rattle.history_core.specs.Legal.{Follows, WroteItself, full_for};
 ghost use Rattle.history_core.specs.Chronicle.{followed_by, with_table};
 ghost use Rattle.history_core.specs.Records.{is_any_end};
 ghost use Rattle.indexed_history.specs.Index.{IsIndex};
-ghost use Rattle.indexed_history.specs.Parts.{AreIndexed};
+ghost use Rattle.indexed_history.specs.Parts.{AreIndexed, IsTheTxn};
 ghost use Rattle.indexed_history.specs.Writers.{IsPlain};
 
 use crate::index::{Index, forget_writer, forget_writes, note_writer};
@@ -58,7 +58,7 @@ fn push_first_write(
     requires indexed { AreIndexed parts.old }
     requires follows { Follows parts.old.history.initial parts.old.history.events (Event.Write session cell value) }
     requires load { load_of parts.old.history.initial parts.old.history.events < 1048576 }
-    requires pending { IsPending parts.old.history.events number session }
+    requires pending { IsTheTxn parts.old.history.events session number }
     requires unwritten { ¬ WroteItself parts.old.history.events session cell }
     ensures indexed { AreIndexed parts.new }
     ensures ok { OnOk result (parts.new.history ≡ followed_by parts.old.history (Event.Write session cell value)) }
@@ -86,11 +86,13 @@ fn push_first_write(
 fn push_further_write(
     parts: &mut Parts,
     session: u32,
+    _number: u32,
     cell: Cell,
     value: Value,
 ) -> Result<(), BookFault>
     requires indexed { AreIndexed parts.old }
     requires follows { Follows parts.old.history.initial parts.old.history.events (Event.Write session cell value) }
+    requires pending { IsTheTxn parts.old.history.events session _number }
     requires written { WroteItself parts.old.history.events session cell }
     ensures indexed { AreIndexed parts.new }
     ensures ok { OnOk result (parts.new.history ≡ followed_by parts.old.history (Event.Write session cell value)) }
@@ -118,16 +120,16 @@ pub fn push_write(
     ensures full { (limit : Limit) → (result ≡ Err (BookFault.Full limit)) ↔ (full_for parts.old.history.initial parts.old.history.events (Event.Write session cell value) ≡ Some limit) }
     ensures err { OnErr result (parts.new.history ≡ parts.old.history) }
 {
+    let Some(number) = parts.history.pending(session) else {
+        unreachable!()
+    };
     if wrote_itself(&parts.history, session, &cell) {
-        return push_further_write(parts, session, cell, value);
+        return push_further_write(parts, session, number, cell, value);
     }
     if parts.history.load() >= 1_048_576 {
         return Err(BookFault::Full(Limit::Load));
     }
-    match parts.history.pending(session) {
-        Some(number) => push_first_write(parts, session, number, cell, value),
-        None => unreachable!(),
-    }
+    push_first_write(parts, session, number, cell, value)
 }
 
 /// Takes the session's pending transaction, which rolls back, out of the lists of the cells that it wrote.
@@ -161,7 +163,7 @@ pub fn push_end(parts: &mut Parts, event: Event)
     requires follows { Follows parts.old.history.initial parts.old.history.events event }
     requires end { IsTrue (is_any_end event) }
     ensures indexed { AreIndexed parts.new }
-    ensures { parts.new.history ≡ followed_by parts.old.history event }
+    ensures adds { parts.new.history ≡ followed_by parts.old.history event }
 {
     forget_ended(&mut parts.index, &parts.history, &event);
     parts.history.end(event);
