@@ -3,11 +3,11 @@ use Rattle.std.proofs.Common.{◌≡◌, ℕ, List, [], refl, ◌∙◌, ap}
 use Rattle.sql_tree.specs.declared.statement.Statement.{Statement}
 use Rattle.cell_compile.specs.Plans.{rest_of}
 use Rattle.statement_course.specs.Course.{first_demand}
-use Rattle.block_machine.specs.Calls.{Call, Want, call_for}
+use Rattle.block_machine.specs.Calls.{Call, MessageWant, call_for}
 use Rattle.block_machine.specs.Calls as calls
 use Rattle.block_machine.specs.declared.block.Pending.TheVariants as pending
-use Rattle.block_machine.specs.declared.stage.Stage.{Stage}
-use Rattle.block_machine.specs.declared.stage.Stage.TheVariants as stages
+use Rattle.block_machine.specs.declared.stage.MessageStage.{MessageStage}
+use Rattle.block_machine.specs.declared.stage.MessageStage.TheVariants as stages
 use Rattle.block_machine.specs.Knowledge.{Knowledge}
 use Rattle.block_machine.specs.Script.{Said, Next, call}
 use Rattle.block_machine.specs.Messages.{Outside, before}
@@ -17,7 +17,7 @@ use Rattle.block_machine.proofs.Answered.{runs_asks}
 by_call : (said : Said) (d c : Call) (told : Said × Next) → told ≡ (said, call d) → calls.Book d ≡ calls.Book c → told ≡ (said, call c)
 by_call said d c told is h = is ∙ ap (λ (x : Call). (said, call x)) (cc h)
 
-pub asks_call : (stage : Stage) (built : List ℕ) (known : Knowledge) (more : List Statement) (outside : Outside) (said : Said) (c : Call) → wants stage known ≡ calls.Book c →
+pub asks_call : (stage : MessageStage) (built : List ℕ) (known : Knowledge) (more : List Statement) (outside : Outside) (said : Said) (c : Call) → wants stage known ≡ calls.Book c →
     goes_on stage built known more outside said [] ≡ (said, call c)
 asks_call (stages.Over state) built known more outside said c h = absurd (cc h)
 asks_call (stages.Defining table block) built known more outside said c h = by_call said _ c _ refl h

@@ -3,16 +3,16 @@ use Rattle.std.proofs.Common.{◌≡◌, ℕ, ◌<◌, List, length, refl, subst
 use Rattle.sql_tree.specs.declared.statement.Statement.{Statement}
 use Rattle.sql_tree.specs.declared.table.Table.{Table}
 use Rattle.block_machine.specs.declared.block.Block.{Block}
-use Rattle.block_machine.specs.declared.reply.Reply.TheVariants as replies
-use Rattle.block_machine.specs.declared.stage.Stage.{Stage}
-use Rattle.block_machine.specs.declared.stage.Stage.TheVariants as stages
+use Rattle.block_machine.specs.declared.reply.StatementReply.TheVariants as replies
+use Rattle.block_machine.specs.declared.stage.MessageStage.{MessageStage}
+use Rattle.block_machine.specs.declared.stage.MessageStage.TheVariants as stages
 use Rattle.block_machine.specs.Knowledge.{Knowledge}
 use Rattle.block_machine.specs.Script.{Said, Entry, tell}
 use Rattle.block_machine.specs.Messages.{Outside}
 use Rattle.block_machine.specs.Stages.{NoBuilt, HasReply, IsHolding, reply_of, after_reply, owed_at, goes_on, IsQuiet, IsRunning, IsSoundStage, KnowsTables}
 use Rattle.block_machine.proofs.Somes.{fixed_some, error_some, ready_some}
 
-pub holding_some : (built : List ℕ) (stage : Stage) → NoBuilt stage → HasReply stage built
+pub holding_some : (built : List ℕ) (stage : MessageStage) → NoBuilt stage → HasReply stage built
 holding_some built (stages.Telling replies.Built block) h k = absurd h
 holding_some built (stages.Telling (replies.Fixed reply) block) h k = fixed_some reply
 holding_some built (stages.Failing code state) h k = error_some code
@@ -24,7 +24,7 @@ pub built_some : (built reply : List ℕ) (block : Block) → built ≡ reply �
 built_some built reply block is some k = subst (λ (bytes : List ℕ). 0 < length bytes) (sym is) some
 
 -- a held reply is told
-pub holding_tells : (stage : Stage) (built : List ℕ) (known : Knowledge) (more : List Statement) (outside : Outside) (said : Said) (es : List Entry) → IsHolding stage →
+pub holding_tells : (stage : MessageStage) (built : List ℕ) (known : Knowledge) (more : List Statement) (outside : Outside) (said : Said) (es : List Entry) → IsHolding stage →
     goes_on stage built known more outside said es ≡ tell (reply_of built stage) (outside.broken (owed_at stage)) (after_reply stage known more outside) said es
 holding_tells (stages.Telling reply block) built known more outside said es h = refl
 holding_tells (stages.Failing code state) built known more outside said es h = refl
@@ -33,18 +33,18 @@ holding_tells _ built known more outside said es h = absurd h
 
 -- ---- what holds where neither a table nor a statement is kept
 
-pub quiet_knows : (stage : Stage) → IsQuiet stage → (known : List Table) → KnowsTables stage known
+pub quiet_knows : (stage : MessageStage) → IsQuiet stage → (known : List Table) → KnowsTables stage known
 quiet_knows (stages.Beginning plan) h known = absurd h
 quiet_knows (stages.Running run p) h known = absurd h
 quiet_knows _ h known = tt
 
-pub quiet_sound : (stage : Stage) → IsQuiet stage → IsSoundStage stage
+pub quiet_sound : (stage : MessageStage) → IsQuiet stage → IsSoundStage stage
 quiet_sound (stages.Defining table block) h = absurd h
 quiet_sound (stages.Looking statement block) h = absurd h
 quiet_sound (stages.Beginning plan) h = absurd h
 quiet_sound (stages.Running run p) h = absurd h
 quiet_sound _ h = tt
 
-pub quiet_silent : (stage : Stage) → IsQuiet stage → IsRunning stage → ⊥
+pub quiet_silent : (stage : MessageStage) → IsQuiet stage → IsRunning stage → ⊥
 quiet_silent (stages.Running run p) h r = h
 quiet_silent _ h r = r

@@ -1,4 +1,4 @@
--- What holds of scripts where no want of memory stands, and where one does.
+-- What holds of scripts where no lack of memory stands, and where one does.
 use Rattle.std.proofs.Common.{◌≡◌, ◌≢◌, true, false, ℕ, List, [], ◌∷◌, length, refl, arith}
 use Rattle.std.proofs.lemmas.Bool.Decides.{nat_tests}
 use Rattle.std.specs.Prelude.{◌==◌}
@@ -11,7 +11,7 @@ eqb-ne a b h = grind (arith, nat_tests)
 eqb-eq : (a b : ℕ) → a ≡ b → (a == b) ≡ true
 eqb-eq a b h = grind (arith, nat_tests)
 
--- no want of memory stands here any more
+-- no lack of memory stands here any more
 pub passes : (k rest : Script) (said : Said) (es : List Entry) → IsFrom 1 (length said.bytes) es → unless_short false k rest said es ≡ rest said es
 passes k rest said [] h = refl
 passes k rest said (did a e ∷ es) h = refl

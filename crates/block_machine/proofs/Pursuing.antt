@@ -21,9 +21,9 @@ use Rattle.block_machine.specs.declared.block.Pending.TheVariants as pending
 use Rattle.block_machine.specs.declared.call.Answer.{Answer}
 use Rattle.block_machine.specs.declared.call.Answer.TheVariants as answers
 use Rattle.block_machine.specs.declared.stage.Run.{Run}
-use Rattle.block_machine.specs.declared.stage.Stage.{Stage}
-use Rattle.block_machine.specs.declared.stage.Stage.TheVariants as stages
-use Rattle.block_machine.specs.declared.step.Step.{Step}
+use Rattle.block_machine.specs.declared.stage.MessageStage.{MessageStage}
+use Rattle.block_machine.specs.declared.stage.MessageStage.TheVariants as stages
+use Rattle.block_machine.specs.declared.step.MessageStep.{MessageStep}
 use Rattle.block_machine.specs.Knowledge.{Knowledge, with_tables}
 use Rattle.block_machine.specs.Script.{Script}
 use Rattle.block_machine.specs.Statements.{Around, owed_in, refusal_state, fails, unless_short_in, runs, judged}
@@ -38,14 +38,14 @@ pub owed_pending : (p : Pending) → owed_in (block_of p) ≡ owes.Rollback
 owed_pending pending.Implicit = refl
 owed_pending pending.Regular = refl
 
--- memory wasn't wanting
-pub calm_advances : (earlier : Stage) (known : Knowledge) (answer : Answer) (step : Step) (next : Stage) (built : List ℕ) (after : Knowledge) → step ≡ record { stage = next; wanting = false } →
-    Advances earlier known answer next false built after → Advances earlier known answer step.stage step.wanting built after
-calm_advances earlier known answer step next built after is goes =
-    subst (λ (s : Step). Advances earlier known answer s.stage s.wanting built after) (sym is) goes
+-- memory was there
+pub at_rest_advances : (earlier : MessageStage) (known : Knowledge) (answer : Answer) (step : MessageStep) (next : MessageStage) (built : List ℕ) (after : Knowledge) → step ≡ record { stage = next; out_of_memory = false } →
+    Advances earlier known answer next false built after → Advances earlier known answer step.stage step.out_of_memory built after
+at_rest_advances earlier known answer step next built after is goes =
+    subst (λ (s : MessageStep). Advances earlier known answer s.stage s.out_of_memory built after) (sym is) goes
 
-pub calm_some : (step : Step) (next : Stage) (built : List ℕ) → step ≡ record { stage = next; wanting = false } → NoBuilt next → HasReply step.stage built
-calm_some step next built is constant = subst (λ (s : Step). HasReply s.stage built) (sym is) (holding_some built next constant)
+pub at_rest_some : (step : MessageStep) (next : MessageStage) (built : List ℕ) → step ≡ record { stage = next; out_of_memory = false } → NoBuilt next → HasReply step.stage built
+at_rest_some step next built is constant = subst (λ (s : MessageStep). HasReply s.stage built) (sym is) (holding_some built next constant)
 
 -- ---- the answer to a demand
 
@@ -53,7 +53,7 @@ pub demand_fits : (run : Run) (answer : Answer) (b : PlanAnswer) → answer ≡ 
 demand_fits run answer b is fits =
     fits_demand (rest_of run.plan) b run.asks (subst (λ (a : Answer). Fits (call_for (first_demand (rest_of run.plan))) a) is fits)
 
-pub pursue_goes : (run : Run) (p : Pending) (answer : Answer) (b : PlanAnswer) (block : Block) (r : Result Stage Memory) (next : Stage) (w : Bool) (built : List ℕ) (known : Knowledge) →
+pub pursue_goes : (run : Run) (p : Pending) (answer : Answer) (b : PlanAnswer) (block : Block) (r : Result MessageStage Memory) (next : MessageStage) (w : Bool) (built : List ℕ) (known : Knowledge) →
     answer ≡ answer_with b → Fits (call_for (first_demand (rest_of run.plan))) answer → block ≡ block_of p →
     IfOk r (λ stage. IsScriptOf (runs (behind (rest_of run.plan) b) (block_of p)) stage built) →
     ((script : Around → Script) (bytes : List ℕ) (other : Knowledge) → IfOk r (λ it. IsScriptAt script it bytes other) →
@@ -64,7 +64,7 @@ pursue_goes run p answer b block r next w built known is fits same goes leads =
     (subst (λ (x : Block). LeadsTo (λ around. unless_short_in x known around (runs (behind (rest_of run.plan) b) (block_of p) known around)) next w built known) same
     (leads (runs (behind (rest_of run.plan) b) (block_of p) known) built known (ok_at r (runs (behind (rest_of run.plan) b) (block_of p)) built known goes)))
 
-pub pursue_refused : (run : Run) (p : Pending) (answer : Answer) (why : BookFault) (code : SqlState) (block : Block) (next : Stage) (built : List ℕ) (known : Knowledge) →
+pub pursue_refused : (run : Run) (p : Pending) (answer : Answer) (why : BookFault) (code : SqlState) (block : Block) (next : MessageStage) (built : List ℕ) (known : Knowledge) →
     answer ≡ answers.Refused why → code ≡ refusal_state why → block ≡ block_of p →
     ((bytes : List ℕ) → IsScriptOf (fails code block) next bytes) → Advances (stages.Running run p) known answer next false built known
 pursue_refused run p answer why code block next built known is coded same goes =
@@ -74,7 +74,7 @@ pursue_refused run p answer why code block next built known is coded same goes =
 
 -- ---- the begin of its transaction
 
-pub start_goes : (plan : Plan) (answer : Answer) (n : ℕ) (r : Result Stage Memory) (next : Stage) (w : Bool) (built : List ℕ) (known : Knowledge) → answer ≡ answers.Begun n →
+pub start_goes : (plan : Plan) (answer : Answer) (n : ℕ) (r : Result MessageStage Memory) (next : MessageStage) (w : Bool) (built : List ℕ) (known : Knowledge) → answer ≡ answers.Begun n →
     IfOk r (λ stage. IsScriptOf (runs (rest_of plan) (Implicit true)) stage built) →
     ((script : Around → Script) (bytes : List ℕ) (other : Knowledge) → IfOk r (λ it. IsScriptAt script it bytes other) →
     LeadsTo (λ around. unless_short_in (Implicit true) other around (script around)) next w bytes other) →
@@ -86,7 +86,7 @@ start_goes plan answer n r next w built known is goes leads =
 
 -- ---- a look
 
-pub look_short : (statement : Statement) (block : Block) (known : Knowledge) (tables : List Table) (after : Knowledge) (next : Stage) (w : Bool) (built : List ℕ) → after ≡ known →
+pub look_short : (statement : Statement) (block : Block) (known : Knowledge) (tables : List Table) (after : Knowledge) (next : MessageStage) (w : Bool) (built : List ℕ) → after ≡ known →
     ((script : Around → Script) (bytes : List ℕ) (other : Knowledge) → LeadsTo (λ around. unless_short_in block other around (script around)) next w bytes other) →
     Advances (stages.Looking statement block) known (answers.Looked tables) next w built after
 look_short statement block known tables after next w built is leads =
@@ -98,7 +98,7 @@ look_short statement block known tables after next w built is leads =
 pub known_tables : (known : Knowledge) (tables : List Table) → tables ≡ known.tables → record { tables = tables; level = known.level; served = known.served } ≡ known
 known_tables known tables is = ap (λ (xs : List Table). record { tables = xs; level = known.level; served = known.served }) is
 
--- the tables known where memory was wanting for more
+-- the tables known where memory for more was refused
 pub appended_not : (ok err : Bool) (after both known : List Table) → after ≡ (if ok then both else known) → ok ≡ not err → err ≡ true → after ≡ known
 appended_not ok err after both known is turned fault = is ∙ ap (λ (b : Bool). if b then both else known) (turned ∙ ap not fault)
 

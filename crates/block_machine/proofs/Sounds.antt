@@ -19,7 +19,7 @@ use Rattle.block_machine.specs.declared.message.Message.TheVariants.{Unread}
 use Rattle.block_machine.specs.Messages.{IsMessage, faulty}
 use Rattle.block_machine.specs.Stages.{IsSoundMessage, IsSoundStatement}
 
--- a fault that is no want of memory
+-- a fault that is no lack of memory
 pub is_fault : (P : ParseFault → Type 0) (f : ParseFault) → f ≢ Memory → UnlessMemory P f → P f
 is_fault P (Lex g) other h = h
 is_fault P Syntax other h = h

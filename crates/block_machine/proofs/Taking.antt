@@ -7,8 +7,8 @@ use Rattle.block_machine.specs.Calls.{Call}
 use Rattle.block_machine.specs.Calls as calls
 use Rattle.block_machine.specs.declared.block.Block.{Block}
 use Rattle.block_machine.specs.declared.call.Answer.TheVariants as answers
-use Rattle.block_machine.specs.declared.stage.Stage.{Stage}
-use Rattle.block_machine.specs.declared.stage.Stage.TheVariants as stages
+use Rattle.block_machine.specs.declared.stage.MessageStage.{MessageStage}
+use Rattle.block_machine.specs.declared.stage.MessageStage.TheVariants as stages
 use Rattle.block_machine.specs.Knowledge.{Knowledge}
 use Rattle.block_machine.specs.Script.{Script, Said, Entry, with_call}
 use Rattle.block_machine.specs.Replies.{show_reply}
@@ -19,7 +19,7 @@ use Rattle.block_machine.specs.Stages.{IsScriptAt, IsScriptOf, LeadsTo, Advances
 use Rattle.block_machine.proofs.Wanting.{ok_at}
 
 -- a statement that looks at the tables
-pub leads_kept : (statement : Statement) (block : Block) (known after : Knowledge) (next : Stage) (w : Bool) (built : List ℕ) → after ≡ known →
+pub leads_kept : (statement : Statement) (block : Block) (known after : Knowledge) (next : MessageStage) (w : Bool) (built : List ℕ) → after ≡ known →
     ((it : Knowledge) (around : Around) (said : Said) (es : List Entry) → performs statement block it around said es ≡ prepares statement block it around said es) →
     LeadsTo (λ around. unless_short_in block known around (looks statement block known around)) next w built known →
     LeadsTo (performs statement block known) next w built after
@@ -32,7 +32,7 @@ leads_kept statement block known after next w built same looked goes =
 show_is : (c : Call) → calls.Book calls.Show ≡ calls.Book c → calls.Show ≡ c
 show_is c h = cc h
 
-pub show_advances : (n : ℕ) (block : Block) (next : Stage) (w : Bool) (built : List ℕ) (known : Knowledge) →
+pub show_advances : (n : ℕ) (block : Block) (next : MessageStage) (w : Bool) (built : List ℕ) (known : Knowledge) →
     LeadsTo (λ around. unless_short_in block known around (succeeds (show_reply history_name (decimal n)) block known around)) next w built known →
     Advances (stages.Showing block) known (answers.Shown n) next w built known
 show_advances n block next w built known goes c unbuilt more outside said es e wants_c from =
@@ -41,17 +41,17 @@ show_advances n block next w built known goes c unbuilt more outside said es e w
 
 -- ---- a stage that keeps its statement
 
-kept_script : (statement : Statement) (block : Block) (stage : Stage) (built : List ℕ) (known : Knowledge) → stage ≡ stages.Looking statement block → IsScriptAt (looks statement block known) stage built known
+kept_script : (statement : Statement) (block : Block) (stage : MessageStage) (built : List ℕ) (known : Knowledge) → stage ≡ stages.Looking statement block → IsScriptAt (looks statement block known) stage built known
 kept_script statement block stage built known is =
-    subst (λ (x : Stage). IsScriptAt (looks statement block known) x built known) (sym is) (λ more outside said es. refl)
+    subst (λ (x : MessageStage). IsScriptAt (looks statement block known) x built known) (sym is) (λ more outside said es. refl)
 
-pub kept_at : (statement : Statement) (block : Block) (r : Result Stage Memory) (built : List ℕ) (known : Knowledge) → IfOk r (λ stage. stage ≡ stages.Looking statement block) →
+pub kept_at : (statement : Statement) (block : Block) (r : Result MessageStage Memory) (built : List ℕ) (known : Knowledge) → IfOk r (λ stage. stage ≡ stages.Looking statement block) →
     IfOk r (λ stage. IsScriptAt (looks statement block known) stage built known)
 kept_at statement block (Ok stage) built known is = kept_script statement block stage built known is
 kept_at statement block (Err e) built known is = is
 
 -- a setting that is known
-pub leads_value : (name value : List ℕ) (found : Option (List ℕ)) (block : Block) (r : Result Stage Memory) (next : Stage) (w : Bool) (built : List ℕ) → found ≡ Some value →
+pub leads_value : (name value : List ℕ) (found : Option (List ℕ)) (block : Block) (r : Result MessageStage Memory) (next : MessageStage) (w : Bool) (built : List ℕ) → found ≡ Some value →
     IfOk r (λ stage. IsScriptOf (succeeds (show_reply name value) block) stage built) →
     ((script : Around → Script) (bytes : List ℕ) (other : Knowledge) → IfOk r (λ it. IsScriptAt script it bytes other) →
     LeadsTo (λ around. unless_short_in block other around (script around)) next w bytes other) →

@@ -9,8 +9,8 @@ use Rattle.pg_framing.specs.declared.replies.TransactionState.{TransactionState}
 use Rattle.pg_framing.specs.Replies.{ready, command_complete, empty_query, error_response, notice_response, row_description, data_row}
 use Rattle.block_machine.specs.declared.reply.Fixed.{Fixed}
 use Rattle.block_machine.specs.declared.reply.Fixed.TheVariants as fixed
-use Rattle.block_machine.specs.declared.reply.Reply.{Reply}
-use Rattle.block_machine.specs.declared.reply.Reply.TheVariants as replies
+use Rattle.block_machine.specs.declared.reply.StatementReply.{StatementReply}
+use Rattle.block_machine.specs.declared.reply.StatementReply.TheVariants as replies
 
 -- ReadyForQuery: the next message may come; the session is in this state
 unfoldable pub ready_reply : TransactionState → List ℕ
@@ -86,6 +86,6 @@ fixed_reply fixed.RolledBack = rollback_reply
 fixed_reply fixed.RolledBackNothing = needless_rollback_reply
 
 -- the bytes of a reply, given those that were built
-abbrev pub bytes_of : List ℕ → Reply → List ℕ
+abbrev pub bytes_of : List ℕ → StatementReply → List ℕ
 bytes_of built replies.Built = built
 bytes_of built (replies.Fixed reply) = fixed_reply reply

@@ -5,7 +5,7 @@ use Rattle.sql_tree.specs.declared.statement.Statement.{Statement}
 use Rattle.sql_tree.specs.declared.table.Table.{Table}
 use Rattle.block_machine.specs.declared.block.Owed.{Owed}
 use Rattle.block_machine.specs.declared.runner.Runner.{Runner}
-use Rattle.block_machine.specs.Calls.{Want}
+use Rattle.block_machine.specs.Calls.{MessageWant}
 use Rattle.block_machine.specs.Knowledge.{Knowledge, knowledge_in}
 use Rattle.block_machine.specs.Script.{Script}
 use Rattle.block_machine.specs.Messages.{Outside}
@@ -24,7 +24,7 @@ abbrev pub follows : Runner → Outside → Script
 follows r outside = goes_on r.stage r.built.items (knowledge_of r) (statements_of r) outside
 
 -- what it wants
-abbrev pub wanted : Runner → Want
+abbrev pub wanted : Runner → MessageWant
 wanted r = wants r.stage (knowledge_of r)
 
 -- the bytes of the reply that it holds; none where it holds none
@@ -42,8 +42,8 @@ abbrev pub tables_of : Runner → List Table
 tables_of r = r.known.tables.items
 
 -- what follows the reply that is held
-abbrev pub behind : Runner → Outside → Script
-behind r outside = after_reply r.stage (knowledge_of r) (statements_of r) outside
+abbrev pub follows_reply : Runner → Outside → Script
+follows_reply r outside = after_reply r.stage (knowledge_of r) (statements_of r) outside
 
 -- what the session owes its book
 abbrev pub owes : Runner → Owed

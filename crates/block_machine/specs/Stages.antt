@@ -17,7 +17,7 @@ use Rattle.statement_course.specs.Laws.{ReadsFirst}
 use Rattle.statement_course.specs.declared.demand.PlanAnswer.{PlanAnswer}
 use Rattle.statement_course.specs.declared.demand.PlanAnswer.TheVariants as plan_answers
 use Rattle.cell_compile.specs.Plans.{rest_of, left_of}
-use Rattle.block_machine.specs.Calls.{Call, Want, call_for}
+use Rattle.block_machine.specs.Calls.{Call, MessageWant, call_for}
 use Rattle.block_machine.specs.Calls as calls
 use Rattle.block_machine.specs.Knowledge.{Knowledge, with_tables, with_level}
 use Rattle.block_machine.specs.Replies.{ready_reply, error_reply, fixed_reply, bytes_of}
@@ -34,11 +34,11 @@ use Rattle.block_machine.specs.declared.call.Answer.{Answer}
 use Rattle.block_machine.specs.declared.call.Answer.TheVariants as answers
 use Rattle.block_machine.specs.declared.message.Message.{Message}
 use Rattle.block_machine.specs.declared.message.Message.TheVariants as messages
-use Rattle.block_machine.specs.declared.reply.Reply.TheVariants as replies
+use Rattle.block_machine.specs.declared.reply.StatementReply.TheVariants as replies
 use Rattle.block_machine.specs.declared.stage.ErrorState.{ErrorState}
 use Rattle.block_machine.specs.declared.stage.ErrorState.TheVariants as errors
-use Rattle.block_machine.specs.declared.stage.Stage.{Stage}
-use Rattle.block_machine.specs.declared.stage.Stage.TheVariants as stages
+use Rattle.block_machine.specs.declared.stage.MessageStage.{MessageStage}
+use Rattle.block_machine.specs.declared.stage.MessageStage.TheVariants as stages
 
 -- a block whose transaction is pending
 abbrev pub block_of : Pending → Block
@@ -46,12 +46,12 @@ block_of pending.Implicit = Implicit true
 block_of pending.Regular = Regular
 
 -- the state of a session after a statement that failed
-abbrev pub state_behind : ErrorState → TransactionState
-state_behind errors.Idle = ready.Idle
-state_behind errors.Failed = ready.Failed
+abbrev pub state_after_error : ErrorState → TransactionState
+state_after_error errors.Idle = ready.Idle
+state_after_error errors.Failed = ready.Failed
 
 -- What a stage goes on with, given the reply that was built, what the session knows, and the statements that the message still has.
-abbrev pub goes_on : Stage → List ℕ → Knowledge → List Statement → Outside → Script
+abbrev pub goes_on : MessageStage → List ℕ → Knowledge → List Statement → Outside → Script
 goes_on (stages.Over state) built known more outside = outside.next state known
 goes_on (stages.Defining table block) built known more outside = defines (Ok table) block known (before more outside)
 goes_on (stages.Looking statement block) built known more outside = looks statement block known (before more outside)
@@ -65,12 +65,12 @@ goes_on (stages.RollingBack reply) built known more outside =
     ask calls.Rollback (λ _. succeeds (fixed_reply reply) (Implicit false) known (before more outside))
 goes_on (stages.Telling reply block) built known more outside = succeeds (bytes_of built reply) block known (before more outside)
 goes_on (stages.Undoing code p) built known more outside = fails code (block_of p) known (before more outside)
-goes_on (stages.Failing code state) built known more outside = refused_with code (state_behind state) known (before more outside)
+goes_on (stages.Failing code state) built known more outside = refused_with code (state_after_error state) known (before more outside)
 goes_on stages.Finishing built known more outside = ends (Implicit true) known outside
 goes_on (stages.Readying state) built known more outside = readied state known outside
 
 -- what a stage wants, given what the session knows
-abbrev pub wants : Stage → Knowledge → Want
+abbrev pub wants : MessageStage → Knowledge → MessageWant
 wants (stages.Over state) known = calls.Nothing
 wants (stages.Defining table block) known = calls.Book (calls.Define table)
 wants (stages.Looking statement block) known = calls.Book (calls.Look (length known.tables))
@@ -87,7 +87,7 @@ wants stages.Finishing known = calls.Book calls.Commit
 wants (stages.Readying state) known = calls.Send
 
 -- what the session owes its book
-abbrev pub owed_at : Stage → Owed
+abbrev pub owed_at : MessageStage → Owed
 owed_at (stages.Over state) = owed_between state
 owed_at (stages.Defining table block) = owed_in block
 owed_at (stages.Looking statement block) = owed_in block
@@ -115,39 +115,39 @@ owed_after _ _ owed = owed
 -- ---- replies
 
 -- a reply is held
-abbrev pub IsHolding : Stage → Type 0
+abbrev pub IsHolding : MessageStage → Type 0
 IsHolding (stages.Telling reply block) = Unit {0}
 IsHolding (stages.Failing code state) = Unit {0}
 IsHolding (stages.Readying state) = Unit {0}
 IsHolding _ = ⊥
 
 -- the bytes of the reply that is held, given those that were built; none where no reply is held
-abbrev pub reply_of : List ℕ → Stage → List ℕ
+abbrev pub reply_of : List ℕ → MessageStage → List ℕ
 reply_of built (stages.Telling reply block) = bytes_of built reply
 reply_of built (stages.Failing code state) = error_reply code
 reply_of built (stages.Readying state) = ready_reply state
 reply_of built _ = []
 
 -- what follows a reply that was sent
-abbrev pub after_reply : Stage → Knowledge → List Statement → Outside → Script
+abbrev pub after_reply : MessageStage → Knowledge → List Statement → Outside → Script
 after_reply (stages.Telling reply block) known more outside = statements more block known outside
-after_reply (stages.Failing code state) known more outside = readied (state_behind state) known outside
+after_reply (stages.Failing code state) known more outside = readied (state_after_error state) known outside
 after_reply (stages.Readying state) known more outside = outside.next state known
 after_reply _ known more outside = lost
 
 -- the reply that is held isn't one that was built
-abbrev pub NoBuilt : Stage → Type 0
+abbrev pub NoBuilt : MessageStage → Type 0
 NoBuilt (stages.Telling replies.Built block) = ⊥
 NoBuilt _ = Unit {0}
 
 -- a held reply has bytes
-abbrev pub HasReply : Stage → List ℕ → Type 0
+abbrev pub HasReply : MessageStage → List ℕ → Type 0
 HasReply stage built = IsHolding stage → 0 < length (reply_of built stage)
 
 -- ---- entries
 
 -- how many bytes more are told at least before the session may be out of memory: between two messages none
-abbrev pub least : Stage → ℕ
+abbrev pub least : MessageStage → ℕ
 least (stages.Over state) = 0
 least _ = 1
 
@@ -195,7 +195,7 @@ Fits calls.Show (answers.Shown n) = Unit {0}
 Fits calls.Show (answers.Refused why) = Unit {0}
 Fits _ _ = ⊥
 
-abbrev pub FitsWant : Want → Answer → Type 0
+abbrev pub FitsWant : MessageWant → Answer → Type 0
 FitsWant (calls.Book c) a = Fits c a
 FitsWant _ a = ⊥
 
@@ -208,33 +208,33 @@ wants_memory _ = false
 -- ---- steps
 
 -- the script of a statement is what a stage goes on with
-abbrev pub IsScriptAt : (Around → Script) → Stage → List ℕ → Knowledge → Type 0
+abbrev pub IsScriptAt : (Around → Script) → MessageStage → List ℕ → Knowledge → Type 0
 IsScriptAt script stage built known =
     (more : List Statement) (outside : Outside) (said : Said) (es : List Entry) →
     script (before more outside) said es ≡ goes_on stage built known more outside said es
 
 -- whatever the session knows
-abbrev pub IsScriptOf : (Knowledge → Around → Script) → Stage → List ℕ → Type 0
+abbrev pub IsScriptOf : (Knowledge → Around → Script) → MessageStage → List ℕ → Type 0
 IsScriptOf script stage built = (known : Knowledge) → IsScriptAt (script known) stage built known
 
 -- the script of a statement leads to a stage and what the session then knows, out of memory on the way where it was
-abbrev pub LeadsTo : (Around → Script) → Stage → Bool → List ℕ → Knowledge → Type 0
-LeadsTo script next wanting built known =
+abbrev pub LeadsTo : (Around → Script) → MessageStage → Bool → List ℕ → Knowledge → Type 0
+LeadsTo script next out_of_memory built known =
     (more : List Statement) (outside : Outside) (said : Said) (es : List Entry) → IsFrom 1 (length said.bytes) es →
-    script (before more outside) said (with_short wanting said.bytes es) ≡ goes_on next built known more outside said es
+    script (before more outside) said (with_short out_of_memory said.bytes es) ≡ goes_on next built known more outside said es
 
 -- a message, or what follows a reply, leads to a stage, what the session then knows, and the statements that are then left
-abbrev pub TurnsTo : (Outside → Script) → Stage → Bool → List ℕ → Knowledge → List Statement → Type 0
-TurnsTo script next wanting built known more =
+abbrev pub TurnsTo : (Outside → Script) → MessageStage → Bool → List ℕ → Knowledge → List Statement → Type 0
+TurnsTo script next out_of_memory built known more =
     (outside : Outside) (said : Said) (es : List Entry) → IsFrom (least next) (length said.bytes) es →
-    script outside said (with_short wanting said.bytes es) ≡ goes_on next built known more outside said es
+    script outside said (with_short out_of_memory said.bytes es) ≡ goes_on next built known more outside said es
 
 -- An answer to a stage's call leads on, out of memory after it where the session was.
-abbrev pub Advances : Stage → Knowledge → Answer → Stage → Bool → List ℕ → Knowledge → Type 0
-Advances stage known answer next wanting built after =
+abbrev pub Advances : MessageStage → Knowledge → Answer → MessageStage → Bool → List ℕ → Knowledge → Type 0
+Advances stage known answer next out_of_memory built after =
     (c : Call) (unbuilt : List ℕ) (more : List Statement) (outside : Outside) (said : Said) (es : List Entry) (e : Event) →
     wants stage known ≡ calls.Book c → IsFrom 1 (length said.bytes) es →
-    goes_on stage unbuilt known more outside said (entry_for answer e ∷ with_short wanting said.bytes es)
+    goes_on stage unbuilt known more outside said (entry_for answer e ∷ with_short out_of_memory said.bytes es)
     ≡ goes_on next built after more outside (with_call said c) es
 
 -- What the session knows after an answer is what it knew before, and, after a look, perhaps the tables that it showed.
@@ -254,7 +254,7 @@ answer_with (plan_answers.Value value) = answers.Found value
 answer_with plan_answers.Written = answers.Written
 
 -- the answers that need memory are left out, and those of a statement that runs or begins to
-abbrev pub IsPlain : Stage → Answer → Type 0
+abbrev pub IsPlain : MessageStage → Answer → Type 0
 IsPlain (stages.Looking statement block) (answers.Looked tables) = ⊥
 IsPlain (stages.Showing block) (answers.Shown n) = ⊥
 IsPlain (stages.Beginning plan) _ = ⊥
@@ -263,18 +263,18 @@ IsPlain _ _ = Unit {0}
 
 -- ---- what holds of a stage
 
-abbrev pub IsRunning : Stage → Type 0
+abbrev pub IsRunning : MessageStage → Type 0
 IsRunning (stages.Running run p) = Unit {0}
 IsRunning _ = ⊥
 
 -- no statement begins to run or runs
-abbrev pub IsNoStatement : Stage → Type 0
+abbrev pub IsNoStatement : MessageStage → Type 0
 IsNoStatement (stages.Beginning plan) = ⊥
 IsNoStatement (stages.Running run p) = ⊥
 IsNoStatement _ = Unit {0}
 
 -- neither a table nor a statement nor its plan is kept
-abbrev pub IsQuiet : Stage → Type 0
+abbrev pub IsQuiet : MessageStage → Type 0
 IsQuiet (stages.Defining table block) = ⊥
 IsQuiet (stages.Looking statement block) = ⊥
 IsQuiet (stages.Beginning plan) = ⊥
@@ -282,17 +282,17 @@ IsQuiet (stages.Running run p) = ⊥
 IsQuiet _ = Unit {0}
 
 -- whether a message is under way
-abbrev pub is_busy : Stage → Bool
+abbrev pub is_busy : MessageStage → Bool
 is_busy (stages.Over state) = false
 is_busy _ = true
 
 -- a message is under way
-abbrev pub IsBusy : Stage → Type 0
+abbrev pub IsBusy : MessageStage → Type 0
 IsBusy (stages.Over state) = ⊥
 IsBusy _ = Unit {0}
 
 -- A statement that begins or runs asks only for cells of the tables that are known, and reads before it writes.
-abbrev pub KnowsTables : Stage → List Table → Type 0
+abbrev pub KnowsTables : MessageStage → List Table → Type 0
 KnowsTables (stages.Beginning plan) known = ReadsFirst (length known) (rest_of plan)
 KnowsTables (stages.Running run p) known = ReadsFirst (length known) (rest_of run.plan)
 KnowsTables _ known = Unit {0}
@@ -314,7 +314,7 @@ length_of (messages.Unread code) = 0
 
 -- The table that is about to be defined is sound, a statement that looks has plain names, and what one that begins or runs comes to can
 -- be told.
-abbrev pub IsSoundStage : Stage → Type 0
+abbrev pub IsSoundStage : MessageStage → Type 0
 IsSoundStage (stages.Defining table block) = IsSound table
 IsSoundStage (stages.Looking statement block) = HasPlainNames statement
 IsSoundStage (stages.Beginning plan) = EndsIn CanBeTold (rest_of plan)
@@ -324,7 +324,7 @@ IsSoundStage _ = Unit {0}
 -- ---- how much work is left
 
 -- how much work a stage leaves until the message is done, but for the demands of a running statement and for the statements after it
-abbrev pub work_at : Stage → ℕ
+abbrev pub work_at : MessageStage → ℕ
 work_at (stages.Over state) = 0
 work_at (stages.Defining table block) = 4
 work_at (stages.Looking statement block) = 7
@@ -341,11 +341,11 @@ work_at stages.Finishing = 2
 work_at (stages.Readying state) = 1
 
 -- how many demands of a running statement are left at most
-abbrev pub left_at : Stage → ℕ
+abbrev pub left_at : MessageStage → ℕ
 left_at (stages.Running run p) = 1 + left_of run.plan
 left_at _ = 0
 
 -- 1 where a statement runs
-abbrev pub running_at : Stage → ℕ
+abbrev pub running_at : MessageStage → ℕ
 running_at (stages.Running run p) = 1
 running_at _ = 0

@@ -26,10 +26,10 @@ use crate::courses::conclude;
 use crate::kept::Kept;
 use crate::known::Known;
 use crate::replies::shown;
-use crate::reply::{Fixed, Reply};
+use crate::reply::{Fixed, StatementReply};
 use crate::settings::{HISTORY, LEVEL, chosen_level, is_own, value_of};
-use crate::stage::Stage;
-use crate::step::{Step, calm, fail, or_short, tell};
+use crate::stage::MessageStage;
+use crate::step::{MessageStep, at_rest, fail, or_short, tell};
 use cell_base::{Items, Level, Memory, SqlFault, SqlState, Text};
 use cell_compile::Plan;
 use itoa::Buffer;
@@ -41,7 +41,7 @@ use std::vec::IntoIter;
 use table_schema::build;
 
 // The stage of a CREATE TABLE.
-fn define(alloc: Global, create: &CreateTable, block: Block) -> Result<Stage, Memory>
+fn define(alloc: Global, create: &CreateTable, block: Block) -> Result<MessageStage, Memory>
     requires { (table : Defined) → table_built create.now ≡ Ok table → IsSound table }
     ensures goes { IfOk result (λ stage. (built : List ℕ) → IsScriptOf (defines (table_built create.now) block) stage built) }
     ensures owed { IfOk result (λ stage. owed_at stage ≡ owed_in block) }
@@ -53,7 +53,7 @@ fn define(alloc: Global, create: &CreateTable, block: Block) -> Result<Stage, Me
     ensures constant { IfOk result NoBuilt }
 {
     match build(alloc, create) {
-        Ok(table) => Ok(Stage::Defining(Kept::new(alloc, table)?, block)),
+        Ok(table) => Ok(MessageStage::Defining(Kept::new(alloc, table)?, block)),
         Err(SqlFault::State(code)) => Ok(fail(code, block)),
         Err(SqlFault::Memory) => Err(Memory),
     }
@@ -65,7 +65,7 @@ fn conclude_demand(
     demand: &Demand,
     block: Block,
     built: &mut Vec<u8>,
-) -> Result<Stage, Memory>
+) -> Result<MessageStage, Memory>
     requires { (outcome : CameTo) × (demand.now ≡ Demand.Reply outcome) × CanBeTold outcome }
     ensures goes { (outcome : CameTo) → demand.now ≡ Demand.Reply outcome →
         IfOk result (λ stage. IsScriptOf (concludes outcome block) stage built.new.items) }
@@ -87,7 +87,7 @@ fn answer_typed(
     alone: Typed,
     block: Block,
     built: &mut Vec<u8>,
-) -> Result<Stage, Memory>
+) -> Result<MessageStage, Memory>
     requires { (statement : Tree) × HasPlainNames statement × (typed [] statement ≡ Ok alone) }
     ensures goes { IfOk result (λ stage. IsScriptOf (at_once (course_of [] alone) block) stage built.new.items) }
     ensures owed { IfOk result (λ stage. owed_at stage ≡ owed_in block) }
@@ -106,7 +106,7 @@ fn answer_alone(
     statement: &Statement,
     block: Block,
     built: &mut Vec<u8>,
-) -> Result<Stage, Memory>
+) -> Result<MessageStage, Memory>
     requires { HasPlainNames statement.now }
     ensures goes { IfOk result (λ stage. IsScriptOf (judged_at_once (typed [] statement.now) block) stage built.new.items) }
     ensures owed { IfOk result (λ stage. owed_at stage ≡ owed_in block) }
@@ -123,7 +123,7 @@ fn answer_alone(
 }
 
 // The stage of a SET of the level, whose values choose this one.
-fn set_level(chosen: Option<Level>, block: Block, known: &mut Known) -> Stage
+fn set_level(chosen: Option<Level>, block: Block, known: &mut Known) -> MessageStage
     ensures goes { (built : List ℕ) →
         IsScriptAt (sets_level chosen block (knowledge_in known.old)) result built (knowledge_in known.new) }
     ensures known { IsSameButLevel (knowledge_in known.old) (knowledge_in known.new) }
@@ -143,7 +143,7 @@ fn set_level(chosen: Option<Level>, block: Block, known: &mut Known) -> Stage
 }
 
 // The stage of a SET.
-fn set(name: &Text, values: &Items<Text>, block: Block, known: &mut Known) -> Stage
+fn set(name: &Text, values: &Items<Text>, block: Block, known: &mut Known) -> MessageStage
     ensures goes { (built : List ℕ) →
         IsScriptAt (sets name.now values.now block (knowledge_in known.old)) result built (knowledge_in known.new) }
     ensures known { IsSameButLevel (knowledge_in known.old) (knowledge_in known.new) }
@@ -169,7 +169,7 @@ fn tell_setting(
     value: &str,
     block: Block,
     built: &mut Vec<u8>,
-) -> Result<Stage, Memory>
+) -> Result<MessageStage, Memory>
     requires name { IsShown name.now }
     requires value { length value.now ≤ 64 }
     ensures goes { IfOk result (λ stage. IsScriptOf (succeeds (show_reply name.now value.now) block) stage built.new.items) }
@@ -180,13 +180,19 @@ fn tell_setting(
     ensures some { IfOk result (λ stage. HasReply stage built.new.items) }
 {
     *built = shown(alloc, name, value)?;
-    Ok(Stage::Telling(Reply::Built, block))
+    Ok(MessageStage::Telling(StatementReply::Built, block))
 }
 
 // The step of a SHOW of another setting than the history.
-fn show_value(alloc: Global, level: Level, name: &str, block: Block, built: &mut Vec<u8>) -> Step
+fn show_value(
+    alloc: Global,
+    level: Level,
+    name: &str,
+    block: Block,
+    built: &mut Vec<u8>,
+) -> MessageStep
     ensures goes { (known : Knowledge) →
-        LeadsTo (shows_value name.now (value_of level name.now) block known) result.stage result.wanting built.new.items known }
+        LeadsTo (shows_value name.now (value_of level name.now) block known) result.stage result.out_of_memory built.new.items known }
     ensures owed { owed_at result.stage ≡ owed_in block }
     ensures work { work_at result.stage ≤ 3 }
     ensures quiet { IsQuiet result.stage }
@@ -195,14 +201,14 @@ fn show_value(alloc: Global, level: Level, name: &str, block: Block, built: &mut
 {
     match value_of(level, name) {
         Some(value) => or_short(tell_setting(alloc, name, value, block, built), block),
-        None => calm(fail(SqlState::S0A000, block)),
+        None => at_rest(fail(SqlState::S0A000, block)),
     }
 }
 
 // The step of a SHOW.
-fn show(alloc: Global, known: &Known, name: &str, block: Block, built: &mut Vec<u8>) -> Step
+fn show(alloc: Global, known: &Known, name: &str, block: Block, built: &mut Vec<u8>) -> MessageStep
     ensures goes { LeadsTo (shows name.now block (knowledge_in known.now))
-        result.stage result.wanting built.new.items (knowledge_in known.now) }
+        result.stage result.out_of_memory built.new.items (knowledge_in known.now) }
     ensures owed { owed_at result.stage ≡ owed_in block }
     ensures work { work_at result.stage ≤ 4 }
     ensures quiet { IsQuiet result.stage }
@@ -210,14 +216,19 @@ fn show(alloc: Global, known: &Known, name: &str, block: Block, built: &mut Vec<
     ensures some { HasReply result.stage built.new.items }
 {
     if name == HISTORY {
-        calm(Stage::Showing(block))
+        at_rest(MessageStage::Showing(block))
     } else {
         show_value(alloc, known.level, name, block, built)
     }
 }
 
 // The stage of SHOW monkey.history after its number.
-fn tell_history(alloc: Global, n: u32, block: Block, built: &mut Vec<u8>) -> Result<Stage, Memory>
+fn tell_history(
+    alloc: Global,
+    n: u32,
+    block: Block,
+    built: &mut Vec<u8>,
+) -> Result<MessageStage, Memory>
     ensures goes { IfOk result (λ stage. IsScriptOf (succeeds (show_reply history_name (decimal n)) block) stage built.new.items) }
     ensures owed { IfOk result (λ stage. owed_at stage ≡ owed_in block) }
     ensures work { IfOk result (λ stage. work_at stage ≤ 3) }
@@ -230,9 +241,9 @@ fn tell_history(alloc: Global, n: u32, block: Block, built: &mut Vec<u8>) -> Res
 }
 
 /// The step of SHOW monkey.history after its number.
-pub fn show_history(alloc: Global, n: u32, block: Block, built: &mut Vec<u8>) -> Step
+pub fn show_history(alloc: Global, n: u32, block: Block, built: &mut Vec<u8>) -> MessageStep
     ensures goes { (known : Knowledge) →
-        Advances (Stage.Showing block) known (Answer.Shown n) result.stage result.wanting built.new.items known }
+        Advances (MessageStage.Showing block) known (Answer.Shown n) result.stage result.out_of_memory built.new.items known }
     ensures owed { owed_at result.stage ≡ owed_in block }
     ensures work { work_at result.stage ≤ 3 }
     ensures quiet { IsQuiet result.stage }
@@ -249,10 +260,10 @@ fn act(
     block: Block,
     known: &mut Known,
     built: &mut Vec<u8>,
-) -> Option<Step>
+) -> Option<MessageStep>
     requires { IsSoundStatement statement.now }
     ensures goes { IfSome result (λ step. LeadsTo (performs statement.now block (knowledge_in known.old))
-        step.stage step.wanting built.new.items (knowledge_in known.new)) }
+        step.stage step.out_of_memory built.new.items (knowledge_in known.new)) }
     ensures known { IsSameButLevel (knowledge_in known.old) (knowledge_in known.new) }
     ensures same { IsNone result → knowledge_in known.new ≡ knowledge_in known.old }
     ensures looks { IsNone result → (it : Knowledge) (around : Around) (said : Said) (es : List Entry) →
@@ -273,20 +284,23 @@ fn act(
         },
         Statement::Insert(_) | Statement::Update(_) | Statement::Delete(_) => None,
         Statement::Create(create) => Some(or_short(define(alloc, create, block), block)),
-        Statement::Begin(flag) => Some(calm(start(*flag, block))),
-        Statement::Commit => Some(calm(commit(block))),
-        Statement::Rollback => Some(calm(roll_back(block))),
-        Statement::Set(name, values) => Some(calm(set(name, values, block, known))),
-        Statement::SetModes => Some(calm(Stage::Telling(Reply::Fixed(Fixed::Set), block))),
+        Statement::Begin(flag) => Some(at_rest(start(*flag, block))),
+        Statement::Commit => Some(at_rest(commit(block))),
+        Statement::Rollback => Some(at_rest(roll_back(block))),
+        Statement::Set(name, values) => Some(at_rest(set(name, values, block, known))),
+        Statement::SetModes => Some(at_rest(MessageStage::Telling(
+            StatementReply::Fixed(Fixed::Set),
+            block,
+        ))),
         Statement::Show(name) => Some(show(alloc, known, name.as_str(), block, built)),
     }
 }
 
 // The stage of a statement that looks at the tables.
-fn keep(alloc: Global, statement: Statement, block: Block) -> Result<Stage, Memory>
-    ensures { IfOk result (λ stage. stage ≡ Stage.Looking statement block) }
+fn keep(alloc: Global, statement: Statement, block: Block) -> Result<MessageStage, Memory>
+    ensures { IfOk result (λ stage. stage ≡ MessageStage.Looking statement block) }
 {
-    Ok(Stage::Looking(Kept::new(alloc, statement)?, block))
+    Ok(MessageStage::Looking(Kept::new(alloc, statement)?, block))
 }
 
 // The step of a statement outside a failed block.
@@ -296,10 +310,10 @@ fn perform(
     block: Block,
     known: &mut Known,
     built: &mut Vec<u8>,
-) -> Step
+) -> MessageStep
     requires { IsSoundStatement statement }
     ensures goes { LeadsTo (performs statement block (knowledge_in known.old))
-        result.stage result.wanting built.new.items (knowledge_in known.new) }
+        result.stage result.out_of_memory built.new.items (knowledge_in known.new) }
     ensures known { IsSameButLevel (knowledge_in known.old) (knowledge_in known.new) }
     ensures owed { owed_at result.stage ≡ owed_in block }
     ensures work { work_at result.stage ≤ 7 }
@@ -322,10 +336,10 @@ pub fn take(
     block: Block,
     known: &mut Known,
     built: &mut Vec<u8>,
-) -> Step
+) -> MessageStep
     requires { IsSoundStatement statement }
     ensures goes { LeadsTo (told_of statement block (knowledge_in known.old))
-        result.stage result.wanting built.new.items (knowledge_in known.new) }
+        result.stage result.out_of_memory built.new.items (knowledge_in known.new) }
     ensures known { IsSameButLevel (knowledge_in known.old) (knowledge_in known.new) }
     ensures owed { owed_at result.stage ≡ owed_in block }
     ensures work { work_at result.stage ≤ 7 }
@@ -336,7 +350,7 @@ pub fn take(
     ensures some { HasReply result.stage built.new.items }
 {
     match block {
-        Block::Failed => calm(refuse(&statement)),
+        Block::Failed => at_rest(refuse(&statement)),
         Block::Implicit(_) | Block::Regular => perform(alloc, statement, block, known, built),
     }
 }
@@ -348,10 +362,10 @@ pub fn next_statement(
     block: Block,
     known: &mut Known,
     built: &mut Vec<u8>,
-) -> Step
+) -> MessageStep
     requires { All IsSoundStatement (into_iter_items rest.old) }
     ensures goes { TurnsTo (statements (into_iter_items rest.old) block (knowledge_in known.old))
-        result.stage result.wanting built.new.items (knowledge_in known.new) (into_iter_items rest.new) }
+        result.stage result.out_of_memory built.new.items (knowledge_in known.new) (into_iter_items rest.new) }
     ensures known { IsSameButLevel (knowledge_in known.old) (knowledge_in known.new) }
     ensures rest { All IsSoundStatement (into_iter_items rest.new) }
     ensures owed { owed_at result.stage ≡ owed_in block }
@@ -364,6 +378,6 @@ pub fn next_statement(
 {
     match rest.next() {
         Some(statement) => take(alloc, statement, block, known, built),
-        None => calm(finish(block)),
+        None => at_rest(finish(block)),
     }
 }

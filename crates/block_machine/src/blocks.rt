@@ -12,7 +12,7 @@ ghost use Rattle.block_machine.specs.Stages as stages_spec;
 
 use crate::block::{Block, Owed, Pending};
 use crate::reply::Fixed;
-use crate::stage::Stage;
+use crate::stage::MessageStage;
 use crate::step::{fail, tell};
 use cell_base::SqlState;
 use pg_framing::TransactionState;
@@ -69,7 +69,7 @@ fn started_again(start: bool) -> Fixed
 }
 
 /// The stage of BEGIN, or of START TRANSACTION where the flag is true.
-pub fn start(start: bool, block: Block) -> Stage
+pub fn start(start: bool, block: Block) -> MessageStage
     ensures goes { (built : List ℕ) → IsScriptOf (starts start block) result built }
     ensures owed { owed_at result ≡ owed_in block }
     ensures work { work_at result ≤ 4 }
@@ -78,7 +78,7 @@ pub fn start(start: bool, block: Block) -> Stage
     ensures constant { NoBuilt result }
 {
     match block {
-        Block::Implicit(false) => Stage::Starting(start),
+        Block::Implicit(false) => MessageStage::Starting(start),
         Block::Implicit(true) => tell(started(start), Block::Regular),
         Block::Regular => tell(started_again(start), Block::Regular),
         Block::Failed => fail(SqlState::S25P02, Block::Failed),
@@ -86,7 +86,7 @@ pub fn start(start: bool, block: Block) -> Stage
 }
 
 /// The stage of COMMIT.
-pub fn commit(block: Block) -> Stage
+pub fn commit(block: Block) -> MessageStage
     ensures goes { (built : List ℕ) → IsScriptOf (commits block) result built }
     ensures owed { owed_at result ≡ owed_in block }
     ensures work { work_at result ≤ 4 }
@@ -96,14 +96,14 @@ pub fn commit(block: Block) -> Stage
 {
     match block {
         Block::Implicit(false) => tell(Fixed::CommittedNothing, Block::Implicit(false)),
-        Block::Implicit(true) => Stage::Committing(Fixed::CommittedNothing),
-        Block::Regular => Stage::Committing(Fixed::Committed),
+        Block::Implicit(true) => MessageStage::Committing(Fixed::CommittedNothing),
+        Block::Regular => MessageStage::Committing(Fixed::Committed),
         Block::Failed => tell(Fixed::RolledBack, Block::Implicit(false)),
     }
 }
 
 /// The stage of ROLLBACK.
-pub fn roll_back(block: Block) -> Stage
+pub fn roll_back(block: Block) -> MessageStage
     ensures goes { (built : List ℕ) → IsScriptOf (rolls_back block) result built }
     ensures owed { owed_at result ≡ owed_in block }
     ensures work { work_at result ≤ 4 }
@@ -113,14 +113,14 @@ pub fn roll_back(block: Block) -> Stage
 {
     match block {
         Block::Implicit(false) => tell(Fixed::RolledBackNothing, Block::Implicit(false)),
-        Block::Implicit(true) => Stage::RollingBack(Fixed::RolledBackNothing),
-        Block::Regular => Stage::RollingBack(Fixed::RolledBack),
+        Block::Implicit(true) => MessageStage::RollingBack(Fixed::RolledBackNothing),
+        Block::Regular => MessageStage::RollingBack(Fixed::RolledBack),
         Block::Failed => tell(Fixed::RolledBack, Block::Implicit(false)),
     }
 }
 
 /// The stage of a statement of a failed block.
-pub fn refuse(statement: &Statement) -> Stage
+pub fn refuse(statement: &Statement) -> MessageStage
     ensures goes { (built : List ℕ) → IsScriptOf (in_failed statement.now) result built }
     ensures owed { owed_at result ≡ owed_in Block.Failed }
     ensures work { work_at result ≤ 4 }
@@ -136,7 +136,7 @@ pub fn refuse(statement: &Statement) -> Stage
 }
 
 /// The stage of the end of a message.
-pub fn finish(block: Block) -> Stage
+pub fn finish(block: Block) -> MessageStage
     ensures goes { (built : List ℕ) (known : Knowledge) (more : List Tree) (outside : Outside) (said : Said) (es : List Entry) →
         ends block known outside said es ≡ goes_on result built known more outside said es }
     ensures owed { owed_at result ≡ owed_in block }
@@ -146,9 +146,9 @@ pub fn finish(block: Block) -> Stage
     ensures constant { NoBuilt result }
 {
     match block {
-        Block::Implicit(false) => Stage::Readying(TransactionState::Idle),
-        Block::Implicit(true) => Stage::Finishing,
-        Block::Regular => Stage::Readying(TransactionState::Block),
-        Block::Failed => Stage::Readying(TransactionState::Failed),
+        Block::Implicit(false) => MessageStage::Readying(TransactionState::Idle),
+        Block::Implicit(true) => MessageStage::Finishing,
+        Block::Regular => MessageStage::Readying(TransactionState::Block),
+        Block::Failed => MessageStage::Readying(TransactionState::Failed),
     }
 }

@@ -25,9 +25,9 @@ use crate::blocks::block_of;
 use crate::call::Answer;
 use crate::kept::Kept;
 use crate::known::Known;
-use crate::reply::Reply;
-use crate::stage::{Run, Stage};
-use crate::step::{Step, calm, fail, or_short, short};
+use crate::reply::StatementReply;
+use crate::stage::{MessageStage, Run};
+use crate::step::{MessageStep, at_rest, fail, or_short, short};
 use cell_base::{Items, Memory, SqlFault, SqlState};
 use cell_compile::Plan;
 use history_core::BookFault;
@@ -53,7 +53,7 @@ pub fn conclude(
     outcome: &Outcome,
     block: Block,
     built: &mut Vec<u8>,
-) -> Result<Stage, Memory>
+) -> Result<MessageStage, Memory>
     requires { CanBeTold outcome.now }
     ensures goes { IfOk result (λ stage. IsScriptOf (concludes outcome.now block) stage built.new.items) }
     ensures owed { IfOk result (λ stage. owed_at stage ≡ owed_in block) }
@@ -66,7 +66,7 @@ pub fn conclude(
         return Ok(fail(*code, block));
     }
     *built = reply_of(alloc, outcome)?;
-    Ok(Stage::Telling(Reply::Built, block))
+    Ok(MessageStage::Telling(StatementReply::Built, block))
 }
 
 /// The stage of a statement that runs on, or is done.
@@ -75,7 +75,7 @@ pub fn settle(
     plan: Kept<Plan>,
     pending: Pending,
     built: &mut Vec<u8>,
-) -> Result<Stage, Memory>
+) -> Result<MessageStage, Memory>
     requires { EndsIn CanBeTold (rest_of plan) }
     ensures goes { IfOk result (λ stage. IsScriptOf (runs (rest_of plan) (stages_spec.block_of pending)) stage built.new.items) }
     ensures owed { IfOk result (λ stage. owed_at stage ≡ Owed.Rollback) }
@@ -89,7 +89,7 @@ pub fn settle(
     if let Demand::Reply(outcome) = plan.get().demand() {
         return conclude(alloc, outcome, block_of(pending), built);
     }
-    Ok(Stage::Running(Run { plan }, pending))
+    Ok(MessageStage::Running(Run { plan }, pending))
 }
 
 /// The stage of a statement whose course begins.
@@ -99,7 +99,7 @@ pub fn begin_course(
     plan: Kept<Plan>,
     block: Block,
     built: &mut Vec<u8>,
-) -> Result<Stage, Memory>
+) -> Result<MessageStage, Memory>
     requires { EndsIn CanBeTold (rest_of plan) }
     ensures goes { IfOk result (λ stage. IsScriptOf (begins (rest_of plan) block) stage built.new.items) }
     ensures owed { IfOk result (λ stage. owed_at stage ≡ owed_in block) }
@@ -110,7 +110,7 @@ pub fn begin_course(
     ensures some { IfOk result (λ stage. HasReply stage built.new.items) }
 {
     match block {
-        Block::Implicit(false) => Ok(Stage::Beginning(plan)),
+        Block::Implicit(false) => Ok(MessageStage::Beginning(plan)),
         Block::Implicit(true) => settle(alloc, plan, Pending::Implicit, built),
         Block::Regular => settle(alloc, plan, Pending::Regular, built),
         Block::Failed => Ok(fail(SqlState::S25P02, Block::Failed)),
@@ -124,7 +124,7 @@ fn go_on(
     pending: Pending,
     answer: PlanAnswer,
     built: &mut Vec<u8>,
-) -> Result<Stage, Memory>
+) -> Result<MessageStage, Memory>
     requires fits { FitsDemand (rest_of plan) answer }
     requires told { EndsIn CanBeTold (rest_of plan) }
     ensures goes { IfOk result (λ stage.
@@ -167,11 +167,11 @@ pub fn pursue(
     pending: Pending,
     answer: Answer,
     built: &mut Vec<u8>,
-) -> Step
+) -> MessageStep
     requires fits { Fits (call_for (first_demand (rest_of run.plan))) answer }
     requires told { EndsIn CanBeTold (rest_of run.plan) }
     ensures goes { (known : Knowledge) →
-        Advances (Stage.Running run pending) known answer result.stage result.wanting built.new.items known }
+        Advances (MessageStage.Running run pending) known answer result.stage result.out_of_memory built.new.items known }
     ensures owed { owed_at result.stage ≡ Owed.Rollback }
     ensures work { work_at result.stage ≤ 4 + running_at result.stage }
     ensures left { left_at result.stage < 1 + left_of run.plan }
@@ -185,15 +185,20 @@ pub fn pursue(
             let stage = go_on(alloc, run.plan, pending, answer, built);
             or_short(stage, block_of(pending))
         }
-        Err(why) => calm(fail(refusal(&why), block_of(pending))),
+        Err(why) => at_rest(fail(refusal(&why), block_of(pending))),
     }
 }
 
 /// The step of a statement after the answer to the begin of its transaction.
-pub fn start_course(alloc: Global, plan: Kept<Plan>, answer: Answer, built: &mut Vec<u8>) -> Step
+pub fn start_course(
+    alloc: Global,
+    plan: Kept<Plan>,
+    answer: Answer,
+    built: &mut Vec<u8>,
+) -> MessageStep
     requires fits { (level : Level) × Fits (calls.Begin level) answer }
     requires told { EndsIn CanBeTold (rest_of plan) }
-    ensures goes { (known : Knowledge) → Advances (Stage.Beginning plan) known answer result.stage result.wanting built.new.items known }
+    ensures goes { (known : Knowledge) → Advances (MessageStage.Beginning plan) known answer result.stage result.out_of_memory built.new.items known }
     ensures owed { (level : Level) → owed_at result.stage ≡ owed_after (calls.Begin level) answer Owed.Close }
     ensures work { work_at result.stage ≤ 4 + running_at result.stage }
     ensures knows { (tables : List Defined) → ReadsFirst (length tables) (rest_of plan) → KnowsTables result.stage tables }
@@ -206,7 +211,7 @@ pub fn start_course(alloc: Global, plan: Kept<Plan>, answer: Answer, built: &mut
             let stage = settle(alloc, plan, Pending::Implicit, built);
             or_short(stage, Block::Implicit(true))
         }
-        Answer::Refused(why) => calm(fail(refusal(&why), Block::Implicit(false))),
+        Answer::Refused(why) => at_rest(fail(refusal(&why), Block::Implicit(false))),
         _ => unreachable!(),
     }
 }
@@ -227,7 +232,7 @@ fn judge(
     block: Block,
     known: &Known,
     built: &mut Vec<u8>,
-) -> Result<Stage, Memory>
+) -> Result<MessageStage, Memory>
     requires few { length known.now.tables.items < 2 ^ 32 }
     requires tables { All IsSound known.now.tables.items }
     requires plain { HasPlainNames statement.now }
@@ -260,13 +265,13 @@ pub fn look(
     known: &mut Known,
     tables: Items<Table>,
     built: &mut Vec<u8>,
-) -> Step
+) -> MessageStep
     requires few { length known.old.tables.items + length tables < 2 ^ 32 }
     requires sound { All IsSound known.old.tables.items }
     requires more { All IsSound tables }
     requires plain { HasPlainNames statement.now }
-    ensures goes { Advances (Stage.Looking statement.now block) (knowledge_in known.old) (Answer.Looked tables)
-        result.stage result.wanting built.new.items (knowledge_in known.new) }
+    ensures goes { Advances (MessageStage.Looking statement.now block) (knowledge_in known.old) (Answer.Looked tables)
+        result.stage result.out_of_memory built.new.items (knowledge_in known.new) }
     ensures known { IsKnownAfter (knowledge_in known.old) (Answer.Looked tables) (knowledge_in known.new) }
     ensures few { length known.new.tables.items < 2 ^ 32 }
     ensures tables { All IsSound known.new.tables.items }
@@ -283,7 +288,7 @@ pub fn look(
         return short(block);
     }
     match judge(alloc, statement, block, known, built) {
-        Ok(stage) => calm(stage),
+        Ok(stage) => at_rest(stage),
         Err(Memory) => {
             known.tables.truncate(before);
             short(block)

@@ -19,7 +19,7 @@ pub enum End {
     ReadFault,
     /// A write to the link failed.
     WriteFault,
-    /// Want of memory.
+    /// Out of memory.
     Memory,
     /// The session was not started; a fatal ErrorResponse with this code was sent.
     Refused(SqlState),

@@ -40,4 +40,4 @@ pub use ready::ReadyReplies;
 pub use replies::error;
 pub use runner::Runner;
 pub use settings::level_named;
-pub use want::Want;
+pub use want::MessageWant;

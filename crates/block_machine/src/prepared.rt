@@ -6,14 +6,14 @@ ghost use Rattle.block_machine.specs.Replies.{ready_reply, error_reply, empty_re
 use crate::errors::Errors;
 use crate::ready::ReadyReplies;
 use crate::replies::{done, empty, warned};
-use crate::reply::{Fixed, Reply};
+use crate::reply::{Fixed, StatementReply};
 use cell_base::{Memory, SqlState};
 use pg_framing::TransactionState;
 use std::alloc::Global;
 
 /// The replies whose bytes are known beforehand.
 #[derive(Debug, Drop)]
-pub struct Prepared {
+pub struct StatementReplies {
     states: ReadyReplies,
     plain: Plain,
     starts: Starts,
@@ -90,10 +90,10 @@ impl Stops {
     }
 }
 
-impl Prepared {
+impl StatementReplies {
     /// Makes all of them.
-    pub fn new(alloc: Global) -> Result<Prepared, Memory> {
-        Ok(Prepared {
+    pub fn new(alloc: Global) -> Result<StatementReplies, Memory> {
+        Ok(StatementReplies {
             states: ReadyReplies::new(alloc)?,
             plain: Plain::new(alloc)?,
             starts: Starts::new(alloc)?,
@@ -122,12 +122,12 @@ impl Prepared {
     }
 
     /// The bytes of the reply to a statement that succeeded, given those that were built.
-    pub fn bytes<'a>(&'a self, built: &'a [u8], reply: Reply) -> &'a [u8]
+    pub fn bytes<'a>(&'a self, built: &'a [u8], reply: StatementReply) -> &'a [u8]
         ensures { result.now ≡ bytes_of built.now reply }
     {
         match reply {
-            Reply::Built => built,
-            Reply::Fixed(reply) => self.fixed(reply),
+            StatementReply::Built => built,
+            StatementReply::Fixed(reply) => self.fixed(reply),
         }
     }
 

@@ -30,7 +30,7 @@ pub enum Fixed {
 
 /// The reply to a statement that succeeded, or to a message without a statement.
 #[derive(Clone, Copy, Debug, PartialEq, Eq)]
-pub enum Reply {
+pub enum StatementReply {
     /// The reply that was built.
     Built,
     /// One that is known beforehand.

@@ -18,11 +18,11 @@ use crate::blocks::{block_at, owed_between};
 use crate::call::Answer;
 use crate::known::Known;
 use crate::message::Message;
-use crate::prepared::Prepared;
-use crate::stage::Stage;
+use crate::prepared::StatementReplies;
+use crate::stage::MessageStage;
 use crate::step::fail;
 use crate::turns::{answered, begin_message, next_step};
-use crate::want::Want;
+use crate::want::MessageWant;
 use cell_base::{Level, Memory, SqlState};
 use pg_framing::TransactionState;
 use sql_tree::{Statement, Table};
@@ -34,11 +34,11 @@ use std::vec::IntoIter;
 #[derive(Debug, Drop)]
 pub struct Runner {
     alloc: Global,
-    prepared: Prepared,
+    prepared: StatementReplies,
     built: Vec<u8>,
     known: Known,
     rest: IntoIter<Statement>,
-    stage: Stage,
+    stage: MessageStage,
     ghost few: { length known.tables.items < 2 ^ 32 },
 }
 
@@ -53,31 +53,33 @@ fn owed_in_block(block: Block) -> Owed
 }
 
 // What a session owes its book.
-fn owed_of(stage: &Stage) -> Owed
+fn owed_of(stage: &MessageStage) -> Owed
     ensures { result ≡ owed_at stage.now }
 {
     match stage {
-        Stage::Over(state) | Stage::Readying(state) => owed_between(*state),
-        Stage::Defining(_, block) | Stage::Looking(_, block) => owed_in_block(*block),
-        Stage::Showing(block) | Stage::Telling(_, block) => owed_in_block(*block),
-        Stage::Beginning(_) | Stage::Starting(_) | Stage::Failing(_, _) => Owed::Close,
-        Stage::Running(_, _) | Stage::Committing(_) | Stage::RollingBack(_) => Owed::Rollback,
-        Stage::Undoing(_, _) | Stage::Finishing => Owed::Rollback,
+        MessageStage::Over(state) | MessageStage::Readying(state) => owed_between(*state),
+        MessageStage::Defining(_, block) | MessageStage::Looking(_, block) => owed_in_block(*block),
+        MessageStage::Showing(block) | MessageStage::Telling(_, block) => owed_in_block(*block),
+        MessageStage::Beginning(_) | MessageStage::Starting(_) | MessageStage::Failing(_, _) =>
+            Owed::Close,
+        MessageStage::Running(_, _) | MessageStage::Committing(_) | MessageStage::RollingBack(_) =>
+            Owed::Rollback,
+        MessageStage::Undoing(_, _) | MessageStage::Finishing => Owed::Rollback,
     }
 }
 
 impl Runner {
-    ghost use Rattle.block_machine.specs.Runners.{knowledge_of, tables_of, statements_of, follows, behind, wanted, held, work_of};
+    ghost use Rattle.block_machine.specs.Runners.{knowledge_of, tables_of, statements_of, follows, follows_reply, wanted, held, work_of};
 
     /// Runs no message yet, and knows no tables. Its transactions are at this level, the level of the server, until a SET chooses another.
     pub fn new(alloc: Global, level: Level) -> Result<Runner, Memory>
-        ensures stage { IfOk result (λ r. r.stage ≡ Stage.Over TransactionState.Idle) }
+        ensures stage { IfOk result (λ r. r.stage ≡ MessageStage.Over TransactionState.Idle) }
         ensures known { IfOk result (λ r. knowledge_of r ≡ at_start level) }
         ensures rest { IfOk result (λ r. All IsSoundStatement (statements_of r)) }
     {
         Ok(Runner {
             alloc,
-            prepared: Prepared::new(alloc)?,
+            prepared: StatementReplies::new(alloc)?,
             built: Vec::new(alloc),
             known: Known {
                 tables: Vec::new(alloc),
@@ -85,16 +87,16 @@ impl Runner {
                 served: level,
             },
             rest: Vec::new(alloc).into_iter(),
-            stage: Stage::Over(TransactionState::Idle),
+            stage: MessageStage::Over(TransactionState::Idle),
         })
     }
 
     /// What the message wants.
-    pub fn demand(&self) -> Want
+    pub fn demand(&self) -> MessageWant
         ensures stage { IsWant result (wanted self.now) }
-        ensures holding { result ≡ Want.Send → IsHolding self.now.stage }
-        ensures running { result ≡ Want.Cells → IsRunning self.now.stage }
-        ensures calm { (result ≡ Want.Cells → ⊥) → running_at self.now.stage ≡ 0 }
+        ensures holding { result ≡ MessageWant.Send → IsHolding self.now.stage }
+        ensures running { result ≡ MessageWant.Cells → IsRunning self.now.stage }
+        ensures at_rest { (result ≡ MessageWant.Cells → ⊥) → running_at self.now.stage ≡ 0 }
         // The call that is wanted is the one that the script asks.
         ensures asks { (c : Asked) (outside : Outside) (said : Said) → wanted self.now ≡ calls.Book c →
             follows self.now outside said [] ≡ (said, asking c) }
@@ -114,7 +116,7 @@ impl Runner {
         ensures sound { IsSound result.now }
     {
         match &self.stage {
-            Stage::Defining(table, _) => table.get(),
+            MessageStage::Defining(table, _) => table.get(),
             _ => unreachable!(),
         }
     }
@@ -126,7 +128,7 @@ impl Runner {
         ensures asks { asks_cells result.now ≡ true }
     {
         match &self.stage {
-            Stage::Running(run, _) => run.plan.get().demand(),
+            MessageStage::Running(run, _) => run.plan.get().demand(),
             _ => unreachable!(),
         }
     }
@@ -137,12 +139,12 @@ impl Runner {
         ensures held { result.now ≡ held self.now }
         // The reply is what the script tells next.
         ensures tells { (outside : Outside) (said : Said) (es : List Entry) → follows self.now outside said es ≡
-            tell (held self.now) (outside.broken (owed_at self.now.stage)) (behind self.now outside) said es }
+            tell (held self.now) (outside.broken (owed_at self.now.stage)) (follows_reply self.now outside) said es }
     {
         match &self.stage {
-            Stage::Telling(reply, _) => self.prepared.bytes(self.built.as_slice(), *reply),
-            Stage::Failing(code, _) => self.prepared.error(*code),
-            Stage::Readying(state) => self.prepared.ready(*state),
+            MessageStage::Telling(reply, _) => self.prepared.bytes(self.built.as_slice(), *reply),
+            MessageStage::Failing(code, _) => self.prepared.error(*code),
+            MessageStage::Readying(state) => self.prepared.ready(*state),
             _ => unreachable!(),
         }
     }
@@ -173,7 +175,7 @@ impl Runner {
             &mut self.built,
         );
         self.stage = step.stage;
-        step.wanting
+        step.out_of_memory
     }
 
     /// Takes the answer to the call that is wanted. Answers whether the session was out of memory.
@@ -197,10 +199,10 @@ impl Runner {
         ensures busy { IsBusy self.new.stage }
         ensures some { HasReply self.new.stage self.new.built.items }
     {
-        let stage = std::mem::replace(&mut self.stage, Stage::Over(TransactionState::Idle));
+        let stage = std::mem::replace(&mut self.stage, MessageStage::Over(TransactionState::Idle));
         let step = answered(self.alloc, stage, &mut self.known, &mut self.built, answer);
         self.stage = step.stage;
-        step.wanting
+        step.out_of_memory
     }
 
     /// The reply was sent. Answers whether the session was out of memory for what follows it.
@@ -209,7 +211,7 @@ impl Runner {
         requires rest { All IsSoundStatement (statements_of self.old) }
         ensures goes { (outside : Outside) (said : Said) (es : List Entry) →
             IsFrom (least self.new.stage) (length said.bytes) es →
-            behind self.old outside said (with_short result said.bytes es) ≡ follows self.new outside said es }
+            follows_reply self.old outside said (with_short result said.bytes es) ≡ follows self.new outside said es }
         ensures known { IsSameButLevel (knowledge_of self.old) (knowledge_of self.new) }
         ensures rest { All IsSoundStatement (statements_of self.new) }
         ensures owed { owed_at self.new.stage ≡ owed_at self.old.stage }
@@ -227,7 +229,7 @@ impl Runner {
             &mut self.built,
         );
         self.stage = step.stage;
-        step.wanting
+        step.out_of_memory
     }
 
     /// Begins with a message that finds the session in this state and fails before its first statement, with this code.
@@ -251,11 +253,11 @@ impl Runner {
 
     /// The state in which the last message left the session; none while a message is under way.
     pub fn left(&self) -> Option<TransactionState>
-        ensures some { IfSome result (λ state. self.now.stage ≡ Stage.Over state) }
+        ensures some { IfSome result (λ state. self.now.stage ≡ MessageStage.Over state) }
         ensures none { IsNone result → IsBusy self.now.stage }
     {
         match &self.stage {
-            Stage::Over(state) => Some(*state),
+            MessageStage::Over(state) => Some(*state),
             _ => None,
         }
     }

@@ -6,7 +6,7 @@ ghost use Rattle.block_machine.specs.Calls.{asks_cells};
 
 use crate::block::{Block, Pending};
 use crate::kept::Kept;
-use crate::reply::{Fixed, Reply};
+use crate::reply::{Fixed, StatementReply};
 use cell_base::SqlState;
 use cell_compile::Plan;
 use pg_framing::TransactionState;
@@ -31,7 +31,7 @@ pub enum ErrorState {
 
 /// What comes next. A block is the one in which the statement stands, or which it leaves.
 #[derive(Debug, Drop)]
-pub enum Stage {
+pub enum MessageStage {
     /// No message is under way. This is where it left the session.
     Over(TransactionState),
     /// A CREATE TABLE defines its table.
@@ -51,7 +51,7 @@ pub enum Stage {
     /// ROLLBACK rolls back, and is then told this reply.
     RollingBack(Fixed),
     /// The reply to a statement is held, after which the next statement follows in this block.
-    Telling(Reply, Block),
+    Telling(StatementReply, Block),
     /// The rollback of a statement that failed with this code.
     Undoing(SqlState, Pending),
     /// The ErrorResponse of a statement that failed with this code is held; the state in which it leaves its session.

@@ -7,36 +7,36 @@ ghost use Rattle.block_machine.specs.Statements.{Around, owed_in, fails, unless_
 ghost use Rattle.block_machine.specs.Stages.{IsScriptAt, IsScriptOf, LeadsTo, IsQuiet, IsRunning, IsBusy, IsSoundStage, KnowsTables, NoBuilt, HasReply, owed_at, work_at, running_at, left_at};
 
 use crate::block::{Block, Pending};
-use crate::reply::{Fixed, Reply};
-use crate::stage::{ErrorState, Stage};
+use crate::reply::{Fixed, StatementReply};
+use crate::stage::{ErrorState, MessageStage};
 use cell_base::{Memory, SqlState};
 
 /// A stage, and whether the session was out of memory on the way to it.
 #[derive(Debug, Drop)]
-pub struct Step {
-    pub stage: Stage,
-    pub wanting: bool,
+pub struct MessageStep {
+    pub stage: MessageStage,
+    pub out_of_memory: bool,
 }
 
 /// The step to a stage for which there was memory.
-pub fn calm(stage: Stage) -> Step
-    ensures { result ≡ record { stage = stage; wanting = false } }
+pub fn at_rest(stage: MessageStage) -> MessageStep
+    ensures { result ≡ record { stage = stage; out_of_memory = false } }
 {
-    Step {
+    MessageStep {
         stage,
-        wanting: false,
+        out_of_memory: false,
     }
 }
 
 /// The stage in which a statement that succeeded is told this reply.
-pub fn tell(reply: Fixed, block: Block) -> Stage
-    ensures { result ≡ Stage.Telling (Reply.Fixed reply) block }
+pub fn tell(reply: Fixed, block: Block) -> MessageStage
+    ensures { result ≡ MessageStage.Telling (StatementReply.Fixed reply) block }
 {
-    Stage::Telling(Reply::Fixed(reply), block)
+    MessageStage::Telling(StatementReply::Fixed(reply), block)
 }
 
 /// The stage of a statement that fails with this code.
-pub fn fail(code: SqlState, block: Block) -> Stage
+pub fn fail(code: SqlState, block: Block) -> MessageStage
     ensures goes { (built : List ℕ) → IsScriptOf (fails code block) result built }
     ensures owed { owed_at result ≡ owed_in block }
     ensures work { work_at result ≤ 3 }
@@ -45,34 +45,34 @@ pub fn fail(code: SqlState, block: Block) -> Stage
     ensures constant { NoBuilt result }
 {
     match block {
-        Block::Implicit(false) => Stage::Failing(code, ErrorState::Idle),
-        Block::Implicit(true) => Stage::Undoing(code, Pending::Implicit),
-        Block::Regular => Stage::Undoing(code, Pending::Regular),
-        Block::Failed => Stage::Failing(code, ErrorState::Failed),
+        Block::Implicit(false) => MessageStage::Failing(code, ErrorState::Idle),
+        Block::Implicit(true) => MessageStage::Undoing(code, Pending::Implicit),
+        Block::Regular => MessageStage::Undoing(code, Pending::Regular),
+        Block::Failed => MessageStage::Failing(code, ErrorState::Failed),
     }
 }
 
 /// The step of a statement that is out of memory.
-pub fn short(block: Block) -> Step
+pub fn short(block: Block) -> MessageStep
     ensures goes { (script : Around → Script) (built : List ℕ) (known : Knowledge) →
-        LeadsTo (λ around. unless_short_in block known around (script around)) result.stage result.wanting built known }
+        LeadsTo (λ around. unless_short_in block known around (script around)) result.stage result.out_of_memory built known }
     ensures owed { owed_at result.stage ≡ owed_in block }
     ensures work { work_at result.stage ≤ 3 }
     ensures quiet { IsQuiet result.stage }
     ensures busy { IsBusy result.stage }
     ensures constant { NoBuilt result.stage }
 {
-    Step {
+    MessageStep {
         stage: fail(SqlState::S53200, block),
-        wanting: true,
+        out_of_memory: true,
     }
 }
 
 /// The step to a stage, or that of a statement that is out of memory.
-pub fn or_short(stage: Result<Stage, Memory>, block: Block) -> Step
+pub fn or_short(stage: Result<MessageStage, Memory>, block: Block) -> MessageStep
     ensures goes { (script : Around → Script) (built : List ℕ) (known : Knowledge) →
         IfOk stage (λ it. IsScriptAt script it built known) →
-        LeadsTo (λ around. unless_short_in block known around (script around)) result.stage result.wanting built known }
+        LeadsTo (λ around. unless_short_in block known around (script around)) result.stage result.out_of_memory built known }
     ensures owed { IfOk stage (λ it. owed_at it ≡ owed_in block) → owed_at result.stage ≡ owed_in block }
     ensures work { (n : ℕ) → 3 ≤ n → IfOk stage (λ it. work_at it ≤ n + running_at it) →
         work_at result.stage ≤ n + running_at result.stage }
@@ -85,7 +85,7 @@ pub fn or_short(stage: Result<Stage, Memory>, block: Block) -> Step
     ensures some { (built : List ℕ) → IfOk stage (λ it. HasReply it built) → HasReply result.stage built }
 {
     match stage {
-        Ok(stage) => calm(stage),
+        Ok(stage) => at_rest(stage),
         Err(Memory) => short(block),
     }
 }

@@ -8,7 +8,7 @@ ghost use Rattle.block_machine.specs.Calls.{Call as Asked};
 ghost use Rattle.block_machine.specs.Knowledge.{knowledge_in};
 ghost use Rattle.block_machine.specs.Statements.{owed_in};
 ghost use Rattle.block_machine.specs.Messages.{block_at as block_before, message as told, opens, owed_between};
-ghost use Rattle.block_machine.specs.Stages.{Advances, FitsWant, IsBusy, IsHolding, IsKnownAfter, IsSameButLevel, IsNoStatement, IsRunning, IsSoundMessage, IsSoundStage, IsSoundStatement, KnowsTables, HasReply, TurnsTo, after_reply, left_at, length_of, owed_after, owed_at, running_at, state_behind, wants, work_at};
+ghost use Rattle.block_machine.specs.Stages.{Advances, FitsWant, IsBusy, IsHolding, IsKnownAfter, IsSameButLevel, IsNoStatement, IsRunning, IsSoundMessage, IsSoundStage, IsSoundStatement, KnowsTables, HasReply, TurnsTo, after_reply, left_at, length_of, owed_after, owed_at, running_at, state_after_error, wants, work_at};
 
 use crate::actions::{next_statement, show_history, take};
 use crate::advance::advance;
@@ -17,9 +17,9 @@ use crate::call::Answer;
 use crate::courses::{look, pursue, start_course};
 use crate::known::Known;
 use crate::message::Message;
-use crate::reply::{Fixed, Reply};
-use crate::stage::{ErrorState, Stage};
-use crate::step::{Step, calm, fail};
+use crate::reply::{Fixed, StatementReply};
+use crate::stage::{ErrorState, MessageStage};
+use crate::step::{MessageStep, at_rest, fail};
 use pg_framing::TransactionState;
 use sql_tree::Statement;
 use std::alloc::Global;
@@ -32,10 +32,10 @@ fn open(
     block: Block,
     known: &mut Known,
     built: &mut Vec<u8>,
-) -> Step
+) -> MessageStep
     requires { All IsSoundStatement (into_iter_items rest.old) }
     ensures goes { TurnsTo (opens (into_iter_items rest.old) block (knowledge_in known.old))
-        result.stage result.wanting built.new.items (knowledge_in known.new) (into_iter_items rest.new) }
+        result.stage result.out_of_memory built.new.items (knowledge_in known.new) (into_iter_items rest.new) }
     ensures known { IsSameButLevel (knowledge_in known.old) (knowledge_in known.new) }
     ensures rest { All IsSoundStatement (into_iter_items rest.new) }
     ensures owed { owed_at result.stage ≡ owed_in block }
@@ -48,7 +48,7 @@ fn open(
 {
     match rest.next() {
         Some(statement) => take(alloc, statement, block, known, built),
-        None => calm(Stage::Telling(Reply::Fixed(Fixed::Empty), block)),
+        None => at_rest(MessageStage::Telling(StatementReply::Fixed(Fixed::Empty), block)),
     }
 }
 
@@ -60,11 +60,11 @@ pub fn begin_message(
     block: Block,
     known: &mut Known,
     built: &mut Vec<u8>,
-) -> Step
+) -> MessageStep
     requires { IsSoundMessage message }
     ensures goes { (state : TransactionState) → block ≡ block_before state →
         TurnsTo (told message state (knowledge_in known.old))
-        result.stage result.wanting built.new.items (knowledge_in known.new) (into_iter_items rest.new) }
+        result.stage result.out_of_memory built.new.items (knowledge_in known.new) (into_iter_items rest.new) }
     ensures known { IsSameButLevel (knowledge_in known.old) (knowledge_in known.new) }
     ensures rest { All IsSoundStatement (into_iter_items rest.new) }
     ensures owed { owed_at result.stage ≡ owed_in block }
@@ -78,7 +78,7 @@ pub fn begin_message(
     match message {
         Message::Unread(code) => {
             *rest = Vec::new(alloc).into_iter();
-            calm(fail(code, block))
+            at_rest(fail(code, block))
         }
         Message::Statements(statements) => {
             *rest = statements.into_vec().into_iter();
@@ -90,18 +90,18 @@ pub fn begin_message(
 // The step after the answer to a call that isn't a statement's own.
 fn answered_plain(
     alloc: Global,
-    stage: &Stage,
+    stage: &MessageStage,
     known: &mut Known,
     built: &mut Vec<u8>,
     answer: Answer,
-) -> Step
+) -> MessageStep
     requires none { IsNoStatement stage.now }
     requires fits { FitsWant (wants stage.now (knowledge_in known.old)) answer }
     requires few { length known.old.tables.items < 2 ^ 32 }
     requires tables { All IsSound known.old.tables.items }
     requires sound { IsSoundStage stage.now }
     ensures goes { Advances stage.now (knowledge_in known.old) answer
-        result.stage result.wanting built.new.items (knowledge_in known.new) }
+        result.stage result.out_of_memory built.new.items (knowledge_in known.new) }
     ensures known { IsKnownAfter (knowledge_in known.old) answer (knowledge_in known.new) }
     ensures few { length known.new.tables.items < 2 ^ 32 }
     ensures tables { All IsSound known.new.tables.items }
@@ -114,28 +114,28 @@ fn answered_plain(
     ensures some { HasReply result.stage built.new.items }
 {
     match (stage, answer) {
-        (Stage::Looking(statement, block), Answer::Looked(tables)) => {
+        (MessageStage::Looking(statement, block), Answer::Looked(tables)) => {
             look(alloc, statement.get(), *block, known, tables, built)
         }
-        (Stage::Showing(block), Answer::Shown(n)) => show_history(alloc, n, *block, built),
-        (stage, answer) => calm(advance(stage, &answer)),
+        (MessageStage::Showing(block), Answer::Shown(n)) => show_history(alloc, n, *block, built),
+        (stage, answer) => at_rest(advance(stage, &answer)),
     }
 }
 
 /// The step after the answer to a stage's call.
 pub fn answered(
     alloc: Global,
-    stage: Stage,
+    stage: MessageStage,
     known: &mut Known,
     built: &mut Vec<u8>,
     answer: Answer,
-) -> Step
+) -> MessageStep
     requires fits { FitsWant (wants stage (knowledge_in known.old)) answer }
     requires few { length known.old.tables.items < 2 ^ 32 }
     requires tables { All IsSound known.old.tables.items }
     requires sound { IsSoundStage stage }
     ensures goes { Advances stage (knowledge_in known.old) answer
-        result.stage result.wanting built.new.items (knowledge_in known.new) }
+        result.stage result.out_of_memory built.new.items (knowledge_in known.new) }
     ensures known { IsKnownAfter (knowledge_in known.old) answer (knowledge_in known.new) }
     ensures few { length known.new.tables.items < 2 ^ 32 }
     ensures tables { All IsSound known.new.tables.items }
@@ -149,15 +149,15 @@ pub fn answered(
     ensures some { HasReply result.stage built.new.items }
 {
     match stage {
-        Stage::Beginning(plan) => start_course(alloc, plan, answer, built),
-        Stage::Running(run, pending) => pursue(alloc, run, pending, answer, built),
+        MessageStage::Beginning(plan) => start_course(alloc, plan, answer, built),
+        MessageStage::Running(run, pending) => pursue(alloc, run, pending, answer, built),
         stage => answered_plain(alloc, &stage, known, built, answer),
     }
 }
 
 // The state of the session after a statement that failed.
 fn state_after(state: ErrorState) -> TransactionState
-    ensures state { result ≡ state_behind state }
+    ensures state { result ≡ state_after_error state }
     ensures owed { owed_between result ≡ Owed.Close }
 {
     match state {
@@ -169,15 +169,15 @@ fn state_after(state: ErrorState) -> TransactionState
 /// The step after a reply that was sent.
 pub fn next_step(
     alloc: Global,
-    stage: &Stage,
+    stage: &MessageStage,
     rest: &mut IntoIter<Statement>,
     known: &mut Known,
     built: &mut Vec<u8>,
-) -> Step
+) -> MessageStep
     requires holding { IsHolding stage.now }
     requires rest { All IsSoundStatement (into_iter_items rest.old) }
     ensures goes { TurnsTo (after_reply stage.now (knowledge_in known.old) (into_iter_items rest.old))
-        result.stage result.wanting built.new.items (knowledge_in known.new) (into_iter_items rest.new) }
+        result.stage result.out_of_memory built.new.items (knowledge_in known.new) (into_iter_items rest.new) }
     ensures known { IsSameButLevel (knowledge_in known.old) (knowledge_in known.new) }
     ensures rest { All IsSoundStatement (into_iter_items rest.new) }
     ensures owed { owed_at result.stage ≡ owed_at stage.now }
@@ -189,9 +189,9 @@ pub fn next_step(
     ensures some { HasReply result.stage built.new.items }
 {
     match stage {
-        Stage::Telling(_, block) => next_statement(alloc, rest, *block, known, built),
-        Stage::Failing(_, state) => calm(Stage::Readying(state_after(*state))),
-        Stage::Readying(state) => calm(Stage::Over(*state)),
+        MessageStage::Telling(_, block) => next_statement(alloc, rest, *block, known, built),
+        MessageStage::Failing(_, state) => at_rest(MessageStage::Readying(state_after(*state))),
+        MessageStage::Readying(state) => at_rest(MessageStage::Over(*state)),
         _ => unreachable!(),
     }
 }

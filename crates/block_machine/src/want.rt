@@ -3,7 +3,7 @@ use crate::call::Call;
 
 /// What a message wants next.
 #[derive(Debug, Drop)]
-pub enum Want {
+pub enum MessageWant {
     /// Its table defined by the book.
     Define,
     /// What its running statement demands.

@@ -10,7 +10,7 @@ use Rattle.block_machine.specs.Calls.{Call}
 use Rattle.block_machine.specs.Script.{Entry}
 use Rattle.block_machine.specs.declared.end.End.{End}
 use Rattle.block_machine.specs.declared.end.End.TheVariants as ends
-use Rattle.session_core.specs.Talk.{Talk}
+use Rattle.session_core.specs.Requests.{Requests}
 use Rattle.session_core.specs.Record.{events_of}
 use Rattle.session_core.specs.Serve.{Serves}
 use Rattle.choice_stream.specs.Choices.{DrawsFirst}
@@ -45,24 +45,24 @@ no_past level = record { seen = record { level = level; initial = []; events = [
 
 -- A session was served at a level over a link, from no history to a legal one whose events are the session's alone. Its reads drew these
 -- words in order, and then 0.
-pub record ServesAlone (level : Level) (words : List ℕ) (f g : Sight) (end : End) (wanting : Bool) : Type 0 where
+pub record ServesAlone (level : Level) (words : List ℕ) (f g : Sight) (end : End) (out_of_memory : Bool) : Type 0 where
   pub past : Past
   pub rest : List ℕ
   pub number : Option ℕ
-  pub talk : Talk
+  pub requests : Requests
   pub taken : List ℕ
   pub es : List Entry
   pub asked : List Call
   pub sent : List ℕ
   pub lost : List ℕ
-  pub serves : Serves DrawsFirst level (no_past level) words f number end wanting past rest g talk taken es asked sent lost
+  pub serves : Serves DrawsFirst level (no_past level) words f number end out_of_memory past rest g requests taken es asked sent lost
   pub level_is : past.seen.level ≡ level
   pub initial : past.seen.initial ≡ []
   pub legal : IsLegalChronicle past.seen
   pub events : past.seen.events ≡ events_of es
   pub closed : past.state ≡ no_session
 
--- the status of an end. A want of memory stands before it.
+-- the status of an end. A lack of memory stands before it.
 abbrev pub status_of : End → Bool → ℕ
 status_of end true = 5
 status_of ends.Terminated false = 0
@@ -73,7 +73,7 @@ status_of ends.WriteFault false = 4
 status_of ends.Memory false = 5
 status_of _ false = 1
 
--- memory was wanting, and no object of the host went out
+-- memory ran out, and no object of the host went out
 pub record Untouched (before : Hosted) (code : ℕ) (after : Hosted) : Type 0 where
   pub code_is : code ≡ 5
   pub calls : after.calls ≡ before.calls
@@ -85,13 +85,13 @@ pub record Piped (level : Level) (words : List ℕ) (before : Hosted) (code : �
   pub given : Sight
   pub returned : Sight
   pub end : End
-  pub wanting : Bool
+  pub out_of_memory : Bool
   pub told : IfSome before.next_link (λ next. given ≡ next)
   pub calls : after.calls ≡ before.calls ++ standard_link_called (Some given) ∷ []
   pub back : after.back ≡ before.back ++ returned ∷ []
   pub out : after.out ≡ before.out
-  pub serves : ServesAlone level words given returned end wanting
-  pub code_is : code ≡ status_of end wanting
+  pub serves : ServesAlone level words given returned end out_of_memory
+  pub code_is : code ≡ status_of end out_of_memory
 
 -- the host gave no link, and counted that
 pub record Linkless (before : Hosted) (code : ℕ) (after : Hosted) : Type 0 where

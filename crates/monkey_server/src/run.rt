@@ -100,7 +100,7 @@ fn misuse<H: Host>(host: &mut H) -> Status
 ///
 /// The status is 0 where the session ended well or was a cancel request; 1 where its input was cut short or was no messages, where its
 /// start was refused, or where more bytes were wanted than are read; 2 for the usage line; 3 where reading failed; 4 where writing failed;
-/// 5 where memory was wanting; and 6 where the host counted that it gave no link.
+/// 5 where memory ran out; and 6 where the host counted that it gave no link.
 pub fn monkey_main<H: Host>(alloc: Global, host: &mut H, words: &[Text]) -> Status
     requires objects { H.objects_out host.old ≡ 0 }
     requires out { IsSome (H.out host.old) }

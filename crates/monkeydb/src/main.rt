@@ -11,7 +11,7 @@ use std::io::ErrorKind;
 use std::process::ExitCode;
 use std::{env, io};
 
-/// The status where memory is wanting before the program begins.
+/// The status where memory runs out before the program begins.
 const NO_MEMORY: Status = Status { code: 5 };
 
 /// Why the words of the command line can't be had.
@@ -19,7 +19,7 @@ const NO_MEMORY: Status = Status { code: 5 };
 enum WordsFault {
     /// They aren't text.
     NotText,
-    /// Want of memory.
+    /// Out of memory.
     Memory,
 }
 

@@ -12,9 +12,9 @@ use Rattle.block_machine.specs.Script.{Entry, did, refused, short, unsent, stop,
 use Rattle.block_machine.specs.declared.call.Answer.{Answer}
 use Rattle.block_machine.specs.declared.call.Answer.TheVariants as answers
 use Rattle.block_machine.specs.declared.end.End.{End}
-use Rattle.session_core.specs.Record.{Lawful, Happens, Declines, Draws, StateAfter}
+use Rattle.session_core.specs.Record.{IsValidRecord, Happens, Declines, Draws, StateAfter}
 use Rattle.choice_stream.specs.Choices.{DrawsFirst}
-use Rattle.one_history.proofs.Leads.{Leads, lawful_leads, leads_adds, leads_goes, happens_adds, declines_goes, alone_between}
+use Rattle.one_history.proofs.Leads.{Leads, valid_leads, leads_adds, leads_goes, happens_adds, declines_goes, alone_between}
 use Rattle.one_history.proofs.Rides.{Goes, Grows, IsLast, Rides, astray_ended}
 
 -- a call is never answered by a refusal that is an event
@@ -65,31 +65,31 @@ calls_split said c d cs more out one two =
 
 turned_did : (c : Call) (rest : Answer → Script) (said : Said) (a : Answer) (e : Event) (es : List Entry) (p : Past) (v : List ℕ) (out : Said) (end : End)
     (q : Past) (w : List ℕ) (cs : List Call) → Grows (rest a) → Goes (rest a) (with_call said c) es out end → out.calls ≡ said.calls ++ cs →
-    Lawful DrawsFirst p v cs (did a e ∷ es) q w → length p.seen.events ≡ length p.own → IsLast q → Turned c rest said p v out end q w
-turned_did c rest said a e es p v out end q w [] grows goes asked lawful alone last = absurd lawful
-turned_did c rest said a e es p v out end q w (d ∷ cs) grows goes asked lawful alone last =
+    IsValidRecord DrawsFirst p v cs (did a e ∷ es) q w → length p.seen.events ≡ length p.own → IsLast q → Turned c rest said p v out end q w
+turned_did c rest said a e es p v out end q w [] grows goes asked valid alone last = absurd valid
+turned_did c rest said a e es p v out end q w (d ∷ cs) grows goes asked valid alone last =
     let on = grows (with_call said c) es out end goes in
     let split = calls_split said.calls c d cs on.0 out.calls asked on.1 in
-    let happens : Happens p c a e lawful.0 = subst (λ (x : Call). Happens p x a e lawful.0) split.0 lawful.2 in
-    let to : Leads p lawful.0 = leads_adds p lawful.0 e (happens_adds p c a e lawful.0 happens) in
+    let happens : Happens p c a e valid.0 = subst (λ (x : Call). Happens p x a e valid.0) split.0 valid.2 in
+    let to : Leads p valid.0 = leads_adds p valid.0 e (happens_adds p c a e valid.0 happens) in
     record {
       answer = a;
       more = es;
-      m = lawful.0;
-      u = lawful.1;
+      m = valid.0;
+      u = valid.1;
       leads = to;
       took = inl record {
         event = e;
         happens = happens;
-        draws = subst (λ (x : Call). Draws DrawsFirst p v x (did a e) lawful.1) split.0 lawful.3;
-        state = subst (λ (x : Call). StateAfter x a p.state lawful.0.state) split.0 lawful.5;
+        draws = subst (λ (x : Call). Draws DrawsFirst p v x (did a e) valid.1) split.0 valid.3;
+        state = subst (λ (x : Call). StateAfter x a p.state valid.0.state) split.0 valid.5;
       };
       rides = record {
         goes = goes;
         calls = cs;
         asked = split.1;
-        lawful = lawful.4;
-        alone = alone_between p lawful.0 q alone last.alone to (lawful_leads DrawsFirst lawful.0 lawful.1 cs es q w lawful.4);
+        valid = valid.4;
+        alone = alone_between p valid.0 q alone last.alone to (valid_leads DrawsFirst valid.0 valid.1 cs es q w valid.4);
         last = last;
       };
     }
@@ -97,32 +97,32 @@ turned_did c rest said a e es p v out end q w (d ∷ cs) grows goes asked lawful
 turned_refused : (c : Call) (rest : Answer → Script) (said : Said) (limit : Limit) (es : List Entry) (p : Past) (v : List ℕ) (out : Said) (end : End)
     (q : Past) (w : List ℕ) (cs : List Call) → Grows (rest (answers.Refused (faults.Full limit))) →
     Goes (rest (answers.Refused (faults.Full limit))) (with_call said c) es out end → out.calls ≡ said.calls ++ cs →
-    Lawful DrawsFirst p v cs (refused (faults.Full limit) ∷ es) q w → length p.seen.events ≡ length p.own → IsLast q →
+    IsValidRecord DrawsFirst p v cs (refused (faults.Full limit) ∷ es) q w → length p.seen.events ≡ length p.own → IsLast q →
     Turned c rest said p v out end q w
-turned_refused c rest said limit es p v out end q w [] grows goes asked lawful alone last = absurd lawful
-turned_refused c rest said limit es p v out end q w (d ∷ cs) grows goes asked lawful alone last =
+turned_refused c rest said limit es p v out end q w [] grows goes asked valid alone last = absurd valid
+turned_refused c rest said limit es p v out end q w (d ∷ cs) grows goes asked valid alone last =
     let on = grows (with_call said c) es out end goes in
     let split = calls_split said.calls c d cs on.0 out.calls asked on.1 in
-    let declines : Declines p c (faults.Full limit) lawful.0 = subst (λ (x : Call). Declines p x (faults.Full limit) lawful.0) split.0 lawful.2 in
-    let to : Leads p lawful.0 = leads_goes p lawful.0 (declines_goes p c (faults.Full limit) lawful.0 declines) in
+    let declines : Declines p c (faults.Full limit) valid.0 = subst (λ (x : Call). Declines p x (faults.Full limit) valid.0) split.0 valid.2 in
+    let to : Leads p valid.0 = leads_goes p valid.0 (declines_goes p c (faults.Full limit) valid.0 declines) in
     record {
       answer = answers.Refused (faults.Full limit);
       more = es;
-      m = lawful.0;
-      u = lawful.1;
+      m = valid.0;
+      u = valid.1;
       leads = to;
       took = inr record {
         limit = limit;
         is = refl;
         declines = declines;
-        draws = subst (λ (x : Call). Draws DrawsFirst p v x (refused (faults.Full limit)) lawful.1) split.0 lawful.3;
+        draws = subst (λ (x : Call). Draws DrawsFirst p v x (refused (faults.Full limit)) valid.1) split.0 valid.3;
       };
       rides = record {
         goes = goes;
         calls = cs;
         asked = split.1;
-        lawful = lawful.4;
-        alone = alone_between p lawful.0 q alone last.alone to (lawful_leads DrawsFirst lawful.0 lawful.1 cs es q w lawful.4);
+        valid = valid.4;
+        alone = alone_between p valid.0 q alone last.alone to (valid_leads DrawsFirst valid.0 valid.1 cs es q w valid.4);
         last = last;
       };
     }
@@ -135,11 +135,11 @@ pub turned : (c : Call) (rest : Answer → Script) (said : Said) (es : List Entr
 turned c rest said [] p v out end q w grows rides = absurd (call_ended c said out end rides.goes.is)
 turned c rest said (did a e ∷ es) p v out end q w grows rides =
     turned_did c rest said a e es p v out end q w rides.calls (grows a)
-    (record { is = rides.goes.is; calm = rides.goes.calm; written = rides.goes.written }) rides.asked rides.lawful rides.alone rides.last
+    (record { is = rides.goes.is; at_rest = rides.goes.at_rest; written = rides.goes.written }) rides.asked rides.valid rides.alone rides.last
 turned c rest said (refused (faults.Full limit) ∷ es) p v out end q w grows rides =
     turned_refused c rest said limit es p v out end q w rides.calls (grows (answers.Refused (faults.Full limit)))
-    (record { is = rides.goes.is; calm = rides.goes.calm; written = rides.goes.written }) rides.asked rides.lawful rides.alone rides.last
-turned c rest said (refused faults.Memory ∷ es) p v out end q w grows rides = absurd (let h : true ≡ false = rides.goes.calm in cc)
+    (record { is = rides.goes.is; at_rest = rides.goes.at_rest; written = rides.goes.written }) rides.asked rides.valid rides.alone rides.last
+turned c rest said (refused faults.Memory ∷ es) p v out end q w grows rides = absurd (let h : true ≡ false = rides.goes.at_rest in cc)
 turned c rest said (short final n ∷ es) p v out end q w grows rides = absurd (astray_ended said out end rides.goes.is)
 turned c rest said (unsent n ∷ es) p v out end q w grows rides = absurd (astray_ended said out end rides.goes.is)
 turned c rest said (stop cause ∷ es) p v out end q w grows rides = absurd (astray_ended said out end rides.goes.is)
@@ -153,11 +153,11 @@ grows_answer c rest said a es out end grows goes =
 pub ask_grows : (c : Call) (rest : Answer → Script) → ((a : Answer) → Grows (rest a)) → Grows (ask c rest)
 ask_grows c rest grows said [] out end goes = absurd (call_ended c said out end goes.is)
 ask_grows c rest grows said (did a e ∷ es) out end goes =
-    grows_answer c rest said a es out end (grows a) (record { is = goes.is; calm = goes.calm; written = goes.written })
+    grows_answer c rest said a es out end (grows a) (record { is = goes.is; at_rest = goes.at_rest; written = goes.written })
 ask_grows c rest grows said (refused (faults.Full limit) ∷ es) out end goes =
     grows_answer c rest said (answers.Refused (faults.Full limit)) es out end (grows (answers.Refused (faults.Full limit)))
-    (record { is = goes.is; calm = goes.calm; written = goes.written })
-ask_grows c rest grows said (refused faults.Memory ∷ es) out end goes = absurd (let h : true ≡ false = goes.calm in cc)
+    (record { is = goes.is; at_rest = goes.at_rest; written = goes.written })
+ask_grows c rest grows said (refused faults.Memory ∷ es) out end goes = absurd (let h : true ≡ false = goes.at_rest in cc)
 ask_grows c rest grows said (short final n ∷ es) out end goes = absurd (astray_ended said out end goes.is)
 ask_grows c rest grows said (unsent n ∷ es) out end goes = absurd (astray_ended said out end goes.is)
 ask_grows c rest grows said (stop cause ∷ es) out end goes = absurd (astray_ended said out end goes.is)

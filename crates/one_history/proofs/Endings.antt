@@ -16,7 +16,7 @@ use Rattle.block_machine.specs.declared.call.Answer.{Answer}
 use Rattle.block_machine.specs.declared.call.Answer.TheVariants as answers
 use Rattle.block_machine.specs.declared.end.End.{End}
 use Rattle.block_machine.specs.declared.end.End.TheVariants as ends
-use Rattle.session_core.specs.Record.{Lawful}
+use Rattle.session_core.specs.Record.{IsValidRecord}
 use Rattle.session_core.specs.Replies.{fatal_reply}
 use Rattle.session_core.specs.Told.{done, fatal, closed, closing, ending, broken}
 use Rattle.choice_stream.specs.Choices.{DrawsFirst}
@@ -64,7 +64,7 @@ parted : (state : SqlState) (end : End) → farewell end ≡ fatal_reply state �
     Goes (fatal state end) said es out to → IsDone end said es out to
 parted state end tells said es out to goes =
     let on = tells_on (fatal_reply state) (done ends.WriteFault) (done end) done_breaks said es out to
-    (record { is = goes.is; calm = goes.calm; written = goes.written }) in
+    (record { is = goes.is; at_rest = goes.at_rest; written = goes.written }) in
     let h = done_goes end (with_bytes said (fatal_reply state)) es out to on in
     record {
       none = h.0;
@@ -91,21 +91,21 @@ tables_are : (q : Past) → IsLegalChronicle q.seen → length q.seen.tables ≡
 tables_are q legal = sym (length-map q.seen.tables name_of) ∙ ap length legal.tables.named
 
 -- the record holds nothing more, so the past is the last one
-at_last : (p : Past) (v : List ℕ) (cs : List Call) (es : List Entry) (q : Past) (w : List ℕ) → es ≡ [] → Lawful DrawsFirst p v cs es q w → (q ≡ p) × (w ≡ v)
-at_last p v cs es q w none lawful = ends_so cs (subst (λ (xs : List Entry). Lawful DrawsFirst p v cs xs q w) none lawful)
+at_last : (p : Past) (v : List ℕ) (cs : List Call) (es : List Entry) (q : Past) (w : List ℕ) → es ≡ [] → IsValidRecord DrawsFirst p v cs es q w → (q ≡ p) × (w ≡ v)
+at_last p v cs es q w none valid = ends_so cs (subst (λ (xs : List Entry). IsValidRecord DrawsFirst p v cs xs q w) none valid)
   where
-    ends_so : (cs : List Call) → Lawful DrawsFirst p v cs [] q w → (q ≡ p) × (w ≡ v)
+    ends_so : (cs : List Call) → IsValidRecord DrawsFirst p v cs [] q w → (q ≡ p) × (w ≡ v)
     ends_so [] l = l
     ends_so (c ∷ cs) l = absurd l
 
 -- two pasts at their ends that are near have one history
 one_history : (q r : Past) → IsLegalChronicle q.seen → IsLegalChronicle r.seen → IsNear q r q r → q.seen ≡ r.seen
-one_history q r legal lawful near =
+one_history q r legal valid near =
     let count : defined q.seen.events ≡ defined r.seen.events = ap defined near.events in
     let tables : q.seen.tables ≡ r.seen.tables =
     sym (take_all (defined q.seen.events) q.seen.tables (omega (arith, tables_are q legal)))
     ∙ near.tables
-    ∙ take_all (defined q.seen.events) r.seen.tables (omega (arith, tables_are r lawful, count)) in
+    ∙ take_all (defined q.seen.events) r.seen.tables (omega (arith, tables_are r valid, count)) in
     chronicles q.seen r.seen near.level near.initial near.events tables
   where
     chronicles : (x y : Chronicle) → x.level ≡ y.level → x.initial ≡ y.initial → x.events ≡ y.events → x.tables ≡ y.tables → x ≡ y
@@ -142,8 +142,8 @@ both_done : (one other : End) → AreAlike one other → (said : Said) (ds es : 
     IsDone one said ds x m → IsDone other said es y n → Rides (closed one) said ds a v x m q w → Rides (closed other) said es b v y n r u →
     IsNear a b q r → Same x y m n q r w u
 both_done one other alike said ds es a b v x y m n q r w u left right first second near =
-    let ends_left = at_last a v first.calls ds q w left.none first.lawful in
-    let ends_right = at_last b v second.calls es r u right.none second.lawful in
+    let ends_left = at_last a v first.calls ds q w left.none first.valid in
+    let ends_right = at_last b v second.calls es r u right.none second.valid in
     record {
       history = one_history q r first.last.legal second.last.legal (near_last a b q r ends_left.0 ends_right.0 near);
       words = ends_left.1 ∙ sym ends_right.1;
@@ -196,10 +196,10 @@ call_end : (c : Call) (rest : Answer → Script) (end : End) →
     (said : Said) (es : List Entry) (out : Said) (to : End) → Goes (ask c rest) said es out to → to ≡ end
 call_end c rest end on said [] out to goes = absurd (no_call c said out to goes.is)
 call_end c rest end on said (did a e ∷ es) out to goes =
-    on a (with_call said c) es out to (record { is = goes.is; calm = goes.calm; written = goes.written })
+    on a (with_call said c) es out to (record { is = goes.is; at_rest = goes.at_rest; written = goes.written })
 call_end c rest end on said (refused (faults.Full limit) ∷ es) out to goes =
-    on (answers.Refused (faults.Full limit)) (with_call said c) es out to (record { is = goes.is; calm = goes.calm; written = goes.written })
-call_end c rest end on said (refused faults.Memory ∷ es) out to goes = absurd (let h : true ≡ false = goes.calm in cc)
+    on (answers.Refused (faults.Full limit)) (with_call said c) es out to (record { is = goes.is; at_rest = goes.at_rest; written = goes.written })
+call_end c rest end on said (refused faults.Memory ∷ es) out to goes = absurd (let h : true ≡ false = goes.at_rest in cc)
 call_end c rest end on said (short final n ∷ es) out to goes = absurd (astray_ended said out to goes.is)
 call_end c rest end on said (unsent n ∷ es) out to goes = absurd (astray_ended said out to goes.is)
 call_end c rest end on said (stop cause ∷ es) out to goes = absurd (astray_ended said out to goes.is)

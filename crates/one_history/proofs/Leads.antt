@@ -1,4 +1,4 @@
--- Where a lawful record leads, and what a book that is alone has added.
+-- Where a valid record leads, and what a book that is alone has added.
 use Rattle.std.proofs.Common.{◌≡◌, ℕ, ◌+◌, ◌≤◌, List, [], ◌∷◌, ◌++◌, length, refl, sym, ◌∙◌, ap, subst, append_assoc, arith, length-append}
 use Rattle.std.proofs.lemmas.List.{append-nil, take_at}
 use Rattle.cell_base.specs.declared.cell.Cell.{Cell}
@@ -18,7 +18,7 @@ use Rattle.block_machine.specs.Calls as calls
 use Rattle.block_machine.specs.declared.call.Answer.{Answer}
 use Rattle.block_machine.specs.declared.call.Answer.TheVariants as answers
 use Rattle.block_machine.specs.Script.{Entry, did, refused, short, unsent, stop}
-use Rattle.session_core.specs.Record.{Happens, Declines, Lawful}
+use Rattle.session_core.specs.Record.{Happens, Declines, IsValidRecord}
 
 -- the one past goes on as the other: it adds as many events at least as the book adds
 pub record Leads (p q : Past) : Type 0 where
@@ -102,22 +102,22 @@ pub declines_goes : (p : Past) (c : Call) (why : BookFault) (q : Past) → Decli
 declines_goes p c (faults.Full limit) q h = h.1
 declines_goes p c faults.Memory q h = h.1
 
-pub lawful_leads : {W : Type 0} (gives : W → ℕ → W → Type 0) (p : Past) (v : W) (cs : List Call) (es : List Entry) (q : Past) (w : W) →
-    Lawful gives p v cs es q w → Leads p q
-lawful_leads gives p v [] [] q w l = leads_same p q l.0
-lawful_leads gives p v (c ∷ cs) [] q w l = absurd l
-lawful_leads gives p v [] (did a e ∷ es) q w l = absurd l
-lawful_leads gives p v [] (refused why ∷ es) q w l = absurd l
-lawful_leads gives p v [] (short final n ∷ es) q w l = lawful_leads gives p v [] es q w l
-lawful_leads gives p v [] (unsent n ∷ es) q w l = lawful_leads gives p v [] es q w l
-lawful_leads gives p v [] (stop cause ∷ es) q w l = lawful_leads gives p v [] es q w l
-lawful_leads gives p v (c ∷ cs) (did a e ∷ es) q w l =
-    leads_on p l.0 q (leads_adds p l.0 e (happens_adds p c a e l.0 l.2)) (lawful_leads gives l.0 l.1 cs es q w l.4)
-lawful_leads gives p v (c ∷ cs) (refused why ∷ es) q w l =
-    leads_on p l.0 q (leads_goes p l.0 (declines_goes p c why l.0 l.2)) (lawful_leads gives l.0 l.1 cs es q w l.4)
-lawful_leads gives p v (c ∷ cs) (short final n ∷ es) q w l = lawful_leads gives p v (c ∷ cs) es q w l
-lawful_leads gives p v (c ∷ cs) (unsent n ∷ es) q w l = lawful_leads gives p v (c ∷ cs) es q w l
-lawful_leads gives p v (c ∷ cs) (stop cause ∷ es) q w l = lawful_leads gives p v (c ∷ cs) es q w l
+pub valid_leads : {W : Type 0} (gives : W → ℕ → W → Type 0) (p : Past) (v : W) (cs : List Call) (es : List Entry) (q : Past) (w : W) →
+    IsValidRecord gives p v cs es q w → Leads p q
+valid_leads gives p v [] [] q w l = leads_same p q l.0
+valid_leads gives p v (c ∷ cs) [] q w l = absurd l
+valid_leads gives p v [] (did a e ∷ es) q w l = absurd l
+valid_leads gives p v [] (refused why ∷ es) q w l = absurd l
+valid_leads gives p v [] (short final n ∷ es) q w l = valid_leads gives p v [] es q w l
+valid_leads gives p v [] (unsent n ∷ es) q w l = valid_leads gives p v [] es q w l
+valid_leads gives p v [] (stop cause ∷ es) q w l = valid_leads gives p v [] es q w l
+valid_leads gives p v (c ∷ cs) (did a e ∷ es) q w l =
+    leads_on p l.0 q (leads_adds p l.0 e (happens_adds p c a e l.0 l.2)) (valid_leads gives l.0 l.1 cs es q w l.4)
+valid_leads gives p v (c ∷ cs) (refused why ∷ es) q w l =
+    leads_on p l.0 q (leads_goes p l.0 (declines_goes p c why l.0 l.2)) (valid_leads gives l.0 l.1 cs es q w l.4)
+valid_leads gives p v (c ∷ cs) (short final n ∷ es) q w l = valid_leads gives p v (c ∷ cs) es q w l
+valid_leads gives p v (c ∷ cs) (unsent n ∷ es) q w l = valid_leads gives p v (c ∷ cs) es q w l
+valid_leads gives p v (c ∷ cs) (stop cause ∷ es) q w l = valid_leads gives p v (c ∷ cs) es q w l
 
 -- a book that is alone at its beginning and at its end is alone in between
 pub alone_between : (p m q : Past) → length p.seen.events ≡ length p.own → length q.seen.events ≡ length q.own → Leads p m → Leads m q →

@@ -13,7 +13,7 @@ pub mod Statements
 pub mod Messages
 pub mod OneMessage
 pub mod Endings
-pub mod Talks
+pub mod RequestStreams
 pub mod OneHistory
 pub mod Piped
 pub mod PipedRuns

@@ -9,11 +9,11 @@ use Rattle.block_machine.specs.Script.{Said}
 use Rattle.block_machine.specs.declared.end.End.{End}
 use Rattle.session_core.specs.declared.phase.Phase.TheVariants as phases
 use Rattle.session_core.specs.Told.{told, session}
-use Rattle.session_core.proofs.Lawfuls.{own_events}
+use Rattle.session_core.proofs.ValidRecords.{own_events}
 use Rattle.choice_stream.specs.Choices.{DrawsFirst}
 use Rattle.one_history.specs.Laws.{Served, OneHistory, WantsMore, no_past}
 use Rattle.one_history.proofs.Rides.{IsLast, Rides, IsNear, Agree}
-use Rattle.one_history.proofs.Talks.{IsSpared, sessions_agree}
+use Rattle.one_history.proofs.RequestStreams.{IsSpared, sessions_agree}
 
 abbrev nothing_said : Said
 nothing_said = record { bytes = []; calls = [] }
@@ -24,19 +24,19 @@ last_of level initial taken words history left sent end s = record {
   legal = subst (λ (h : Chronicle). IsLegalChronicle h) (sym s.history_is) s.legal;
   alone =
       ap (λ (h : Chronicle). length h.events) s.history_is ∙ ap length s.alone
-      ∙ sym (ap length (own_events DrawsFirst (no_past level initial) words s.asked s.es s.past left s.lawful));
+      ∙ sym (ap length (own_events DrawsFirst (no_past level initial) words s.asked s.es s.past left s.valid));
 }
 
 -- a session that was served rode over its whole script
 rides_of : (level : Level) (initial : List (Cell × Value)) (taken words : List ℕ) (history : Chronicle) (left sent : List ℕ) (end : End) →
     (s : Served level initial taken words history left sent end) →
-    Rides (session phases.Startup (at_start level) s.talk) nothing_said s.es (no_past level initial) words (record { bytes = sent; calls = s.asked }) end s.past left
+    Rides (session phases.Startup (at_start level) s.requests) nothing_said s.es (no_past level initial) words (record { bytes = sent; calls = s.asked }) end s.past left
 unfolding told
 rides_of level initial taken words history left sent end s = record {
-  goes = record { is = s.told_is; calm = s.calm; written = s.written };
+  goes = record { is = s.told_is; at_rest = s.at_rest; written = s.written };
   calls = s.asked;
   asked = refl;
-  lawful = s.lawful;
+  valid = s.valid;
   alone = refl;
   last = last_of level initial taken words history left sent end s;
 }
@@ -49,8 +49,8 @@ not_spared (x ∷ xs) end (inr never) spared = never spared
 
 pub one_history : OneHistory
 one_history level initial taken more words first second left right sent told one other a b either =
-    let agree : Agree (IsSpared more) (session phases.Startup (at_start level) a.talk) (session phases.Startup (at_start level) b.talk) =
-    sessions_agree more phases.Startup (at_start level) false taken a.talk b.talk a.talk_is b.talk_is in
+    let agree : Agree (IsSpared more) (session phases.Startup (at_start level) a.requests) (session phases.Startup (at_start level) b.requests) =
+    sessions_agree more phases.Startup (at_start level) false taken a.requests b.requests a.requests_are b.requests_are in
     let near : IsNear (no_past level initial) (no_past level initial) a.past b.past = record { level = refl; initial = refl; events = refl; state = refl; tables = refl } in
     let rode = agree.same nothing_said a.es b.es (no_past level initial) (no_past level initial) words (record { bytes = sent; calls = a.asked })
     (record { bytes = told; calls = b.asked }) one other a.past b.past left right

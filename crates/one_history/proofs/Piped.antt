@@ -15,17 +15,17 @@ use Rattle.one_history.proofs.OneHistory.{one_history}
 served : (level : Level) (words : List ℕ) (f g : Sight) (end : End) (a : ServesAlone level words f g end false) → end ≢ ends.WriteFault →
     Served level [] a.taken words a.past.seen a.rest a.sent end
 served level words f g end a written = record {
-  talk = a.talk;
+  requests = a.requests;
   es = a.es;
   asked = a.asked;
   past = a.past;
-  talk_is = a.serves.talk_is;
+  requests_are = a.serves.requests_are;
   told_is = a.serves.told_is;
-  lawful = a.serves.lawful;
+  valid = a.serves.valid;
   history_is = refl;
   legal = a.legal;
   alone = a.events;
-  calm = sym a.serves.short;
+  at_rest = sym a.serves.short;
   written = written;
 }
 

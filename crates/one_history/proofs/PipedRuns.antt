@@ -59,10 +59,10 @@ abbrev pub RunsAlike : (level : Level) (words : List ℕ) (f g h k : Sight) (one
 RunsAlike level words f g h k one other wants lacks a b =
     (status_of one wants ≡ status_of other lacks) × (a.past.seen ≡ b.past.seen) × WroteAlike g k
 
-calm_runs : (level : Level) (words : List ℕ) (f g h k : Sight) (one other : End) (a : ServesAlone level words f g one false) (b : ServesAlone level words h k other false)
+at_rest_runs : (level : Level) (words : List ℕ) (f g h k : Sight) (one other : End) (a : ServesAlone level words f g one false) (b : ServesAlone level words h k other false)
     (t u : Traffic) → f.traffic ≡ Some t → h.traffic ≡ Some u → t.left ≡ u.left → t.written ≡ u.written → status_of one false < 2 →
     status_of other false < 2 → RunsAlike level words f g h k one other false false a b
-calm_runs level words f g h k one other a b t u at also input output small smaller =
+at_rest_runs level words f g h k one other a b t u at also input output small smaller =
     let sent : one ≢ ends.WriteFault = no_failed_write one small in
     let sent_too : other ≢ ends.WriteFault = no_failed_write other smaller in
     let is = piped level words f g h k t u one other a b at also input sent sent_too (no_failed_read one small) (no_failed_read other smaller) in
@@ -87,13 +87,13 @@ runs : (level : Level) (words : List ℕ) (f g h k : Sight) (one other : End) (w
 runs level words f g h k one other true lacks a b t u at also input output small smaller = absurd (no_short one small)
 runs level words f g h k one other false true a b t u at also input output small smaller = absurd (no_short other smaller)
 runs level words f g h k one other false false a b t u at also input output small smaller =
-    calm_runs level words f g h k one other a b t u at also input output small smaller
+    at_rest_runs level words f g h k one other a b t u at also input output small smaller
 
 pub piped_runs : (level : Level) (words : List ℕ) (before after then later : Hosted) (code status : ℕ) (t u : Traffic) (a : Piped level words before code after)
     (b : Piped level words then status later) → a.given.traffic ≡ Some t → b.given.traffic ≡ Some u → t.left ≡ u.left → t.written ≡ u.written →
     code < 2 → status < 2 → (code ≡ status) × (a.serves.past.seen ≡ b.serves.past.seen) × WroteAlike a.returned b.returned
 piped_runs level words before after then later code status t u a b at also input output small smaller =
     let is =
-    runs level words a.given a.returned b.given b.returned a.end b.end a.wanting b.wanting a.serves b.serves t u at also input output
+    runs level words a.given a.returned b.given b.returned a.end b.end a.out_of_memory b.out_of_memory a.serves b.serves t u at also input output
     (subst (λ (n : ℕ). n < 2) a.code_is small) (subst (λ (n : ℕ). n < 2) b.code_is smaller) in
     (a.code_is ∙ is.0 ∙ sym b.code_is, is.1, is.2)

@@ -9,14 +9,14 @@ use Rattle.block_machine.specs.Calls.{Call}
 use Rattle.block_machine.specs.Script.{Entry, did, refused, short, unsent, stop, has_short, Next, ended, astray, Said, with_bytes, Script, lost, tell, unless_short, unless_unsent}
 use Rattle.block_machine.specs.declared.end.End.{End}
 use Rattle.block_machine.specs.declared.end.End.TheVariants as ends
-use Rattle.session_core.specs.Record.{Lawful}
+use Rattle.session_core.specs.Record.{IsValidRecord}
 use Rattle.choice_stream.specs.Choices.{DrawsFirst}
 use Rattle.one_history.specs.Laws.{EndsAlike}
 
--- the script takes the record to this end; memory is not wanting, and no write fails
+-- the script takes the record to this end; memory didn't run out, and no write fails
 pub record Goes (s : Script) (said : Said) (es : List Entry) (out : Said) (end : End) : Type 0 where
   pub is : s said es ≡ (out, ended end)
-  pub calm : has_short es ≡ false
+  pub at_rest : has_short es ≡ false
   pub written : end ≢ ends.WriteFault
 
 -- it only adds calls to those that were asked
@@ -28,12 +28,12 @@ pub record IsLast (q : Past) : Type 0 where
   pub legal : IsLegalChronicle q.seen
   pub alone : length q.seen.events ≡ length q.own
 
--- the same with a lawful record, from this past and these words on to others
+-- the same with a valid record, from this past and these words on to others
 pub record Rides (s : Script) (said : Said) (es : List Entry) (p : Past) (v : List ℕ) (out : Said) (end : End) (q : Past) (w : List ℕ) : Type 0 where
   pub goes : Goes s said es out end
   pub calls : List Call
   pub asked : out.calls ≡ said.calls ++ calls
-  pub lawful : Lawful DrawsFirst p v calls es q w
+  pub valid : IsValidRecord DrawsFirst p v calls es q w
   pub alone : length p.seen.events ≡ length p.own
   pub last : IsLast q
 
@@ -107,7 +107,7 @@ rides_passing f s t keeps passes said es p v out end q w rides = record {
   goes = passes said es out end rides.goes;
   calls = rides.calls;
   asked = rides.asked ∙ ap (λ (cs : List Call). cs ++ rides.calls) (sym (keeps said));
-  lawful = rides.lawful;
+  valid = rides.valid;
   alone = rides.alone;
   last = rides.last;
 }
@@ -132,21 +132,21 @@ abbrev pub Breaks : Script → Type 0
 Breaks s = (said : Said) (es : List Entry) (out : Said) (end : End) → s said es ≡ (out, ended end) → end ≡ ends.WriteFault
 
 sends_on : (n : ℕ) (fault rest : Script) → Breaks fault → Passes (λ said. said) (unless_unsent n fault rest) rest
-sends_on n fault rest breaks said [] out end goes = record { is = goes.is; calm = goes.calm; written = goes.written }
-sends_on n fault rest breaks said (did a e ∷ es) out end goes = record { is = goes.is; calm = goes.calm; written = goes.written }
-sends_on n fault rest breaks said (refused why ∷ es) out end goes = record { is = goes.is; calm = goes.calm; written = goes.written }
-sends_on n fault rest breaks said (short final k ∷ es) out end goes = record { is = goes.is; calm = goes.calm; written = goes.written }
+sends_on n fault rest breaks said [] out end goes = record { is = goes.is; at_rest = goes.at_rest; written = goes.written }
+sends_on n fault rest breaks said (did a e ∷ es) out end goes = record { is = goes.is; at_rest = goes.at_rest; written = goes.written }
+sends_on n fault rest breaks said (refused why ∷ es) out end goes = record { is = goes.is; at_rest = goes.at_rest; written = goes.written }
+sends_on n fault rest breaks said (short final k ∷ es) out end goes = record { is = goes.is; at_rest = goes.at_rest; written = goes.written }
 sends_on n fault rest breaks said (unsent k ∷ es) out end goes =
     elim (two (k == n)) [
       | inl same ↦ absurd (goes.written (breaks said es out end (sym (cond-true _ _ _ same) ∙ goes.is)))
-      | inr other ↦ record { is = sym (cond-false _ _ _ other) ∙ goes.is; calm = goes.calm; written = goes.written }
+      | inr other ↦ record { is = sym (cond-false _ _ _ other) ∙ goes.is; at_rest = goes.at_rest; written = goes.written }
     ]
-sends_on n fault rest breaks said (stop cause ∷ es) out end goes = record { is = goes.is; calm = goes.calm; written = goes.written }
+sends_on n fault rest breaks said (stop cause ∷ es) out end goes = record { is = goes.is; at_rest = goes.at_rest; written = goes.written }
 
 pub tells_on : (bytes : List ℕ) (fault rest : Script) → Breaks fault → Passes (λ said. with_bytes said bytes) (tell bytes fault rest) rest
 tells_on bytes fault rest breaks said es out end goes =
     sends_on (length said.bytes) fault rest breaks (with_bytes said bytes) es out end
-    (record { is = goes.is; calm = goes.calm; written = goes.written })
+    (record { is = goes.is; at_rest = goes.at_rest; written = goes.written })
 
 pub tell_agrees : (E : End → Type 0) → (bytes : List ℕ) (fault other s t : Script) → Breaks fault → Breaks other → Agree E s t →
     Agree E (tell bytes fault s) (tell bytes other t)
@@ -154,17 +154,17 @@ tell_agrees E bytes fault other s t breaks breaks_too agree =
     agree_passing E (λ said. with_bytes said bytes) (tell bytes fault s) (tell bytes other t) s t (λ said. refl)
     (tells_on bytes fault s breaks) (tells_on bytes other t breaks_too) agree
 
--- ---- memory is not wanting
+-- ---- memory didn't run out
 
-pub calm_on : (final : Bool) (short_of rest : Script) → Passes (λ said. said) (unless_short final short_of rest) rest
-calm_on final short_of rest said [] out end goes = record { is = goes.is; calm = goes.calm; written = goes.written }
-calm_on final short_of rest said (did a e ∷ es) out end goes = record { is = goes.is; calm = goes.calm; written = goes.written }
-calm_on final short_of rest said (refused why ∷ es) out end goes = record { is = goes.is; calm = goes.calm; written = goes.written }
-calm_on final short_of rest said (short other k ∷ es) out end goes = absurd (let h : true ≡ false = goes.calm in cc)
-calm_on final short_of rest said (unsent k ∷ es) out end goes = record { is = goes.is; calm = goes.calm; written = goes.written }
-calm_on final short_of rest said (stop cause ∷ es) out end goes = record { is = goes.is; calm = goes.calm; written = goes.written }
+pub at_rest_on : (final : Bool) (short_of rest : Script) → Passes (λ said. said) (unless_short final short_of rest) rest
+at_rest_on final short_of rest said [] out end goes = record { is = goes.is; at_rest = goes.at_rest; written = goes.written }
+at_rest_on final short_of rest said (did a e ∷ es) out end goes = record { is = goes.is; at_rest = goes.at_rest; written = goes.written }
+at_rest_on final short_of rest said (refused why ∷ es) out end goes = record { is = goes.is; at_rest = goes.at_rest; written = goes.written }
+at_rest_on final short_of rest said (short other k ∷ es) out end goes = absurd (let h : true ≡ false = goes.at_rest in cc)
+at_rest_on final short_of rest said (unsent k ∷ es) out end goes = record { is = goes.is; at_rest = goes.at_rest; written = goes.written }
+at_rest_on final short_of rest said (stop cause ∷ es) out end goes = record { is = goes.is; at_rest = goes.at_rest; written = goes.written }
 
-pub calm_agrees : (E : End → Type 0) → (final : Bool) (one other s t : Script) → Agree E s t → Agree E (unless_short final one s) (unless_short final other t)
-calm_agrees E final one other s t agree =
+pub at_rest_agrees : (E : End → Type 0) → (final : Bool) (one other s t : Script) → Agree E s t → Agree E (unless_short final one s) (unless_short final other t)
+at_rest_agrees E final one other s t agree =
     agree_passing E (λ said. said) (unless_short final one s) (unless_short final other t) s t (λ said. refl)
-    (calm_on final one s) (calm_on final other t) agree
+    (at_rest_on final one s) (at_rest_on final other t) agree

@@ -33,7 +33,7 @@ use Rattle.block_machine.specs.declared.block.Block.{Block}
 use Rattle.block_machine.specs.declared.block.Block.TheVariants.{Implicit, Regular, Failed}
 use Rattle.block_machine.specs.declared.block.Owed.{Owed}
 use Rattle.block_machine.specs.declared.block.Owed.TheVariants as owes
-use Rattle.one_history.proofs.Rides.{Agree, Breaks, lost_agrees, tell_agrees, calm_agrees}
+use Rattle.one_history.proofs.Rides.{Agree, Breaks, lost_agrees, tell_agrees, at_rest_agrees}
 use Rattle.one_history.proofs.Turning.{ask_agrees}
 use Rattle.one_history.proofs.Cases.{looked_agrees, defined_agrees, begun_agrees, listed_agrees, found_agrees, written_agrees, shown_agrees}
 
@@ -71,9 +71,9 @@ declined : (E : End → Type 0) → (x y : Around) → Alike E x y → (block : 
     Agree E (told.declined block known x why) (told.declined block known y why)
 declined E x y h block known why = fails E x y h (refusal_state why) block known
 
-calm : (E : End → Type 0) → (x y : Around) (block : Block) (known : Knowledge) (s t : Script) → Agree E s t →
+at_rest : (E : End → Type 0) → (x y : Around) (block : Block) (known : Knowledge) (s t : Script) → Agree E s t →
     Agree E (told.unless_short_in block known x s) (told.unless_short_in block known y t)
-calm E x y block known s t agree = calm_agrees E false (told.fails states.S53200 block known x) (told.fails states.S53200 block known y) s t agree
+at_rest E x y block known s t agree = at_rest_agrees E false (told.fails states.S53200 block known x) (told.fails states.S53200 block known y) s t agree
 
 -- ---- BEGIN, COMMIT, ROLLBACK
 
@@ -121,15 +121,15 @@ concludes E x y h outcome block known = succeeds E x y h (outcome_reply outcome)
 runs : (E : End → Type 0) → (x y : Around) → Alike E x y → (c : Course) (block : Block) (known : Knowledge) → Agree E (told.runs c block known x) (told.runs c block known y)
 runs E x y h (scan table next) block known =
     ask_agrees E (calls.Scan table) _ _
-    (λ a. listed_agrees E a _ _ _ _ (λ keys. calm E x y block known (told.runs (next keys) block known x) (told.runs (next keys) block known y) (runs E x y h (next keys) block known))
+    (λ a. listed_agrees E a _ _ _ _ (λ keys. at_rest E x y block known (told.runs (next keys) block known x) (told.runs (next keys) block known y) (runs E x y h (next keys) block known))
     (declined E x y h block known))
 runs E x y h (touch cell next) block known =
     ask_agrees E (calls.Touch cell) _ _
-    (λ a. found_agrees E a _ _ _ _ (λ value. calm E x y block known (told.runs (next value) block known x) (told.runs (next value) block known y) (runs E x y h (next value) block known))
+    (λ a. found_agrees E a _ _ _ _ (λ value. at_rest E x y block known (told.runs (next value) block known x) (told.runs (next value) block known y) (runs E x y h (next value) block known))
     (declined E x y h block known))
 runs E x y h (write cell value next) block known =
     ask_agrees E (calls.Write cell value) _ _
-    (λ a. written_agrees E a _ _ _ _ (calm E x y block known (told.runs next block known x) (told.runs next block known y) (runs E x y h next block known))
+    (λ a. written_agrees E a _ _ _ _ (at_rest E x y block known (told.runs next block known x) (told.runs next block known y) (runs E x y h next block known))
     (declined E x y h block known))
 runs E x y h (done outcome) block known = concludes E x y h outcome block known
 
@@ -138,7 +138,7 @@ begins : (E : End → Type 0) → (x y : Around) → Alike E x y → (c : Course
 begins E x y h c (Implicit false) known =
     ask_agrees E (calls.Begin known.level) _ _
     (λ a. begun_agrees E a _ _ _ _
-    (calm E x y (Implicit true) known (told.runs c (Implicit true) known x) (told.runs c (Implicit true) known y) (runs E x y h c (Implicit true) known))
+    (at_rest E x y (Implicit true) known (told.runs c (Implicit true) known x) (told.runs c (Implicit true) known y) (runs E x y h c (Implicit true) known))
     (declined E x y h (Implicit false) known))
 begins E x y h c (Implicit true) known = runs E x y h c (Implicit true) known
 begins E x y h c Regular known = runs E x y h c Regular known
@@ -152,7 +152,7 @@ judged E x y h (Err code) block known = fails E x y h code block known
 typed_over : (E : End → Type 0) → (x y : Around) → Alike E x y → (statement : Statement) (block : Block) (known : Knowledge) (tables : List Table) →
     Agree E (told.typed_over statement block known tables x) (told.typed_over statement block known tables y)
 typed_over E x y h statement block known tables =
-    calm E x y block known (told.judged (typed (known.tables ++ tables) statement) block (with_tables known tables) x)
+    at_rest E x y block known (told.judged (typed (known.tables ++ tables) statement) block (with_tables known tables) x)
     (told.judged (typed (known.tables ++ tables) statement) block (with_tables known tables) y)
     (judged E x y h (typed (known.tables ++ tables) statement) block (with_tables known tables))
 
@@ -165,7 +165,7 @@ looks E x y h statement block known =
 prepares : (E : End → Type 0) → (x y : Around) → Alike E x y → (statement : Statement) (block : Block) (known : Knowledge) →
     Agree E (told.prepares statement block known x) (told.prepares statement block known y)
 prepares E x y h statement block known =
-    calm E x y block known (told.looks statement block known x) (told.looks statement block known y) (looks E x y h statement block known)
+    at_rest E x y block known (told.looks statement block known x) (told.looks statement block known y) (looks E x y h statement block known)
 
 at_once : (E : End → Type 0) → (x y : Around) → Alike E x y → (c : Course) (block : Block) (known : Knowledge) →
     Agree E (told.at_once c block known x) (told.at_once c block known y)
@@ -182,7 +182,7 @@ judged_at_once E x y h (Err code) block known = fails E x y h code block known
 selects : (E : End → Type 0) → (x y : Around) → Alike E x y → (entries : List TableRef) (statement : Statement) (block : Block) (known : Knowledge) →
     Agree E (told.selects entries statement block known x) (told.selects entries statement block known y)
 selects E x y h [] statement block known =
-    calm E x y block known (told.judged_at_once (typed [] statement) block known x) (told.judged_at_once (typed [] statement) block known y)
+    at_rest E x y block known (told.judged_at_once (typed [] statement) block known x) (told.judged_at_once (typed [] statement) block known y)
     (judged_at_once E x y h (typed [] statement) block known)
 selects E x y h (entry ∷ more) statement block known = prepares E x y h statement block known
 
@@ -207,14 +207,14 @@ shows_value : (E : End → Type 0) → (x y : Around) → Alike E x y → (name 
     Agree E (told.shows_value name value block known x) (told.shows_value name value block known y)
 shows_value E x y h name None block known = fails E x y h states.S0A000 block known
 shows_value E x y h name (Some value) block known =
-    calm E x y block known (told.succeeds (show_reply name value) block known x) (told.succeeds (show_reply name value) block known y)
+    at_rest E x y block known (told.succeeds (show_reply name value) block known x) (told.succeeds (show_reply name value) block known y)
     (succeeds E x y h (show_reply name value) block known)
 
 shows_history : (E : End → Type 0) → (x y : Around) → Alike E x y → (block : Block) (known : Knowledge) → Agree E (told.shows_history block known x) (told.shows_history block known y)
 shows_history E x y h block known =
     ask_agrees E calls.Show _ _
     (λ a. shown_agrees E a _ _ _ _
-    (λ n. calm E x y block known (told.succeeds (show_reply history_name (decimal n)) block known x)
+    (λ n. at_rest E x y block known (told.succeeds (show_reply history_name (decimal n)) block known x)
     (told.succeeds (show_reply history_name (decimal n)) block known y) (succeeds E x y h (show_reply history_name (decimal n)) block known))
     (declined E x y h block known))
 
@@ -232,7 +232,7 @@ performs E x y h (tree.Insert insert) block known = prepares E x y h (tree.Inser
 performs E x y h (tree.Update update) block known = prepares E x y h (tree.Update update) block known
 performs E x y h (tree.Delete delete) block known = prepares E x y h (tree.Delete delete) block known
 performs E x y h (tree.Create create) block known =
-    calm E x y block known (told.defines (built create) block known x) (told.defines (built create) block known y) (defines E x y h (built create) block known)
+    at_rest E x y block known (told.defines (built create) block known x) (told.defines (built create) block known y) (defines E x y h (built create) block known)
 performs E x y h (tree.Begin start) block known = starts E x y h start block known
 performs E x y h tree.Commit block known = commits E x y h block known
 performs E x y h tree.Rollback block known = rolls_back E x y h block known

@@ -20,7 +20,7 @@ use Rattle.block_machine.specs.declared.call.Answer.TheVariants as answers
 use Rattle.block_machine.specs.declared.end.End.{End}
 use Rattle.session_core.specs.Record.{Happens, Draws, StateAfter}
 use Rattle.choice_stream.specs.Choices.{DrawsFirst}
-use Rattle.one_history.proofs.Leads.{Leads, made_of, lawful_leads, happens_adds, goes_alone}
+use Rattle.one_history.proofs.Leads.{Leads, made_of, valid_leads, happens_adds, goes_alone}
 use Rattle.one_history.proofs.Names.{names-more, placed}
 use Rattle.one_history.proofs.Values.{not_both}
 use Rattle.one_history.proofs.Known.{Known, Way, known, same_names}
@@ -221,7 +221,7 @@ one_step a b m n q r v u w c x y near alone lone after behind last end to on (in
 
 leads_last : (s : Script) (said : Said) (p : Past) (v : List ℕ) (q : Past) (w : List ℕ) (out : Said) (end : End) (es : List Entry) →
     Rides s said es p v out end q w → Leads p q
-leads_last s said p v q w out end es rides = lawful_leads DrawsFirst p v rides.calls es q w rides.lawful
+leads_last s said p v q w out end es rides = valid_leads DrawsFirst p v rides.calls es q w rides.valid
 
 -- scripts that ask one call agree where they agree after each answer
 pub ask_agrees : (E : End → Type 0) → (c : Call) (s t : Answer → Script) → ((a : Answer) → Agree E (s a) (t a)) → Agree E (ask c s) (ask c t)

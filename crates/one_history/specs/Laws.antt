@@ -11,9 +11,9 @@ use Rattle.block_machine.specs.Script.{Entry, ended, has_short}
 use Rattle.block_machine.specs.declared.end.End.{End}
 use Rattle.block_machine.specs.declared.end.End.TheVariants as ends
 use Rattle.session_core.specs.Replies.{fatal_reply}
-use Rattle.session_core.specs.Talk.{Talk, IsTalk}
+use Rattle.session_core.specs.Requests.{Requests, AreRequests}
 use Rattle.session_core.specs.Told.{told}
-use Rattle.session_core.specs.Record.{Lawful, events_of}
+use Rattle.session_core.specs.Record.{IsValidRecord, events_of}
 use Rattle.choice_stream.specs.Choices.{DrawsFirst}
 use Rattle.link_traits.specs.Traffic.{Traffic, Sight}
 use Rattle.monkey_server.specs.Program.{ServesAlone, Hosted, Does}
@@ -37,19 +37,19 @@ no_past level initial =
     record { seen = record { level = level; initial = initial; events = []; tables = [] }; own = []; state = no_session }
 
 -- A session at that level took these bytes and was given these words. It was served to this end, alone with its book from that initial
--- state and no event on; memory was not wanting, and no write failed. It left this history and these words, and was told these bytes.
+-- state and no event on; memory didn't run out, and no write failed. It left this history and these words, and was told these bytes.
 pub record Served (level : Level) (initial : List (Cell × Value)) (taken words : List ℕ) (history : Chronicle) (left sent : List ℕ) (end : End) : Type 0 where
-  pub talk : Talk
+  pub requests : Requests
   pub es : List Entry
   pub asked : List Call
   pub past : Past
-  pub talk_is : IsTalk false taken talk
-  pub told_is : told level talk es ≡ (record { bytes = sent; calls = asked }, ended end)
-  pub lawful : Lawful DrawsFirst (no_past level initial) words asked es past left
+  pub requests_are : AreRequests false taken requests
+  pub told_is : told level requests es ≡ (record { bytes = sent; calls = asked }, ended end)
+  pub valid : IsValidRecord DrawsFirst (no_past level initial) words asked es past left
   pub history_is : past.seen ≡ history
   pub legal : IsLegalChronicle history
   pub alone : history.events ≡ events_of es
-  pub calm : has_short es ≡ false
+  pub at_rest : has_short es ≡ false
   pub written : end ≢ ends.WriteFault
 
 -- the same bytes were told, and then what each end tells
@@ -95,7 +95,7 @@ OneHistory =
     (first ≡ second) × (left ≡ right) × EndsAlike sent one told other
 
 -- Two runs of `pipe LEVEL WORDS` over links that tell their bytes and hold the same input, however they cut it into pieces. Where in neither
--- memory was wanting, or a read or a write failed, the two have the same history, leave the same words, end alike, and were told the same
+-- memory ran out, or a read or a write failed, the two have the same history, leave the same words, end alike, and were told the same
 -- bytes.
 abbrev pub PipeHasOneHistory : Type 0
 PipeHasOneHistory =

@@ -9,13 +9,13 @@ use Rattle.block_machine.specs.Script.{Entry, Said, with_call}
 use Rattle.block_machine.specs.Stages.{IsFrom, entry_for, with_short}
 use Rattle.block_machine.specs.Stages as running
 use Rattle.block_machine.specs.Messages.{Outside}
-use Rattle.block_machine.specs.Runners.{behind, follows, knowledge_of, wanted}
+use Rattle.block_machine.specs.Runners.{follows_reply, follows, knowledge_of, wanted}
 use Rattle.block_machine.specs.declared.call.Answer.{Answer}
 use Rattle.block_machine.specs.declared.runner.Runner.{Runner}
-use Rattle.block_machine.specs.declared.stage.Stage.{Stage as Inner}
-use Rattle.block_machine.specs.declared.stage.Stage.TheVariants as inners
+use Rattle.block_machine.specs.declared.stage.MessageStage.{MessageStage as Inner}
+use Rattle.block_machine.specs.declared.stage.MessageStage.TheVariants as inners
 use Rattle.session_core.specs.declared.phase.Phase.TheVariants as phases
-use Rattle.session_core.specs.declared.stage.Stage.TheVariants as stages
+use Rattle.session_core.specs.declared.stage.SessionStage.TheVariants as stages
 use Rattle.session_core.specs.declared.turns.Shortage.{Shortage}
 use Rattle.session_core.specs.declared.turns.Shortage.TheVariants as shortages
 use Rattle.session_core.specs.Wants as wishes
@@ -41,11 +41,11 @@ pub sends_on : (old new : Runner) (short : Bool) (w : Option Shortage) → runni
     (short ≡ false → w ≡ None) → (short ≡ true → w ≡ Some shortages.Passing) →
     ((outside : Outside) (said : Said) (es : List Entry) →
     IsFrom (running.least new.stage) (length said.bytes) es →
-    behind old outside said (with_short short said.bytes es) ≡ follows new outside said es) → Sends stages.Running old stages.Running new w
-sends_on old new short w busy calm shorts goes startup talk said es from =
-    ap (λ (x : List Entry). behind old (outside_of (on talk)) said x)
-    (sym (with_passing short w said.bytes es calm shorts))
-    ∙ goes (outside_of (on talk)) said es
+    follows_reply old outside said (with_short short said.bytes es) ≡ follows new outside said es) → Sends stages.Running old stages.Running new w
+sends_on old new short w busy at_rest shorts goes startup requests said es from =
+    ap (λ (x : List Entry). follows_reply old (outside_of (on requests)) said x)
+    (sym (with_passing short w said.bytes es at_rest shorts))
+    ∙ goes (outside_of (on requests)) said es
     (subst (λ (n : ℕ). IsFrom n (length said.bytes) es) (sym (least_busy new.stage busy)) from)
 
 -- the message is done
@@ -54,15 +54,15 @@ pub sends_done : (old new : Runner) (state : TransactionState) (short : Bool) (w
     (short ≡ false → w ≡ None) → (short ≡ true → w ≡ Some shortages.Passing) →
     ((outside : Outside) (said : Said) (es : List Entry) →
     IsFrom (running.least new.stage) (length said.bytes) es →
-    behind old outside said (with_short short said.bytes es) ≡ follows new outside said es) →
+    follows_reply old outside said (with_short short said.bytes es) ≡ follows new outside said es) →
     Sends stages.Running old (stages.Taking (phases.Normal state)) new w
-sends_done old new state short w over calm shorts goes startup talk said es from =
-    ap (λ (x : List Entry). behind old (outside_of (on talk)) said x)
-    (sym (with_passing short w said.bytes es calm shorts))
-    ∙ goes (outside_of (on talk)) said es
+sends_done old new state short w over at_rest shorts goes startup requests said es from =
+    ap (λ (x : List Entry). follows_reply old (outside_of (on requests)) said x)
+    (sym (with_passing short w said.bytes es at_rest shorts))
+    ∙ goes (outside_of (on requests)) said es
     (subst (λ (s : Inner). IsFrom (running.least s) (length said.bytes) es) (sym over) from)
     ∙ ap (λ (s : Inner). running.goes_on s new.built.items (knowledge_of new) (into_iter_items new.rest)
-    (outside_of (on talk)) said es) over
+    (outside_of (on requests)) said es) over
 
 -- an answer to the call of a message
 pub advances_running : (old new : Runner) (answer : Answer) (short : Bool) (w : Option Shortage) (startup : List ℕ) →
@@ -71,11 +71,11 @@ pub advances_running : (old new : Runner) (answer : Answer) (short : Bool) (w : 
     IsFrom 1 (length said.bytes) es →
     follows old outside said (entry_for answer e ∷ with_short short said.bytes es) ≡ follows new outside (with_call said c) es) →
     Advances stages.Running old answer stages.Running new w startup
-advances_running old new answer short w startup calm shorts goes = record {
-  goes = λ c before talk said es e is from.
-      ap (λ (x : List Entry). follows old (outside_of (on talk)) said (entry_for answer e ∷ x))
-      (sym (with_passing short w said.bytes es calm shorts))
-      ∙ goes c (outside_of (on talk)) said es e (book_message (wanted old) c is) from;
+advances_running old new answer short w startup at_rest shorts goes = record {
+  goes = λ c before requests said es e is from.
+      ap (λ (x : List Entry). follows old (outside_of (on requests)) said (entry_for answer e ∷ x))
+      (sym (with_passing short w said.bytes es at_rest shorts))
+      ∙ goes c (outside_of (on requests)) said es e (book_message (wanted old) c is) from;
   busy = tt;
   last = λ h. absurd h;
 }

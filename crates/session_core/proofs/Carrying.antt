@@ -6,7 +6,7 @@ use Rattle.cell_base.specs.declared.level.Level.{Level}
 use Rattle.block_machine.specs.Calls.{Call}
 use Rattle.block_machine.specs.declared.end.End.{End}
 use Rattle.block_machine.specs.declared.end.End.TheVariants as ends
-use Rattle.session_core.specs.Talk.{Talk, IsTalk}
+use Rattle.session_core.specs.Requests.{Requests, AreRequests}
 use Rattle.block_machine.specs.Script.{Entry, more}
 use Rattle.session_core.specs.Told.{told}
 use Rattle.session_core.specs.Serve.{IsMark, AreMarks, Carries, IsAtEnd, Blames}
@@ -21,12 +21,12 @@ IsMark-more level t taken es sent m a b c k = record {
   asked = k.asked;
   said = k.said;
   unsaid = k.unsaid ++ c;
-  talk = k.talk;
+  requests = k.requests;
   taken_is = ap (λ x. x ++ a) k.taken_is ∙ append_assoc k.front k.rest a;
   es_is = ap (λ x. x ++ b) k.es_is ∙ append_assoc k.early k.late b;
   sent_is = ap (λ x. x ++ c) k.sent_is ∙ append_assoc k.said k.unsaid c;
   mark_is = k.mark_is;
-  talk_is = k.talk_is;
+  requests_are = k.requests_are;
   told_is = k.told_is;
 }
 
@@ -75,9 +75,9 @@ Carries-wrote level taken es b sent reply part lost t u r e k w = record {
 
 -- a read, where nothing was held back
 pub Carries-took : (level : Level) (taken piece : List ℕ) (es b : List Entry) (asked : List Call) (sent : List ℕ) (t u r : Traffic) →
-    (talk : Talk) → IsTalk false taken talk → told level talk es ≡ (record { bytes = sent; calls = asked }, more) →
+    (requests : Requests) → AreRequests false taken requests → told level requests es ≡ (record { bytes = sent; calls = asked }, more) →
     Carries level taken es sent [] t u → Took piece u r → Carries level (taken ++ piece) (es ++ b) sent [] t r
-Carries-took level taken piece es b asked sent t u r talk is shows k w = record {
+Carries-took level taken piece es b asked sent t u r requests is shows k w = record {
   left = k.left ∙ ap (λ x. taken ++ x) w.left ∙ sym (append_assoc taken piece r.left);
   read_is = w.read ∙ ap (λ x. x ++ piece) k.read_is ∙ append_assoc t.read taken piece;
   written_is = ap (λ x. x ++ []) w.written ∙ k.written_is;
@@ -96,14 +96,14 @@ Carries-took level taken piece es b asked sent t u r talk is shows k w = record 
           asked = asked;
           said = sent;
           unsaid = [];
-          talk = talk;
+          requests = requests;
           taken_is = sym (append-nil taken);
           es_is = sym (append-nil es);
           sent_is = sym (append-nil sent);
           mark_is = ap (λ x. (length x, length u.written)) k.read_is ∙ ap (λ x. (x, length u.written)) (length-append t.read taken)
               ∙ ap (λ x. (length t.read + length taken, length x)) (sym (append-nil u.written) ∙ k.written_is)
               ∙ ap (λ x. (length t.read + length taken, x)) (length-append t.written sent);
-          talk_is = is;
+          requests_are = is;
           told_is = shows;
         }))),
   );

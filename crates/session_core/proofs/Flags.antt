@@ -1,4 +1,4 @@
--- The sign of a want of memory is that of the record, and so is the number of the session.
+-- The sign of a lack of memory is that of the record, and so is the number of the session.
 use Rattle.std.proofs.Common.{◌≡◌, Bool, true, false, ℕ, List, [], ◌∷◌, ◌++◌, refl, sym, ◌∙◌, ap, Option, Some, None}
 use Rattle.std.specs.Prelude.{◌||◌, is_some}
 use Rattle.history_core.specs.declared.event.Event.{Event}
@@ -9,7 +9,7 @@ use Rattle.block_machine.specs.Script.{Entry, did, refused, short, unsent, stop,
 use Rattle.block_machine.specs.Stages.{entry_for, wants_memory}
 use Rattle.session_core.specs.declared.turns.Shortage.{Shortage}
 use Rattle.session_core.specs.Told.{opened_after, opened_from, opened_in}
-use Rattle.session_core.specs.Steps.{with_wanting}
+use Rattle.session_core.specs.Steps.{with_out_of_memory}
 
 or_assoc : (a b c : Bool) → ((a || b) || c) ≡ (a || (b || c))
 or_assoc true b c = refl
@@ -24,16 +24,16 @@ has_short-append [] ys = refl
 has_short-append (x ∷ xs) ys =
     ap (λ b. is_short x || b) (has_short-append xs ys) ∙ sym (or_assoc (is_short x) (has_short xs) (has_short ys))
 
-has_short-with_wanting : (w : Option Shortage) (sent : List ℕ) → has_short (with_wanting w sent []) ≡ is_some w
-has_short-with_wanting (Some shortage) sent = refl
-has_short-with_wanting None sent = refl
+has_short-with_out_of_memory : (w : Option Shortage) (sent : List ℕ) → has_short (with_out_of_memory w sent []) ≡ is_some w
+has_short-with_out_of_memory (Some shortage) sent = refl
+has_short-with_out_of_memory None sent = refl
 
--- a want of memory may stand after
+-- a lack of memory may stand after
 pub flag-fed : (flag now : Bool) (w : Option Shortage) (es : List Entry) (sent : List ℕ) → flag ≡ has_short es → now ≡ (flag || is_some w) →
-    now ≡ has_short (es ++ with_wanting w sent [])
+    now ≡ has_short (es ++ with_out_of_memory w sent [])
 flag-fed flag now w es sent e f =
-    f ∙ ap (λ b. b || is_some w) e ∙ ap (λ b. has_short es || b) (sym (has_short-with_wanting w sent))
-    ∙ sym (has_short-append es (with_wanting w sent []))
+    f ∙ ap (λ b. b || is_some w) e ∙ ap (λ b. has_short es || b) (sym (has_short-with_out_of_memory w sent))
+    ∙ sym (has_short-append es (with_out_of_memory w sent []))
 
 pub flag-one : (flag now b : Bool) (es : List Entry) (e : Entry) → flag ≡ has_short es → now ≡ (flag || b) → is_short e ≡ b →
     now ≡ has_short (es ++ e ∷ [])
@@ -61,10 +61,10 @@ is_short-entry answers.Committed e = refl
 is_short-entry answers.RolledBack e = refl
 is_short-entry (answers.Shown n) e = refl
 
--- an answer, and a want of memory that may stand after it
+-- an answer, and a lack of memory that may stand after it
 pub flag-answered : (flag now both a_wants : Bool) (w : Option Shortage) (es : List Entry) (a : Answer) (e : Event) (sent : List ℕ) →
     flag ≡ has_short es → now ≡ (flag || both) → both ≡ (a_wants || is_some w) →
-    a_wants ≡ wants_memory a → now ≡ has_short ((es ++ entry_for a e ∷ []) ++ with_wanting w sent [])
+    a_wants ≡ wants_memory a → now ≡ has_short ((es ++ entry_for a e ∷ []) ++ with_out_of_memory w sent [])
 flag-answered flag now both a_wants w es a e sent f g h k =
     flag-fed (flag || a_wants) now w (es ++ entry_for a e ∷ []) sent
     (flag-one flag (flag || a_wants) a_wants es (entry_for a e) f refl (is_short-entry a e ∙ sym k))
@@ -80,9 +80,9 @@ opened-append n (short final k ∷ xs) ys = opened-append n xs ys
 opened-append n (unsent k ∷ xs) ys = opened-append n xs ys
 opened-append n (stop cause ∷ xs) ys = opened-append n xs ys
 
-opened-wanting : (n : Option ℕ) (w : Option Shortage) (sent : List ℕ) → opened_from n (with_wanting w sent []) ≡ n
-opened-wanting n None sent = refl
-opened-wanting n (Some shortage) sent = refl
+opened-out_of_memory : (n : Option ℕ) (w : Option Shortage) (sent : List ℕ) → opened_from n (with_out_of_memory w sent []) ≡ n
+opened-out_of_memory n None sent = refl
+opened-out_of_memory n (Some shortage) sent = refl
 
 opened-entry : (n : Option ℕ) (a : Answer) (e : Event) → opened_from n (entry_for a e ∷ []) ≡ opened_after n a
 opened-entry n (answers.Refused why) e = refl
@@ -99,12 +99,12 @@ opened-entry n answers.RolledBack e = refl
 opened-entry n (answers.Shown k) e = refl
 
 pub number-fed : (number : Option ℕ) (w : Option Shortage) (es : List Entry) (sent : List ℕ) → number ≡ opened_in es →
-    number ≡ opened_in (es ++ with_wanting w sent [])
-number-fed number w es sent e = e ∙ sym (opened-append None es (with_wanting w sent []) ∙ opened-wanting (opened_in es) w sent)
+    number ≡ opened_in (es ++ with_out_of_memory w sent [])
+number-fed number w es sent e = e ∙ sym (opened-append None es (with_out_of_memory w sent []) ∙ opened-out_of_memory (opened_in es) w sent)
 
 pub number-answered : (number now : Option ℕ) (w : Option Shortage) (es : List Entry) (a : Answer) (e : Event) (sent : List ℕ) →
     number ≡ opened_in es → now ≡ opened_after number a →
-    now ≡ opened_in ((es ++ entry_for a e ∷ []) ++ with_wanting w sent [])
+    now ≡ opened_in ((es ++ entry_for a e ∷ []) ++ with_out_of_memory w sent [])
 number-answered number now w es a e sent h k =
     number-fed now w (es ++ entry_for a e ∷ []) sent
     (k ∙ ap (λ (n : Option ℕ). opened_after n a) h ∙ sym (opened-append None es (entry_for a e ∷ []) ∙ opened-entry (opened_in es) a e))

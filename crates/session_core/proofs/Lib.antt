@@ -9,7 +9,7 @@ pub mod Grows
 pub mod Flags
 pub mod LastUser
 pub mod Texts
-pub mod Lawfuls
+pub mod ValidRecords
 pub mod Carrying
 pub mod Playing
 pub mod Serving

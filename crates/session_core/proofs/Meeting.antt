@@ -17,45 +17,45 @@ use Rattle.block_machine.specs.declared.runner.Runner.{Runner}
 use Rattle.session_core.specs.declared.phase.Phase.TheVariants as phases
 use Rattle.session_core.specs.declared.stage.Fatal.TheVariants as fatals
 use Rattle.session_core.specs.declared.stage.Finish.TheVariants as finishes
-use Rattle.session_core.specs.declared.stage.Reply.TheVariants as replies
-use Rattle.session_core.specs.declared.stage.Stage.{Stage}
-use Rattle.session_core.specs.declared.stage.Stage.TheVariants as stages
+use Rattle.session_core.specs.declared.stage.SessionReply.TheVariants as replies
+use Rattle.session_core.specs.declared.stage.SessionStage.{SessionStage}
+use Rattle.session_core.specs.declared.stage.SessionStage.TheVariants as stages
 use Rattle.session_core.specs.declared.turns.Shortage.{Shortage}
 use Rattle.session_core.specs.declared.turns.Shortage.TheVariants as shortages
 use Rattle.session_core.specs.Users.{HasUser}
-use Rattle.session_core.specs.Talk.{Talk, encryption, cancel, start, userless, version, query, unread_query, terminate, sync, nothing, extended, function}
+use Rattle.session_core.specs.Requests.{Requests, encryption, cancel, start, userless, version, query, unread_query, terminate, sync, nothing, extended, function}
 use Rattle.session_core.specs.Told.{ending, outside_of, refuses}
 use Rattle.session_core.specs.Stands.{IsFit, IsUnder, IsBusy, Lacks, NoBuilt, goes_on, on, outer, owed_at}
-use Rattle.session_core.specs.Steps.{Meets, Leads, LeadsTo, IsPassing, with_wanting}
+use Rattle.session_core.specs.Steps.{Meets, Leads, LeadsTo, IsPassing, with_out_of_memory}
 use Rattle.session_core.proofs.Passes.{busy-last, unless_short-takes}
 use Rattle.session_core.proofs.Somes.{plain_some}
 
 -- ---- a message that runs
 
--- a want of memory that doesn't end the session
+-- a lack of memory that doesn't end the session
 pub with_passing : (short : Bool) (w : Option Shortage) (sent : List ℕ) (es : List Entry) → (short ≡ false → w ≡ None) →
     (short ≡ true → w ≡ Some shortages.Passing) →
-    with_short short sent es ≡ with_wanting w sent es
-with_passing false w sent es calm short = ap (λ (x : Option Shortage). with_wanting x sent es) (sym (calm refl))
-with_passing true w sent es calm short = ap (λ (x : Option Shortage). with_wanting x sent es) (sym (short refl))
+    with_short short sent es ≡ with_out_of_memory w sent es
+with_passing false w sent es at_rest short = ap (λ (x : Option Shortage). with_out_of_memory x sent es) (sym (at_rest refl))
+with_passing true w sent es at_rest short = ap (λ (x : Option Shortage). with_out_of_memory x sent es) (sym (short refl))
 
 -- a message begins
 pub message_begins : (asked : Message) (state : TransactionState) (old new : Runner) (short : Bool) (w : Option Shortage) →
     (short ≡ false → w ≡ None) → (short ≡ true → w ≡ Some shortages.Passing) →
     ((outside : Outside) (said : Said) (es : List Entry) → IsFrom 1 (length said.bytes) es →
     message asked state (knowledge_of old) outside said (with_short short said.bytes es) ≡ follows new outside said es) →
-    (startup : List ℕ) (talk : Talk) (said : Said) (es : List Entry) → IsFrom 1 (length said.bytes) es →
-    message asked state (knowledge_of old) (outside_of (on talk)) said
-    (with_wanting w said.bytes es) ≡ goes_on stages.Running new startup talk said es
-message_begins asked state old new short w calm shorts goes startup talk said es from =
-    ap (λ (x : List Entry). message asked state (knowledge_of old) (outside_of (on talk)) said x)
-    (sym (with_passing short w said.bytes es calm shorts))
-    ∙ goes (outside_of (on talk)) said es from
+    (startup : List ℕ) (requests : Requests) (said : Said) (es : List Entry) → IsFrom 1 (length said.bytes) es →
+    message asked state (knowledge_of old) (outside_of (on requests)) said
+    (with_out_of_memory w said.bytes es) ≡ goes_on stages.Running new startup requests said es
+message_begins asked state old new short w at_rest shorts goes startup requests said es from =
+    ap (λ (x : List Entry). message asked state (knowledge_of old) (outside_of (on requests)) said x)
+    (sym (with_passing short w said.bytes es at_rest shorts))
+    ∙ goes (outside_of (on requests)) said es from
 
 -- ---- what a message leads to
 
 -- to a stage of the session's own
-pub leads_own : (owed : Owed) (stage : Stage) (r : Runner) → owed_at stage r ≡ owed → IsUnder stage r → outer stage ≡ None →
+pub leads_own : (owed : Owed) (stage : SessionStage) (r : Runner) → owed_at stage r ≡ owed → IsUnder stage r → outer stage ≡ None →
     Lacks stage [] → NoBuilt stage → IsFit r → Leads owed r stage r
 leads_own owed stage r is under inner lacks constant fit = record {
   owed_is = is;
@@ -70,30 +70,30 @@ leads_own owed stage r is under inner lacks constant fit = record {
 -- ---- messages before the startup
 
 pub meets_ssl : (r : Runner) → Meets fronts.Ssl phases.Startup r (stages.Telling replies.NoEncryption) r None
-meets_ssl r = inl (record { asked = encryption; says = tt; busy = tt; passing = tt; goes = λ startup talk said es from. refl })
+meets_ssl r = inl (record { asked = encryption; says = tt; busy = tt; passing = tt; goes = λ startup requests said es from. refl })
 
 pub meets_gss : (r : Runner) → Meets fronts.Gss phases.Startup r (stages.Telling replies.NoEncryption) r None
-meets_gss r = inl (record { asked = encryption; says = tt; busy = tt; passing = tt; goes = λ startup talk said es from. refl })
+meets_gss r = inl (record { asked = encryption; says = tt; busy = tt; passing = tt; goes = λ startup requests said es from. refl })
 
 pub meets_cancel : (pid secret : ℕ) (r : Runner) → Meets (fronts.Cancel pid secret) phases.Startup r
     (stages.Ended finishes.Cancelled) r None
-meets_cancel pid secret r = inl (record { asked = cancel; says = tt; busy = tt; passing = tt; goes = λ startup talk said es from. refl })
+meets_cancel pid secret r = inl (record { asked = cancel; says = tt; busy = tt; passing = tt; goes = λ startup requests said es from. refl })
 
 pub meets_start : (pairs : List ((List ℕ) × (List ℕ))) (r : Runner) → HasUser pairs →
     Meets (fronts.Startup pairs) phases.Startup r stages.Opening r None
-meets_start pairs r has = inl (record { asked = start; says = has; busy = tt; passing = tt; goes = λ startup talk said es from. refl })
+meets_start pairs r has = inl (record { asked = start; says = has; busy = tt; passing = tt; goes = λ startup requests said es from. refl })
 
 pub meets_userless : (pairs : List ((List ℕ) × (List ℕ))) (r : Runner) → (HasUser pairs → ⊥) →
     Meets (fronts.Startup pairs) phases.Startup r (stages.Parting fatals.NoUser) r None
 meets_userless pairs r none =
-    inl (record { asked = userless; says = none; busy = tt; passing = tt; goes = λ startup talk said es from. refl })
+    inl (record { asked = userless; says = none; busy = tt; passing = tt; goes = λ startup requests said es from. refl })
 
 pub meets_version : (code : ℕ) (r : Runner) → Meets (fronts.Version code) phases.Startup r (stages.Parting fatals.OtherVersion) r None
-meets_version code r = inl (record { asked = version; says = tt; busy = tt; passing = tt; goes = λ startup talk said es from. refl })
+meets_version code r = inl (record { asked = version; says = tt; busy = tt; passing = tt; goes = λ startup requests said es from. refl })
 
 -- ---- messages that are served
 
-pub meets_terminate : (state : TransactionState) (stage : Stage) (r : Runner) →
+pub meets_terminate : (state : TransactionState) (stage : SessionStage) (r : Runner) →
     LeadsTo stage (ending (owed_between state) ends.Terminated) → Meets fronts.Terminate (phases.Normal state) r stage r None
 meets_terminate state stage r leads =
     inl (record {
@@ -102,19 +102,19 @@ meets_terminate state stage r leads =
       busy = busy-last stage leads.0;
       passing = tt;
       goes =
-          λ startup talk said es from. leads.1 r startup talk said es;
+          λ startup requests said es from. leads.1 r startup requests said es;
     })
 
 pub meets_sync : (state : TransactionState) (r : Runner) → Meets fronts.Sync (phases.Normal state) r (stages.Telling
     (replies.Ready state)) r None
-meets_sync state r = inl (record { asked = sync; says = tt; busy = tt; passing = tt; goes = λ startup talk said es from. refl })
+meets_sync state r = inl (record { asked = sync; says = tt; busy = tt; passing = tt; goes = λ startup requests said es from. refl })
 
-pub meets_extended : (step : Extended) (state : TransactionState) (stage : Stage) (r : Runner) → IsBusy stage →
-    ((startup : List ℕ) (talk : Talk) (said : Said) (es : List Entry) →
-    refuses state (knowledge_of r) (on talk) said es ≡ goes_on stage r startup talk said es) →
+pub meets_extended : (step : Extended) (state : TransactionState) (stage : SessionStage) (r : Runner) → IsBusy stage →
+    ((startup : List ℕ) (requests : Requests) (said : Said) (es : List Entry) →
+    refuses state (knowledge_of r) (on requests) said es ≡ goes_on stage r startup requests said es) →
     Meets (fronts.Extended step) (phases.Normal state) r stage r None
 meets_extended step state stage r busy goes =
-    inl (record { asked = extended; says = tt; busy = busy; passing = tt; goes = λ startup talk said es from. goes startup talk said es })
+    inl (record { asked = extended; says = tt; busy = busy; passing = tt; goes = λ startup requests said es from. goes startup requests said es })
 
 pub meets_flush : (state : TransactionState) (r : Runner) → Meets fronts.Flush (phases.Normal state) r (stages.Taking
     (phases.Normal state)) r None
@@ -126,18 +126,18 @@ meets_copy part state r = inr (record { asked = nothing; says = tt; goes = λ kn
 
 pub meets_query : (text : List ℕ) (asked : Message) (state : TransactionState) (old new : Runner) (w : Option Shortage) → IsMessage text asked →
     IsPassing w →
-    ((startup : List ℕ) (talk : Talk) (said : Said) (es : List Entry) → IsFrom 1 (length said.bytes) es →
-    message asked state (knowledge_of old) (outside_of (on talk)) said
-    (with_wanting w said.bytes es) ≡ goes_on stages.Running new startup talk said es) →
+    ((startup : List ℕ) (requests : Requests) (said : Said) (es : List Entry) → IsFrom 1 (length said.bytes) es →
+    message asked state (knowledge_of old) (outside_of (on requests)) said
+    (with_out_of_memory w said.bytes es) ≡ goes_on stages.Running new startup requests said es) →
     Meets (fronts.Query text) (phases.Normal state) old stages.Running new w
 meets_query text asked state old new w is passing goes =
     inl (record { asked = query asked; says = is; busy = tt; passing = passing; goes = goes })
 
--- memory is wanting for what a query asks
+-- memory runs out for what a query asks
 pub meets_unread : (text : List ℕ) (state : TransactionState) (old new : Runner) →
-    ((startup : List ℕ) (talk : Talk) (said : Said) (es : List Entry) →
+    ((startup : List ℕ) (requests : Requests) (said : Said) (es : List Entry) →
     message (messages.Unread states.S53200) state (knowledge_of old)
-    (outside_of (on talk)) said es ≡ goes_on stages.Running new startup talk said es) →
+    (outside_of (on requests)) said es ≡ goes_on stages.Running new startup requests said es) →
     Meets (fronts.Query text) (phases.Normal state) old stages.Running new (Some shortages.Passing)
 meets_unread text state old new goes =
     inl (record {
@@ -145,22 +145,22 @@ meets_unread text state old new goes =
       says = tt;
       busy = tt;
       passing = tt;
-      goes = λ startup talk said es from.
+      goes = λ startup requests said es from.
           unless_short-takes false (message (messages.Unread states.S53200) state (knowledge_of old)
-          (outside_of (on talk))) lost said es ∙ goes startup talk said es;
+          (outside_of (on requests))) lost said es ∙ goes startup requests said es;
     })
 
 pub meets_function : (state : TransactionState) (old new : Runner) →
-    ((startup : List ℕ) (talk : Talk) (said : Said) (es : List Entry) →
+    ((startup : List ℕ) (requests : Requests) (said : Said) (es : List Entry) →
     message (messages.Unread states.S0A000) state (knowledge_of old)
-    (outside_of (on talk)) said es ≡ goes_on stages.Running new startup talk said es) →
+    (outside_of (on requests)) said es ≡ goes_on stages.Running new startup requests said es) →
     Meets fronts.FunctionCall (phases.Normal state) old stages.Running new None
 meets_function state old new goes =
-    inl (record { asked = function; says = tt; busy = tt; passing = tt; goes = λ startup talk said es from. goes startup talk said es })
+    inl (record { asked = function; says = tt; busy = tt; passing = tt; goes = λ startup requests said es from. goes startup requests said es })
 
 -- ---- messages that are discarded
 
-pub drops_terminate : (state : TransactionState) (stage : Stage) (r : Runner) →
+pub drops_terminate : (state : TransactionState) (stage : SessionStage) (r : Runner) →
     LeadsTo stage (ending (owed_between state) ends.Terminated) → Meets fronts.Terminate (phases.Discarding state) r stage r None
 drops_terminate state stage r leads =
     inl (record {
@@ -169,12 +169,12 @@ drops_terminate state stage r leads =
       busy = busy-last stage leads.0;
       passing = tt;
       goes =
-          λ startup talk said es from. leads.1 r startup talk said es;
+          λ startup requests said es from. leads.1 r startup requests said es;
     })
 
 pub drops_sync : (state : TransactionState) (r : Runner) → Meets fronts.Sync (phases.Discarding state) r (stages.Telling
     (replies.Ready state)) r None
-drops_sync state r = inl (record { asked = sync; says = tt; busy = tt; passing = tt; goes = λ startup talk said es from. refl })
+drops_sync state r = inl (record { asked = sync; says = tt; busy = tt; passing = tt; goes = λ startup requests said es from. refl })
 
 pub drops_query : (text : List ℕ) (state : TransactionState) (r : Runner) →
     Meets (fronts.Query text) (phases.Discarding state) r (stages.Taking (phases.Discarding state)) r None

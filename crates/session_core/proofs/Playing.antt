@@ -37,18 +37,18 @@ use Rattle.block_machine.specs.declared.block.Owed.TheVariants as owed_kinds
 use Rattle.block_machine.specs.declared.call.Answer.{Answer}
 use Rattle.block_machine.specs.declared.call.Answer.TheVariants as answers
 use Rattle.block_machine.specs.declared.runner.Runner.{Runner}
-use Rattle.block_machine.specs.declared.stage.Stage.{Stage as MessageStage}
-use Rattle.block_machine.specs.declared.stage.Stage.TheVariants as message_stage
+use Rattle.block_machine.specs.declared.stage.MessageStage.{MessageStage}
+use Rattle.block_machine.specs.declared.stage.MessageStage.TheVariants as message_stage
 use Rattle.session_core.specs.declared.session.Session.{Session}
-use Rattle.session_core.specs.declared.stage.Stage.{Stage}
-use Rattle.session_core.specs.declared.stage.Stage.TheVariants as stages
+use Rattle.session_core.specs.declared.stage.SessionStage.{SessionStage}
+use Rattle.session_core.specs.declared.stage.SessionStage.TheVariants as stages
 use Rattle.session_core.specs.Wants.{Want, of_message}
 use Rattle.session_core.specs.Wants as wishes
 use Rattle.session_core.specs.Record.{StateAfter, Draws, Happens, ReadsBack, ReadsFrom, may_be_refused, limit_for, HasNewName}
 use Rattle.session_core.specs.Plays.{Plays, MayAsk, owed_of}
 use Rattle.session_core.specs.Stands.{IsFit, owed_at, wants}
 use Rattle.session_core.specs.Serve.{Sits}
-use Rattle.session_core.proofs.Lawfuls.{Happens-leaves, Declines-goes}
+use Rattle.session_core.proofs.ValidRecords.{Happens-leaves, Declines-goes}
 
 -- ---- one call
 
@@ -86,9 +86,9 @@ goes_same p = record {
 }
 
 -- a call that the session itself had no memory for
-pub wanting : {W : Type 0} (gives : W → ℕ → W → Type 0) (p : Past) (v : W) (c : Call) → may_be_refused c →
+pub out_of_memory : {W : Type 0} (gives : W → ℕ → W → Type 0) (p : Past) (v : W) (c : Call) → may_be_refused c →
     Draws gives p v c (refused faults.Memory) v → (x : Event) × Plays gives p v c (answers.Refused faults.Memory) x p v
-wanting gives p v c may draws = declined gives p v c c faults.Memory p v refl may (goes_same p) (λ limit is. absurd (cc is))
+out_of_memory gives p v c may draws = declined gives p v c c faults.Memory p v refl may (goes_same p) (λ limit is. absurd (cc is))
     (λ limit is. absurd (cc is)) draws
 
 pub defined_plays : {W : Type 0} (gives : W → ℕ → W → Type 0) (p : Past) (v : W) (table : Table) (answer : DefineAnswer) (q : Past) →
@@ -101,9 +101,9 @@ defined_plays gives p v table (defines.Taken n) q h = (Look (session_of p.state)
 known_all : (p q : Past) (known : ℕ) (tables : List Table) → AnswersTables p known tables q → known + length tables ≡ length q.seen.tables
 known_all p q known tables a = sym (ap length a.whole ∙ length-append a.before tables ∙ ap (λ n. n + length tables) a.known_is)
 
-sound_behind : (before tables : List Table) → All IsSound (before ++ tables) → All IsSound tables
-sound_behind [] tables h = h
-sound_behind (b ∷ bs) tables h = sound_behind bs tables (All-tail IsSound b (bs ++ tables) h)
+sound_after : (before tables : List Table) → All IsSound (before ++ tables) → All IsSound tables
+sound_after [] tables h = h
+sound_after (b ∷ bs) tables h = sound_after bs tables (All-tail IsSound b (bs ++ tables) h)
 
 formed_of : (history : Chronicle) → IsLegalChronicle history → IsFormedChronicle history
 formed_of history legal = record { initial = legal.initial; formed = legal.legal.formed; tables = legal.tables }
@@ -113,7 +113,7 @@ pub look_fits : (c : Call) (p q : Past) (known : ℕ) (tables : List Table) → 
 look_fits c p q known tables is a legal =
     subst (λ (x : Call). Fits x (answers.Looked tables)) (sym is) (
       omega (arith, known_all p q known tables a, tables_few q.seen (formed_of q.seen legal)),
-      sound_behind a.before tables (subst (λ (ts : List Table). All IsSound ts) a.whole legal.tables.sound),
+      sound_after a.before tables (subst (λ (ts : List Table). All IsSound ts) a.whole legal.tables.sound),
     )
 
 -- ---- a call after the question whether a cell was written
@@ -276,7 +276,7 @@ message_wish (calls.Book d) c h = ap calls.Book (wish_of d c h)
 message_wish calls.Send c h = absurd (cc h)
 message_wish calls.Nothing c h = absurd (cc h)
 
-may_ask_stage : (stage : Stage) (r : Runner) (past : Past) (c : Call) → owed_of past.state ≡ owed_at stage r →
+may_ask_stage : (stage : SessionStage) (r : Runner) (past : Past) (c : Call) → owed_of past.state ≡ owed_at stage r →
     length (tables_of r) ≤ length past.seen.tables → IsFit r → wants stage r ≡ wishes.Book c → MayAsk c past
 may_ask_stage (stages.Waiting phase) r past c o k f w = absurd (cc w)
 may_ask_stage (stages.Taking phase) r past c o k f w = absurd (cc w)
@@ -353,7 +353,7 @@ message_look (message_stage.Failing code state) known c w = absurd (cc w)
 message_look message_stage.Finishing known c w = subst (λ (x : Call). LooksFrom x (length known.tables)) (book_of calls.Commit c w) tt
 message_look (message_stage.Readying state) known c w = absurd (cc w)
 
-stage_look : (stage : Stage) (r : Runner) (c : Call) → wants stage r ≡ wishes.Book c → LooksFrom c (length (tables_of r))
+stage_look : (stage : SessionStage) (r : Runner) (c : Call) → wants stage r ≡ wishes.Book c → LooksFrom c (length (tables_of r))
 stage_look (stages.Waiting phase) r c w = absurd (cc w)
 stage_look (stages.Taking phase) r c w = absurd (cc w)
 stage_look stages.Opening r c w = subst (λ (x : Call). LooksFrom x (length (tables_of r))) (wish_of calls.Open c w) tt

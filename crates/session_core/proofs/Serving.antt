@@ -23,12 +23,12 @@ use Rattle.block_machine.specs.declared.runner.Runner.{Runner}
 use Rattle.session_core.specs.declared.phase.Phase.{Phase}
 use Rattle.session_core.specs.declared.phase.Phase.TheVariants as phases
 use Rattle.session_core.specs.declared.stage.Finish.{Finish}
-use Rattle.session_core.specs.declared.stage.Stage.{Stage}
-use Rattle.session_core.specs.declared.stage.Stage.TheVariants as stages
+use Rattle.session_core.specs.declared.stage.SessionStage.{SessionStage}
+use Rattle.session_core.specs.declared.stage.SessionStage.TheVariants as stages
 use Rattle.session_core.specs.declared.session.Session.{Session}
 use Rattle.session_core.specs.Wants.{Want, of_message, IsResting, IsOver}
 use Rattle.session_core.specs.Wants as wishes
-use Rattle.session_core.specs.Talk.{Talk, IsTalk, unread}
+use Rattle.session_core.specs.Requests.{Requests, AreRequests, unread}
 use Rattle.session_core.specs.Told.{told, opened_in}
 use Rattle.session_core.specs.Sessions.{Stands, StandsShort}
 use Rattle.session_core.specs.Record.{StateAfter}
@@ -36,7 +36,7 @@ use Rattle.session_core.specs.Plays.{Plays, owed_of}
 use Rattle.session_core.specs.Stands.{IsFit, Lacks, LacksBy, served_of, owed_at, outer_end, IsStopped, outer, end_of, wants, IsHolding, Shows, IsLast}
 use Rattle.session_core.specs.Serve.{IsOfLast, Carries, IsAtEnd, Blames, Ran, Serves, Sits, most_read}
 use Rattle.session_core.proofs.Grows.{IsAsked, Shows-stands}
-use Rattle.session_core.proofs.Lawfuls.{Lawful-plays, Lawful-short, Lawful-quiet, own_events}
+use Rattle.session_core.proofs.ValidRecords.{IsValidRecord-plays, IsValidRecord-short, IsValidRecord-quiet, own_events}
 use Rattle.session_core.proofs.Carrying.{Carries-record, Carries-wrote, Carries-took, Both-then, Both-weaker, Blames-same, Blames-none, Blames-wrote}
 
 -- ---- what a want says of the stage
@@ -47,38 +47,38 @@ message_rests (calls.Book c) = ((λ e. cc e), (λ end e. cc e), (λ e. cc e))
 message_rests calls.Send = ((λ e. cc e), (λ end e. cc e), (λ e. cc e))
 message_rests calls.Nothing = ((λ e. cc e), (λ end e. cc e), (λ e. cc e))
 
-pub stage_waiting : (stage : Stage) (r : Runner) → wants stage r ≡ wishes.Bytes → (phase : Phase) × (stage ≡ stages.Waiting phase)
+pub stage_waiting : (stage : SessionStage) (r : Runner) → wants stage r ≡ wishes.Bytes → (phase : Phase) × (stage ≡ stages.Waiting phase)
 stage_waiting (stages.Waiting phase) r w = (phase, refl)
 stage_waiting stages.Running r w = absurd ((message_rests (wanted r)).0 w)
 stage_waiting _ r w = absurd (cc w)
 
-pub stage_taking : (stage : Stage) (r : Runner) → wants stage r ≡ wishes.Message → (phase : Phase) × (stage ≡ stages.Taking phase)
+pub stage_taking : (stage : SessionStage) (r : Runner) → wants stage r ≡ wishes.Message → (phase : Phase) × (stage ≡ stages.Taking phase)
 stage_taking (stages.Taking phase) r w = (phase, refl)
 stage_taking stages.Running r w = absurd ((message_rests (wanted r)).2 w)
 stage_taking _ r w = absurd (cc w)
 
-stage_over : (stage : Stage) (r : Runner) (end : End) → wants stage r ≡ wishes.Ended end → (finish : Finish) ×
+stage_over : (stage : SessionStage) (r : Runner) (end : End) → wants stage r ≡ wishes.Ended end → (finish : Finish) ×
     (stage ≡ stages.Ended finish) × (end_of finish ≡ end)
 stage_over (stages.Ended finish) r end w = (finish, refl, cc w)
 stage_over stages.Running r end w = absurd ((message_rests (wanted r)).1 end w)
 stage_over _ r end w = absurd (cc w)
 
 -- where a reply is held, or bytes or a message are wanted, nothing is lost yet
-pub Lacks-holding : (stage : Stage) (r : Runner) (lost : List ℕ) → IsHolding stage r → Lacks stage lost → lost ≡ []
+pub Lacks-holding : (stage : SessionStage) (r : Runner) (lost : List ℕ) → IsHolding stage r → Lacks stage lost → lost ≡ []
 Lacks-holding (stages.Parting x) r lost w l = l
 Lacks-holding (stages.Telling reply) r lost w l = l
 Lacks-holding stages.Running r lost w l = l
 Lacks-holding _ r lost w l = absurd w
 
-Lacks-bytes : (stage : Stage) (r : Runner) (lost : List ℕ) → wants stage r ≡ wishes.Bytes → Lacks stage lost → lost ≡ []
-Lacks-bytes stage r lost w l = let (phase, is) = stage_waiting stage r w in subst (λ (x : Stage). Lacks x lost) is l
+Lacks-bytes : (stage : SessionStage) (r : Runner) (lost : List ℕ) → wants stage r ≡ wishes.Bytes → Lacks stage lost → lost ≡ []
+Lacks-bytes stage r lost w l = let (phase, is) = stage_waiting stage r w in subst (λ (x : SessionStage). Lacks x lost) is l
 
-Lacks-taking : (stage : Stage) (r : Runner) (lost : List ℕ) → wants stage r ≡ wishes.Message → Lacks stage lost → lost ≡ []
-Lacks-taking stage r lost w l = let (phase, is) = stage_taking stage r w in subst (λ (x : Stage). Lacks x lost) is l
+Lacks-taking : (stage : SessionStage) (r : Runner) (lost : List ℕ) → wants stage r ≡ wishes.Message → Lacks stage lost → lost ≡ []
+Lacks-taking stage r lost w l = let (phase, is) = stage_taking stage r w in subst (λ (x : SessionStage). Lacks x lost) is l
 
 shows_more : (s : Session) (level : Level) (taken : List ℕ) (es : List Entry) (asked : List Call) (sent : List ℕ) →
     served_of s.runner ≡ level → wants s.stage s.runner ≡ wishes.Bytes → Stands s taken es asked sent →
-    (talk : Talk) × IsTalk false taken talk × (told level talk es ≡ (record { bytes = sent; calls = asked }, more))
+    (requests : Requests) × AreRequests false taken requests × (told level requests es ≡ (record { bytes = sent; calls = asked }, more))
 shows_more s level taken es asked sent served w st =
     let (phase, is) = stage_waiting s.stage s.runner w in
     let not_running : s.stage ≡ stages.Running →
@@ -94,7 +94,7 @@ last_more : (es b : List Entry) (sent lost : List ℕ) → IsOfLast es sent lost
 last_more es b sent lost (inl none) = inl none
 last_more es b sent lost (inr (n, has, le)) = inr (n, Contains-append_left es b (unsent n) has, le)
 
--- a call of the book; a want of memory of the session may stand after it
+-- a call of the book; a lack of memory of the session may stand after it
 pub Ran-answered : {W : Type 0} (gives : W → ℕ → W → Type 0) (level : Level) (p : Past) (v : W) (f : Sight) (s r : Session) (q q' : Past)
     (w w' : W) (g : Sight) (many : ℕ) (c : Call)
     (a : Answer) (e : Event) →
@@ -114,8 +114,8 @@ Ran-answered gives level p v f s r q q' w w' g many c a e grown same outer_is la
       record {
         stands = stands;
         served_level = same ∙ run.served_level;
-        lawful = Lawful-short gives p v (asked ++ c ∷ []) (es ++ entry_for a e ∷ []) q' w' sent added is_short
-            (Lawful-plays gives p v asked es q w c a e q' w' run.lawful plays state);
+        valid = IsValidRecord-short gives p v (asked ++ c ∷ []) (es ++ entry_for a e ∷ []) q' w' sent added is_short
+            (IsValidRecord-plays gives p v asked es q w c a e q' w' run.valid plays state);
         carries = Both-weaker f.traffic g.traffic
             (λ x y k. Carries-record level taken (es ++ entry_for a e ∷ []) added sent lost x y
             (Carries-record level taken es (entry_for a e ∷ []) sent lost x y k)) run.carries;
@@ -147,7 +147,7 @@ Ran-taken gives level p v f s r q w g many grown taking same outer_is lacks ran 
       record {
         stands = stands;
         served_level = same ∙ run.served_level;
-        lawful = Lawful-short gives p v asked es q w sent added is_short run.lawful;
+        valid = IsValidRecord-short gives p v asked es q w sent added is_short run.valid;
         carries = Both-weaker f.traffic g.traffic (λ x y k. Carries-record level taken es added sent lost x y k) run.carries;
         lacks = subst (λ (o : List ℕ). Lacks r.stage o) (sym none_lost) lacks;
         last = inl none_lost;
@@ -178,7 +178,7 @@ Ran-sent gives level p v f s r q w g h many reply grown holds same outer_is lack
       record {
         stands = stands;
         served_level = same ∙ run.served_level;
-        lawful = Lawful-short gives p v asked es q w (sent ++ reply) added is_short run.lawful;
+        valid = IsValidRecord-short gives p v asked es q w (sent ++ reply) added is_short run.valid;
         carries = Both-then f.traffic g.traffic h.traffic
             (λ x y z k l. Carries-wrote level taken es added sent reply reply [] x y z (sym (append-nil reply))
             (subst (λ (o : List ℕ). Carries level taken es sent o x y) none_lost k) l) run.carries wrote;
@@ -216,7 +216,7 @@ Ran-unsent gives level p v f s r q w g h many reply part lost grown holds same o
       record {
         stands = grown taken es asked sent run.stands;
         served_level = same ∙ run.served_level;
-        lawful = Lawful-quiet gives p v asked es q w (unsent (length sent)) tt run.lawful;
+        valid = IsValidRecord-quiet gives p v asked es q w (unsent (length sent)) tt run.valid;
         carries = Both-then f.traffic g.traffic h.traffic
             (λ x y z k l. Carries-wrote level taken es (unsent (length sent) ∷ []) sent reply part lost x y z reply_is
             (subst (λ (o : List ℕ). Carries level taken es sent o x y) none_lost k) l) run.carries wrote;
@@ -260,7 +260,7 @@ pub Ran-stopped : {W : Type 0} (gives : W → ℕ → W → Type 0) (level : Lev
 Ran-stopped gives level p v f s r q w g h many cause grown bytes same outer_is lacks took more_reads same_writes why ran =
     let (taken, es, asked, sent, lost, many_is, run) = ran in
     let none_lost : lost ≡ [] = Lacks-bytes s.stage s.runner lost bytes run.lacks in
-    let (talk, is, shows) = shows_more s level taken es asked sent run.served_level bytes run.stands in (
+    let (requests, is, shows) = shows_more s level taken es asked sent run.served_level bytes run.stands in (
       taken,
       es ++ stop cause ∷ [],
       asked,
@@ -270,10 +270,10 @@ Ran-stopped gives level p v f s r q w g h many cause grown bytes same outer_is l
       record {
         stands = grown taken es asked sent run.stands;
         served_level = ap served_of same ∙ run.served_level;
-        lawful = Lawful-quiet gives p v asked es q w (stop cause) tt run.lawful;
+        valid = IsValidRecord-quiet gives p v asked es q w (stop cause) tt run.valid;
         carries = Both-then f.traffic g.traffic h.traffic
             (λ x y z k l. subst (λ (o : List ℕ). Carries level o (es ++ stop cause ∷ []) sent [] x z) (append-nil taken)
-            (Carries-took level taken [] es (stop cause ∷ []) asked sent x y z talk is shows
+            (Carries-took level taken [] es (stop cause ∷ []) asked sent x y z requests is shows
             (subst (λ (o : List ℕ). Carries level taken es sent o x y) none_lost k) l)) run.carries took;
         lacks = lacks;
         last = inl refl;
@@ -304,7 +304,7 @@ Ran-halted gives level p v f s r q w g h many cause grown bytes same outer_is la
       record {
         stands = grown taken es asked sent run.stands;
         served_level = ap served_of same ∙ run.served_level;
-        lawful = Lawful-quiet gives p v asked es q w (stop cause) tt run.lawful;
+        valid = IsValidRecord-quiet gives p v asked es q w (stop cause) tt run.valid;
         carries = subst (λ (o : Option Traffic). Both (Carries level taken (es ++ stop cause ∷ []) sent []) f.traffic o) (sym told_same)
             (Both-weaker f.traffic g.traffic (λ x y k.
             subst (λ (o : List ℕ). Carries level taken (es ++ stop cause ∷ []) sent o x y) none_lost
@@ -329,7 +329,7 @@ pub Ran-fed : {W : Type 0} (gives : W → ℕ → W → Type 0) (level : Level) 
 Ran-fed gives level p v f s r q w g h many piece n grown bytes same outer_is lacks took more_reads same_writes size ran =
     let (taken, es, asked, sent, lost, many_is, run) = ran in
     let none_lost : lost ≡ [] = Lacks-bytes s.stage s.runner lost bytes run.lacks in
-    let (talk, is, shows) = shows_more s level taken es asked sent run.served_level bytes run.stands in
+    let (requests, is, shows) = shows_more s level taken es asked sent run.served_level bytes run.stands in
     let (added, is_short, stands) = grown taken es asked sent run.stands in (
       taken ++ piece,
       es ++ added,
@@ -340,9 +340,9 @@ Ran-fed gives level p v f s r q w g h many piece n grown bytes same outer_is lac
       record {
         stands = stands;
         served_level = ap served_of same ∙ run.served_level;
-        lawful = Lawful-short gives p v asked es q w sent added is_short run.lawful;
+        valid = IsValidRecord-short gives p v asked es q w sent added is_short run.valid;
         carries = Both-then f.traffic g.traffic h.traffic
-            (λ x y z k l. Carries-took level taken piece es added asked sent x y z talk is shows
+            (λ x y z k l. Carries-took level taken piece es added asked sent x y z requests is shows
             (subst (λ (o : List ℕ). Carries level taken es sent o x y) none_lost k) l) run.carries took;
         lacks = lacks;
         last = inl refl;
@@ -365,16 +365,16 @@ at_end n (Some a) (Some b) e h k = sym k.left ∙ h.0 e
 -- ---- the whole run
 
 pub Serves-ran : {W : Type 0} (gives : W → ℕ → W → Type 0) (level : Level) (p : Past) (v : W) (f : Sight) (s : Session) (number : Option ℕ)
-    (end : End) (wanting : Bool) (q : Past)
+    (end : End) (out_of_memory : Bool) (q : Past)
     (w : W)
     (g : Sight) (many : ℕ) →
     many ≤ most_read → wants s.stage s.runner ≡ wishes.Ended end →
     ((taken : List ℕ) (es : List Entry) (asked : List Call) (sent : List ℕ) → Stands s taken es asked sent → number ≡ opened_in es) →
-    ((taken : List ℕ) (es : List Entry) (asked : List Call) (sent : List ℕ) → Stands s taken es asked sent → wanting ≡ has_short es) →
+    ((taken : List ℕ) (es : List Entry) (asked : List Call) (sent : List ℕ) → Stands s taken es asked sent → out_of_memory ≡ has_short es) →
     Ran gives level p v f s q w g many →
-    (talk : Talk) × (taken : List ℕ) × (es : List Entry) × (asked : List Call) × (sent : List ℕ) × (lost : List ℕ) ×
-    Serves gives level p v f number end wanting q w g talk taken es asked sent lost
-Serves-ran gives level p v f s number end wanting q w g many within over opened flag ran =
+    (requests : Requests) × (taken : List ℕ) × (es : List Entry) × (asked : List Call) × (sent : List ℕ) × (lost : List ℕ) ×
+    Serves gives level p v f number end out_of_memory q w g requests taken es asked sent lost
+Serves-ran gives level p v f s number end out_of_memory q w g many within over opened flag ran =
     let (taken, es, asked, sent, lost, many_is, run) = ran in
     let (finish, is, end_is) = stage_over s.stage s.runner end over in
     let not_running : s.stage ≡ stages.Running →
@@ -391,15 +391,15 @@ Serves-ran gives level p v f s number end wanting q w g many within over opened 
       lost,
       record {
         within = omega (arith, many_is, within);
-        talk_is = shows.1;
+        requests_are = shows.1;
         told_is = shows.2;
-        lawful = run.lawful;
-        own = own_events gives p v asked es q w run.lawful;
+        valid = run.valid;
+        own = own_events gives p v asked es q w run.valid;
         carries = run.carries;
         last = run.last;
-        lacks = subst (λ (x : End). LacksBy x lost) end_is (subst (λ (x : Stage). Lacks x lost) is run.lacks);
+        lacks = subst (λ (x : End). LacksBy x lost) end_is (subst (λ (x : SessionStage). Lacks x lost) is run.lacks);
         blames = subst (λ (x : End). Blames (outer_end x) f g taken) end_is
-            (subst (λ (x : Stage). Blames (outer x) f g taken) is run.blames);
+            (subst (λ (x : SessionStage). Blames (outer x) f g taken) is run.blames);
         opened = opened taken es asked sent run.stands;
         short = flag taken es asked sent run.stands;
       },
@@ -428,11 +428,11 @@ Ran-new gives level p v f s st served is = (
   record {
     stands = st;
     served_level = served;
-    lawful = (refl, refl);
+    valid = (refl, refl);
     carries = carries_nothing level [] f.traffic;
-    lacks = subst (λ (x : Stage). Lacks x []) (sym is) refl;
+    lacks = subst (λ (x : SessionStage). Lacks x []) (sym is) refl;
     last = inl refl;
-    blames = subst (λ (x : Stage). Blames (outer x) f f []) (sym is) tt;
+    blames = subst (λ (x : SessionStage). Blames (outer x) f f []) (sym is) tt;
     reads = omega arith;
     writes = omega arith;
   },
@@ -443,14 +443,14 @@ message_resting (calls.Book c) h = h
 message_resting calls.Send h = h
 message_resting calls.Nothing h = h
 
-pub wants_bytes : (stage : Stage) (r : Runner) → IsResting (wants stage r) → ((end : End) → wants stage r ≡ wishes.Ended end → ⊥) →
+pub wants_bytes : (stage : SessionStage) (r : Runner) → IsResting (wants stage r) → ((end : End) → wants stage r ≡ wishes.Ended end → ⊥) →
     wants stage r ≡ wishes.Bytes
 wants_bytes (stages.Waiting phase) r h n = refl
 wants_bytes (stages.Ended e) r h n = absurd (n (end_of e) refl)
 wants_bytes stages.Running r h n = absurd (message_resting (wanted r) h)
 wants_bytes _ r h n = absurd h
 
-pub is_over : (stage : Stage) (r : Runner) → IsResting (wants stage r) → IsLast stage → IsOver (wants stage r)
+pub is_over : (stage : SessionStage) (r : Runner) → IsResting (wants stage r) → IsLast stage → IsOver (wants stage r)
 is_over (stages.Ended e) r h l = tt
 is_over (stages.Waiting phase) r h l = absurd l
 is_over stages.Running r h l = absurd l
@@ -460,7 +460,7 @@ is_over _ r h l = absurd h
 pub sits_new : (s : Session) (p : Past) → s.stage ≡ stages.Waiting phases.Startup → tables_of s.runner ≡ [] → IsFit s.runner →
     p.state ≡ no_session → Sits s p
 sits_new s p is none fit state = record {
-  owed = ap owed_of state ∙ sym (ap (λ (x : Stage). owed_at x s.runner) is);
+  owed = ap owed_of state ∙ sym (ap (λ (x : SessionStage). owed_at x s.runner) is);
   known_tables = omega (arith, ap length none);
   fit = fit;
 }
@@ -489,7 +489,7 @@ message_over (calls.Book c) h = h
 message_over calls.Send h = h
 message_over calls.Nothing h = h
 
-stage_away : (stage : Stage) (r : Runner) (state : SessionState) → IsOver (wants stage r) → owed_of state ≡ owed_at stage r → state ≡ no_session
+stage_away : (stage : SessionStage) (r : Runner) (state : SessionState) → IsOver (wants stage r) → owed_of state ≡ owed_at stage r → state ≡ no_session
 stage_away (stages.Ended e) r state over owed = is_away state owed
 stage_away stages.Running r state over owed = absurd (message_over (wanted r) over)
 stage_away _ r state over owed = absurd over
@@ -504,8 +504,8 @@ told_short level = refl
 
 -- no memory to begin with
 pub Serves-none : {W : Type 0} (gives : W → ℕ → W → Type 0) (level : Level) (p : Past) (v : W) (f : Sight) →
-    (talk : Talk) × (taken : List ℕ) × (es : List Entry) × (asked : List Call) × (sent : List ℕ) × (lost : List ℕ) ×
-    Serves gives level p v f None ends.Memory true p v f talk taken es asked sent lost
+    (requests : Requests) × (taken : List ℕ) × (es : List Entry) × (asked : List Call) × (sent : List ℕ) × (lost : List ℕ) ×
+    Serves gives level p v f None ends.Memory true p v f requests taken es asked sent lost
 Serves-none gives level p v f = (
   unread,
   [],
@@ -515,9 +515,9 @@ Serves-none gives level p v f = (
   [],
   record {
     within = omega arith;
-    talk_is = tt;
+    requests_are = tt;
     told_is = told_short level;
-    lawful = Lawful-quiet gives p v [] [] p v (short true 0) tt (refl, refl);
+    valid = IsValidRecord-quiet gives p v [] [] p v (short true 0) tt (refl, refl);
     own = sym (append-nil p.own);
     carries = carries_nothing level (short true 0 ∷ []) f.traffic;
     lacks = refl;

@@ -6,9 +6,9 @@ use Rattle.pg_framing.specs.declared.replies.TransactionState.{TransactionState}
 use Rattle.pg_framing.specs.Replies.{framed, auth_ok, ready, error_response}
 use Rattle.block_machine.specs.Replies.{ready_reply, error_reply}
 use Rattle.block_machine.specs.declared.runner.Runner.{Runner}
-use Rattle.session_core.specs.declared.stage.Stage.{Stage}
-use Rattle.session_core.specs.declared.stage.Stage.TheVariants as stages
-use Rattle.session_core.specs.declared.stage.Reply.TheVariants as replies
+use Rattle.session_core.specs.declared.stage.SessionStage.{SessionStage}
+use Rattle.session_core.specs.declared.stage.SessionStage.TheVariants as stages
+use Rattle.session_core.specs.declared.stage.SessionReply.TheVariants as replies
 use Rattle.session_core.specs.Replies.{startup_reply, fatal_reply, fatal_state}
 use Rattle.session_core.specs.Stands.{NoBuilt, HasReply}
 
@@ -44,7 +44,7 @@ unfolding fatal_reply
 fatal-some state = report-some _ state
 
 -- each reply but one that was built has bytes
-pub plain_some : (stage : Stage) (r : Runner) (startup : List ℕ) → NoBuilt stage → HasReply stage r startup
+pub plain_some : (stage : SessionStage) (r : Runner) (startup : List ℕ) → NoBuilt stage → HasReply stage r startup
 plain_some stages.Running r startup h k = absurd h
 plain_some (stages.Telling replies.NoEncryption) r startup h k = omega arith
 plain_some (stages.Telling replies.Startup) r startup h k = absurd h

@@ -1,6 +1,6 @@
 pub mod Users
 pub mod Wants
-pub mod Talk
+pub mod Requests
 pub mod Replies
 pub mod Told
 pub mod Record

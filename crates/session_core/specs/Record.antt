@@ -1,4 +1,4 @@
--- When a session's record is lawful: its calls were made of the book one after another, and each entry is what came of its call.
+-- When a session's record is valid: its calls were made of the book one after another, and each entry is what came of its call.
 use Rattle.std.specs.Prelude.{◌≡◌, ◌≢◌, ◌⊎◌, ℕ, List, [], ◌∷◌, ◌++◌, length, Contains, Option, Some}
 use Rattle.cell_base.specs.declared.cell.Cell.{Cell}
 use Rattle.cell_base.specs.declared.value.Value.{Value}
@@ -99,18 +99,18 @@ StateAfter _ _ old new = new ≡ old
 
 -- The calls were answered by the entries in order, from one past and one value of the words on to others. After an answer the book's
 -- session is where the answer leaves it, and after a refusal where it was.
-abbrev pub Lawful : {W : Type 0} → (W → ℕ → W → Type 0) → Past → W → List Call → List Entry → Past → W → Type 0
-Lawful gives p v [] [] q w = (q ≡ p) × (w ≡ v)
-Lawful gives p v (c ∷ cs) [] q w = ⊥
-Lawful gives p v [] (did a e ∷ es) q w = ⊥
-Lawful {W} gives p v (c ∷ cs) (did a e ∷ es) q w = (m : Past) × (u : W) × Happens p c a e m × Draws gives p v c (did a e) u ×
-    Lawful gives m u cs es q w × StateAfter c a p.state m.state
-Lawful gives p v [] (refused why ∷ es) q w = ⊥
-Lawful {W} gives p v (c ∷ cs) (refused why ∷ es) q w = (m : Past) × (u : W) × Declines p c why m × Draws gives p v c (refused why) u ×
-    Lawful gives m u cs es q w
-Lawful gives p v cs (short final n ∷ es) q w = Lawful gives p v cs es q w
-Lawful gives p v cs (unsent n ∷ es) q w = Lawful gives p v cs es q w
-Lawful gives p v cs (stop cause ∷ es) q w = Lawful gives p v cs es q w
+abbrev pub IsValidRecord : {W : Type 0} → (W → ℕ → W → Type 0) → Past → W → List Call → List Entry → Past → W → Type 0
+IsValidRecord gives p v [] [] q w = (q ≡ p) × (w ≡ v)
+IsValidRecord gives p v (c ∷ cs) [] q w = ⊥
+IsValidRecord gives p v [] (did a e ∷ es) q w = ⊥
+IsValidRecord {W} gives p v (c ∷ cs) (did a e ∷ es) q w = (m : Past) × (u : W) × Happens p c a e m × Draws gives p v c (did a e) u ×
+    IsValidRecord gives m u cs es q w × StateAfter c a p.state m.state
+IsValidRecord gives p v [] (refused why ∷ es) q w = ⊥
+IsValidRecord {W} gives p v (c ∷ cs) (refused why ∷ es) q w = (m : Past) × (u : W) × Declines p c why m × Draws gives p v c (refused why) u ×
+    IsValidRecord gives m u cs es q w
+IsValidRecord gives p v cs (short final n ∷ es) q w = IsValidRecord gives p v cs es q w
+IsValidRecord gives p v cs (unsent n ∷ es) q w = IsValidRecord gives p v cs es q w
+IsValidRecord gives p v cs (stop cause ∷ es) q w = IsValidRecord gives p v cs es q w
 
 -- the events of a record, in order
 abbrev pub events_of : List Entry → List Event

@@ -11,8 +11,8 @@ use Rattle.session_core.specs.declared.phase.Phase.{Phase}
 use Rattle.session_core.specs.declared.phase.Phase.TheVariants as phases
 use Rattle.session_core.specs.declared.stage.Fatal.{Fatal}
 use Rattle.session_core.specs.declared.stage.Fatal.TheVariants as fatals
-use Rattle.session_core.specs.declared.stage.Reply.{Reply}
-use Rattle.session_core.specs.declared.stage.Reply.TheVariants as replies
+use Rattle.session_core.specs.declared.stage.SessionReply.{SessionReply}
+use Rattle.session_core.specs.declared.stage.SessionReply.TheVariants as replies
 
 -- the one byte that refuses encryption, the letter N
 abbrev pub no_encryption : List ℕ
@@ -39,15 +39,15 @@ fatal_state fatals.Full = states.S54000
 fatal_state fatals.Spent = states.S54000
 
 -- the bytes of a reply, given the startup reply that was built
-abbrev pub bytes_of : List ℕ → Reply → List ℕ
+abbrev pub bytes_of : List ℕ → SessionReply → List ℕ
 bytes_of startup replies.NoEncryption = no_encryption
 bytes_of startup replies.Startup = startup
 bytes_of startup (replies.Ready state) = ready_reply state
 bytes_of startup (replies.Unsupported state) = error_reply states.S0A000
 
 -- the phase after a reply
-abbrev pub phase_behind : Reply → Phase
-phase_behind replies.NoEncryption = phases.Startup
-phase_behind replies.Startup = phases.Normal ready_states.Idle
-phase_behind (replies.Ready state) = phases.Normal state
-phase_behind (replies.Unsupported state) = phases.Discarding state
+abbrev pub phase_after_reply : SessionReply → Phase
+phase_after_reply replies.NoEncryption = phases.Startup
+phase_after_reply replies.Startup = phases.Normal ready_states.Idle
+phase_after_reply (replies.Ready state) = phases.Normal state
+phase_after_reply (replies.Unsupported state) = phases.Discarding state

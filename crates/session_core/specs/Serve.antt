@@ -10,9 +10,9 @@ use Rattle.block_machine.specs.Runners as runners
 use Rattle.block_machine.specs.declared.end.End.{End}
 use Rattle.block_machine.specs.declared.end.End.TheVariants as ends
 use Rattle.session_core.specs.declared.session.Session.{Session}
-use Rattle.session_core.specs.Talk.{Talk, IsTalk}
+use Rattle.session_core.specs.Requests.{Requests, AreRequests}
 use Rattle.session_core.specs.Told.{told, opened_in}
-use Rattle.session_core.specs.Record.{Lawful, events_of}
+use Rattle.session_core.specs.Record.{IsValidRecord, events_of}
 use Rattle.session_core.specs.Plays.{owed_of}
 use Rattle.session_core.specs.Stands.{served_of, IsFit, Lacks, LacksBy, outer, outer_end, owed_at}
 use Rattle.session_core.specs.Sessions.{Stands}
@@ -37,13 +37,13 @@ pub record IsMark (level : Level) (t : Traffic) (taken : List ℕ) (es : List En
   pub asked : List Call
   pub said : List ℕ
   pub unsaid : List ℕ
-  pub talk : Talk
+  pub requests : Requests
   pub taken_is : taken ≡ front ++ rest
   pub es_is : es ≡ early ++ late
   pub sent_is : sent ≡ said ++ unsaid
   pub mark_is : mark ≡ (length t.read + length front, length t.written + length said)
-  pub talk_is : IsTalk false front talk
-  pub told_is : told level talk early ≡ (record { bytes = said; calls = asked }, more)
+  pub requests_are : AreRequests false front requests
+  pub told_is : told level requests early ≡ (record { bytes = said; calls = asked }, more)
 
 abbrev pub AreMarks : Level → Traffic → List ℕ → List Entry → List ℕ → List (ℕ × ℕ) → Type 0
 AreMarks level t taken es sent [] = Unit {0}
@@ -79,7 +79,7 @@ pub record Runs {W : Type 0} (gives : W → ℕ → W → Type 0) (level : Level
     (taken : List ℕ) (es : List Entry) (asked : List Call) (sent lost : List ℕ) : Type 0 where
   pub stands : Stands s taken es asked sent
   pub served_level : served_of s.runner ≡ level
-  pub lawful : Lawful gives p v asked es q w
+  pub valid : IsValidRecord gives p v asked es q w
   pub carries : Both (Carries level taken es sent lost) f.traffic g.traffic
   pub lacks : Lacks s.stage lost
   pub last : IsOfLast es sent lost
@@ -98,16 +98,16 @@ Ran gives level p v f s q w g many =
 -- was held back over a read. Where a write failed, what is lost of what was told stands at its end, and is a part of the last reply. The
 -- session is the one that the record opened.
 pub record Serves {W : Type 0} (gives : W → ℕ → W → Type 0) (level : Level) (p : Past) (v : W) (f : Sight)
-    (number : Option ℕ) (end : End) (wanting : Bool) (q : Past) (w : W) (g : Sight)
-    (talk : Talk) (taken : List ℕ) (es : List Entry) (asked : List Call) (sent lost : List ℕ) : Type 0 where
+    (number : Option ℕ) (end : End) (out_of_memory : Bool) (q : Past) (w : W) (g : Sight)
+    (requests : Requests) (taken : List ℕ) (es : List Entry) (asked : List Call) (sent lost : List ℕ) : Type 0 where
   pub within : length taken ≤ most_read
-  pub talk_is : IsTalk false taken talk
-  pub told_is : told level talk es ≡ (record { bytes = sent; calls = asked }, ended end)
-  pub lawful : Lawful gives p v asked es q w
+  pub requests_are : AreRequests false taken requests
+  pub told_is : told level requests es ≡ (record { bytes = sent; calls = asked }, ended end)
+  pub valid : IsValidRecord gives p v asked es q w
   pub own : q.own ≡ p.own ++ events_of es
   pub carries : Both (Carries level taken es sent lost) f.traffic g.traffic
   pub lacks : LacksBy end lost
   pub last : IsOfLast es sent lost
   pub blames : Blames (outer_end end) f g taken
   pub opened : number ≡ opened_in es
-  pub short : wanting ≡ has_short es
+  pub short : out_of_memory ≡ has_short es

@@ -15,7 +15,7 @@ pub record Stands (s : Session) (taken : List ℕ) (es : List Entry) (asked : Li
   pub short : s.short ≡ has_short es
   pub number : s.number ≡ opened_in es
 
--- the state stands for these lists, with a want of memory added where the call met one
+-- the state stands for these lists, with a lack of memory added where the call met one
 abbrev pub StandsShort : Session → List ℕ → List Entry → List Call → List ℕ → Type 0
 StandsShort s taken es asked sent = (added : List Entry) × IsShort sent added × Stands s taken (es ++ added) asked sent
 

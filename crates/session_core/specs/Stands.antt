@@ -11,7 +11,7 @@ use Rattle.block_machine.specs.Calls as calls
 use Rattle.block_machine.specs.Knowledge.{Knowledge}
 use Rattle.block_machine.specs.Script.{Entry, unsent, Script, more, call, ended, tell}
 use Rattle.block_machine.specs.Stages.{IsFrom, Fits}
-use Rattle.block_machine.specs.Runners.{follows, behind, wanted, held, work_of, left_of, running_of, owes, knowledge_of, tables_of, Holds, Knows, IsSoundRunner, is_under_way}
+use Rattle.block_machine.specs.Runners.{follows, follows_reply, wanted, held, work_of, left_of, running_of, owes, knowledge_of, tables_of, Holds, Knows, IsSoundRunner, is_under_way}
 use Rattle.block_machine.specs.declared.block.Owed.{Owed}
 use Rattle.block_machine.specs.declared.block.Owed.TheVariants as owed_kinds
 use Rattle.block_machine.specs.declared.call.Answer.{Answer}
@@ -26,13 +26,13 @@ use Rattle.session_core.specs.declared.stage.Fatal.{Fatal}
 use Rattle.session_core.specs.declared.stage.Fatal.TheVariants as fatals
 use Rattle.session_core.specs.declared.stage.Finish.{Finish}
 use Rattle.session_core.specs.declared.stage.Finish.TheVariants as finishes
-use Rattle.session_core.specs.declared.stage.Reply.TheVariants as replies
-use Rattle.session_core.specs.declared.stage.Stage.{Stage}
-use Rattle.session_core.specs.declared.stage.Stage.TheVariants as stages
+use Rattle.session_core.specs.declared.stage.SessionReply.TheVariants as replies
+use Rattle.session_core.specs.declared.stage.SessionStage.{SessionStage}
+use Rattle.session_core.specs.declared.stage.SessionStage.TheVariants as stages
 use Rattle.session_core.specs.Wants.{Want, of_message}
 use Rattle.session_core.specs.Wants as wishes
-use Rattle.session_core.specs.Talk.{Talk, IsTalk}
-use Rattle.session_core.specs.Replies.{fatal_reply, fatal_state, bytes_of, phase_behind}
+use Rattle.session_core.specs.Requests.{Requests, AreRequests}
+use Rattle.session_core.specs.Replies.{fatal_reply, fatal_state, bytes_of, phase_after_reply}
 use Rattle.session_core.specs.Told.{owed_by, done, closing, ending, broken, opens, outside_of, refuses, session, told}
 
 -- ---- what the parts of a stage stand for
@@ -59,25 +59,25 @@ abbrev pub served_of : Runner → Level
 served_of r = (knowledge_of r).served
 
 -- the messages from here on, by the phase and what the session knows
-abbrev pub on : Talk → Phase → Knowledge → Script
-on talk phase known = session phase known talk
+abbrev pub on : Requests → Phase → Knowledge → Script
+on requests phase known = session phase known requests
 
 -- What a stage goes on with, given what its runner goes on with, the startup reply that was built, and what the client says from here on.
-abbrev pub goes_on : Stage → Runner → List ℕ → Talk → Script
-goes_on (stages.Waiting phase) r startup talk = on talk phase (knowledge_of r)
-goes_on (stages.Taking phase) r startup talk = on talk phase (knowledge_of r)
-goes_on stages.Opening r startup talk = opens (on talk (phases.Normal block_states.Idle) (knowledge_of r))
-goes_on stages.Running r startup talk = follows r (outside_of (on talk))
-goes_on stages.Undoing r startup talk = refuses block_states.Block (knowledge_of r) (on talk)
-goes_on (stages.Telling reply) r startup talk = tell (bytes_of startup reply) (broken (owed_by (phase_behind reply)))
-    (on talk (phase_behind reply) (knowledge_of r))
-goes_on (stages.Leaving finish) r startup talk = ending owed_kinds.Rollback (end_of finish)
-goes_on (stages.Closing finish) r startup talk = closing (end_of finish)
-goes_on (stages.Parting fatal) r startup talk = tell (fatal_reply (fatal_state fatal)) (broken owed_kinds.Nothing) (done (fatal_end fatal))
-goes_on (stages.Ended finish) r startup talk = done (end_of finish)
+abbrev pub goes_on : SessionStage → Runner → List ℕ → Requests → Script
+goes_on (stages.Waiting phase) r startup requests = on requests phase (knowledge_of r)
+goes_on (stages.Taking phase) r startup requests = on requests phase (knowledge_of r)
+goes_on stages.Opening r startup requests = opens (on requests (phases.Normal block_states.Idle) (knowledge_of r))
+goes_on stages.Running r startup requests = follows r (outside_of (on requests))
+goes_on stages.Undoing r startup requests = refuses block_states.Block (knowledge_of r) (on requests)
+goes_on (stages.Telling reply) r startup requests = tell (bytes_of startup reply) (broken (owed_by (phase_after_reply reply)))
+    (on requests (phase_after_reply reply) (knowledge_of r))
+goes_on (stages.Leaving finish) r startup requests = ending owed_kinds.Rollback (end_of finish)
+goes_on (stages.Closing finish) r startup requests = closing (end_of finish)
+goes_on (stages.Parting fatal) r startup requests = tell (fatal_reply (fatal_state fatal)) (broken owed_kinds.Nothing) (done (fatal_end fatal))
+goes_on (stages.Ended finish) r startup requests = done (end_of finish)
 
 -- what a stage wants
-abbrev pub wants : Stage → Runner → Want
+abbrev pub wants : SessionStage → Runner → Want
 wants (stages.Waiting phase) r = wishes.Bytes
 wants (stages.Taking phase) r = wishes.Message
 wants stages.Opening r = wishes.Book calls.Open
@@ -90,7 +90,7 @@ wants (stages.Parting fatal) r = wishes.Send
 wants (stages.Ended finish) r = wishes.Ended (end_of finish)
 
 -- the same where the session itself wants it; where a message runs its runner wants something
-abbrev pub own_want : Stage → Want
+abbrev pub own_want : SessionStage → Want
 own_want (stages.Waiting phase) = wishes.Bytes
 own_want (stages.Taking phase) = wishes.Message
 own_want stages.Opening = wishes.Book calls.Open
@@ -103,46 +103,46 @@ own_want (stages.Parting fatal) = wishes.Send
 own_want (stages.Ended finish) = wishes.Ended (end_of finish)
 
 -- what the session owes its book
-abbrev pub owed_at : Stage → Runner → Owed
+abbrev pub owed_at : SessionStage → Runner → Owed
 owed_at (stages.Waiting phase) r = owed_by phase
 owed_at (stages.Taking phase) r = owed_by phase
 owed_at stages.Opening r = owed_kinds.Nothing
 owed_at stages.Running r = owes r
 owed_at stages.Undoing r = owed_kinds.Rollback
-owed_at (stages.Telling reply) r = owed_by (phase_behind reply)
+owed_at (stages.Telling reply) r = owed_by (phase_after_reply reply)
 owed_at (stages.Leaving finish) r = owed_kinds.Rollback
 owed_at (stages.Closing finish) r = owed_kinds.Close
 owed_at (stages.Parting fatal) r = owed_kinds.Nothing
 owed_at (stages.Ended finish) r = owed_kinds.Nothing
 
 -- a reply is held
-abbrev pub IsHolding : Stage → Runner → Type 0
+abbrev pub IsHolding : SessionStage → Runner → Type 0
 IsHolding stages.Running r = Holds r
 IsHolding (stages.Telling reply) r = Unit {0}
 IsHolding (stages.Parting fatal) r = Unit {0}
 IsHolding _ r = ⊥
 
-abbrev pub reply_of : Stage → Runner → List ℕ → List ℕ
+abbrev pub reply_of : SessionStage → Runner → List ℕ → List ℕ
 reply_of stages.Running r startup = held r
 reply_of (stages.Telling reply) r startup = bytes_of startup reply
 reply_of (stages.Parting fatal) r startup = fatal_reply (fatal_state fatal)
 reply_of _ r startup = []
 
 -- what follows a reply that was sent
-abbrev pub after_reply : Stage → Runner → Talk → Script
-after_reply stages.Running r talk = behind r (outside_of (on talk))
-after_reply (stages.Telling reply) r talk = on talk (phase_behind reply) (knowledge_of r)
-after_reply (stages.Parting fatal) r talk = done (fatal_end fatal)
-after_reply _ r talk = broken owed_kinds.Nothing
+abbrev pub after_reply : SessionStage → Runner → Requests → Script
+after_reply stages.Running r requests = follows_reply r (outside_of (on requests))
+after_reply (stages.Telling reply) r requests = on requests (phase_after_reply reply) (knowledge_of r)
+after_reply (stages.Parting fatal) r requests = done (fatal_end fatal)
+after_reply _ r requests = broken owed_kinds.Nothing
 
 -- a held reply has bytes
-abbrev pub HasReply : Stage → Runner → List ℕ → Type 0
+abbrev pub HasReply : SessionStage → Runner → List ℕ → Type 0
 HasReply stage r startup = IsHolding stage r → 0 < length (reply_of stage r startup)
 
 -- ---- what holds of a stage
 
 -- a stage of an end, which needs no more of what the client says
-abbrev pub IsLast : Stage → Type 0
+abbrev pub IsLast : SessionStage → Type 0
 IsLast (stages.Leaving finish) = Unit {0}
 IsLast (stages.Closing finish) = Unit {0}
 IsLast (stages.Parting fatal) = Unit {0}
@@ -150,12 +150,12 @@ IsLast (stages.Ended finish) = Unit {0}
 IsLast _ = ⊥
 
 -- bytes aren't wanted
-abbrev pub IsAwake : Stage → Type 0
+abbrev pub IsAwake : SessionStage → Type 0
 IsAwake (stages.Waiting phase) = ⊥
 IsAwake _ = Unit {0}
 
 -- neither bytes nor a message are wanted
-abbrev pub IsBusy : Stage → Type 0
+abbrev pub IsBusy : SessionStage → Type 0
 IsBusy (stages.Waiting phase) = ⊥
 IsBusy (stages.Taking phase) = ⊥
 IsBusy _ = Unit {0}
@@ -171,31 +171,31 @@ agree true started = started
 agree false started = not started
 
 -- Before the startup a session is in its first phase, and from there on it has started.
-abbrev pub phase_fits : Stage → Bool → Bool
+abbrev pub phase_fits : SessionStage → Bool → Bool
 phase_fits (stages.Waiting phase) started = agree (has_started phase) started
 phase_fits (stages.Taking phase) started = agree (has_started phase) started
 phase_fits stages.Opening started = started
 phase_fits stages.Running started = started
 phase_fits stages.Undoing started = started
-phase_fits (stages.Telling reply) started = agree (has_started (phase_behind reply)) started
+phase_fits (stages.Telling reply) started = agree (has_started (phase_after_reply reply)) started
 phase_fits (stages.Leaving finish) started = true
 phase_fits (stages.Closing finish) started = true
 phase_fits (stages.Parting fatal) started = true
 phase_fits (stages.Ended finish) started = true
 
-abbrev pub InPhase : Stage → Bool → Type 0
+abbrev pub InPhase : SessionStage → Bool → Type 0
 InPhase stage started = phase_fits stage started ≡ true
 
 -- where a message runs, its runner has one under way
-abbrev pub is_under : Stage → Runner → Bool
+abbrev pub is_under : SessionStage → Runner → Bool
 is_under stages.Running r = is_under_way r
 is_under _ r = true
 
-abbrev pub IsUnder : Stage → Runner → Type 0
+abbrev pub IsUnder : SessionStage → Runner → Type 0
 IsUnder stage r = is_under stage r ≡ true
 
 -- the reply that is held, if one is, isn't one that was built
-abbrev pub NoBuilt : Stage → Type 0
+abbrev pub NoBuilt : SessionStage → Type 0
 NoBuilt stages.Running = ⊥
 NoBuilt (stages.Telling replies.Startup) = ⊥
 NoBuilt _ = Unit {0}
@@ -207,16 +207,16 @@ pub record IsFit (r : Runner) : Type 0 where
   pub tables : All IsSound (tables_of r)
 
 -- nothing more is fed once the session is about to end
-abbrev pub IsFed : Stage → List ℕ → Type 0
+abbrev pub IsFed : SessionStage → List ℕ → Type 0
 IsFed (stages.Leaving finish) bytes = bytes ≡ []
 IsFed (stages.Closing finish) bytes = bytes ≡ []
 IsFed (stages.Parting fatal) bytes = bytes ≡ []
 IsFed (stages.Ended finish) bytes = bytes ≡ []
 IsFed _ bytes = Unit {0}
 
--- Where bytes or a message are wanted, memory may be wanting at once. Elsewhere a want of memory stands where more was told than was sent,
+-- Where bytes or a message are wanted, memory may run out at once. Elsewhere a lack of memory stands where more was told than was sent,
 -- and a failed write where no fewer bytes had been told.
-abbrev pub least : Stage → ℕ
+abbrev pub least : SessionStage → ℕ
 least (stages.Waiting phase) = 0
 least (stages.Taking phase) = 0
 least _ = 1
@@ -230,7 +230,7 @@ outer_end ends.WriteFault = Some ends.WriteFault
 outer_end ends.Spent = Some ends.Spent
 outer_end _ = None
 
-abbrev pub outer : Stage → Option End
+abbrev pub outer : SessionStage → Option End
 outer (stages.Leaving finish) = outer_end (end_of finish)
 outer (stages.Closing finish) = outer_end (end_of finish)
 outer (stages.Parting fatal) = outer_end (fatal_end fatal)
@@ -242,7 +242,7 @@ abbrev pub LacksBy : End → List ℕ → Type 0
 LacksBy ends.WriteFault gone = Unit {0}
 LacksBy _ gone = gone ≡ []
 
-abbrev pub Lacks : Stage → List ℕ → Type 0
+abbrev pub Lacks : SessionStage → List ℕ → Type 0
 Lacks (stages.Leaving finish) gone = LacksBy (end_of finish) gone
 Lacks (stages.Closing finish) gone = LacksBy (end_of finish) gone
 Lacks (stages.Ended finish) gone = LacksBy (end_of finish) gone
@@ -260,32 +260,32 @@ IsStopped _ _ = ⊥
 
 -- Whatever comes, told of the lists grown by it is what the state goes on with. `whole` puts what the client says from here on after what
 -- it said before.
-pub record StandsFor (stage : Stage) (r : Runner) (startup : List ℕ) (held : Held) (taken : List ℕ) (entries : List Entry)
+pub record StandsFor (stage : SessionStage) (r : Runner) (startup : List ℕ) (held : Held) (taken : List ℕ) (entries : List Entry)
     (asked : List Call) (sent : List ℕ) : Type 0 where
-  pub whole : Talk → Talk
-  pub heard : (bytes : List ℕ) (talk : Talk) → IsFed stage bytes → IsTalk held.started (held.rest ++ bytes) talk →
-      IsTalk false (taken ++ bytes) (whole talk)
-  pub goes : (talk : Talk) (es : List Entry) → IsFrom (least stage) (length sent) es →
-      told (served_of r) (whole talk) (entries ++ es) ≡ goes_on stage r startup talk (record { bytes = sent; calls = asked }) es
+  pub whole : Requests → Requests
+  pub heard : (bytes : List ℕ) (requests : Requests) → IsFed stage bytes → AreRequests held.started (held.rest ++ bytes) requests →
+      AreRequests false (taken ++ bytes) (whole requests)
+  pub goes : (requests : Requests) (es : List Entry) → IsFrom (least stage) (length sent) es →
+      told (served_of r) (whole requests) (entries ++ es) ≡ goes_on stage r startup requests (record { bytes = sent; calls = asked }) es
   pub waits : (phase : Phase) → stage ≡ stages.Waiting phase → IsPartial held.started held.rest
   pub some : HasReply stage r startup
 
 -- What a want says of all that came in and went out, given that the session wants it.
 abbrev pub Shows : Level → Want → List ℕ → List Entry → List Call → List ℕ → Type 0
-Shows level wishes.Bytes taken es asked sent = (talk : Talk) × IsTalk false taken talk ×
-    (told level talk es ≡ (record { bytes = sent; calls = asked }, more))
-Shows level (wishes.Book c) taken es asked sent = (talk : Talk) × IsTalk false taken talk ×
-    (told level talk es ≡ (record { bytes = sent; calls = asked }, call c))
+Shows level wishes.Bytes taken es asked sent = (requests : Requests) × AreRequests false taken requests ×
+    (told level requests es ≡ (record { bytes = sent; calls = asked }, more))
+Shows level (wishes.Book c) taken es asked sent = (requests : Requests) × AreRequests false taken requests ×
+    (told level requests es ≡ (record { bytes = sent; calls = asked }, call c))
 Shows level wishes.Message taken es asked sent = Unit {0}
 Shows level wishes.Send taken es asked sent = Unit {0}
-Shows level (wishes.Ended end) taken es asked sent = (talk : Talk) × IsTalk false taken talk ×
-    (told level talk es ≡ (record { bytes = sent; calls = asked }, ended end))
+Shows level (wishes.Ended end) taken es asked sent = (requests : Requests) × AreRequests false taken requests ×
+    (told level requests es ≡ (record { bytes = sent; calls = asked }, ended end))
 
 -- What a held reply adds to what is told of all that came in: where a write of it fails, it was told, and what is owed is asked for.
 abbrev pub Tells : Level → Owed → List ℕ → List ℕ → List Entry → List Call → List ℕ → Type 0
 Tells level owed reply taken es asked sent =
-    (talk : Talk) × IsTalk false taken talk ×
-    (told level talk (es ++ unsent (length sent) ∷ []) ≡ broken owed (record { bytes = sent ++ reply; calls = asked }) [])
+    (requests : Requests) × AreRequests false taken requests ×
+    (told level requests (es ++ unsent (length sent) ∷ []) ≡ broken owed (record { bytes = sent ++ reply; calls = asked }) [])
 
 -- the answer fits what is wanted
 abbrev pub FitsWant : Want → Answer → Type 0
@@ -295,7 +295,7 @@ FitsWant _ a = ⊥
 -- ---- how much work is left
 
 -- how much work a stage leaves until bytes are wanted or the end is there, but for the statements of a message that runs
-abbrev pub work_at : Stage → ℕ
+abbrev pub work_at : SessionStage → ℕ
 work_at (stages.Waiting phase) = 4
 work_at (stages.Taking phase) = 5
 work_at stages.Opening = 8
@@ -308,21 +308,21 @@ work_at (stages.Parting fatal) = 1
 work_at (stages.Ended finish) = 0
 
 -- 1 where a message runs
-abbrev pub message_at : Stage → ℕ
+abbrev pub message_at : SessionStage → ℕ
 message_at stages.Running = 1
 message_at _ = 0
 
 -- how much work a message that runs leaves, but for the demands of its running statement
-abbrev pub message_work : Stage → Runner → ℕ
+abbrev pub message_work : SessionStage → Runner → ℕ
 message_work stages.Running r = 1 + work_of r
 message_work _ r = 0
 
 -- 1 where a statement runs
-abbrev pub statement_at : Stage → Runner → ℕ
+abbrev pub statement_at : SessionStage → Runner → ℕ
 statement_at stages.Running r = running_of r
 statement_at _ r = 0
 
 -- how many demands of a running statement are left at most
-abbrev pub left_at : Stage → Runner → ℕ
+abbrev pub left_at : SessionStage → Runner → ℕ
 left_at stages.Running r = left_of r
 left_at _ r = 0

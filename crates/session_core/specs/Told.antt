@@ -24,7 +24,7 @@ use Rattle.block_machine.specs.declared.end.Stop.TheVariants as stops
 use Rattle.block_machine.specs.declared.message.Message.TheVariants as messages
 use Rattle.session_core.specs.declared.phase.Phase.{Phase}
 use Rattle.session_core.specs.declared.phase.Phase.TheVariants as phases
-use Rattle.session_core.specs.Talk.{Ask, encryption, cancel, start, userless, version, query, unread_query, terminate, sync, nothing, extended, function, Talk, asks, partial, faulty, unread}
+use Rattle.session_core.specs.Requests.{Request, encryption, cancel, start, userless, version, query, unread_query, terminate, sync, nothing, extended, function, Requests, asks, partial, faulty, unread}
 use Rattle.session_core.specs.Replies.{no_encryption, startup_reply, fatal_reply}
 
 -- the session that is open after an answer
@@ -96,7 +96,7 @@ abbrev pub opens : Script → Script
 opens rest = ask calls.Open (λ a. on_opened a (λ session. tells_startup session rest) (λ why. closed (refusal_end why)))
 
 -- rest is what follows, by the phase and what is then known
-abbrev pub starting : Ask → Knowledge → (Phase → Knowledge → Script) → Script
+abbrev pub starting : Request → Knowledge → (Phase → Knowledge → Script) → Script
 starting encryption known rest = tell no_encryption (broken owes.Nothing) (rest phases.Startup known)
 starting cancel known rest = closed ends.Cancelled
 starting start known rest = opens (rest (phases.Normal block_states.Idle) known)
@@ -119,7 +119,7 @@ refuses state known rest =
       broken = broken;
     })
 
-abbrev pub serving : Ask → TransactionState → Knowledge → (Phase → Knowledge → Script) → Script
+abbrev pub serving : Request → TransactionState → Knowledge → (Phase → Knowledge → Script) → Script
 serving (query asked) state known rest = message asked state known (outside_of rest)
 serving unread_query state known rest = unless_short false
     (message (messages.Unread states.S53200) state known (outside_of rest)) lost
@@ -131,12 +131,12 @@ serving function state known rest = message (messages.Unread states.S0A000) stat
 serving _ state known rest = lost
 
 -- A Sync ends the discarding.
-abbrev pub discarding : Ask → TransactionState → Knowledge → (Phase → Knowledge → Script) → Script
+abbrev pub discarding : Request → TransactionState → Knowledge → (Phase → Knowledge → Script) → Script
 discarding terminate state known rest = ending (owed_between state) ends.Terminated
 discarding sync state known rest = readied state known (outside_of rest)
 discarding _ state known rest = rest (phases.Discarding state) known
 
-abbrev pub handled : Ask → Phase → Knowledge → (Phase → Knowledge → Script) → Script
+abbrev pub handled : Request → Phase → Knowledge → (Phase → Knowledge → Script) → Script
 handled asked phases.Startup known rest = starting asked known rest
 handled asked (phases.Normal state) known rest = serving asked state known rest
 handled asked (phases.Discarding state) known rest = discarding asked state known rest
@@ -157,18 +157,18 @@ waiting phase held said (refused why ∷ entries) = (said, astray)
 waiting phase held said (short final n ∷ entries) = (said, astray)
 waiting phase held said (unsent n ∷ entries) = (said, astray)
 
--- a want of memory before a message or before its bytes ends the session
+-- a lack of memory before a message or before its bytes ends the session
 abbrev pub unless_memory_ends : Phase → Script → Script
 unless_memory_ends phase rest = unless_short true (ending (owed_by phase) ends.Memory) rest
 
 -- the messages one after another, given the phase and what the session knows
-abbrev pub session : Phase → Knowledge → Talk → Script
-session phase known (asks asked talk) = unless_memory_ends phase (handled asked phase known (λ p k. session p k talk))
+abbrev pub session : Phase → Knowledge → Requests → Script
+session phase known (asks asked requests) = unless_memory_ends phase (handled asked phase known (λ p k. session p k requests))
 session phase known (partial rest) = unless_memory_ends phase (waiting phase (length rest))
 session phase known (faulty fault) = unless_memory_ends phase (ending (owed_by phase) (ends.Protocol fault))
 session phase known unread = unless_memory_ends phase lost
 
 -- what a session of a server at this level is told of all that its client says and of its whole record, the calls that it asked, and what
 -- comes next
-unfoldable pub told : Level → Talk → List Entry → Said × Next
-told level talk entries = session phases.Startup (at_start level) talk (record { bytes = []; calls = [] }) entries
+unfoldable pub told : Level → Requests → List Entry → Said × Next
+told level requests entries = session phases.Startup (at_start level) requests (record { bytes = []; calls = [] }) entries

@@ -12,23 +12,23 @@ ghost use Rattle.session_core.specs.Steps.{Advances, Sends};
 use crate::messages::passing;
 use crate::phase::Phase;
 use crate::replies;
-use crate::stage::{Finish, Reply, Stage};
-use crate::turns::{Shortage, Step, advance, calm, owed_by, phase_behind};
+use crate::stage::{Finish, SessionReply, SessionStage};
+use crate::turns::{SessionStep, Shortage, advance, at_rest, owed_by, phase_after_reply};
 use block_machine::{Answer, Owed, Runner};
 use cell_base::Memory;
 use history_core::BookFault;
 use std::alloc::Global;
 
 // The step after a reply of a message that runs.
-fn run_on(runner: &mut Runner) -> Step
-    requires holding { IsHolding Stage.Running runner.old }
+fn run_on(runner: &mut Runner) -> SessionStep
+    requires holding { IsHolding SessionStage.Running runner.old }
     requires fit { IsFit runner.old }
-    ensures sends { Sends Stage.Running runner.old result.stage runner.new result.wanting }
-    ensures owed { owed_at result.stage runner.new ≡ owed_at Stage.Running runner.old }
+    ensures sends { Sends SessionStage.Running runner.old result.stage runner.new result.out_of_memory }
+    ensures owed { owed_at result.stage runner.new ≡ owed_at SessionStage.Running runner.old }
     ensures outer { outer result.stage ≡ None }
     ensures lacks { Lacks result.stage [] }
-    ensures work { work_at result.stage < work_at Stage.Running + message_at result.stage }
-    ensures message { message_work result.stage runner.new < message_work Stage.Running runner.old }
+    ensures work { work_at result.stage < work_at SessionStage.Running + message_at result.stage }
+    ensures message { message_work result.stage runner.new < message_work SessionStage.Running runner.old }
     ensures known { IsSameButLevel (knowledge_of runner.old) (knowledge_of runner.new) }
     ensures fit { IsFit runner.new }
     ensures under { IsUnder result.stage runner.new }
@@ -36,29 +36,29 @@ fn run_on(runner: &mut Runner) -> Step
     ensures phase { InPhase result.stage true }
     ensures some { (startup : List ℕ) → HasReply result.stage runner.new startup }
 {
-    let wanting = runner.sent();
+    let out_of_memory = runner.sent();
     match runner.left() {
-        Some(state) => Step {
-            stage: Stage::Taking(Phase::Normal(state)),
-            wanting: passing(wanting),
+        Some(state) => SessionStep {
+            stage: SessionStage::Taking(Phase::Normal(state)),
+            out_of_memory: passing(out_of_memory),
         },
-        None => Step {
-            stage: Stage::Running,
-            wanting: passing(wanting),
+        None => SessionStep {
+            stage: SessionStage::Running,
+            out_of_memory: passing(out_of_memory),
         },
     }
 }
 
 /// The step after a reply that was sent.
-pub fn after_sent(stage: Stage, runner: &mut Runner) -> Step
+pub fn after_sent(stage: SessionStage, runner: &mut Runner) -> SessionStep
     requires holding { IsHolding stage runner.old }
     requires fit { IsFit runner.old }
-    ensures sends { Sends stage runner.old result.stage runner.new result.wanting }
+    ensures sends { Sends stage runner.old result.stage runner.new result.out_of_memory }
     ensures owed { owed_at result.stage runner.new ≡ owed_at stage runner.old }
     ensures outer { outer result.stage ≡ outer stage }
     ensures lacks { Lacks result.stage [] }
     ensures work { work_at result.stage < work_at stage + message_at result.stage }
-    ensures message { stage ≡ Stage.Running → message_work result.stage runner.new < message_work stage runner.old }
+    ensures message { stage ≡ SessionStage.Running → message_work result.stage runner.new < message_work stage runner.old }
     ensures known { IsSameButLevel (knowledge_of runner.old) (knowledge_of runner.new) }
     ensures fit { IsFit runner.new }
     ensures under { IsUnder result.stage runner.new }
@@ -68,29 +68,29 @@ pub fn after_sent(stage: Stage, runner: &mut Runner) -> Step
     ensures some { (startup : List ℕ) → HasReply result.stage runner.new startup }
 {
     match stage {
-        Stage::Telling(reply) => calm(Stage::Taking(phase_behind(reply))),
-        Stage::Running => run_on(runner),
-        Stage::Parting(fatal) => calm(Stage::Ended(Finish::Fatal(fatal))),
+        SessionStage::Telling(reply) => at_rest(SessionStage::Taking(phase_after_reply(reply))),
+        SessionStage::Running => run_on(runner),
+        SessionStage::Parting(fatal) => at_rest(SessionStage::Ended(Finish::Fatal(fatal))),
         _ => unreachable!(),
     }
 }
 
 /// What a session owes where a reply is held.
-pub fn owed_holding(stage: Stage, runner: &Runner) -> Owed
+pub fn owed_holding(stage: SessionStage, runner: &Runner) -> Owed
     requires { IsHolding stage runner.now }
     ensures { result ≡ owed_at stage runner.now }
 {
     match stage {
-        Stage::Telling(reply) => owed_by(phase_behind(reply)),
-        Stage::Running => runner.owed(),
-        Stage::Parting(_) => Owed::Nothing,
+        SessionStage::Telling(reply) => owed_by(phase_after_reply(reply)),
+        SessionStage::Running => runner.owed(),
+        SessionStage::Parting(_) => Owed::Nothing,
         _ => unreachable!(),
     }
 }
 
-// Tells a session that was opened its startup reply, or ends it where memory for that is wanting.
-fn tell_startup(alloc: Global, session: u32, startup: &mut Vec<u8>) -> Step
-    ensures goes { (r : Machine) → Advances Stage.Opening r (Answer.Opened session) result.stage r result.wanting startup.new.items }
+// Tells a session that was opened its startup reply, or ends it where memory for that runs out.
+fn tell_startup(alloc: Global, session: u32, startup: &mut Vec<u8>) -> SessionStep
+    ensures goes { (r : Machine) → Advances SessionStage.Opening r (Answer.Opened session) result.stage r result.out_of_memory startup.new.items }
     ensures owed { (r : Machine) → owed_at result.stage r ≡ Owed.Close }
     ensures outer { outer result.stage ≡ None }
     ensures lacks { Lacks result.stage [] }
@@ -102,19 +102,24 @@ fn tell_startup(alloc: Global, session: u32, startup: &mut Vec<u8>) -> Step
     match replies::startup(alloc, session) {
         Ok(reply) => {
             *startup = reply;
-            calm(Stage::Telling(Reply::Startup))
+            at_rest(SessionStage::Telling(SessionReply::Startup))
         }
-        Err(Memory) => Step {
-            stage: Stage::Closing(Finish::Memory),
-            wanting: Some(Shortage::Ending),
+        Err(Memory) => SessionStep {
+            stage: SessionStage::Closing(Finish::Memory),
+            out_of_memory: Some(Shortage::Ending),
         },
     }
 }
 
 // The step after the answer to a call of the session's own.
-fn answer_own(alloc: Global, stage: Stage, answer: Answer, startup: &mut Vec<u8>) -> Step
+fn answer_own(
+    alloc: Global,
+    stage: SessionStage,
+    answer: Answer,
+    startup: &mut Vec<u8>,
+) -> SessionStep
     requires fits { FitsWant (own_want stage) answer }
-    ensures goes { (r : Machine) → Advances stage r answer result.stage r result.wanting startup.new.items }
+    ensures goes { (r : Machine) → Advances stage r answer result.stage r result.out_of_memory startup.new.items }
     ensures owed { (c : Asked) (r : Machine) → wants stage r ≡ wishes.Book c →
         owed_at result.stage r ≡ owed_after c answer (owed_at stage r) }
     ensures outer { outer result.stage ≡ outer stage }
@@ -126,53 +131,53 @@ fn answer_own(alloc: Global, stage: Stage, answer: Answer, startup: &mut Vec<u8>
     ensures some { (r : Machine) → HasReply result.stage r startup.new.items }
 {
     match (stage, answer) {
-        (Stage::Opening, Answer::Opened(session)) => tell_startup(alloc, session, startup),
-        (stage, answer) => calm(advance(stage, &answer)),
+        (SessionStage::Opening, Answer::Opened(session)) => tell_startup(alloc, session, startup),
+        (stage, answer) => at_rest(advance(stage, &answer)),
     }
 }
 
 // The step after the answer to a call of a message that runs.
-fn answer_message(runner: &mut Runner, answer: Answer) -> Step
-    requires fits { FitsWant (wants Stage.Running runner.old) answer }
+fn answer_message(runner: &mut Runner, answer: Answer) -> SessionStep
+    requires fits { FitsWant (wants SessionStage.Running runner.old) answer }
     requires fit { IsFit runner.old }
-    ensures goes { (startup : List ℕ) → Advances Stage.Running runner.old answer result.stage runner.new result.wanting startup }
-    ensures stage { result.stage ≡ Stage.Running }
-    ensures owed { (c : Asked) → wants Stage.Running runner.old ≡ wishes.Book c →
-        owed_at Stage.Running runner.new ≡ owed_after c answer (owed_at Stage.Running runner.old) }
-    ensures message { message_work Stage.Running runner.new <
-        message_work Stage.Running runner.old + statement_at Stage.Running runner.new }
-    ensures left { Runs runner.old → left_at Stage.Running runner.new < left_at Stage.Running runner.old }
+    ensures goes { (startup : List ℕ) → Advances SessionStage.Running runner.old answer result.stage runner.new result.out_of_memory startup }
+    ensures stage { result.stage ≡ SessionStage.Running }
+    ensures owed { (c : Asked) → wants SessionStage.Running runner.old ≡ wishes.Book c →
+        owed_at SessionStage.Running runner.new ≡ owed_after c answer (owed_at SessionStage.Running runner.old) }
+    ensures message { message_work SessionStage.Running runner.new <
+        message_work SessionStage.Running runner.old + statement_at SessionStage.Running runner.new }
+    ensures left { Runs runner.old → left_at SessionStage.Running runner.new < left_at SessionStage.Running runner.old }
     ensures known { IsKnownAfter (knowledge_of runner.old) answer (knowledge_of runner.new) }
     ensures fit { IsFit runner.new }
-    ensures under { IsUnder Stage.Running runner.new }
-    ensures some { (startup : List ℕ) → HasReply Stage.Running runner.new startup }
+    ensures under { IsUnder SessionStage.Running runner.new }
+    ensures some { (startup : List ℕ) → HasReply SessionStage.Running runner.new startup }
 {
-    let wanting = runner.answer(answer);
-    Step {
-        stage: Stage::Running,
-        wanting: passing(wanting),
+    let out_of_memory = runner.answer(answer);
+    SessionStep {
+        stage: SessionStage::Running,
+        out_of_memory: passing(out_of_memory),
     }
 }
 
 /// The step after the answer to a stage's call.
 pub fn answered(
     alloc: Global,
-    stage: Stage,
+    stage: SessionStage,
     runner: &mut Runner,
     answer: Answer,
     startup: &mut Vec<u8>,
-) -> Step
+) -> SessionStep
     requires fits { FitsWant (wants stage runner.old) answer }
     requires fit { IsFit runner.old }
-    ensures goes { Advances stage runner.old answer result.stage runner.new result.wanting startup.new.items }
+    ensures goes { Advances stage runner.old answer result.stage runner.new result.out_of_memory startup.new.items }
     ensures owed { (c : Asked) → wants stage runner.old ≡ wishes.Book c →
         owed_at result.stage runner.new ≡ owed_after c answer (owed_at stage runner.old) }
     ensures outer { outer result.stage ≡ outer stage }
     ensures lacks { (lost : List ℕ) → Lacks stage lost → Lacks result.stage lost }
     ensures work { work_at result.stage < work_at stage + message_at result.stage }
-    ensures message { stage ≡ Stage.Running →
+    ensures message { stage ≡ SessionStage.Running →
         message_work result.stage runner.new < message_work stage runner.old + statement_at result.stage runner.new }
-    ensures left { stage ≡ Stage.Running → Runs runner.old → left_at result.stage runner.new < left_at stage runner.old }
+    ensures left { stage ≡ SessionStage.Running → Runs runner.old → left_at result.stage runner.new < left_at stage runner.old }
     ensures known { IsKnownAfter (knowledge_of runner.old) answer (knowledge_of runner.new) }
     ensures fit { IsFit runner.new }
     ensures under { IsUnder result.stage runner.new }
@@ -180,12 +185,12 @@ pub fn answered(
     ensures some { HasReply result.stage runner.new startup.new.items }
 {
     match stage {
-        Stage::Running => answer_message(runner, answer),
+        SessionStage::Running => answer_message(runner, answer),
         stage => answer_own(alloc, stage, answer, startup),
     }
 }
 
-/// Whether an answer is a want of memory of the book.
+/// Whether an answer is a lack of memory of the book.
 pub fn is_want(answer: &Answer) -> bool
     ensures { result ≡ wants_memory answer.now }
 {

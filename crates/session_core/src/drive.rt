@@ -8,7 +8,7 @@ ghost use Rattle.link_traits.specs.Traffic.{Both, Sight, Wrote, WrotePart, sight
 ghost use Rattle.block_machine.specs.Calls.{call_of};
 ghost use Rattle.block_machine.specs.Calls as calls;
 ghost use Rattle.block_machine.specs.Runners.{Runs};
-ghost use Rattle.session_core.specs.declared.stage.Stage.TheVariants as stages;
+ghost use Rattle.session_core.specs.declared.stage.SessionStage.TheVariants as stages;
 ghost use Rattle.session_core.specs.Wants as wishes;
 ghost use Rattle.session_core.specs.Wants.{IsResting};
 ghost use Rattle.session_core.specs.Stands.{IsHolding, IsLast, left_at, message_at, message_work, statement_at};
@@ -200,7 +200,7 @@ fn step_on<B: Book, W: Words>(
     ensures message { message_work session.new.stage session.new.runner + statement_at session.old.stage session.old.runner ≤
         message_work session.old.stage session.old.runner + statement_at session.new.stage session.new.runner }
     ensures left { result ≡ true → left_at session.new.stage session.new.runner < left_at session.old.stage session.old.runner }
-    ensures calm { result ≡ false → statement_at session.new.stage session.new.runner ≡ 0 }
+    ensures at_rest { result ≡ false → statement_at session.new.stage session.new.runner ≡ 0 }
     ensures last { IsLast session.old.stage → IsLast session.new.stage }
     ensures legal { IsLegalChronicle (B.past book.old).seen → IsLegalChronicle (B.past book.new).seen }
     ensures stays { B.stays book.old book.new }
@@ -247,7 +247,7 @@ fn step_message<B: Book, L: Link, W: Words>(
     ensures work { work_of session.new + message_at session.old.stage ≤ work_of session.old + message_at session.new.stage }
     ensures message { result ≡ true → message_work session.new.stage session.new.runner <
         message_work session.old.stage session.old.runner }
-    ensures calm { result ≡ false → message_at session.new.stage ≡ 0 }
+    ensures at_rest { result ≡ false → message_at session.new.stage ≡ 0 }
     ensures last { IsLast session.old.stage → IsLast session.new.stage }
     ensures legal { IsLegalChronicle (B.past book.old).seen → IsLegalChronicle (B.past book.new).seen }
     ensures stays { B.stays book.old book.new }

@@ -1,4 +1,4 @@
-// The replies of a session that are made before it needs them, so that no want of memory stands between a call and the reply that
+// The replies of a session that are made before it needs them, so that no lack of memory stands between a call and the reply that
 // tells it.
 ghost use Rattle.std.specs.Prelude.{◌≡◌};
 ghost use Rattle.block_machine.specs.Replies.{error_reply};
@@ -6,14 +6,14 @@ ghost use Rattle.session_core.specs.Replies.{bytes_of, fatal_reply, fatal_state}
 ghost use Rattle.cell_base.specs.declared.sql_state.SqlState.TheVariants as sql_states;
 
 use crate::replies::fatal;
-use crate::stage::{Fatal, Reply};
+use crate::stage::{Fatal, SessionReply};
 use block_machine::{ReadyReplies, error};
 use cell_base::{Memory, SqlState};
 use std::alloc::Global;
 
 /// The replies whose bytes are known beforehand.
 #[derive(Debug, Drop)]
-pub struct Prepared {
+pub struct SessionReplies {
     states: ReadyReplies,
     unsupported: Vec<u8>,
     fatals: Fatals,
@@ -44,10 +44,10 @@ impl Fatals {
     }
 }
 
-impl Prepared {
+impl SessionReplies {
     /// Makes all of them.
-    pub fn new(alloc: Global) -> Result<Prepared, Memory> {
-        Ok(Prepared {
+    pub fn new(alloc: Global) -> Result<SessionReplies, Memory> {
+        Ok(SessionReplies {
             states: ReadyReplies::new(alloc)?,
             unsupported: error(alloc, SqlState::S0A000)?,
             fatals: Fatals::new(alloc)?,
@@ -55,14 +55,14 @@ impl Prepared {
     }
 
     /// The bytes of a reply, given the startup reply that was built.
-    pub fn bytes<'a>(&'a self, startup: &'a [u8], reply: Reply) -> &'a [u8]
+    pub fn bytes<'a>(&'a self, startup: &'a [u8], reply: SessionReply) -> &'a [u8]
         ensures { result.now ≡ bytes_of startup.now reply }
     {
         match reply {
-            Reply::NoEncryption => b"N".as_slice(),
-            Reply::Startup => startup,
-            Reply::Ready(state) => self.states.bytes(state),
-            Reply::Unsupported(_) => self.unsupported.as_slice(),
+            SessionReply::NoEncryption => b"N".as_slice(),
+            SessionReply::Startup => startup,
+            SessionReply::Ready(state) => self.states.bytes(state),
+            SessionReply::Unsupported(_) => self.unsupported.as_slice(),
         }
     }
 

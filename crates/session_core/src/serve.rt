@@ -8,10 +8,10 @@ ghost use Rattle.block_machine.specs.Knowledge.{at_start};
 ghost use Rattle.block_machine.specs.Script.{Entry, has_short};
 ghost use Rattle.block_machine.specs.Runners.{knowledge_of, tables_of};
 ghost use Rattle.session_core.specs.declared.phase.Phase.TheVariants as phases;
-ghost use Rattle.session_core.specs.declared.stage.Stage.TheVariants as stages;
+ghost use Rattle.session_core.specs.declared.stage.SessionStage.TheVariants as stages;
 ghost use Rattle.session_core.specs.Wants as wishes;
 ghost use Rattle.session_core.specs.Wants.{IsOver};
-ghost use Rattle.session_core.specs.Talk.{Talk};
+ghost use Rattle.session_core.specs.Requests.{Requests};
 ghost use Rattle.session_core.specs.Told.{opened_in};
 ghost use Rattle.session_core.specs.Stands.{IsFit, IsLast, served_of};
 ghost use Rattle.session_core.specs.Sessions.{Stands, wanted};
@@ -39,7 +39,7 @@ pub struct Served {
     pub session: Option<u32>,
     /// How it ended.
     pub end: End,
-    /// Whether memory was wanting.
+    /// Whether memory ran out.
     pub short: bool,
 }
 
@@ -142,10 +142,10 @@ fn run<B: Book, L: Link, W: Words>(
     requires fit { IsFit session.old.runner }
     requires room { 0 < length room.old }
     requires no_session { (B.past book.old).state ≡ no_session }
-    ensures served { (talk : Talk) × (taken : List ℕ) × (es : List Entry) × (asked : List Asked) × (sent : List ℕ) × (lost : List ℕ) ×
+    ensures served { (requests : Requests) × (taken : List ℕ) × (es : List Entry) × (asked : List Asked) × (sent : List ℕ) × (lost : List ℕ) ×
         Serves W.gives (served_of session.old.runner) (B.past book.old) words.old (sight_of L.traffic L.read_faults L.write_faults link.old)
         result.session result.end result.short
-        (B.past book.new) words.new (sight_of L.traffic L.read_faults L.write_faults link.new) talk taken es asked sent lost }
+        (B.past book.new) words.new (sight_of L.traffic L.read_faults L.write_faults link.new) requests taken es asked sent lost }
     ensures no_session { (B.past book.new).state ≡ no_session }
     ensures legal { IsLegalChronicle (B.past book.old).seen → IsLegalChronicle (B.past book.new).seen }
     ensures stays { B.stays book.old book.new }
@@ -168,7 +168,7 @@ fn run<B: Book, L: Link, W: Words>(
 /// Serves one session at a level over a link, on a book that has none, with the words that choose what its reads find. What is sent,
 /// but for what a failed write left, what is asked of the book and how the session ends are told of the bytes that were read and of a
 /// record, whose events are those that the book has made its own. `session` is the session that the record opened, and `short` says
-/// whether the record has a want of memory. A history that was legal when the session began is legal when it has ended.
+/// whether the record has a lack of memory. A history that was legal when the session began is legal when it has ended.
 pub fn serve_link<B: Book, L: Link, W: Words>(
     alloc: Global,
     level: Level,
@@ -177,10 +177,10 @@ pub fn serve_link<B: Book, L: Link, W: Words>(
     words: &mut W,
 ) -> Served
     requires { (B.past book.old).state ≡ no_session }
-    ensures served { (talk : Talk) × (taken : List ℕ) × (es : List Entry) × (asked : List Asked) × (sent : List ℕ) × (lost : List ℕ) ×
+    ensures served { (requests : Requests) × (taken : List ℕ) × (es : List Entry) × (asked : List Asked) × (sent : List ℕ) × (lost : List ℕ) ×
         Serves W.gives level (B.past book.old) words.old (sight_of L.traffic L.read_faults L.write_faults link.old) result.session
         result.end result.short
-        (B.past book.new) words.new (sight_of L.traffic L.read_faults L.write_faults link.new) talk taken es asked sent lost }
+        (B.past book.new) words.new (sight_of L.traffic L.read_faults L.write_faults link.new) requests taken es asked sent lost }
     ensures no_session { (B.past book.new).state ≡ no_session }
     ensures legal { IsLegalChronicle (B.past book.old).seen → IsLegalChronicle (B.past book.new).seen }
     ensures stays { B.stays book.old book.new }

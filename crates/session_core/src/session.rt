@@ -20,8 +20,8 @@ ghost use Rattle.session_core.specs.Stands.{FitsWant, InPhase, IsFit, IsHolding,
 use crate::answers::{after_sent, answered, is_want, number_after, owed_holding};
 use crate::messages::{feed_piece, take_message};
 use crate::phase::Phase;
-use crate::prepared::Prepared;
-use crate::stage::{Finish, Stage};
+use crate::prepared::SessionReplies;
+use crate::stage::{Finish, SessionStage};
 use crate::turns::{end_at, finish_of, leave, owed_by};
 use crate::want::Want;
 use block_machine::{Answer, Call, End, Runner, Stop};
@@ -36,11 +36,11 @@ use std::alloc::Global;
 pub struct Session {
     alloc: Global,
     frames: Frames,
-    prepared: Prepared,
+    prepared: SessionReplies,
     // The startup reply, once it was built.
     startup: Vec<u8>,
     runner: Runner,
-    stage: Stage,
+    stage: SessionStage,
     number: Option<u32>,
     short: bool,
     ghost phase: { InPhase stage frames.started },
@@ -48,23 +48,23 @@ pub struct Session {
 }
 
 // The phase in which bytes are wanted.
-fn phase_at(stage: Stage) -> Phase
+fn phase_at(stage: SessionStage) -> Phase
     requires { (r : Machine) × (wants stage r ≡ wishes.Bytes) }
-    ensures { stage ≡ Stage.Waiting result }
+    ensures { stage ≡ SessionStage.Waiting result }
 {
     match stage {
-        Stage::Waiting(phase) => phase,
+        SessionStage::Waiting(phase) => phase,
         _ => unreachable!(),
     }
 }
 
 // The phase in which a message is wanted.
-fn phase_taking(stage: Stage) -> Phase
+fn phase_taking(stage: SessionStage) -> Phase
     requires { (r : Machine) × (wants stage r ≡ wishes.Message) }
-    ensures { stage ≡ Stage.Taking result }
+    ensures { stage ≡ SessionStage.Taking result }
 {
     match stage {
-        Stage::Taking(phase) => phase,
+        SessionStage::Taking(phase) => phase,
         _ => unreachable!(),
     }
 }
@@ -78,20 +78,20 @@ fn either(a: bool, b: bool) -> bool
 
 // What a session wants while a message runs.
 fn want_of(runner: &Runner) -> Want
-    requires { IsUnder Stage.Running runner.now }
-    ensures want { IsWant result (wants Stage.Running runner.now) }
-    ensures holding { result ≡ Want.Send → IsHolding Stage.Running runner.now }
+    requires { IsUnder SessionStage.Running runner.now }
+    ensures want { IsWant result (wants SessionStage.Running runner.now) }
+    ensures holding { result ≡ Want.Send → IsHolding SessionStage.Running runner.now }
     ensures running { result ≡ Want.Cells → Runs runner.now }
-    ensures calm { (result ≡ Want.Cells → ⊥) → statement_at Stage.Running runner.now ≡ 0 }
-    ensures asks { (c : Asked) (outside : Outside) (said : Said) → wants Stage.Running runner.now ≡ wishes.Book c →
+    ensures at_rest { (result ≡ Want.Cells → ⊥) → statement_at SessionStage.Running runner.now ≡ 0 }
+    ensures asks { (c : Asked) (outside : Outside) (said : Said) → wants SessionStage.Running runner.now ≡ wishes.Book c →
         follows runner.now outside said [] ≡ (said, asking c) }
 {
     match runner.demand() {
-        block_machine::Want::Define => Want::Define,
-        block_machine::Want::Cells => Want::Cells,
-        block_machine::Want::Book(c) => Want::Book(c),
-        block_machine::Want::Send => Want::Send,
-        block_machine::Want::Nothing => unreachable!(),
+        block_machine::MessageWant::Define => Want::Define,
+        block_machine::MessageWant::Cells => Want::Cells,
+        block_machine::MessageWant::Book(c) => Want::Book(c),
+        block_machine::MessageWant::Send => Want::Send,
+        block_machine::MessageWant::Nothing => unreachable!(),
     }
 }
 
@@ -101,7 +101,7 @@ impl Session {
     /// A session at this level that was fed nothing.
     pub fn new(alloc: Global, level: Level) -> Result<Session, Memory>
         ensures empty { IfOk result (λ s. Stands s [] [] [] []) }
-        ensures stage { IfOk result (λ s. s.stage ≡ Stage.Waiting Phase.Startup) }
+        ensures stage { IfOk result (λ s. s.stage ≡ SessionStage.Waiting Phase.Startup) }
         ensures level { IfOk result (λ s. served_of s.runner ≡ level) }
         ensures known { IfOk result (λ s. knowledge_of s.runner ≡ at_start level) }
         ensures fit { IfOk result (λ s. IsFit s.runner) }
@@ -109,10 +109,10 @@ impl Session {
         Ok(Session {
             alloc,
             frames: Frames::new(alloc),
-            prepared: Prepared::new(alloc)?,
+            prepared: SessionReplies::new(alloc)?,
             startup: Vec::new(alloc),
             runner: Runner::new(alloc, level)?,
-            stage: Stage::Waiting(Phase::Startup),
+            stage: SessionStage::Waiting(Phase::Startup),
             number: None,
             short: false,
         })
@@ -122,31 +122,31 @@ impl Session {
     pub fn demand(&self) -> Want
         ensures want { IsWant result (wanted self.now) }
         ensures holding { result ≡ Want.Send → IsHolding self.now.stage self.now.runner }
-        ensures running { result ≡ Want.Cells → (self.now.stage ≡ Stage.Running) × Runs self.now.runner }
-        ensures calm { (result ≡ Want.Cells → ⊥) → statement_at self.now.stage self.now.runner ≡ 0 }
+        ensures running { result ≡ Want.Cells → (self.now.stage ≡ SessionStage.Running) × Runs self.now.runner }
+        ensures at_rest { (result ≡ Want.Cells → ⊥) → statement_at self.now.stage self.now.runner ≡ 0 }
         // Where bytes or a call are wanted, or the end is there, what was sent and what is wanted is told of all that came in.
         ensures told { (taken : List ℕ) (entries : List Entry) (asked : List Asked) (sent : List ℕ) →
             Stands self.now taken entries asked sent → Shows (served_of self.now.runner) (wanted self.now) taken entries asked sent }
     {
         match self.stage {
-            Stage::Waiting(_) => Want::Bytes,
-            Stage::Taking(_) => Want::Message,
-            Stage::Opening => Want::Book(Call::Open),
-            Stage::Running => want_of(&self.runner),
-            Stage::Undoing => Want::Book(Call::Rollback),
-            Stage::Telling(_) => Want::Send,
-            Stage::Leaving(_) => Want::Book(Call::Rollback),
-            Stage::Closing(_) => Want::Book(Call::Close),
-            Stage::Parting(_) => Want::Send,
-            Stage::Ended(finish) => Want::Ended(end_at(finish)),
+            SessionStage::Waiting(_) => Want::Bytes,
+            SessionStage::Taking(_) => Want::Message,
+            SessionStage::Opening => Want::Book(Call::Open),
+            SessionStage::Running => want_of(&self.runner),
+            SessionStage::Undoing => Want::Book(Call::Rollback),
+            SessionStage::Telling(_) => Want::Send,
+            SessionStage::Leaving(_) => Want::Book(Call::Rollback),
+            SessionStage::Closing(_) => Want::Book(Call::Close),
+            SessionStage::Parting(_) => Want::Send,
+            SessionStage::Ended(finish) => Want::Ended(end_at(finish)),
         }
     }
 
     /// Whether a message runs.
     pub fn is_running(&self) -> bool
-        ensures { IsTrue result ↔ (self.now.stage ≡ Stage.Running) }
+        ensures { IsTrue result ↔ (self.now.stage ≡ SessionStage.Running) }
     {
-        matches!(self.stage, Stage::Running)
+        matches!(self.stage, SessionStage::Running)
     }
 
     /// The table that is to be defined.
@@ -161,7 +161,7 @@ impl Session {
 
     /// What the running statement demands.
     pub fn demanded(&self) -> &Demand
-        requires running { self.now.stage ≡ Stage.Running }
+        requires running { self.now.stage ≡ SessionStage.Running }
         requires runs { Runs self.now.runner }
         ensures wanted { wanted self.now ≡ wishes.Book (call_for result.now) }
         ensures asks { asks_cells result.now ≡ true }
@@ -179,9 +179,9 @@ impl Session {
             Tells (served_of self.now.runner) (owed_at self.now.stage self.now.runner) result.now taken entries asked sent }
     {
         match self.stage {
-            Stage::Running => self.runner.reply(),
-            Stage::Telling(reply) => self.prepared.bytes(self.startup.as_slice(), reply),
-            Stage::Parting(fatal) => self.prepared.last_bytes(fatal),
+            SessionStage::Running => self.runner.reply(),
+            SessionStage::Telling(reply) => self.prepared.bytes(self.startup.as_slice(), reply),
+            SessionStage::Parting(fatal) => self.prepared.last_bytes(fatal),
             _ => unreachable!(),
         }
     }
@@ -194,7 +194,7 @@ impl Session {
         self.number
     }
 
-    /// Whether memory was wanting.
+    /// Whether memory ran out.
     pub fn is_short(&self) -> bool
         ensures { (taken : List ℕ) (entries : List Entry) (asked : List Asked) (sent : List ℕ) → Stands self.now taken entries asked sent →
             result ≡ has_short entries }
@@ -202,7 +202,7 @@ impl Session {
         self.short
     }
 
-    /// Takes a piece of the stream. A want of memory leads to the end by it.
+    /// Takes a piece of the stream. A lack of memory leads to the end by it.
     pub fn feed(&mut self, piece: &[u8])
         requires wanted { wanted self.old ≡ wishes.Bytes }
         requires fit { IsFit self.old.runner }
@@ -216,7 +216,7 @@ impl Session {
     {
         let phase = phase_at(self.stage);
         let step = feed_piece(&mut self.frames, phase, piece);
-        self.short = either(self.short, step.wanting.is_some());
+        self.short = either(self.short, step.out_of_memory.is_some());
         self.stage = step.stage;
     }
 
@@ -236,7 +236,7 @@ impl Session {
     {
         let phase = phase_taking(self.stage);
         let step = take_message(self.alloc, &mut self.frames, phase, &mut self.runner);
-        self.short = either(self.short, step.wanting.is_some());
+        self.short = either(self.short, step.out_of_memory.is_some());
         self.stage = step.stage;
     }
 
@@ -252,10 +252,10 @@ impl Session {
         ensures outer { outer self.new.stage ≡ outer self.old.stage }
         ensures lacks { (lost : List ℕ) → Lacks self.old.stage lost → Lacks self.new.stage lost }
         ensures work { work_of self.new < work_of self.old + message_at self.new.stage }
-        ensures message { self.old.stage ≡ Stage.Running →
+        ensures message { self.old.stage ≡ SessionStage.Running →
             message_work self.new.stage self.new.runner <
             message_work self.old.stage self.old.runner + statement_at self.new.stage self.new.runner }
-        ensures left { self.old.stage ≡ Stage.Running → Runs self.old.runner →
+        ensures left { self.old.stage ≡ SessionStage.Running → Runs self.old.runner →
             left_at self.new.stage self.new.runner < left_at self.old.stage self.old.runner }
         ensures known { IsKnownAfter (knowledge_of self.old.runner) answer (knowledge_of self.new.runner) }
         ensures fit { IsFit self.new.runner }
@@ -270,7 +270,7 @@ impl Session {
             answer,
             &mut self.startup,
         );
-        self.short = either(self.short, either(wants, step.wanting.is_some()));
+        self.short = either(self.short, either(wants, step.out_of_memory.is_some()));
         self.number = number;
         self.stage = step.stage;
     }
@@ -286,14 +286,14 @@ impl Session {
         ensures outer { outer self.new.stage ≡ outer self.old.stage }
         ensures lacks { Lacks self.new.stage [] }
         ensures work { work_of self.new < work_of self.old + message_at self.new.stage }
-        ensures message { self.old.stage ≡ Stage.Running →
+        ensures message { self.old.stage ≡ SessionStage.Running →
             message_work self.new.stage self.new.runner < message_work self.old.stage self.old.runner }
         ensures known { IsSameButLevel (knowledge_of self.old.runner) (knowledge_of self.new.runner) }
         ensures fit { IsFit self.new.runner }
         ensures last { IsLast self.old.stage → IsLast self.new.stage }
     {
         let step = after_sent(self.stage, &mut self.runner);
-        self.short = either(self.short, step.wanting.is_some());
+        self.short = either(self.short, step.out_of_memory.is_some());
         self.stage = step.stage;
     }
 

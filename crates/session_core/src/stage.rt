@@ -29,7 +29,7 @@ pub enum Finish {
 
 /// A reply of the session's own, after which the next message follows.
 #[derive(Clone, Copy, Debug, PartialEq, Eq)]
-pub enum Reply {
+pub enum SessionReply {
     /// A request for encryption is refused.
     NoEncryption,
     /// The session was opened. The startup reply was built.
@@ -42,7 +42,7 @@ pub enum Reply {
 
 /// What comes next.
 #[derive(Clone, Copy, Debug, PartialEq, Eq)]
-pub enum Stage {
+pub enum SessionStage {
     /// Bytes are wanted.
     Waiting(Phase),
     /// The next message is to be taken, if one is held.
@@ -53,7 +53,7 @@ pub enum Stage {
     /// The rollback of the block in which a message of the extended query stood.
     Undoing,
     /// A reply is held.
-    Telling(Reply),
+    Telling(SessionReply),
     /// The end: its rollback, its close, its last reply.
     Leaving(Finish),
     Closing(Finish),

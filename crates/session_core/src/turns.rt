@@ -8,20 +8,20 @@ ghost use Rattle.block_machine.specs.Runners.{knowledge_of};
 ghost use Rattle.block_machine.specs.declared.runner.Runner.{Runner};
 ghost use Rattle.session_core.specs.Replies as replies_spec;
 ghost use Rattle.session_core.specs.Wants as wishes;
-ghost use Rattle.session_core.specs.Talk.{Talk};
+ghost use Rattle.session_core.specs.Requests.{Requests};
 ghost use Rattle.session_core.specs.Told as told_spec;
 ghost use Rattle.session_core.specs.Told.{closed, ending, refuses, stop_end};
 ghost use Rattle.session_core.specs.Stands.{FitsWant, InPhase, IsBusy, IsStopped, IsUnder, Lacks, LacksBy, NoBuilt, end_of, goes_on, on, outer, outer_end, own_want, owed_at, wants, work_at};
 ghost use Rattle.session_core.specs.Steps.{LeadsTo, Advances, IsPlain};
 
 use crate::phase::Phase;
-use crate::stage::{Fatal, Finish, Reply, Stage};
+use crate::stage::{Fatal, Finish, SessionReply, SessionStage};
 use block_machine::{Answer, End, Owed, Stop, owed_between};
 use cell_base::SqlState;
 use history_core::BookFault;
 use pg_framing::TransactionState;
 
-/// A want of memory, by whether the session goes on after it.
+/// A lack of memory, by whether the session goes on after it.
 #[derive(Clone, Copy, Debug, PartialEq, Eq)]
 pub enum Shortage {
     /// It goes on.
@@ -30,20 +30,20 @@ pub enum Shortage {
     Ending,
 }
 
-/// A stage, and the want of memory on the way to it, where there was one.
+/// A stage, and the lack of memory on the way to it, where there was one.
 #[derive(Clone, Copy, Debug, PartialEq, Eq)]
-pub struct Step {
-    pub stage: Stage,
-    pub wanting: Option<Shortage>,
+pub struct SessionStep {
+    pub stage: SessionStage,
+    pub out_of_memory: Option<Shortage>,
 }
 
-/// The step to a stage for which memory wasn't wanting.
-pub fn calm(stage: Stage) -> Step
-    ensures { result ≡ record { stage = stage; wanting = None } }
+/// The step to a stage for which memory was there.
+pub fn at_rest(stage: SessionStage) -> SessionStep
+    ensures { result ≡ record { stage = stage; out_of_memory = None } }
 {
-    Step {
+    SessionStep {
         stage,
-        wanting: None,
+        out_of_memory: None,
     }
 }
 
@@ -68,7 +68,7 @@ pub fn end_at(finish: Finish) -> End
 }
 
 /// The stage of an end after its close.
-pub fn part(finish: Finish) -> Stage
+pub fn part(finish: Finish) -> SessionStage
     ensures leads { LeadsTo result (closed (end_of finish)) }
     ensures owed { (r : Runner) → owed_at result r ≡ Owed.Nothing }
     ensures outer { outer result ≡ outer_end (end_of finish) }
@@ -80,19 +80,19 @@ pub fn part(finish: Finish) -> Stage
     ensures constant { NoBuilt result }
 {
     match finish {
-        Finish::Fatal(fatal) => Stage::Parting(fatal),
-        Finish::Terminated => Stage::Ended(finish),
-        Finish::Closed => Stage::Ended(finish),
-        Finish::Cut => Stage::Ended(finish),
-        Finish::Cancelled => Stage::Ended(finish),
-        Finish::ReadFault => Stage::Ended(finish),
-        Finish::WriteFault => Stage::Ended(finish),
-        Finish::Memory => Stage::Ended(finish),
+        Finish::Fatal(fatal) => SessionStage::Parting(fatal),
+        Finish::Terminated => SessionStage::Ended(finish),
+        Finish::Closed => SessionStage::Ended(finish),
+        Finish::Cut => SessionStage::Ended(finish),
+        Finish::Cancelled => SessionStage::Ended(finish),
+        Finish::ReadFault => SessionStage::Ended(finish),
+        Finish::WriteFault => SessionStage::Ended(finish),
+        Finish::Memory => SessionStage::Ended(finish),
     }
 }
 
 /// The stage of an end, given what is owed.
-pub fn leave(owed: Owed, finish: Finish) -> Stage
+pub fn leave(owed: Owed, finish: Finish) -> SessionStage
     ensures leads { LeadsTo result (ending owed (end_of finish)) }
     ensures owed { (r : Runner) → owed_at result r ≡ owed }
     ensures outer { outer result ≡ outer_end (end_of finish) }
@@ -105,20 +105,20 @@ pub fn leave(owed: Owed, finish: Finish) -> Stage
 {
     match owed {
         Owed::Nothing => part(finish),
-        Owed::Close => Stage::Closing(finish),
-        Owed::Rollback => Stage::Leaving(finish),
+        Owed::Close => SessionStage::Closing(finish),
+        Owed::Rollback => SessionStage::Leaving(finish),
     }
 }
 
 /// The phase after a reply of the session's own.
-pub fn phase_behind(reply: Reply) -> Phase
-    ensures { result ≡ replies_spec.phase_behind reply }
+pub fn phase_after_reply(reply: SessionReply) -> Phase
+    ensures { result ≡ replies_spec.phase_after_reply reply }
 {
     match reply {
-        Reply::NoEncryption => Phase::Startup,
-        Reply::Startup => Phase::Normal(TransactionState::Idle),
-        Reply::Ready(state) => Phase::Normal(state),
-        Reply::Unsupported(state) => Phase::Discarding(state),
+        SessionReply::NoEncryption => Phase::Startup,
+        SessionReply::Startup => Phase::Normal(TransactionState::Idle),
+        SessionReply::Ready(state) => Phase::Normal(state),
+        SessionReply::Unsupported(state) => Phase::Discarding(state),
     }
 }
 
@@ -147,9 +147,9 @@ pub fn finish_of(cause: Stop, nothing: bool) -> Finish
 }
 
 /// The stage of a message of the extended query outside of discarding.
-pub fn refuse(state: TransactionState) -> Stage
-    ensures goes { (r : Runner) (startup : List ℕ) (talk : Talk) (said : Said) (es : List Entry) →
-        refuses state (knowledge_of r) (on talk) said es ≡ goes_on result r startup talk said es }
+pub fn refuse(state: TransactionState) -> SessionStage
+    ensures goes { (r : Runner) (startup : List ℕ) (requests : Requests) (said : Said) (es : List Entry) →
+        refuses state (knowledge_of r) (on requests) said es ≡ goes_on result r startup requests said es }
     ensures owed { (r : Runner) → owed_at result r ≡ blocks.owed_between state }
     ensures outer { outer result ≡ None }
     ensures work { work_at result ≤ 7 }
@@ -160,14 +160,18 @@ pub fn refuse(state: TransactionState) -> Stage
     ensures constant { NoBuilt result }
 {
     match state {
-        TransactionState::Idle => Stage::Telling(Reply::Unsupported(TransactionState::Idle)),
-        TransactionState::Block => Stage::Undoing,
-        TransactionState::Failed => Stage::Telling(Reply::Unsupported(TransactionState::Failed)),
+        TransactionState::Idle => SessionStage::Telling(SessionReply::Unsupported(
+            TransactionState::Idle,
+        )),
+        TransactionState::Block => SessionStage::Undoing,
+        TransactionState::Failed => SessionStage::Telling(SessionReply::Unsupported(
+            TransactionState::Failed,
+        )),
     }
 }
 
 /// The stage after the answer to a call of the session's own, where no memory is needed for it.
-pub fn advance(stage: Stage, answer: &Answer) -> Stage
+pub fn advance(stage: SessionStage, answer: &Answer) -> SessionStage
     requires fits { FitsWant (own_want stage) answer.now }
     requires plain { IsPlain stage answer.now }
     ensures goes { (r : Runner) (startup : List ℕ) → Advances stage r answer.now result r None startup }
@@ -180,13 +184,17 @@ pub fn advance(stage: Stage, answer: &Answer) -> Stage
     ensures constant { NoBuilt result }
 {
     match (stage, answer) {
-        (Stage::Opening, Answer::Refused(BookFault::Full(_))) => Stage::Parting(Fatal::Full),
-        (Stage::Opening, Answer::Refused(BookFault::Memory)) => Stage::Ended(Finish::Memory),
-        (Stage::Undoing, Answer::RolledBack) => {
-            Stage::Telling(Reply::Unsupported(TransactionState::Failed))
+        (SessionStage::Opening, Answer::Refused(BookFault::Full(_))) => SessionStage::Parting(
+            Fatal::Full,
+        ),
+        (SessionStage::Opening, Answer::Refused(BookFault::Memory)) => SessionStage::Ended(
+            Finish::Memory,
+        ),
+        (SessionStage::Undoing, Answer::RolledBack) => {
+            SessionStage::Telling(SessionReply::Unsupported(TransactionState::Failed))
         }
-        (Stage::Leaving(finish), Answer::RolledBack) => Stage::Closing(finish),
-        (Stage::Closing(finish), Answer::Closed) => part(finish),
+        (SessionStage::Leaving(finish), Answer::RolledBack) => SessionStage::Closing(finish),
+        (SessionStage::Closing(finish), Answer::Closed) => part(finish),
         _ => unreachable!(),
     }
 }

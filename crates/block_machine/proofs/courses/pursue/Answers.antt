@@ -4,17 +4,17 @@ use Rattle.statement_course.specs.Course.{behind}
 use Rattle.statement_course.specs.Laws.{ReadsFirst}
 use Rattle.cell_compile.specs.Plans.{rest_of, left_of}
 use Rattle.block_machine.specs.declared.block.Owed.TheVariants as owes
-use Rattle.block_machine.specs.declared.stage.Stage.TheVariants as stages
+use Rattle.block_machine.specs.declared.stage.MessageStage.TheVariants as stages
 use Rattle.block_machine.specs.Statements.{owed_in}
 use Rattle.block_machine.specs.Stages.{KnowsTables, left_at, owed_at}
 use Rattle.block_machine.proofs.Answered.{behind_first}
 use Rattle.block_machine.proofs.Carried.{if_ok}
-use Rattle.block_machine.proofs.Pursuing.{owed_pending, demand_fits, pursue_goes, pursue_refused, calm_advances, calm_some}
+use Rattle.block_machine.proofs.Pursuing.{owed_pending, demand_fits, pursue_goes, pursue_refused, at_rest_advances, at_rest_some}
 use Rattle.block_machine.proofs.courses.pursue.Goals as goal
 
 pub returns-in-Ok-clause-goes : goal.returns-in-Ok-clause-goes
 returns-in-Ok-clause-goes c = λ known.
-    pursue_goes c.args.run c.args.pending c.args.answer c.in-Ok.answer c.block_of.result c.go_on-stage.result c.or_short.result.stage c.or_short.result.wanting c.go_on-stage.new.built.items known
+    pursue_goes c.args.run c.args.pending c.args.answer c.in-Ok.answer c.block_of.result c.go_on-stage.result c.or_short.result.stage c.or_short.result.out_of_memory c.go_on-stage.new.built.items known
     c.in-Ok.ensures.ok c.requires.fits c.block_of.ensures c.go_on-stage.ensures.goes c.or_short.ensures.goes
 
 pub returns-in-Ok-clause-owed : goal.returns-in-Ok-clause-owed
@@ -39,8 +39,8 @@ returns-in-Ok-clause-knows c = λ known first.
 
 pub returns-in-Err-clause-goes : goal.returns-in-Err-clause-goes
 returns-in-Err-clause-goes c = λ known.
-    calm_advances (stages.Running c.args.run c.args.pending) known c.args.answer c.calm.result c.fail.result c.args.built.now.items known c.calm.ensures
+    at_rest_advances (stages.Running c.args.run c.args.pending) known c.args.answer c.at_rest.result c.fail.result c.args.built.now.items known c.at_rest.ensures
     (pursue_refused c.args.run c.args.pending c.args.answer c.in-Err.why c.refusal.result c.block_of-in-Err.result c.fail.result c.args.built.now.items known c.in-Err.ensures.err c.refusal.ensures c.block_of-in-Err.ensures c.fail.ensures.goes)
 
 pub returns-in-Err-clause-some : goal.returns-in-Err-clause-some
-returns-in-Err-clause-some c = calm_some c.calm.result c.fail.result c.args.built.now.items c.calm.ensures c.fail.ensures.constant
+returns-in-Err-clause-some c = at_rest_some c.at_rest.result c.fail.result c.args.built.now.items c.at_rest.ensures c.fail.ensures.constant

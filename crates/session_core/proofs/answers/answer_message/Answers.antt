@@ -5,8 +5,8 @@ use Rattle.session_core.proofs.answers.answer_message.Goals as goal
 
 pub returns-clause-goes : goal.returns-clause-goes
 returns-clause-goes c = λ startup.
-    advances_running c.args.runner.now c.answer-wanting.new.self c.args.answer c.answer-wanting.result c.passing.result startup
-    c.passing.ensures.calm c.passing.ensures.short c.answer-wanting.ensures.goes
+    advances_running c.args.runner.now c.answer-out_of_memory.new.self c.args.answer c.answer-out_of_memory.result c.passing.result startup
+    c.passing.ensures.at_rest c.passing.ensures.short c.answer-out_of_memory.ensures.goes
 
 pub returns-clause-owed : goal.returns-clause-owed
-returns-clause-owed c = λ asked is. c.answer-wanting.ensures.owed asked (book_message (wanted c.args.runner.now) asked is)
+returns-clause-owed c = λ asked is. c.answer-out_of_memory.ensures.owed asked (book_message (wanted c.args.runner.now) asked is)

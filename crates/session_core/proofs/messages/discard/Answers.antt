@@ -5,8 +5,8 @@ use Rattle.block_machine.specs.Messages.{owed_between}
 use Rattle.block_machine.specs.declared.block.Owed.{Owed}
 use Rattle.block_machine.specs.declared.end.End.TheVariants as ends
 use Rattle.session_core.specs.declared.phase.Phase.TheVariants as phases
-use Rattle.session_core.specs.declared.stage.Reply.TheVariants as replies
-use Rattle.session_core.specs.declared.stage.Stage.TheVariants as stages
+use Rattle.session_core.specs.declared.stage.SessionReply.TheVariants as replies
+use Rattle.session_core.specs.declared.stage.SessionStage.TheVariants as stages
 use Rattle.session_core.specs.Told.{ending}
 use Rattle.session_core.specs.Steps.{LeadsTo, Meets}
 use Rattle.session_core.proofs.Meeting.{drops_terminate, drops_sync, drops_query, drops_flush, drops_extended, drops_function, drops_copy, leads_own}

@@ -5,8 +5,8 @@ use Rattle.block_machine.specs.declared.block.Owed.TheVariants as owed_kinds
 use Rattle.session_core.specs.declared.phase.Phase.TheVariants as phases
 use Rattle.session_core.specs.declared.stage.Fatal.TheVariants as fatals
 use Rattle.session_core.specs.declared.stage.Finish.TheVariants as finishes
-use Rattle.session_core.specs.declared.stage.Reply.TheVariants as replies
-use Rattle.session_core.specs.declared.stage.Stage.TheVariants as stages
+use Rattle.session_core.specs.declared.stage.SessionReply.TheVariants as replies
+use Rattle.session_core.specs.declared.stage.SessionStage.TheVariants as stages
 use Rattle.session_core.specs.Users.{HasUser}
 use Rattle.session_core.specs.Steps.{Meets}
 use Rattle.session_core.proofs.Meeting.{meets_ssl, meets_gss, meets_cancel, meets_start, meets_userless, meets_version, leads_own}

@@ -1,7 +1,7 @@
 use Rattle.std.proofs.Common.{[], sym, subst, refl}
 use Rattle.client_framing.specs.Fronts.{Held}
 use Rattle.session_core.specs.declared.phase.Phase.TheVariants as phases
-use Rattle.session_core.specs.declared.stage.Stage.TheVariants as stages
+use Rattle.session_core.specs.declared.stage.SessionStage.TheVariants as stages
 use Rattle.session_core.specs.Stands.{StandsFor}
 use Rattle.session_core.proofs.Grows.{StandsFor-new}
 use Rattle.session_core.proofs.session.Session.new.Goals as goal

@@ -1,7 +1,7 @@
 use Rattle.std.proofs.Common.{nat_eq, ℕ, ap, subst, refl}
 use Rattle.block_machine.specs.declared.block.Owed.{Owed}
 use Rattle.block_machine.specs.Script.{stop}
-use Rattle.session_core.specs.declared.stage.Stage.{Stage}
+use Rattle.session_core.specs.declared.stage.SessionStage.{SessionStage}
 use Rattle.session_core.specs.Told.{ending}
 use Rattle.session_core.specs.Stands.{StandsFor, end_of}
 use Rattle.session_core.specs.Steps.{LeadsTo}
@@ -16,7 +16,7 @@ returns-clause-grown c =
       stage =
           StandsFor-stopped c.phase_at-phase.result c.args.self.now.runner c.args.self.now.startup.items c.args.self.now.frames taken es
           asked sent c.leave-self.result c.args.cause (end_of c.finish_of-finish.result)
-          (subst (λ (x : Stage). StandsFor x c.args.self.now.runner c.args.self.now.startup.items c.args.self.now.frames taken es asked
+          (subst (λ (x : SessionStage). StandsFor x c.args.self.now.runner c.args.self.now.startup.items c.args.self.now.frames taken es asked
           sent) c.phase_at-phase.ensures s.stage)
           (subst (λ (o : Owed). LeadsTo c.leave-self.result (ending o (end_of c.finish_of-finish.result))) c.owed_by.ensures
           c.leave-self.ensures.leads)

@@ -1,0 +1,4 @@
+pub mod Seats
+pub mod Rows
+pub mod Stars
+pub mod Sights
