@@ -14,7 +14,7 @@ use Rattle.cell_base.specs.declared.cell.Cell.{Cell}
 use Rattle.history_core.specs.declared.event.Event.{Event}
 use Rattle.history_core.specs.Events.{begun}
 use Rattle.history_core.specs.Relations.{Writes}
-use Rattle.history_core.specs.Legal.{IsPermitted, IsOffer}
+use Rattle.history_core.specs.Legal.{IsPermitted, IsOffer, SomePermitted}
 use Rattle.saturation.proofs.Sights.{writes_later}
 use Rattle.indexed_history.specs.Writers.{ListsWriters}
 use Rattle.forced_rows.specs.declared.reader.Reader.{Reader}
@@ -229,3 +229,10 @@ offer_all events session cell writers count offer end lists is = record {
       | inl initial ↦ inl initial
       | inr later ↦ inr (first_all writers count source end (lists.whole source (omega arith) writes))
     ]
+
+-- an offer is not empty
+pub offer_some :
+    (events : List Event) (session : ℕ) (cell : Cell) (offer : List ℕ) → SomePermitted events session cell → IsOffer events session cell offer →
+    0 < length offer
+offer_some events session cell [] some is = absurd (some (λ source permitted. nothing source ((is.exact source).1 permitted)))
+offer_some events session cell (w ∷ ws) some is = omega arith

@@ -7,3 +7,4 @@ pub mod Rooms
 pub mod Counting
 pub mod Candidates
 pub mod LateScans
+pub mod Ordering

@@ -73,7 +73,8 @@ impl ForcedRows {
         let _events = history.history().events();
         let _size = self.reach.size();
         if self.brings_news(history.history(), reader, source) {
-            return self.closes_none(alloc, history, reader, cell, source);
+            let permitted = self.closes_none(alloc, history, reader, cell, source)?;
+            return Ok(permitted);
         }
         Ok(!overtaken.has(source))
     }
@@ -96,11 +97,11 @@ impl ForcedRows {
         requires wrote { HasWritten history.now.events source cell.now }
         ensures { IfOk result (λ permitted. IsTrue permitted ↔ IsPermitted history.now.events reader.session cell.now source) }
     {
-        if is_committed(history.history(), source) {
-            self.permits(alloc, history, reader, cell, overtaken, source)
-        } else {
-            Ok(false)
+        if !is_committed(history.history(), source) {
+            return Ok(false);
         }
+        let permitted = self.permits(alloc, history, reader, cell, overtaken, source)?;
+        Ok(permitted)
     }
 
     /// The initial transaction, where it is permitted.
@@ -118,7 +119,8 @@ impl ForcedRows {
         ensures { (writers : List ℕ) → IfOk result (λ offer. IsOfferAmong history.now.events reader.session cell.now writers 0 offer.items) }
     {
         let mut offer = Vec::new(alloc);
-        if self.permits(alloc, history, reader, cell, overtaken, 0)? {
+        let initial = self.permits(alloc, history, reader, cell, overtaken, 0)?;
+        if initial {
             offer.push(0)?;
         }
         Ok(offer)
@@ -164,6 +166,7 @@ impl ForcedRows {
     {
         let overtaken = self.overtaken(alloc, history, reader, cell)?;
         let writers = history.writers(cell);
-        self.permitted(alloc, history, reader, cell, &overtaken, writers)
+        let offer = self.permitted(alloc, history, reader, cell, &overtaken, writers)?;
+        Ok(offer)
     }
 }

@@ -54,6 +54,7 @@ impl ForcedRows {
         requires begun { number ≤ begun history.now.events }
         ensures { IsTrue result ↔ Precedes history.now.events number reader.number }
     {
+        let _begun = history.begun();
         has_source(&self.seats, reader.session, number) || is_earlier(history, reader, number)
     }
 
@@ -185,6 +186,7 @@ impl ForcedRows {
         ensures { IfOk result (λ numbers. AreRivals sight history.now.events reader cell.now except numbers.items) }
     {
         let writers = history.writers(cell);
-        self.counted(alloc, history.history(), reader, sight, except, writers)
+        let numbers = self.counted(alloc, history.history(), reader, sight, except, writers)?;
+        Ok(numbers)
     }
 }

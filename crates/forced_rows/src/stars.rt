@@ -61,9 +61,16 @@ impl ForcedRows {
         match seen {
             Seen::Read {
                 cell, source: from, ..
-            } => self.rivals(alloc, history, reader, cell, Sight::Newly(source), *from),
+            } => {
+                let late =
+                    self.rivals(alloc, history, reader, cell, Sight::Newly(source), *from)?;
+                Ok(late)
+            }
             Seen::Scan { table, keys, .. } => {
-                self.late_to_scan(alloc, history.history(), reader, source, *table, keys.as_slice())
+                let keys = keys.as_slice();
+                let late =
+                    self.late_to_scan(alloc, history.history(), reader, source, *table, keys)?;
+                Ok(late)
             }
         }
     }
@@ -84,7 +91,8 @@ impl ForcedRows {
         ensures { OnOk result (GainsEdges (IsLateDemand history.now.events reader source seen.now) stars.old.items stars.new.items) }
     {
         let members = self.late_to(alloc, history, reader, source, seen)?;
-        add_star(stars, members, target_of(seen))
+        add_star(stars, members, target_of(seen))?;
+        Ok(())
     }
 
     /// Adds the stars of what these reads and scans see late.
@@ -123,12 +131,12 @@ impl ForcedRows {
         requires source { source ≤ begun history.now.events }
         ensures { OnOk result (GainsEdges (IsLaterDemand history.now.events reader source) stars.old.items stars.new.items) }
     {
-        let history_only = history.history();
-        if !self.brings_news(history_only, reader, source) {
+        if !self.brings_news(history.history(), reader, source) {
             return Ok(());
         }
-        let txn = history_only.txn(reader.number);
-        self.add_all_late(alloc, history, reader, source, txn.seen.as_slice(), stars)
+        let txn = history.history().txn(reader.number);
+        self.add_all_late(alloc, history, reader, source, txn.seen.as_slice(), stars)?;
+        Ok(())
     }
 
     /// The stars of a further read of the reader.
