@@ -1,23 +1,22 @@
 -- Which reads are permitted, by the rows.
-use Rattle.std.proofs.Common.{◌≡◌, ℕ, ◌+◌, ◌<◌, ◌≤◌, List, [], ◌∷◌, ◌++◌, ◌⊎◌, ◌↔◌, Bool, true, false, not, arith, refl, ap, sym, ◌∙◌, subst, inl, inr}
+use Rattle.std.proofs.Common.{◌≡◌, ℕ, List, [], ◌∷◌, ◌++◌, ◌↔◌, Bool, not, arith, refl, sym, ◌∙◌, subst, inl, inr}
 use Rattle.std.specs.Prelude.{IsTrue}
-use Rattle.std.specs.List.{Contains, Any}
+use Rattle.std.specs.List.{Contains}
 use Rattle.std.proofs.lemmas.Bool.{cases_eq, false≢true, not-true, not_from_false, false_from_ne_true}
 use Rattle.std.proofs.lemmas.List.Elements.{Contains-append_right}
 use Rattle.bit_rows.proofs.Marks.{contains_cons}
 use Rattle.graph_base.specs.declared.Edge.{Edge}
-use Rattle.graph_base.specs.Walk.{HasCycle, Reaches, IsInRange}
+use Rattle.graph_base.specs.Walk.{HasCycle, IsInRange}
 use Rattle.graph_base.specs.Closure.{HasEdge}
 use Rattle.reach_rows.specs.Rows.{edge_of}
 use Rattle.reach_rows.specs.Stars.{star_of}
 use Rattle.reach_rows.proofs.OneStar.{candidate_cycle, edge_of_star, in_star}
 use Rattle.cell_base.specs.declared.cell.Cell.{Cell}
 use Rattle.history_core.specs.declared.event.Event.{Event}
-use Rattle.history_core.specs.Events.{begun}
 use Rattle.history_core.specs.Relations.{Writes}
 use Rattle.history_core.specs.Legal.{IsPermitted}
 use Rattle.history_core.proofs.Prefixes.{IsSound}
-use Rattle.further_reads.specs.Further.{Sees, SeesWith, IsNewDemand, AreNewDemands, HaveForcedClosure}
+use Rattle.further_reads.specs.Further.{Sees, SeesWith, AreNewDemands, HaveForcedClosure}
 use Rattle.further_reads.proofs.Sights.{sees_more}
 use Rattle.further_reads.proofs.Extended.{permitted_with, no_cycle_permitted}
 use Rattle.forced_rows.specs.declared.rows.ForcedRows.{ForcedRows}
@@ -53,14 +52,19 @@ without s [] = ([], λ m. (λ member. absurd (nothing m member), λ is. absurd (
 without s (x ∷ xs) =
     let rest = without s xs in
     elim (cases_eq x s) [
-      | inl same ↦ (rest.0, λ m. (
+      | inl same ↦ (
+        rest.0,
+        λ m. (
           λ member. let is = (rest.1 m).0 member in (Contains-append_right (x ∷ []) xs m is.0, is.1),
           λ is. elim (contains_cons x xs m is.0) [
             | inl first ↦ absurd (is.1 (sym first ∙ same))
             | inr later ↦ (rest.1 m).1 (later, is.1)
           ],
-        ))
-      | inr apart ↦ (x ∷ rest.0, λ m. (
+        ),
+      )
+      | inr apart ↦ (
+        x ∷ rest.0,
+        λ m. (
           λ member. elim (contains_cons x rest.0 m member) [
             | inl first ↦ (
               subst (λ (n : ℕ). Contains (x ∷ xs) n) first (0, omega arith, refl),
@@ -72,7 +76,8 @@ without s (x ∷ xs) =
             | inl first ↦ subst (λ (n : ℕ). Contains (x ∷ rest.0) n) first (0, omega arith, refl)
             | inr later ↦ Contains-append_right (x ∷ []) rest.0 m ((rest.1 m).1 (later, is.1))
           ],
-        ))
+        ),
+      )
     ]
 
 -- where the source shows nothing new, the demands are those of the read itself: the writers that are seen, before it

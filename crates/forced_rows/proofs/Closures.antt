@@ -1,9 +1,8 @@
 -- The closure of kept pairs with further edges, by what the pairs stand for.
-use Rattle.std.proofs.Common.{◌≡◌, ℕ, ◌<◌, List, [], ◌∷◌, ◌++◌, ◌⊎◌, ◌↔◌, refl, sym, subst, inl, inr, arith, append_assoc}
-use Rattle.std.specs.List.{Contains}
-use Rattle.std.proofs.lemmas.List.Elements.{Contains-append_cases, Contains-append_left, Contains-append_right}
+use Rattle.std.proofs.Common.{◌≡◌, ℕ, List, ◌++◌, ◌⊎◌, ◌↔◌, subst, inl, inr, append_assoc}
+use Rattle.std.proofs.lemmas.List.Elements.{Contains-append_cases, Contains-append_right}
 use Rattle.graph_base.specs.declared.Edge.{Edge}
-use Rattle.graph_base.specs.Walk.{HasCycle, Reaches}
+use Rattle.graph_base.specs.Walk.{Reaches}
 use Rattle.graph_base.specs.Chain.{Chained}
 use Rattle.graph_base.specs.Closure.{HasEdge, SameClosure}
 use Rattle.graph_base.proofs.Chains.{chained_one, chained_mapped, chained_wider}

@@ -1,12 +1,11 @@
 -- How rows stand for a history with one event more.
-use Rattle.std.proofs.Common.{◌≡◌, ◌≢◌, ℕ, ◌+◌, ◌-◌, ◌<◌, ◌≤◌, List, [], ◌∷◌, ◌++◌, ◌⊎◌, ◌↔◌, Bool, true, false, length, arith, refl, ap, sym, ◌∙◌, subst, inl, inr}
+use Rattle.std.proofs.Common.{◌≡◌, ℕ, ◌+◌, ◌<◌, List, [], ◌∷◌, ◌++◌, ◌⊎◌, arith, refl, ap, sym, ◌∙◌, subst, inl, inr}
 use Rattle.std.specs.List.{Contains}
 use Rattle.std.proofs.lemmas.Bool.{cases_eq, false≢true}
 use Rattle.std.proofs.lemmas.List.Elements.{Contains-append_cases, Contains-append_left, Contains-append_right}
 use Rattle.bit_rows.proofs.Marks.{contains_cons}
 use Rattle.graph_base.specs.declared.Edge.{Edge}
-use Rattle.graph_base.specs.Walk.{IsInRange, Reaches, HasCycle}
-use Rattle.graph_base.specs.Chain.{IsChain, Chained}
+use Rattle.graph_base.specs.Chain.{IsChain}
 use Rattle.graph_base.specs.Closure.{HasEdge, SameClosure}
 use Rattle.graph_base.proofs.Chains.{chained_wider}
 use Rattle.cell_base.specs.declared.level.Level.{Level}
@@ -16,15 +15,15 @@ use Rattle.history_core.specs.declared.event.Event.{Event}
 use Rattle.history_core.specs.declared.event.Event.TheVariants.{Begin, Read}
 use Rattle.history_core.specs.Events.{begun, is_begin, session_in}
 use Rattle.history_core.specs.Transactions.{IsPending, HasPending, RunsAt}
-use Rattle.history_core.specs.Relations.{Precedes, ReadsFrom, Writes}
+use Rattle.history_core.specs.Relations.{Precedes, Writes}
 use Rattle.history_core.specs.Legal.{IsFormed, Follows}
 use Rattle.history_core.specs.Forced.{IsForced}
-use Rattle.history_core.proofs.Prefixes.{IsSound, sound_of, begun-push_other, begun-push_start}
+use Rattle.history_core.proofs.Prefixes.{IsSound, sound_of, begun-push_other}
 use Rattle.history_core.proofs.Places.{start_session}
 use Rattle.history_core.proofs.Next.{pending_back, pending_bounded}
 use Rattle.saturation.specs.Laws.{with_read}
-use Rattle.saturation.proofs.After.{precedes_kept, size_after, pending_no_source}
-use Rattle.further_reads.specs.Further.{IsReadLink, IsForcedOrNew, PrecedesOrNew, AreNewDemands, HaveForcedClosure}
+use Rattle.saturation.proofs.After.{precedes_kept}
+use Rattle.further_reads.specs.Further.{IsReadLink, IsForcedOrNew, PrecedesOrNew, AreNewDemands}
 use Rattle.further_reads.specs.Begun.{ForcesNothing, with_begin, IsLastBegun, IsBeginLink}
 use Rattle.further_reads.proofs.Still.{forced_kept, others_force, others_precede}
 use Rattle.further_reads.proofs.Begins.{begin_closure, begin_closure_after, begin_past, begin_past_after}
@@ -33,8 +32,8 @@ use Rattle.further_reads.proofs.Lasts.{last_begun_unique, last_begun_none, last_
 use Rattle.further_reads.proofs.Sources.{reads_from_with, with_reads_from, others_read_from, reads_from_kept, reads_nothing, begins_nothing, unbegun_reads_none}
 use Rattle.forced_rows.specs.declared.rows.ForcedRows.{ForcedRows}
 use Rattle.forced_rows.specs.declared.seats.Seat.{Seat}
-use Rattle.forced_rows.specs.Seats.{empty_seat, seat_at, IsSeatOf, KeepsSeats, ChangesSeat, ForgetsSources, TakesLast, GainsSource}
-use Rattle.forced_rows.specs.Rows.{StandFor, AreRowsOf, HaveRoom, AddsBegin, Grows, begin_edges}
+use Rattle.forced_rows.specs.Seats.{empty_seat, seat_at, IsSeatOf, ChangesSeat, ForgetsSources, TakesLast, GainsSource}
+use Rattle.forced_rows.specs.Rows.{StandFor, AreRowsOf, begin_edges}
 use Rattle.forced_rows.proofs.Closures.{EitherOf, ClosesTo, AreEdgesOf, closes_with, closes_same}
 
 -- ---- lists of one and of two edges

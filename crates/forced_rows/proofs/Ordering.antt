@@ -1,10 +1,10 @@
 -- The least order by what reaches what.
-use Rattle.std.proofs.Common.{◌≡◌, ℕ, zero, suc, ◌+◌, ◌<◌, ◌≤◌, List, [], ◌∷◌, ◌++◌, ◌↔◌, Bool, true, false, length, get_or, arith, refl, ap, sym, ◌∙◌, subst, inl, inr}
-use Rattle.std.specs.List.{Contains, All}
+use Rattle.std.proofs.Common.{◌≡◌, ℕ, zero, suc, ◌+◌, ◌<◌, ◌≤◌, List, [], ◌∷◌, ◌↔◌, Bool, false, length, get_or, arith, sym, subst, inl, inr}
+use Rattle.std.specs.List.{Contains}
 use Rattle.std.proofs.lemmas.List.Elements.{All-contains, Contains-get_or}
-use Rattle.std.proofs.lemmas.Bool.{cases_Bool, false≢true}
+use Rattle.std.proofs.lemmas.Bool.{cases_Bool}
 use Rattle.graph_base.specs.declared.Edge.{Edge}
-use Rattle.graph_base.specs.Walk.{IsInRange, IsWalk, Leads, Reaches}
+use Rattle.graph_base.specs.Walk.{IsInRange, IsWalk, Reaches}
 use Rattle.graph_base.specs.Chain.{Chained}
 use Rattle.graph_base.specs.Closure.{HasEdge, SameClosure}
 use Rattle.graph_base.specs.Order.{place_of, IsLeastOrder}
@@ -12,9 +12,8 @@ use Rattle.graph_base.proofs.Chains.{chained_rises, chained_wider}
 use Rattle.graph_base.proofs.Walks.{reaches_edge}
 use Rattle.graph_base.proofs.Closures.{reaches_is_chain, reaches_in_range}
 use Rattle.graph_base.proofs.Places.{Contains-from_place}
-use Rattle.graph_base.proofs.LeastOrders.{LastEdge, last_edge, least_kept}
+use Rattle.graph_base.proofs.LeastOrders.{last_edge, least_kept}
 use Rattle.order_witness.specs.Marks.{IsMarked, IsUnmarked, IsFree}
-use Rattle.order_witness.specs.Verdict.{HasLeastOrder}
 use Rattle.order_witness.proofs.Placing.{IsPlacing, IsMarked-from_contained, HasLeastOrder-from_placing}
 use Rattle.cell_base.specs.declared.cell.Cell.{Cell}
 use Rattle.cell_base.specs.declared.value.Value.{Value}
@@ -22,12 +21,12 @@ use Rattle.history_core.specs.declared.event.Event.{Event}
 use Rattle.history_core.specs.Events.{begun}
 use Rattle.history_core.specs.Relations.{Meets}
 use Rattle.history_core.specs.Legal.{IsLegal}
-use Rattle.history_core.specs.Forced.{IsForced, IsPairList}
+use Rattle.history_core.specs.Forced.{IsForced}
 use Rattle.history_core.proofs.Prefixes.{legal_consistent}
 use Rattle.saturation.specs.Laws.{AreForced}
 use Rattle.forced_rows.specs.declared.rows.ForcedRows.{ForcedRows}
 use Rattle.forced_rows.specs.Rows.{AreRowsOf}
-use Rattle.forced_rows.specs.Marks.{IsReadyBy, MayBeMarked}
+use Rattle.forced_rows.specs.Marks.{MayBeMarked}
 
 -- ---- by edges and by what reaches
 

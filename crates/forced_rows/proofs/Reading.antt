@@ -1,5 +1,5 @@
 -- What the rows of a history say of a further read.
-use Rattle.std.proofs.Common.{◌≡◌, ℕ, ◌+◌, ◌<◌, ◌≤◌, List, [], ◌∷◌, ◌++◌, length, arith, refl, ap, sym, ◌∙◌, subst}
+use Rattle.std.proofs.Common.{◌≡◌, ℕ, ◌+◌, ◌<◌, List, ◌++◌, length, arith, refl, sym, subst}
 use Rattle.std.specs.List.{Contains, Any}
 use Rattle.graph_base.specs.declared.Edge.{Edge}
 use Rattle.graph_base.specs.Walk.{IsInRange, HasCycle}
@@ -7,7 +7,7 @@ use Rattle.graph_base.specs.Closure.{SameClosure}
 use Rattle.reach_rows.specs.declared.Star.{Star}
 use Rattle.reach_rows.specs.Ancestry.{IsLast}
 use Rattle.reach_rows.specs.Rows.{edge_of}
-use Rattle.reach_rows.specs.Stars.{star_of, edges_of}
+use Rattle.reach_rows.specs.Stars.{edges_of}
 use Rattle.reach_rows.proofs.OneStar.{in_star}
 use Rattle.reach_rows.proofs.Graph.{in_stars}
 use Rattle.cell_base.specs.declared.cell.Cell.{Cell}
@@ -21,16 +21,14 @@ use Rattle.history_core.proofs.Offers.{writer_bounded}
 use Rattle.history_core.proofs.Next.{pending_bounded}
 use Rattle.saturation.specs.Laws.{with_read}
 use Rattle.saturation.proofs.After.{size_after, pending_no_source}
-use Rattle.further_reads.specs.Further.{HaveForcedClosure}
 use Rattle.further_reads.proofs.Extended.{no_cycle_permitted}
 use Rattle.further_reads.proofs.NewDemands.{new_demand_writes}
 use Rattle.further_reads.proofs.Pending.{pending_reaches_none, pending_precedes_none}
 use Rattle.further_reads.proofs.Lasts.{last_begun_unique, pending_is_last}
 use Rattle.forced_rows.specs.declared.rows.ForcedRows.{ForcedRows}
-use Rattle.forced_rows.specs.declared.seats.Seat.{Seat}
 use Rattle.forced_rows.specs.declared.stars.ReadStars.{ReadStars}
 use Rattle.forced_rows.specs.Seats.{seat_at, ChangesSeat, GainsSource}
-use Rattle.forced_rows.specs.Rows.{StandFor, AreRowsOf}
+use Rattle.forced_rows.specs.Rows.{AreRowsOf}
 use Rattle.forced_rows.specs.Stars.{AddsRead}
 use Rattle.forced_rows.proofs.Closures.{last_from, edges_then}
 use Rattle.forced_rows.proofs.SeatLists.{seated}

@@ -1,12 +1,10 @@
 -- The rows of a history without events, room for a begin, and the begin.
-use Rattle.std.proofs.Common.{◌≡◌, ℕ, ◌+◌, ◌-◌, ◌<◌, ◌≤◌, List, [], ◌∷◌, ◌++◌, Some, None, length, arith, refl, ap, sym, ◌∙◌, subst, inl, inr}
-use Rattle.std.specs.List.{Contains}
+use Rattle.std.proofs.Common.{◌≡◌, ℕ, ◌+◌, ◌-◌, ◌<◌, ◌≤◌, List, [], ◌++◌, Some, None, length, arith, ap, sym, ◌∙◌, subst, inl, inr}
 use Rattle.graph_base.specs.declared.Edge.{Edge}
-use Rattle.graph_base.specs.Walk.{IsInRange, Reaches}
+use Rattle.graph_base.specs.Walk.{IsInRange}
 use Rattle.graph_base.specs.Closure.{SameClosure}
 use Rattle.graph_base.proofs.Closures.{reaches_in_range}
 use Rattle.reach_rows.specs.Ancestry.{Ancestry, IsLast}
-use Rattle.cell_base.specs.declared.level.Level.{Level}
 use Rattle.cell_base.specs.declared.cell.Cell.{Cell}
 use Rattle.cell_base.specs.declared.value.Value.{Value}
 use Rattle.history_core.specs.declared.event.Event.{Event}
@@ -20,7 +18,7 @@ use Rattle.further_reads.specs.Begun.{with_begin}
 use Rattle.further_reads.proofs.Lasts.{last_begun_bounded}
 use Rattle.forced_rows.specs.declared.rows.ForcedRows.{ForcedRows}
 use Rattle.forced_rows.specs.declared.seats.Seat.{Seat}
-use Rattle.forced_rows.specs.Seats.{seat_at, empty_seat, IsSeatOf, KeepsSeats, ChangesSeat, ForgetsSources, TakesLast}
+use Rattle.forced_rows.specs.Seats.{seat_at, IsSeatOf, KeepsSeats, ChangesSeat, ForgetsSources, TakesLast}
 use Rattle.forced_rows.specs.Rows.{StandFor, AreRowsOf, HaveRoom, AddsBegin, Grows, begin_edges}
 use Rattle.forced_rows.proofs.Closures.{ClosesTo}
 use Rattle.forced_rows.proofs.Keeping.{seat_none, closes_none, seats_forget, stand_begun}

@@ -18,18 +18,17 @@ use Rattle.history_core.specs.declared.event.Event.{Event}
 use Rattle.history_core.specs.declared.txn.Seen.{Seen}
 use Rattle.history_core.specs.declared.txn.Txn.{Txn}
 use Rattle.history_core.specs.Events.{begun}
-use Rattle.history_core.specs.Relations.{Writes, Reads, Gives}
-use Rattle.history_core.specs.Records.{Saw, IsRecordOf}
+use Rattle.history_core.specs.Relations.{Writes, Gives}
+use Rattle.history_core.specs.Records.{IsRecordOf}
 use Rattle.history_core.proofs.Prefixes.{IsSound}
-use Rattle.saturation.specs.Views.{IsRival, Shows, source_of}
 use Rattle.saturation.specs.Pairs.{AddsPairs}
 use Rattle.saturation.proofs.Adds.{adds_none, adds_as, adds_then}
 use Rattle.saturation.proofs.Sights.{gives_from_seen, seen_from_gives}
-use Rattle.further_reads.specs.Further.{Sees, SeesWith, IsDemandOfRead, IsDemandOfEarlier, IsNewDemand, AreNewDemands, IsNewlySeen}
+use Rattle.further_reads.specs.Further.{Sees, SeesWith, IsDemandOfRead, IsDemandOfEarlier, IsNewDemand}
 use Rattle.further_reads.proofs.NewDemands.{new_demand_range}
 use Rattle.forced_rows.specs.declared.reader.Reader.{Reader}
 use Rattle.forced_rows.specs.declared.sight.Sight.TheVariants.{With}
-use Rattle.forced_rows.specs.Sights.{IsReader, AreRivals, IsSeenLate}
+use Rattle.forced_rows.specs.Sights.{AreRivals}
 use Rattle.forced_rows.proofs.Keeping.{nothing}
 use Rattle.forced_rows.specs.Stars.{HasMembers, GainsEdges, IsLateDemand, IsDemandOfFirst, IsDemandOfSome, IsLaterDemand, AreStarsFor}
 
@@ -184,9 +183,11 @@ stars_are events reader cell source start middle stars sound writes empty first 
                 | inl old ↦ absurd (nothing e (subst (λ (xs : List Star). Contains (edges_of xs) e) empty old))
               ]
         ]
+
     at_pair : (edges : List Edge) (e : Edge) (a b : ℕ) → e.before ≡ a → e.after ≡ b → Contains edges e → HasEdge edges a b
     at_pair edges e a b before after member =
         subst (λ (n : ℕ). HasEdge edges n b) before (subst (λ (n : ℕ). HasEdge edges e.before n) after member)
+
     whole : (a b : ℕ) → 0 < a → IsNewDemand reader.level events reader.number cell source a b → HasEdge (edges_of stars) a b
     whole a b positive (inl of_read) =
         let found = first.edges.whole a b (positive, of_read) in

@@ -89,7 +89,13 @@ impl ForcedRows {
     }
 
     /// Whether the transaction is in the reader's sight.
-    pub(crate) fn is_in_sight(&self, history: &History, reader: Reader, sight: Sight, number: u32) -> bool
+    pub(crate) fn is_in_sight(
+        &self,
+        history: &History,
+        reader: Reader,
+        sight: Sight,
+        number: u32,
+    ) -> bool
         requires kept { AreRowsOf history.now.events self.now }
         requires reader { IsReader history.now.events reader }
         requires sources { IsOfBegun (begun history.now.events) sight }

@@ -60,16 +60,23 @@ impl ForcedRows {
     {
         match seen {
             Seen::Read {
-                cell, source: from, ..
+                cell,
+                source: from,
+                ..
             } => {
-                let late =
-                    self.rivals(alloc, history, reader, cell, Sight::Newly(source), *from)?;
+                let late = self.rivals(alloc, history, reader, cell, Sight::Newly(source), *from)?;
                 Ok(late)
             }
             Seen::Scan { table, keys, .. } => {
                 let keys = keys.as_slice();
-                let late =
-                    self.late_to_scan(alloc, history.history(), reader, source, *table, keys)?;
+                let late = self.late_to_scan(
+                    alloc,
+                    history.history(),
+                    reader,
+                    source,
+                    *table,
+                    keys,
+                )?;
                 Ok(late)
             }
         }

@@ -1,4 +1,4 @@
-use Rattle.std.proofs.Common.{◌≡◌, ℕ, Some, None, sym, ◌∙◌}
+use Rattle.std.proofs.Common.{◌≡◌, Some, None, sym, ◌∙◌}
 use Rattle.forced_rows.proofs.reader.pending_of.Goals as goal
 
 pub unreachable-requires : goal.unreachable-requires

@@ -1,4 +1,4 @@
-use Rattle.std.proofs.Common.{◌≡◌, ◌++◌, ◌∷◌, [], ◌<◌, ℕ, List, length, arith, sym, subst}
+use Rattle.std.proofs.Common.{◌<◌, List, length, arith, sym, subst}
 use Rattle.std.proofs.lemmas.Bool.Decides.{nat_tests}
 use Rattle.reach_rows.specs.declared.Star.{Star}
 use Rattle.forced_rows.specs.Stars.{GainsEdges}

@@ -1,4 +1,4 @@
-use Rattle.std.proofs.Common.{◌≡◌, ℕ, sym, ◌∙◌}
+use Rattle.std.proofs.Common.{sym, ◌∙◌}
 use Rattle.forced_rows.specs.Stars.{IsLateDemand}
 use Rattle.forced_rows.proofs.StarLists.{IsOfStar, gains_as}
 use Rattle.forced_rows.proofs.rows.ForcedRows.add_late.Goals as goal

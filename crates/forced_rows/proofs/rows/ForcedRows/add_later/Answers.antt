@@ -1,4 +1,4 @@
-use Rattle.std.proofs.Common.{◌≡◌, ◌≤◌, ℕ, List, sym, subst}
+use Rattle.std.proofs.Common.{◌≤◌, List, sym, subst}
 use Rattle.history_core.specs.Chronicle.{Chronicle}
 use Rattle.history_core.specs.Events.{begun}
 use Rattle.history_core.specs.declared.txn.Seen.{Seen}

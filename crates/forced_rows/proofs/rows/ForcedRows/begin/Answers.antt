@@ -1,4 +1,4 @@
-use Rattle.std.proofs.Common.{◌≡◌, ◌<◌, ◌-◌, ℕ, List, arith, ap, ◌∙◌}
+use Rattle.std.proofs.Common.{◌≡◌, ◌-◌, List, arith, ap, ◌∙◌}
 use Rattle.forced_rows.specs.declared.seats.Seat.{Seat}
 use Rattle.forced_rows.specs.Seats.{seat_at}
 use Rattle.forced_rows.proofs.Rooms.{beginning, begin_done}

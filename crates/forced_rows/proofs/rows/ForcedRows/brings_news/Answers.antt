@@ -1,4 +1,4 @@
-use Rattle.std.proofs.Common.{◌≡◌, ℕ, sym, subst}
+use Rattle.std.proofs.Common.{sym, subst}
 use Rattle.std.proofs.lemmas.Bool.{not-false}
 use Rattle.graph_base.proofs.Chains.{chained_one}
 use Rattle.cell_base.specs.declared.level.Level.{Level}

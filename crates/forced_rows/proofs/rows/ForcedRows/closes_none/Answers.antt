@@ -1,9 +1,9 @@
-use Rattle.std.proofs.Common.{◌≡◌, ◌↔◌, ◌++◌, ℕ, List, subst}
+use Rattle.std.proofs.Common.{◌↔◌, ◌++◌, List, subst}
 use Rattle.std.specs.Prelude.{IsTrue}
 use Rattle.graph_base.specs.Walk.{HasCycle}
 use Rattle.reach_rows.specs.declared.Star.{Star}
 use Rattle.reach_rows.specs.Stars.{edges_of}
-use Rattle.history_core.specs.Chronicle.{Chronicle, IsFormedChronicle}
+use Rattle.history_core.specs.Chronicle.{IsFormedChronicle}
 use Rattle.history_core.proofs.Prefixes.{sound_of}
 use Rattle.forced_rows.proofs.Candidates.{closure_of, decided}
 use Rattle.forced_rows.proofs.rows.ForcedRows.closes_none.Goals as goal

@@ -1,4 +1,4 @@
-use Rattle.std.proofs.Common.{◌≡◌, sym, ◌∙◌}
+use Rattle.std.proofs.Common.{sym, ◌∙◌}
 use Rattle.std.proofs.lemmas.Bool.{false≢true}
 use Rattle.forced_rows.proofs.Counting.{offer_none, offer_initial}
 use Rattle.forced_rows.proofs.rows.ForcedRows.first_permitted.Goals as goal

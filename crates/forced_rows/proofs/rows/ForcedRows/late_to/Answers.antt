@@ -1,4 +1,4 @@
-use Rattle.std.proofs.Common.{◌≡◌, ◌↔◌, ℕ, List, sym, subst}
+use Rattle.std.proofs.Common.{◌↔◌, List, sym, subst}
 use Rattle.std.specs.List.{Contains}
 use Rattle.cell_base.specs.declared.key.Key.{Key}
 use Rattle.history_core.specs.declared.txn.Seen.{Seen}

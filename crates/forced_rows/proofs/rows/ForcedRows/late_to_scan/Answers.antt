@@ -1,6 +1,5 @@
-use Rattle.std.proofs.Common.{◌≡◌, ◌<◌, ℕ, arith, sym, ◌∙◌}
+use Rattle.std.proofs.Common.{arith, sym, ◌∙◌}
 use Rattle.std.proofs.lemmas.Bool.{false≢true}
-use Rattle.history_core.specs.Events.{begun}
 use Rattle.forced_rows.proofs.LateScans.{late_below_push, late_below_skip, late_below_all}
 use Rattle.forced_rows.proofs.rows.ForcedRows.late_to_scan.Goals as goal
 use Rattle.forced_rows.proofs.rows.ForcedRows.late_to_scan.Goals.{then-is_late+in_ok-push, else-is_late}

@@ -1,4 +1,4 @@
-use Rattle.std.proofs.Common.{◌≡◌, ℕ, subst}
+use Rattle.std.proofs.Common.{ℕ, subst}
 use Rattle.history_core.specs.Legal.{IsOffer}
 use Rattle.history_core.proofs.Offers.{some_permitted}
 use Rattle.forced_rows.proofs.Counting.{offer_some}

@@ -1,4 +1,4 @@
-use Rattle.std.proofs.Common.{◌≡◌, ◌↔◌, ◌<◌, ◌≤◌, ◌+◌, ℕ, List, arith, sym, subst}
+use Rattle.std.proofs.Common.{◌↔◌, ◌<◌, ℕ, List, arith, sym, subst}
 use Rattle.std.specs.List.{Contains, Any, All}
 use Rattle.graph_base.specs.Walk.{Reaches}
 use Rattle.history_core.proofs.Offers.{writer_bounded}

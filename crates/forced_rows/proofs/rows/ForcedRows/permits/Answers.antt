@@ -1,4 +1,4 @@
-use Rattle.std.proofs.Common.{◌≡◌, ◌↔◌, ◌<◌, ◌≤◌, ◌+◌, ℕ, false, arith, sym, subst}
+use Rattle.std.proofs.Common.{◌≤◌, ℕ, arith, sym, subst}
 use Rattle.history_core.specs.Events.{begun}
 use Rattle.history_core.proofs.Offers.{writer_bounded}
 use Rattle.history_core.specs.Chronicle.{Chronicle, IsFormedChronicle}

@@ -1,4 +1,4 @@
-use Rattle.std.proofs.Common.{◌≡◌, ◌<◌, ◌++◌, [], ◌∷◌, ℕ, List, arith, ap, sym, ◌∙◌, subst}
+use Rattle.std.proofs.Common.{◌≡◌, ◌++◌, ℕ, List, arith, ap, sym, ◌∙◌, subst}
 use Rattle.std.specs.List.{Contains, Any}
 use Rattle.graph_base.specs.Walk.{HasCycle}
 use Rattle.graph_base.specs.Closure.{SameClosure}

@@ -1,5 +1,4 @@
-use Rattle.std.proofs.Common.{◌≡◌, ◌<◌, ◌≤◌, ℕ, length, arith, sym, subst}
-use Rattle.std.specs.List.{Contains}
+use Rattle.std.proofs.Common.{length, arith, sym, subst}
 use Rattle.history_core.specs.Chronicle.{Chronicle}
 use Rattle.history_core.specs.Events.{begun}
 use Rattle.forced_rows.specs.Sights.{AreBegun, AreCounted}

@@ -1,6 +1,5 @@
-use Rattle.std.proofs.Common.{◌≡◌, ◌<◌, ◌≤◌, ◌+◌, ℕ, arith, subst}
-use Rattle.history_core.specs.Chronicle.{Chronicle, IsFormedChronicle}
-use Rattle.history_core.specs.Events.{begun}
+use Rattle.std.proofs.Common.{arith, subst}
+use Rattle.history_core.specs.Chronicle.{IsFormedChronicle}
 use Rattle.history_core.proofs.Prefixes.{sound_of}
 use Rattle.history_core.proofs.Offers.{writer_bounded}
 use Rattle.forced_rows.proofs.StarLists.{IsOfStar, IsFirstDemand, gains_as, first_star, stars_are}
