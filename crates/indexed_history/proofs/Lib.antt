@@ -1,0 +1,7 @@
+pub mod Ascending
+pub mod Cells
+pub mod Forgotten
+pub mod Indexes
+pub mod KeyLists
+pub mod RecordLemmas
+pub mod Scans

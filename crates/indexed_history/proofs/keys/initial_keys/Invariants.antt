@@ -1,0 +1,5 @@
+use Rattle.indexed_history.proofs.KeyLists.{IsKeyPart}
+use Rattle.indexed_history.proofs.keys.initial_keys.Given as goal
+
+abbrev pub invariant-loop-entry : goal.invariant-loop-entry
+invariant-loop-entry l = IsKeyPart l.cells l.entry-index l.index

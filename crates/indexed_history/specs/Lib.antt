@@ -1,0 +1,4 @@
+pub mod Writers
+pub mod Index
+pub mod Keys
+pub mod Parts
