@@ -56,9 +56,9 @@ last_from R pairs n closes none = record { reaches_none = λ b on. none b ((clos
 -- two edges one after another
 pub edges_then :
     (pairs first second middle new : List Edge) → SameClosure middle (pairs ++ first) → SameClosure new (middle ++ second) →
-    SameClosure new (pairs ++ first ++ second)
+    SameClosure new (pairs ++ (first ++ second))
 edges_then pairs first second middle new one two a b =
     let on = same_closure_more middle (pairs ++ first) second one a b in
-    let assoc : (pairs ++ first) ++ second ≡ pairs ++ first ++ second = append_assoc pairs first second in
+    let assoc : (pairs ++ first) ++ second ≡ pairs ++ (first ++ second) = append_assoc pairs first second in
     subst (λ (es : List Edge). Reaches new a b ↔ Reaches es a b) assoc
     (λ reach. on.0 ((two a b).0 reach), λ reach. (two a b).1 (on.1 reach))

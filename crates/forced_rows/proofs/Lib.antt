@@ -1,2 +1,10 @@
 pub mod Closures
 pub mod SeatLists
+pub mod Keeping
+pub mod StarLists
+pub mod Reading
+pub mod Rooms
+pub mod Counting
+pub mod Candidates
+pub mod LateScans
+pub mod Ordering

@@ -26,7 +26,7 @@ seats_push old seats seat empty kept k =
                 get_or_past (seats ++ seat ∷ []) k empty_seat (omega arith) ∙ sym (get_or_past seats k empty_seat (omega arith)) ∙ kept k
             | inr at ↦
                 let same : k ≡ length seats = omega arith in
-                get_or_push seats seat empty_seat k same ∙ empty ∙ sym (get_or_past seats k empty_seat (omega arith)) ∙ kept k
+                get_or_push seats seat empty_seat k (sym same) ∙ empty ∙ sym (get_or_past seats k empty_seat (omega arith)) ∙ kept k
           ]
     ]
 

@@ -1,5 +1,6 @@
 -- What a pending transaction sees, and which writers of a cell that makes.
-use Rattle.std.specs.Prelude.{◌≡◌, ◌≢◌, ◌<◌, ◌≤◌, ◌⊎◌, ◌↔◌, ℕ, List, Contains}
+use Rattle.std.specs.Prelude.{◌≡◌, ◌≢◌, ◌<◌, ◌≤◌, ◌⊎◌, ◌↔◌, ℕ, Some, List, Any, Contains, slice_get}
+use Rattle.std.specs.List.Sorted.{IsStrictlyIncreasing}
 use Rattle.graph_base.specs.declared.Edge.{Edge}
 use Rattle.graph_base.specs.Walk.{Reaches}
 use Rattle.cell_base.specs.declared.cell.Cell.{Cell}
@@ -9,6 +10,7 @@ use Rattle.history_core.specs.declared.event.Event.{Event}
 use Rattle.history_core.specs.declared.txn.Seen.{Seen}
 use Rattle.history_core.specs.Transactions.{IsPending, RunsAt, IsCommitted}
 use Rattle.history_core.specs.Relations.{Writes, PrecedesCausally}
+use Rattle.history_core.specs.Legal.{IsPermitted}
 use Rattle.saturation.specs.Views.{IsRival}
 use Rattle.further_reads.specs.Further.{Sees, SeesWith, IsNewlySeen}
 use Rattle.forced_rows.specs.declared.reader.Reader.{Reader}
@@ -38,6 +40,10 @@ IsOfBegun begun SoFar = Unit {0}
 IsOfBegun begun (With source) = source ≤ begun
 IsOfBegun begun (Newly source) = source ≤ begun
 
+-- transactions that have begun, but not the initial one
+abbrev pub AreBegun : ℕ → List ℕ → Type 0
+AreBegun begun numbers = (n : ℕ) → Contains numbers n → (0 < n) × (n ≤ begun)
+
 -- another transaction than this one that has committed and is in sight
 pub record Counts (sight : Sight) (events : List Event) (reader : Reader) (except n : ℕ) : Type 0 where
   pub other : n ≢ except
@@ -56,10 +62,22 @@ pub record IsSeenLate (events : List Event) (reader : Reader) (source : ℕ) (se
   pub rival : IsRival events seen n
   pub new : IsNewlySeen reader.level events reader.number source n
 
--- the transaction is before some writer of the cell that the reader sees
-pub record IsOvertaken (events : List Event) (pairs : List Edge) (reader : Reader) (cell : Cell) (n : ℕ) : Type 0 where
-  pub writer : ℕ
-  pub later : 0 < writer
-  pub writes : Writes events writer cell
-  pub sees : Sees reader.level events reader.number writer
-  pub before : Reaches pairs n writer
+-- the row has what is before the writers of the cell that the reader sees
+pub record AreOvertaken (events : List Event) (pairs : List Edge) (reader : Reader) (cell : Cell) (row : List ℕ) : Type 0 where
+  pub seen : List ℕ
+  pub are : AreRivals SoFar events reader cell 0 seen
+  pub before : (n : ℕ) → Contains row n ↔ Any (λ writer. Reaches pairs n writer) seen
+
+-- it is the initial transaction, or one of so many of the writers from the first on
+abbrev pub IsAmong : List ℕ → ℕ → ℕ → Type 0
+IsAmong writers count n = (n ≡ 0) ⊎ ((k : ℕ) × ((k < count) × (slice_get writers k ≡ Some n)))
+
+-- those of these that may be read next, ascending
+pub record IsOfferAmong (events : List Event) (session : ℕ) (cell : Cell) (writers : List ℕ) (count : ℕ) (offer : List ℕ) : Type 0 where
+  pub ascending : IsStrictlyIncreasing offer
+  pub exact : (n : ℕ) → Contains offer n ↔ (IsAmong writers count n × IsPermitted events session cell n)
+
+-- exactly those of so many of the writers, from the first on, that count
+abbrev pub AreCounted : Sight → List Event → Reader → ℕ → List ℕ → ℕ → List ℕ → Type 0
+AreCounted sight events reader except writers count numbers =
+    (n : ℕ) → Contains numbers n ↔ (((k : ℕ) × ((k < count) × (slice_get writers k ≡ Some n))) × Counts sight events reader except n)

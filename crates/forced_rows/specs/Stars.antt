@@ -1,5 +1,5 @@
 -- What a further read demands, as stars.
-use Rattle.std.specs.Prelude.{◌≡◌, ◌<◌, ◌+◌, ℕ, List, All, length}
+use Rattle.std.specs.Prelude.{◌≡◌, ◌<◌, ◌+◌, ℕ, Some, List, All, Contains, length, slice_get}
 use Rattle.graph_base.specs.Closure.{HasEdge}
 use Rattle.reach_rows.specs.declared.Star.{Star}
 use Rattle.reach_rows.specs.Stars.{edges_of, IsStarInRange}
@@ -64,6 +64,20 @@ pub record GainsEdges (Is : ℕ → ℕ → Type 0) (old new : List Star) : Type
 -- an earlier read or scan demands the pair, since it sees the first late
 abbrev pub IsLateDemand : List Event → Reader → ℕ → Seen → ℕ → ℕ → Type 0
 IsLateDemand events reader source seen a b = IsSeenLate events reader source seen a × (b ≡ source_of seen)
+
+-- one of so many of these reads and scans, from the first on, demands the pair
+pub record IsDemandOfFirst (events : List Event) (reader : Reader) (source : ℕ) (all : List Seen) (count a b : ℕ) : Type 0 where
+  pub place : ℕ
+  pub below : place < count
+  pub seen : Seen
+  pub is : slice_get all place ≡ Some seen
+  pub demands : IsLateDemand events reader source seen a b
+
+-- one of these reads and scans demands the pair
+pub record IsDemandOfSome (events : List Event) (reader : Reader) (source : ℕ) (all : List Seen) (a b : ℕ) : Type 0 where
+  pub seen : Seen
+  pub one : Contains all seen
+  pub demands : IsLateDemand events reader source seen a b
 
 -- one of the reads and scans of the reader demands the pair
 pub record IsLaterDemand (events : List Event) (reader : Reader) (source a b : ℕ) : Type 0 where

@@ -8,6 +8,7 @@
 mod late;
 mod laws;
 mod offering;
+mod order;
 mod reader;
 mod rows;
 mod seats;

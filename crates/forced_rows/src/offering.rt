@@ -1,11 +1,11 @@
 // Which writes a read may see.
-ghost use Rattle.std.specs.Prelude.{◌≡◌, ◌<◌, ◌≤◌, ◌↔◌, ℕ, Any, Contains, IsTrue, IfOk};
-ghost use Rattle.graph_base.specs.Walk.{Reaches};
+ghost use Rattle.std.specs.Prelude.{◌<◌, ◌≤◌, ◌↔◌, ℕ, List, IsTrue, IfOk};
 ghost use Rattle.history_core.specs.Events.{begun};
 ghost use Rattle.history_core.specs.Relations.{HasWritten, Writes};
 ghost use Rattle.history_core.specs.Legal.{IsPermitted, IsOffer};
+ghost use Rattle.indexed_history.specs.Writers.{ListsWriters};
 ghost use Rattle.forced_rows.specs.Rows.{AreRowsOf};
-ghost use Rattle.forced_rows.specs.Sights.{IsReader, IsOvertaken};
+ghost use Rattle.forced_rows.specs.Sights.{IsReader, AreOvertaken, IsOfferAmong};
 
 use crate::ForcedRows;
 use crate::reader::Reader;
@@ -26,7 +26,7 @@ impl ForcedRows {
     ) -> Result<Row, Memory>
         requires kept { AreRowsOf history.now.events self.now }
         requires reader { IsReader history.now.events reader }
-        ensures { IfOk result (λ row. (n : ℕ) → Contains row n ↔ IsOvertaken history.now.events self.now.reach.pairs reader cell.now n) }
+        ensures { IfOk result (AreOvertaken history.now.events self.now.reach.pairs reader cell.now) }
     {
         let seen = self.rivals(alloc, history, reader, cell, Sight::SoFar, 0)?;
         let row = self.reach.union_of(&seen)?;
@@ -66,14 +66,15 @@ impl ForcedRows {
     ) -> Result<bool, Memory>
         requires kept { AreRowsOf history.now.events self.now }
         requires reader { IsReader history.now.events reader }
-        requires overtaken { (n : ℕ) → Contains overtaken.now n ↔ IsOvertaken history.now.events self.now.reach.pairs reader cell.now n }
+        requires overtaken { AreOvertaken history.now.events self.now.reach.pairs reader cell.now overtaken.now }
         requires writes { Writes history.now.events source cell.now }
         ensures { IfOk result (λ permitted. IsTrue permitted ↔ IsPermitted history.now.events reader.session cell.now source) }
     {
         let _events = history.history().events();
         let _size = self.reach.size();
         if self.brings_news(history.history(), reader, source) {
-            return self.closes_none(alloc, history, reader, cell, source);
+            let permitted = self.closes_none(alloc, history, reader, cell, source)?;
+            return Ok(permitted);
         }
         Ok(!overtaken.has(source))
     }
@@ -90,17 +91,39 @@ impl ForcedRows {
     ) -> Result<bool, Memory>
         requires kept { AreRowsOf history.now.events self.now }
         requires reader { IsReader history.now.events reader }
-        requires overtaken { (n : ℕ) → Contains overtaken.now n ↔ IsOvertaken history.now.events self.now.reach.pairs reader cell.now n }
+        requires overtaken { AreOvertaken history.now.events self.now.reach.pairs reader cell.now overtaken.now }
         requires some { 0 < source }
         requires begun { source ≤ begun history.now.events }
         requires wrote { HasWritten history.now.events source cell.now }
         ensures { IfOk result (λ permitted. IsTrue permitted ↔ IsPermitted history.now.events reader.session cell.now source) }
     {
-        if is_committed(history.history(), source) {
-            self.permits(alloc, history, reader, cell, overtaken, source)
-        } else {
-            Ok(false)
+        if !is_committed(history.history(), source) {
+            return Ok(false);
         }
+        let permitted = self.permits(alloc, history, reader, cell, overtaken, source)?;
+        Ok(permitted)
+    }
+
+    /// The initial transaction, where it is permitted.
+    fn first_permitted(
+        &self,
+        alloc: Global,
+        history: &IndexedHistory,
+        reader: Reader,
+        cell: &Cell,
+        overtaken: &Row,
+    ) -> Result<Vec<u32>, Memory>
+        requires kept { AreRowsOf history.now.events self.now }
+        requires reader { IsReader history.now.events reader }
+        requires overtaken { AreOvertaken history.now.events self.now.reach.pairs reader cell.now overtaken.now }
+        ensures { (writers : List ℕ) → IfOk result (λ offer. IsOfferAmong history.now.events reader.session cell.now writers 0 offer.items) }
+    {
+        let mut offer = Vec::new(alloc);
+        let initial = self.permits(alloc, history, reader, cell, overtaken, 0)?;
+        if initial {
+            offer.push(0)?;
+        }
+        Ok(offer)
     }
 
     /// The permitted ones of the initial transaction and the writers of the cell, ascending.
@@ -111,18 +134,18 @@ impl ForcedRows {
         reader: Reader,
         cell: &Cell,
         overtaken: &Row,
+        writers: &[u32],
     ) -> Result<Vec<u32>, Memory>
         requires kept { AreRowsOf history.now.events self.now }
         requires reader { IsReader history.now.events reader }
-        requires overtaken { (n : ℕ) → Contains overtaken.now n ↔ IsOvertaken history.now.events self.now.reach.pairs reader cell.now n }
+        requires overtaken { AreOvertaken history.now.events self.now.reach.pairs reader cell.now overtaken.now }
+        requires writers { ListsWriters history.now.events cell.now writers.now }
         ensures { IfOk result (λ offer. IsOffer history.now.events reader.session cell.now offer.items) }
     {
-        let mut offer = Vec::new(alloc);
-        if self.permits(alloc, history, reader, cell, overtaken, 0)? {
-            offer.push(0)?;
-        }
-        for writer in history.writers(cell) {
-            if self.permits_writer(alloc, history, reader, cell, overtaken, *writer)? {
+        let mut offer = self.first_permitted(alloc, history, reader, cell, overtaken)?;
+        for writer in writers {
+            let yes = self.permits_writer(alloc, history, reader, cell, overtaken, *writer)?;
+            if yes {
                 offer.push(*writer)?;
             }
         }
@@ -142,6 +165,8 @@ impl ForcedRows {
         ensures { IfOk result (λ offer. IsOffer history.now.events reader.session cell.now offer.items) }
     {
         let overtaken = self.overtaken(alloc, history, reader, cell)?;
-        self.permitted(alloc, history, reader, cell, &overtaken)
+        let writers = history.writers(cell);
+        let offer = self.permitted(alloc, history, reader, cell, &overtaken, writers)?;
+        Ok(offer)
     }
 }

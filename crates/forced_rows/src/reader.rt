@@ -22,10 +22,10 @@ fn pending_of(history: &History, session: u32) -> u32
     requires { HasPending history.now.events session }
     ensures { IsPending history.now.events result session }
 {
-    match history.pending(session) {
-        Some(number) => number,
-        None => unreachable!(),
-    }
+    let Some(number) = history.pending(session) else {
+        unreachable!()
+    };
+    number
 }
 
 /// The session's pending transaction.

@@ -1,13 +1,10 @@
 // The rows of a history.
 ghost use Rattle.std.specs.Prelude.{◌≡◌, ◌<◌, ◌+◌, ◌∷◌, ◌++◌, [], ℕ, List, length, IfOk, OnOk, OnErr};
-ghost use Rattle.graph_base.specs.declared.Edge.{Edge};
-ghost use Rattle.graph_base.specs.Order.{IsLeastOrder};
 ghost use Rattle.history_core.specs.declared.event.Event.{Event};
 ghost use Rattle.history_core.specs.Events.{begun};
 ghost use Rattle.history_core.specs.Transactions.{HasPending};
 ghost use Rattle.history_core.specs.Relations.{Writes};
 ghost use Rattle.history_core.specs.Legal.{IsLegal, IsOffer, IsOpen};
-ghost use Rattle.saturation.specs.Laws.{AreForced};
 ghost use Rattle.graph_base.specs.Closure.{SameClosure};
 ghost use Rattle.bit_rows.specs.declared.TheConstants.{ROW_BITS};
 ghost use Rattle.reach_rows.specs.Ancestry.{IsLast};
@@ -39,10 +36,8 @@ pub struct ForcedRows {
 fn grow_both(reach: &mut Reach, past: &mut Reach) -> Result<(), Memory>
     requires few { reach.old.size < ROW_BITS }
     requires past_few { past.old.size < ROW_BITS }
-    ensures ok { OnOk result (Grows reach.old reach.new) }
-    ensures past_ok { OnOk result (Grows past.old past.new) }
-    ensures err { OnErr result (reach.new ≡ reach.old) }
-    ensures past_err { OnErr result (past.new ≡ past.old) }
+    ensures ok { OnOk result (Grows reach.old reach.new × Grows past.old past.new) }
+    ensures err { OnErr result ((reach.new ≡ reach.old) × (past.new ≡ past.old)) }
 {
     let _size = reach.size();
     let _past_size = past.size();
@@ -134,7 +129,8 @@ impl ForcedRows {
         ensures some { IfOk result (λ offer. 0 < length offer.items) }
     {
         let reader = reader_of(history.history(), session);
-        self.offer_for(alloc, history, reader, cell)
+        let offer = self.offer_for(alloc, history, reader, cell)?;
+        Ok(offer)
     }
 
     /// The pairs that a further read of the pending transaction demands, as stars. An error is out of memory.
@@ -152,7 +148,8 @@ impl ForcedRows {
         ensures { IfOk result (AreStarsOf history.now.events session cell.now source) }
     {
         let reader = reader_of(history.history(), session);
-        self.stars_for(alloc, history, reader, cell, source)
+        let stars = self.stars_for(alloc, history, reader, cell, source)?;
+        Ok(stars)
     }
 
     /// The session has read from the source, and these are the stars of that read. Takes no memory.
@@ -173,13 +170,5 @@ impl ForcedRows {
         ensures { result.now ≡ self.now.reach }
     {
         &self.reach
-    }
-
-    /// The least order of the forced pairs: at each place stands the least transaction of which all that are before it have been placed.
-    pub fn order(&self, alloc: Global) -> Result<Vec<u32>, Memory>
-        ensures { (events : List Event) (edges : List Edge) → AreRowsOf events self.now → AreForced events edges →
-            IfOk result (λ order. IsLeastOrder (begun events + 1) edges order.items) }
-    {
-        unreachable!()
     }
 }

@@ -61,18 +61,18 @@ pub fn forget_sources(alloc: Global, seats: &mut Vec<Seat>, session: u32) -> Res
 }
 
 /// The session has begun the transaction.
-pub fn set_last(seats: &mut [Seat], session: u32, number: u32)
-    requires { session < length seats.old }
-    ensures { ChangesSeat seats.old seats.new session (TakesLast number) }
+pub fn set_last(seats: &mut Vec<Seat>, session: u32, number: u32)
+    requires { session < length seats.old.items }
+    ensures { ChangesSeat seats.old.items seats.new.items session (TakesLast number) }
 {
     seats[session as usize].last = number;
 }
 
 /// The last transaction of the session has read from the source.
-pub fn add_source(seats: &mut [Seat], session: u32, source: u32)
-    requires session { session < length seats.old }
+pub fn add_source(seats: &mut Vec<Seat>, session: u32, source: u32)
+    requires session { session < length seats.old.items }
     requires source { source < ROW_BITS }
-    ensures { ChangesSeat seats.old seats.new session (GainsSource source) }
+    ensures { ChangesSeat seats.old.items seats.new.items session (GainsSource source) }
 {
     seats[session as usize].sources.set(source);
 }

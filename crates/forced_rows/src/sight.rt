@@ -1,11 +1,11 @@
 // Which writers a pending transaction sees, by bit tests.
-ghost use Rattle.std.specs.Prelude.{◌≡◌, ◌≢◌, ◌<◌, ◌≤◌, ◌↔◌, ℕ, IsTrue, IfOk};
+ghost use Rattle.std.specs.Prelude.{◌≡◌, ◌≢◌, ◌<◌, ◌≤◌, ◌↔◌, ℕ, false, length, IsTrue, IfOk};
 ghost use Rattle.history_core.specs.Events.{begun};
 ghost use Rattle.history_core.specs.Transactions.{IsCommitted};
 ghost use Rattle.history_core.specs.Relations.{IsSessionOrdered, Precedes};
-ghost use Rattle.further_reads.specs.Further.{Sees, IsNewlySeen};
+ghost use Rattle.further_reads.specs.Further.{Sees, SeesWith};
 ghost use Rattle.forced_rows.specs.Rows.{AreRowsOf};
-ghost use Rattle.forced_rows.specs.Sights.{IsReader, Brings, IsInSight, IsOfBegun, Counts, AreRivals};
+ghost use Rattle.forced_rows.specs.Sights.{IsReader, Brings, IsInSight, IsOfBegun, AreBegun, Counts, AreCounted, AreRivals};
 
 use crate::ForcedRows;
 use crate::reader::Reader;
@@ -54,6 +54,7 @@ impl ForcedRows {
         requires begun { number ≤ begun history.now.events }
         ensures { IsTrue result ↔ Precedes history.now.events number reader.number }
     {
+        let _begun = history.begun();
         has_source(&self.seats, reader.session, number) || is_earlier(history, reader, number)
     }
 
@@ -114,7 +115,7 @@ impl ForcedRows {
         requires kept { AreRowsOf history.now.events self.now }
         requires reader { IsReader history.now.events reader }
         requires source { source ≤ begun history.now.events }
-        ensures { (n : ℕ) → ¬ IsTrue result → ¬ IsNewlySeen reader.level history.now.events reader.number source n }
+        ensures { (result ≡ false) → (n : ℕ) → SeesWith reader.level history.now.events reader.number source n → Sees reader.level history.now.events reader.number n }
     {
         match reader.level {
             Level::Rc => false,
@@ -144,6 +145,31 @@ impl ForcedRows {
             && is_committed(history, number)
     }
 
+    /// Those of the writers that count.
+    fn counted(
+        &self,
+        alloc: Global,
+        history: &History,
+        reader: Reader,
+        sight: Sight,
+        except: u32,
+        writers: &[u32],
+    ) -> Result<Vec<u32>, Memory>
+        requires kept { AreRowsOf history.now.events self.now }
+        requires reader { IsReader history.now.events reader }
+        requires sources { IsOfBegun (begun history.now.events) sight }
+        requires writers { AreBegun (begun history.now.events) writers.now }
+        ensures { IfOk result (λ numbers. AreCounted sight history.now.events reader except writers.now (length writers.now) numbers.items) }
+    {
+        let mut numbers = Vec::new(alloc);
+        for number in writers {
+            if self.counts(history, reader, sight, except, *number) {
+                numbers.push(*number)?;
+            }
+        }
+        Ok(numbers)
+    }
+
     /// The writers of the cell, but the initial transaction and one more, that are in the reader's sight.
     pub(crate) fn rivals(
         &self,
@@ -159,12 +185,8 @@ impl ForcedRows {
         requires sources { IsOfBegun (begun history.now.events) sight }
         ensures { IfOk result (λ numbers. AreRivals sight history.now.events reader cell.now except numbers.items) }
     {
-        let mut numbers = Vec::new(alloc);
-        for number in history.writers(cell) {
-            if self.counts(history.history(), reader, sight, except, *number) {
-                numbers.push(*number)?;
-            }
-        }
+        let writers = history.writers(cell);
+        let numbers = self.counted(alloc, history.history(), reader, sight, except, writers)?;
         Ok(numbers)
     }
 }

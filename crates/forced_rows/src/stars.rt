@@ -5,7 +5,7 @@ ghost use Rattle.history_core.specs.Relations.{Writes};
 ghost use Rattle.saturation.specs.Views.{source_of};
 ghost use Rattle.forced_rows.specs.Rows.{AreRowsOf};
 ghost use Rattle.forced_rows.specs.Sights.{IsReader, IsSeenLate};
-ghost use Rattle.forced_rows.specs.Stars.{GainsEdges, IsLateDemand, IsLaterDemand, AreStarsFor};
+ghost use Rattle.forced_rows.specs.Stars.{GainsEdges, IsLateDemand, IsDemandOfSome, IsLaterDemand, AreStarsFor};
 
 use crate::ForcedRows;
 use crate::reader::Reader;
@@ -61,9 +61,16 @@ impl ForcedRows {
         match seen {
             Seen::Read {
                 cell, source: from, ..
-            } => self.rivals(alloc, history, reader, cell, Sight::Newly(source), *from),
+            } => {
+                let late =
+                    self.rivals(alloc, history, reader, cell, Sight::Newly(source), *from)?;
+                Ok(late)
+            }
             Seen::Scan { table, keys, .. } => {
-                self.late_to_scan(alloc, history.history(), reader, source, *table, keys.as_slice())
+                let keys = keys.as_slice();
+                let late =
+                    self.late_to_scan(alloc, history.history(), reader, source, *table, keys)?;
+                Ok(late)
             }
         }
     }
@@ -84,11 +91,34 @@ impl ForcedRows {
         ensures { OnOk result (GainsEdges (IsLateDemand history.now.events reader source seen.now) stars.old.items stars.new.items) }
     {
         let members = self.late_to(alloc, history, reader, source, seen)?;
-        add_star(stars, members, target_of(seen))
+        add_star(stars, members, target_of(seen))?;
+        Ok(())
     }
 
-    /// Adds the stars of what the earlier reads and scans see late.
+    /// Adds the stars of what these reads and scans see late.
     fn add_all_late(
+        &self,
+        alloc: Global,
+        history: &IndexedHistory,
+        reader: Reader,
+        source: u32,
+        all: &[Seen],
+        stars: &mut Vec<Star>,
+    ) -> Result<(), Memory>
+        requires kept { AreRowsOf history.now.events self.now }
+        requires reader { IsReader history.now.events reader }
+        requires source { source ≤ begun history.now.events }
+        ensures { OnOk result (GainsEdges (IsDemandOfSome history.now.events reader source all.now) stars.old.items stars.new.items) }
+    {
+        for seen in all {
+            self.add_late(alloc, history, reader, source, seen, stars)?;
+        }
+        Ok(())
+    }
+
+    /// Adds the stars of what the reader sees late with a further read from the source. Only where that brings news are the earlier reads looked
+    /// at.
+    fn add_later(
         &self,
         alloc: Global,
         history: &IndexedHistory,
@@ -101,15 +131,15 @@ impl ForcedRows {
         requires source { source ≤ begun history.now.events }
         ensures { OnOk result (GainsEdges (IsLaterDemand history.now.events reader source) stars.old.items stars.new.items) }
     {
-        let _events = history.history().events();
-        let txn = history.history().txn(reader.number);
-        for seen in txn.seen.as_slice() {
-            self.add_late(alloc, history, reader, source, seen, stars)?;
+        if !self.brings_news(history.history(), reader, source) {
+            return Ok(());
         }
+        let txn = history.history().txn(reader.number);
+        self.add_all_late(alloc, history, reader, source, txn.seen.as_slice(), stars)?;
         Ok(())
     }
 
-    /// The stars of a further read of the reader. Only where it brings news are the earlier reads looked at.
+    /// The stars of a further read of the reader.
     pub(crate) fn stars_for(
         &self,
         alloc: Global,
@@ -123,12 +153,11 @@ impl ForcedRows {
         requires writes { Writes history.now.events source cell.now }
         ensures { IfOk result (λ stars. AreStarsFor reader.level history.now.events reader.number cell.now source stars.stars.items) }
     {
+        let _events = history.history().events();
         let members = self.rivals(alloc, history, reader, cell, Sight::With(source), source)?;
         let mut stars = Vec::new(alloc);
         add_star(&mut stars, members, source)?;
-        if self.brings_news(history.history(), reader, source) {
-            self.add_all_late(alloc, history, reader, source, &mut stars)?;
-        }
+        self.add_later(alloc, history, reader, source, &mut stars)?;
         Ok(ReadStars { stars })
     }
 }

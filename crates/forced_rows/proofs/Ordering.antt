@@ -1,0 +1,131 @@
+-- The least order by what reaches what.
+use Rattle.std.proofs.Common.{◌≡◌, ℕ, zero, suc, ◌+◌, ◌<◌, ◌≤◌, List, [], ◌∷◌, ◌++◌, ◌↔◌, Bool, true, false, length, get_or, arith, refl, ap, sym, ◌∙◌, subst, inl, inr}
+use Rattle.std.specs.List.{Contains, All}
+use Rattle.std.proofs.lemmas.List.Elements.{All-contains, Contains-get_or}
+use Rattle.std.proofs.lemmas.Bool.{cases_Bool, false≢true}
+use Rattle.graph_base.specs.declared.Edge.{Edge}
+use Rattle.graph_base.specs.Walk.{IsInRange, IsWalk, Leads, Reaches}
+use Rattle.graph_base.specs.Chain.{Chained}
+use Rattle.graph_base.specs.Closure.{HasEdge, SameClosure}
+use Rattle.graph_base.specs.Order.{place_of, IsLeastOrder}
+use Rattle.graph_base.proofs.Chains.{chained_rises, chained_wider}
+use Rattle.graph_base.proofs.Walks.{reaches_edge}
+use Rattle.graph_base.proofs.Closures.{reaches_is_chain, reaches_in_range}
+use Rattle.graph_base.proofs.Places.{Contains-from_place}
+use Rattle.graph_base.proofs.LeastOrders.{LastEdge, last_edge, least_kept}
+use Rattle.order_witness.specs.Marks.{IsMarked, IsUnmarked, IsFree}
+use Rattle.order_witness.specs.Verdict.{HasLeastOrder}
+use Rattle.order_witness.proofs.Placing.{IsPlacing, IsMarked-from_contained, HasLeastOrder-from_placing}
+use Rattle.cell_base.specs.declared.cell.Cell.{Cell}
+use Rattle.cell_base.specs.declared.value.Value.{Value}
+use Rattle.history_core.specs.declared.event.Event.{Event}
+use Rattle.history_core.specs.Events.{begun}
+use Rattle.history_core.specs.Relations.{Meets}
+use Rattle.history_core.specs.Legal.{IsLegal}
+use Rattle.history_core.specs.Forced.{IsForced, IsPairList}
+use Rattle.history_core.proofs.Prefixes.{legal_consistent}
+use Rattle.saturation.specs.Laws.{AreForced}
+use Rattle.forced_rows.specs.declared.rows.ForcedRows.{ForcedRows}
+use Rattle.forced_rows.specs.Rows.{AreRowsOf}
+use Rattle.forced_rows.specs.Marks.{IsReadyBy, MayBeMarked}
+
+-- ---- by edges and by what reaches
+
+free_from_may : (edges : List Edge) (marks : List Bool) (n : ℕ) → MayBeMarked edges marks n → IsFree edges marks n
+free_from_may edges marks n may = record {
+  unmarked = may.unmarked;
+  ready = λ k d small into.
+      let e : Edge = get_or edges k d in
+      may.ready e.before (subst (λ (m : ℕ). Reaches edges e.before m) into (reaches_edge edges e (Contains-get_or edges k d small)));
+}
+
+-- what leads to a marked number is marked
+walk_marked :
+    (size : ℕ) (edges : List Edge) (marks : List Bool) (order : List ℕ) → IsPlacing size edges marks order → (a : ℕ) (walk : List Edge) (b : ℕ) →
+    IsWalk edges a walk b → IsMarked marks b → IsMarked marks a
+walk_marked size edges marks order placing a [] b same marked = subst (λ (n : ℕ). IsMarked marks n) (sym same) marked
+walk_marked size edges marks order placing a (e ∷ walk) b (begins, member, rest) marked =
+    let after : IsMarked marks e.after = walk_marked size edges marks order placing e.after walk b rest marked in
+    let placed = placing.marked e.after after in
+    let earlier = placing.extends e member after in
+    subst (λ (n : ℕ). IsMarked marks n) begins
+    (IsMarked-from_contained size edges marks order placing e.before (Contains-from_place order e.before (omega arith)))
+
+may_from_free :
+    (size : ℕ) (edges : List Edge) (marks : List Bool) (order : List ℕ) → IsPlacing size edges marks order → (n : ℕ) → IsFree edges marks n →
+    MayBeMarked edges marks n
+may_from_free size edges marks order placing n free = record {
+  unmarked = free.unmarked;
+  ready = λ m on.
+      let last = last_edge edges m n on in
+      let marked : IsMarked marks last.edge.before = All-contains (λ e. e.after ≡ n → IsMarked marks e.before) edges last.edge free.ready last.member last.ends in
+      walk_marked size edges marks order placing m last.leads.walk last.edge.before last.leads.is marked;
+}
+
+pub least_free :
+    (size : ℕ) (edges : List Edge) (marks : List Bool) (order : List ℕ) (n : ℕ) → IsPlacing size edges marks order →
+    ((m : ℕ) → MayBeMarked edges marks m → n ≤ m) → (m : ℕ) → IsFree edges marks m → n ≤ m
+least_free size edges marks order n placing least m free = least m (may_from_free size edges marks order placing m free)
+
+pub free_of : (edges : List Edge) (marks : List Bool) (n : ℕ) → MayBeMarked edges marks n → IsFree edges marks n
+free_of = free_from_may
+
+-- ---- where none may be marked, all are
+
+stuck :
+    (edges : List Edge) (marks : List Bool) (rank : ℕ → ℕ) → IsInRange (length marks) edges → ((a b : ℕ) → Reaches edges a b → rank a < rank b) →
+    ((m : ℕ) → MayBeMarked edges marks m → ⊥) → (fuel n : ℕ) → rank n < fuel → IsUnmarked marks n → ⊥
+stuck edges marks rank in_range rises none zero n below unmarked = omega arith
+stuck edges marks rank in_range rises none (suc fuel) n below unmarked = none n record {
+  unmarked = unmarked;
+  ready = λ m on. elim (cases_Bool (get_or marks m false)) [
+    | inl is_true ↦ is_true
+    | inr is_false ↦
+        let less = rises m n on in
+        absurd (stuck edges marks rank in_range rises none fuel m (omega arith) ((reaches_in_range (length marks) edges in_range m n on).0, is_false))
+  ];
+}
+
+pub all_marked :
+    (edges : List Edge) (marks : List Bool) (rank : ℕ → ℕ) → IsInRange (length marks) edges → ((a b : ℕ) → Reaches edges a b → rank a < rank b) →
+    ((m : ℕ) → MayBeMarked edges marks m → ⊥) → (n : ℕ) → n < length marks → IsMarked marks n
+all_marked edges marks rank in_range rises none n small =
+    elim (cases_Bool (get_or marks n false)) [
+      | inl is_true ↦ is_true
+      | inr is_false ↦ absurd (stuck edges marks rank in_range rises none (rank n + 1) n (omega arith) (small, is_false))
+    ]
+
+-- ---- the forced pairs
+
+forced_rises : (events : List Event) (order : List ℕ) → Meets events order → (a b : ℕ) → IsForced events a b → place_of order a < place_of order b
+forced_rises events order meets a b (inl precedes) = meets.precedes a b precedes
+forced_rises events order meets a b (inr demands) = meets.demands a b demands
+
+edge_at : (edges : List Edge) (m n : ℕ) → (e : Edge) × (Contains edges e × (e.before ≡ m) × (e.after ≡ n)) → HasEdge edges m n
+edge_at edges m n found = subst (λ (k : ℕ). HasEdge edges k n) found.1.1 (subst (λ (k : ℕ). HasEdge edges found.0.before k) found.1.2 found.1.0)
+
+same_as_forced :
+    (events : List Event) (pairs edges : List Edge) → ((a b : ℕ) → Reaches pairs a b ↔ Chained (IsForced events) a b) → AreForced events edges →
+    SameClosure pairs edges
+same_as_forced events pairs edges closes are a b = (
+  λ on. (reaches_is_chain edges a b).1 (chained_wider (IsForced events) (HasEdge edges) (λ m n is. edge_at edges m n (are.whole m n is)) a b ((closes a b).0 on)),
+  λ on. (closes a b).1 (chained_wider (HasEdge edges) (IsForced events) (λ m n edge. are.sound record { before = m; after = n } edge) a b
+      ((reaches_is_chain edges a b).0 on)),
+)
+
+pub order_done :
+    (initial : List (Cell × Value)) (events : List Event) (rows : ForcedRows) (marks : List Bool) (order : List ℕ) → IsLegal initial events →
+    AreRowsOf events rows → IsInRange rows.reach.size rows.reach.pairs → IsPlacing rows.reach.size rows.reach.pairs marks order →
+    ((m : ℕ) → MayBeMarked rows.reach.pairs marks m → ⊥) → (edges : List Edge) → AreForced events edges → IsLeastOrder (begun events + 1) edges order
+order_done initial events rows marks order legal are in_range placing none edges forced =
+    let pairs = rows.reach.pairs in
+    let consistent = legal_consistent initial events legal in
+    let rank = place_of consistent.0 in
+    let rises = λ (a b : ℕ) (on : Reaches pairs a b).
+    chained_rises (IsForced events) rank (forced_rises events consistent.0 consistent.1) a b ((are.stand.forced a b).0 on) in
+    let long = placing.length_marks in
+    let range : IsInRange (length marks) pairs = subst (λ (n : ℕ). IsInRange n pairs) (sym long) in_range in
+    let all = λ (n : ℕ) (small : n < rows.reach.size). all_marked pairs marks rank range rises none n (omega arith) in
+    let least : IsLeastOrder rows.reach.size pairs order = (HasLeastOrder-from_placing rows.reach.size pairs marks order placing all in_range).is in
+    subst (λ (n : ℕ). IsLeastOrder n edges order) are.size
+    (least_kept rows.reach.size pairs edges (same_as_forced events pairs edges are.stand.forced forced) order least)
