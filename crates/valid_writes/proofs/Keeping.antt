@@ -13,7 +13,7 @@ use Rattle.indexed_history.specs.Writers.{IsPlain}
 use Rattle.forced_rows.specs.declared.rows.ForcedRows.{ForcedRows}
 use Rattle.forced_rows.specs.Rows.{AreRowsOf}
 use Rattle.forced_rows.proofs.Keeping.{rows_still}
-use Rattle.forced_rows.specs.Stars.{ForcesNothing}
+use Rattle.further_reads.specs.Begun.{ForcesNothing}
 use Rattle.valid_writes.specs.declared.kept.Kept.{Kept}
 use Rattle.valid_writes.specs.Store.{IsStore, IsStill}
 

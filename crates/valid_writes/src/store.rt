@@ -1,6 +1,9 @@
 // The store, as its callers use it.
-ghost use Rattle.std.specs.Prelude.{◌≡◌, ◌≤◌, ◌<◌, ◌+◌, ◌↔◌, ℕ, [], length, Some, IfOk, IfSome, IfNone};
+ghost use Rattle.std.specs.Prelude.{◌≡◌, ◌≤◌, ◌<◌, ◌+◌, ◌↔◌, ℕ, List, [], length, Some, IfOk, IfSome, IfNone};
+ghost use Rattle.graph_base.specs.declared.Edge.{Edge};
 ghost use Rattle.graph_base.specs.Walk.{Reaches};
+ghost use Rattle.graph_base.specs.Order.{IsLeastOrder};
+ghost use Rattle.saturation.specs.Laws.{AreForced};
 ghost use Rattle.graph_base.specs.Chain.{Chained};
 ghost use Rattle.history_core.specs.Events.{begun};
 ghost use Rattle.history_core.specs.Transactions.{HasPending};
@@ -87,6 +90,13 @@ impl Store {
         ensures closure { (a b : ℕ) → Reaches result.now.pairs a b ↔ Chained (IsForced self.now.events) a b }
     {
         self.kept.rows.reach()
+    }
+
+    /// The least order that keeps the forced pairs, compared number by number. An error is out of memory.
+    pub fn order(&self) -> Result<Vec<u32>, Memory>
+        ensures { (edges : List Edge) → AreForced self.now.events edges → IfOk result (λ order. IsLeastOrder (begun self.now.events + 1) edges order.items) }
+    {
+        self.kept.rows.order(self.kept.alloc, &self.kept.history)
     }
 
     /// The book of a session that is open, or of one that is still to open.
