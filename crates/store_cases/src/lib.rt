@@ -1,4 +1,4 @@
-//! Tests of books: that the calls succeed with ample memory, and offers, values, scans and numbers that were found by hand.
+//! Tests of stores: that the calls of a book succeed with ample memory, and offers, values, scans and numbers that were found by hand.
 //!
 //! No clause says that memory is left, and a definition could say something else than its reader thinks. The crate has nothing but
 //! tests, so that `valid_writes` is proved once.
@@ -6,6 +6,8 @@
 
 #[cfg(test)]
 mod calls;
+#[cfg(test)]
+mod hall;
 #[cfg(test)]
 mod keys;
 #[cfg(test)]
@@ -18,6 +20,8 @@ mod reads;
 mod rows;
 #[cfg(test)]
 mod scans;
+#[cfg(test)]
+mod sessions;
 #[cfg(test)]
 mod start;
 #[cfg(test)]

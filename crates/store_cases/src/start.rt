@@ -6,9 +6,9 @@ ghost use Rattle.store_cases.specs.SessionStates.{IsReady};
 
 use cell_base::{Items, Level, Memory, SqlType, Text, Value};
 use history_core::{Book, BookFault, InitialState};
-use valid_writes::{SeatBook, Store};
 use sql_tree::{Column, Table};
 use std::alloc::Global;
+use valid_writes::{SeatBook, Store};
 
 /// A book with an open session and the table `t`, where no row is there from the start.
 pub fn start(alloc: Global) -> Result<SeatBook, BookFault>

@@ -1,13 +1,11 @@
 -- What keeps a store.
-use Rattle.std.proofs.Common.{true, false, ◌≡◌, ℕ, ◌+◌, List, [], ◌∷◌, ◌++◌, refl, ap, sym, ◌∙◌, subst}
+use Rattle.std.proofs.Common.{true, false, ◌≡◌, List, [], ◌∷◌, ◌++◌, refl, ap, sym, ◌∙◌, subst}
 use Rattle.history_core.specs.declared.event.Event.{Event}
 use Rattle.history_core.specs.declared.event.Event.TheVariants.{Open, Close, Define, Look, Begin, Scan, Read, Own, Write, Commit, Rollback, Show}
-use Rattle.cell_base.specs.declared.cell.Cell.{Cell}
-use Rattle.cell_base.specs.declared.value.Value.{Value}
 use Rattle.history_core.specs.Events.{opened, is_open_event}
 use Rattle.history_core.specs.Records.{IsNoDefinition, is_any_end}
 use Rattle.history_core.specs.Legal.{Follows, IsOffered}
-use Rattle.history_core.specs.Chronicle.{Chronicle, IsLegalChronicle, followed_by}
+use Rattle.history_core.specs.Chronicle.{IsLegalChronicle}
 use Rattle.history_core.proofs.SessionLemmas.{opened-push_other}
 use Rattle.indexed_history.specs.Writers.{IsPlain}
 use Rattle.forced_rows.specs.declared.rows.ForcedRows.{ForcedRows}

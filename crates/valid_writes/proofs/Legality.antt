@@ -1,11 +1,11 @@
 -- What keeps a history legal.
-use Rattle.std.proofs.Common.{◌-◌, get_or, inl, inr, ◌⊎◌, ◌≡◌, ℕ, ◌+◌, ◌<◌, ◌≤◌, List, [], ◌∷◌, ◌++◌, Option, Some, None, Ok, Err, Result, true, false, zero, suc, nat_le, length, map, arith, refl, ap, sym, ◌∙◌, subst, ◌↔◌}
+use Rattle.std.proofs.Common.{◌-◌, get_or, inl, inr, ◌≡◌, ℕ, ◌+◌, ◌<◌, ◌≤◌, List, [], ◌∷◌, ◌++◌, Option, Some, None, Ok, Err, Result, true, false, zero, suc, length, map, arith, refl, ap, sym, ◌∙◌, subst, ◌↔◌}
 use Rattle.std.specs.List.{slice_get, Contains, Any}
 use Rattle.std.specs.List.Sorted.{IsStrictlyIncreasing}
 use Rattle.std.proofs.lemmas.Bool.{cases_lt}
 use Rattle.history_core.proofs.Offers.{writer_bounded}
 use Rattle.indexed_history.proofs.Ascending.{contains_get}
-use Rattle.std.proofs.lemmas.List.{length-map, length_push, map-append}
+use Rattle.std.proofs.lemmas.List.{map-append}
 use Rattle.std.proofs.lemmas.List.Elements.{All-push}
 use Rattle.std.proofs.lemmas.Bool.Decides.{nat_tests}
 use Rattle.cell_base.specs.declared.value.Value.{Value}
@@ -18,13 +18,13 @@ use Rattle.history_core.specs.declared.fault.BookFault.{BookFault}
 use Rattle.history_core.specs.declared.fault.BookFault.TheVariants.{Full}
 use Rattle.history_core.specs.declared.event.Event.{Event}
 use Rattle.history_core.specs.declared.event.Event.TheVariants.{Open, Close, Define, Look, Begin, Scan, Read, Own, Write, Commit, Rollback, Show}
-use Rattle.history_core.specs.Events.{begun, names, defined, defined_name, opened, is_open_event}
+use Rattle.history_core.specs.Events.{begun, names, defined_name, opened, is_open_event}
 use Rattle.history_core.specs.Initial.{load_of}
 use Rattle.graph_base.proofs.Places.{count_by-push}
 use Rattle.history_core.proofs.SessionLemmas.{opened-push_other}
 use Rattle.history_core.proofs.SmallLemmas.{fits_open}
 use Rattle.history_core.specs.Relations.{Writes}
-use Rattle.history_core.specs.Legal.{IsFormed, IsOffered, IsOffer, MayCome, Follows, full_for, full_count, full_load}
+use Rattle.history_core.specs.Legal.{IsFormed, IsOffered, IsOffer, MayCome, Follows, full_for, full_load}
 use Rattle.history_core.specs.Records.{IsNoDefinition, is_any_end}
 use Rattle.history_core.specs.Chronicle.{Chronicle, IsLegalChronicle, followed_by, with_table}
 use Rattle.history_core.proofs.Prefixes.{Contains-from_slice_get, along, formed_back, legal_push}

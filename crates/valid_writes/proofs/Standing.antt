@@ -1,5 +1,5 @@
 -- How the session of a book stands after each event.
-use Rattle.std.proofs.Common.{Option, ◌⊎◌, ◌≡◌, ◌≢◌, ℕ, ◌+◌, ◌<◌, ◌≤◌, List, [], ◌∷◌, ◌++◌, Some, None, true, false, Ok, Err, Result, length, arith, refl, ap, sym, ◌∙◌, subst, inl, inr}
+use Rattle.std.proofs.Common.{Option, ◌⊎◌, ◌≡◌, ℕ, ◌+◌, ◌<◌, List, [], ◌∷◌, ◌++◌, Some, None, true, Ok, Err, Result, length, arith, refl, ap, sym, ◌∙◌, subst, inl, inr}
 use Rattle.std.specs.Prelude.{OnOk, OnErr, IfSome, IfNone}
 use Rattle.history_core.specs.Book.{HasSession, session_of}
 use Rattle.std.specs.List.{Contains}
@@ -12,13 +12,13 @@ use Rattle.cell_base.specs.declared.cell.Cell.{Cell}
 use Rattle.cell_base.specs.declared.value.Value.{Value}
 use Rattle.history_core.specs.declared.event.Event.{Event}
 use Rattle.history_core.specs.declared.event.Event.TheVariants.{Open, Close, Define, Look, Begin, Scan, Read, Own, Write, Show}
-use Rattle.history_core.specs.Events.{begun, opened, session_in, is_end, is_open_event, table_of}
-use Rattle.history_core.specs.Transactions.{IsPending, HasPending}
+use Rattle.history_core.specs.Events.{begun, opened, session_in, is_end, table_of}
+use Rattle.history_core.specs.Transactions.{HasPending}
 use Rattle.history_core.specs.Initial.{IsInitialState}
 use Rattle.history_core.specs.Legal.{IsFormed, IsOpen, Follows, WroteItself}
 use Rattle.history_core.specs.Relations.{WritesValue}
 use Rattle.history_core.proofs.TablesFew.{formed_of, tables_defined}
-use Rattle.history_core.specs.Chronicle.{Chronicle, IsLegalChronicle, followed_by, with_table}
+use Rattle.history_core.specs.Chronicle.{Chronicle, IsLegalChronicle}
 use Rattle.sql_tree.specs.declared.table.Table.{Table}
 use Rattle.sound_table.specs.Sound.{IsSound}
 use Rattle.history_core.proofs.Next.{pending_kept, pending_back, pending_begin}

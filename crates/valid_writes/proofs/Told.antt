@@ -1,5 +1,5 @@
 -- What a desk says to a caller of the book.
-use Rattle.std.proofs.Common.{◌≡◌, ◌≢◌, ℕ, ◌+◌, ◌≤◌, ◌%◌, Some, List, [], ◌∷◌, ◌++◌, Option, None, Ok, Err, Result, false, length, take, drop, ◌-◌, arith, refl, ap, sym, ◌∙◌, subst, inl, inr}
+use Rattle.std.proofs.Common.{◌≡◌, ◌≢◌, ℕ, ◌≤◌, ◌%◌, Some, List, [], ◌∷◌, ◌++◌, Option, None, Ok, Err, Result, length, take, drop, ◌-◌, arith, refl, ap, sym, ◌∙◌, subst}
 use Rattle.std.specs.Prelude.{IfOk, OnOk, OnErr, IfNone}
 use Rattle.std.specs.List.{Contains, All}
 use Rattle.std.proofs.lemmas.List.{append-nil, append_assoc, take-append-drop, take-append-le, drop-append-le, length-drop, take_all, drop_all, length-take-le}
@@ -13,8 +13,7 @@ use Rattle.history_core.specs.declared.event.Event.TheVariants.{Define, Look, Be
 use Rattle.history_core.specs.declared.fault.DefineAnswer.{DefineAnswer}
 use Rattle.history_core.specs.declared.fault.DefineAnswer.TheVariants.{Defined, Taken}
 use Rattle.history_core.specs.Events.{names, session_in}
-use Rattle.history_core.specs.Legal.{WroteItself, IsOffer, IsOffered}
-use Rattle.history_core.specs.Relations.{Writes}
+use Rattle.history_core.specs.Legal.{WroteItself, IsOffer}
 use Rattle.std.specs.List.{slice_get}
 use Rattle.valid_writes.proofs.Legality.{picked_writes}
 use Rattle.history_core.specs.Chronicle.{Chronicle}

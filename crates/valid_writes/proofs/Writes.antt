@@ -1,6 +1,5 @@
 -- What the pending transaction of a session wrote, as its session's events say it.
-use Rattle.std.proofs.Common.{◌≡◌, ◌≢◌, ◌==◌, ℕ, ◌+◌, ◌<◌, ◌≤◌, Bool, true, false, cond, List, [], ◌∷◌, ◌++◌, length, get_or, arith, rules, refl, ap, sym, ◌∙◌, subst, inl, inr, ◌⊎◌}
-use Rattle.std.specs.Prelude.{filter}
+use Rattle.std.proofs.Common.{◌≡◌, ◌≢◌, ◌==◌, ℕ, ◌+◌, Bool, true, false, cond, List, [], ◌∷◌, ◌++◌, length, get_or, arith, rules, refl, ap, sym, ◌∙◌, subst, inl, inr}
 use Rattle.std.specs.List.{Contains, All, Any}
 use Rattle.std.proofs.lemmas.List.{append_assoc, append-nil}
 use Rattle.std.proofs.lemmas.List.Elements.{filter-append, Contains-append_left, Contains-push_cases, Contains-push, All-nil, All-push, Contains-get_or}
@@ -18,10 +17,9 @@ use Rattle.history_core.specs.Legal.{IsFormed, MayCome, Follows, WroteItself}
 use Rattle.history_core.specs.Chronicle.{own_events}
 use Rattle.history_core.specs.Book.{WritesLast}
 use Rattle.history_core.proofs.Grown.{of_back}
-use Rattle.history_core.proofs.Next.{of_new, of_none, pending_back, pending_bounded, last_back, last_new}
+use Rattle.history_core.proofs.Next.{of_new, of_none, pending_back, last_back, last_new}
 use Rattle.history_core.proofs.Places.{start_session}
-use Rattle.history_core.proofs.Prefixes.{along, formed_back, of_kept}
-use Rattle.history_core.proofs.KeptLemmas.{unique}
+use Rattle.history_core.proofs.Prefixes.{along, formed_back}
 use Rattle.indexed_history.proofs.RecordLemmas.{Any-from_contains}
 use Rattle.indexed_history.proofs.Cells.{bool_cases}
 use Rattle.indexed_history.proofs.Indexes.{written_kept}

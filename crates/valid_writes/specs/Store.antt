@@ -1,5 +1,5 @@
 -- What a store keeps, and which events leave its sessions and transactions.
-use Rattle.std.specs.Prelude.{◌≡◌, ℕ, List}
+use Rattle.std.specs.Prelude.{◌≡◌, ℕ}
 use Rattle.history_core.specs.declared.event.Event.{Event}
 use Rattle.history_core.specs.declared.event.Event.TheVariants.{Look, Scan, Own, Show}
 use Rattle.history_core.specs.Events.{opened}

@@ -1,9 +1,8 @@
 use Rattle.std.proofs.Common.{ap, sym, subst, refl, ◌∙◌, ◌≡◌, Some}
 use Rattle.history_core.specs.Chronicle.{Chronicle}
 use Rattle.history_core.specs.Legal.{full_for}
-use Rattle.history_core.specs.declared.event.Event.TheVariants.{Open}
-use Rattle.valid_writes.proofs.Legality.{fits_from_ok, legal_with, legal_defined, end_offered, end_no_definition, fits_end}
-use Rattle.valid_writes.proofs.Keeping.{store_still, calm, end_forces_none, end_opens_none}
+use Rattle.valid_writes.proofs.Legality.{fits_from_ok, legal_with}
+use Rattle.valid_writes.proofs.Keeping.{store_still, calm}
 use Rattle.valid_writes.proofs.append.append.Goals as goal
 
 pub returns-in-Ok-clause-kept : goal.returns-in-Ok-clause-kept

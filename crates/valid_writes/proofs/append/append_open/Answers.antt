@@ -1,6 +1,6 @@
 use Rattle.history_core.specs.declared.fault.BookFault.{BookFault}
 use Rattle.history_core.specs.declared.fault.BookFault.TheVariants.{Full}
-use Rattle.std.proofs.Common.{Err, ◌≡◌, ◌+◌, ◌∷◌, ◌++◌, [], Some, List, ap, sym, ◌∙◌, subst, refl, arith}
+use Rattle.std.proofs.Common.{Err, ◌≡◌, ◌+◌, ◌∷◌, ◌++◌, [], Some, List, ap, sym, ◌∙◌, subst, arith}
 use Rattle.graph_base.proofs.Places.{count_by-push}
 use Rattle.history_core.specs.Chronicle.{Chronicle}
 use Rattle.history_core.specs.Events.{opened, is_open_event}

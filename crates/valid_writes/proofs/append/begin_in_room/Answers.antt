@@ -1,11 +1,10 @@
-use Rattle.std.proofs.Common.{◌≡◌, Some, List, ap, sym, ◌∙◌, subst, refl}
+use Rattle.std.proofs.Common.{◌≡◌, Some, ap, sym, ◌∙◌, subst, refl}
 use Rattle.history_core.specs.Chronicle.{Chronicle}
 use Rattle.history_core.specs.Events.{opened}
 use Rattle.history_core.specs.Legal.{full_for}
-use Rattle.history_core.specs.declared.event.Event.{Event}
 use Rattle.history_core.specs.declared.event.Event.TheVariants.{Begin}
 use Rattle.history_core.proofs.SessionLemmas.{opened-push_other}
-use Rattle.forced_rows.specs.Rows.{AreRowsOf, HaveRoom}
+use Rattle.forced_rows.specs.Rows.{HaveRoom}
 use Rattle.valid_writes.proofs.Legality.{fits_from_ok, legal_with}
 use Rattle.valid_writes.proofs.append.begin_in_room.Goals as goal
 

@@ -1,4 +1,4 @@
-use Rattle.std.proofs.Common.{◌≡◌, ◌≤◌, ◌⊎◌, ℕ, Some, length, arith, ap, ◌∙◌, subst}
+use Rattle.std.proofs.Common.{◌≡◌, ◌⊎◌, ℕ, Some, length, arith, ap, ◌∙◌, subst}
 use Rattle.history_core.specs.Transactions.{HasPending}
 use Rattle.history_core.specs.Chronicle.{Chronicle}
 use Rattle.valid_writes.specs.declared.desk.Stage.TheVariants.{InSession, Pending}

@@ -1,4 +1,4 @@
-use Rattle.std.proofs.Common.{◌≡◌, ℕ, Option, Some, sym, ◌∙◌, subst, inr}
+use Rattle.std.proofs.Common.{ℕ, sym, ◌∙◌, subst, inr}
 use Rattle.history_core.specs.Transactions.{HasPending}
 use Rattle.indexed_history.proofs.Indexes.{none_found}
 use Rattle.valid_writes.proofs.Told.{same_some}

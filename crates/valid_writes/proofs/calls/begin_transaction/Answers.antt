@@ -1,6 +1,5 @@
-use Rattle.std.proofs.Common.{◌≡◌, refl, sym, subst, ap}
-use Rattle.history_core.specs.declared.event.Event.TheVariants.{Begin}
-use Rattle.valid_writes.specs.declared.desk.Stage.TheVariants.{NoSession, InSession, Pending}
+use Rattle.std.proofs.Common.{refl}
+use Rattle.valid_writes.specs.declared.desk.Stage.TheVariants.{InSession, Pending}
 use Rattle.valid_writes.proofs.Standing.{desk_begins, at_stage}
 use Rattle.valid_writes.proofs.calls.begin_transaction.Goals as goal
 

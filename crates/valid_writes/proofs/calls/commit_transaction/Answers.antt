@@ -1,6 +1,6 @@
-use Rattle.std.proofs.Common.{◌≡◌, refl, sym, subst, ap}
+use Rattle.std.proofs.Common.{refl}
 use Rattle.history_core.specs.declared.event.Event.TheVariants.{Commit}
-use Rattle.valid_writes.specs.declared.desk.Stage.TheVariants.{NoSession, InSession, Pending}
+use Rattle.valid_writes.specs.declared.desk.Stage.TheVariants.{InSession, Pending}
 use Rattle.valid_writes.proofs.Standing.{desk_ends, at_stage}
 use Rattle.valid_writes.proofs.calls.commit_transaction.Goals as goal
 

@@ -1,6 +1,4 @@
-use Rattle.std.proofs.Common.{◌≡◌, refl, sym, subst, ap}
-use Rattle.history_core.specs.declared.event.Event.TheVariants.{Write}
-use Rattle.valid_writes.specs.declared.desk.Stage.TheVariants.{NoSession, InSession, Pending}
+use Rattle.std.proofs.Common.{refl}
 use Rattle.valid_writes.proofs.Standing.{desk_either}
 use Rattle.valid_writes.proofs.Told.{on_ok, on_err}
 use Rattle.valid_writes.proofs.calls.write_cell.Goals as goal

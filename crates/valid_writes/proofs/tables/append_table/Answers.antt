@@ -1,6 +1,4 @@
-use Rattle.std.proofs.Common.{◌≡◌, refl, sym, subst, ap}
-use Rattle.history_core.specs.declared.event.Event.TheVariants.{Define}
-use Rattle.valid_writes.specs.declared.desk.Stage.TheVariants.{NoSession, InSession, Pending}
+use Rattle.std.proofs.Common.{refl}
 use Rattle.valid_writes.proofs.Standing.{desk_defines}
 use Rattle.valid_writes.proofs.tables.append_table.Goals as goal
 

@@ -4,7 +4,6 @@ use Rattle.std.specs.List.{Any}
 use Rattle.std.proofs.lemmas.Bool.{false≢true}
 use Rattle.sql_tree.specs.declared.table.Table.{Table}
 use Rattle.history_core.specs.Events.{names}
-use Rattle.valid_writes.specs.declared.desk.Desk.{Desk}
 use Rattle.std.specs.List.{Contains}
 use Rattle.valid_writes.proofs.Legality.{taken_name, name_taken}
 use Rattle.valid_writes.proofs.tables.define_table.Goals as goal
