@@ -1,0 +1,5 @@
+pub mod Keeping
+pub mod Legality
+pub mod Standing
+pub mod Told
+pub mod Writes

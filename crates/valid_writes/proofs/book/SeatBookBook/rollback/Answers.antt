@@ -1,0 +1,12 @@
+use Rattle.std.proofs.Common.{sym, subst}
+use Rattle.history_core.specs.Book.{Past, IsInTransaction}
+use Rattle.history_core.specs.declared.event.Event.TheVariants.{Rollback}
+use Rattle.valid_writes.specs.declared.desk.Stage.TheVariants.{InSession}
+use Rattle.valid_writes.proofs.Told.{stage_pending, pending_open, adds_in_session}
+use Rattle.valid_writes.proofs.book.SeatBookBook.rollback.Goals as goal
+
+pub returns-clause-adds : goal.returns-clause-adds
+returns-clause-adds c =
+    let is = stage_pending c.self.inside.desk.stage c.self.inside.desk.session c.self.inside.desk.store.history.events
+    (subst (λ (p : Past). IsInTransaction p.state) (sym c.self.view_is) c.requires) in
+    rw (← c.self.view_is) (adds_in_session c.self.inside.desk c.roll_back_transaction.new.desk (λ n. Rollback n) _ InSession c.self.invariant (pending_open c.self.inside.desk.stage is) c.roll_back_transaction.ensures.adds)

@@ -1,0 +1,12 @@
+use Rattle.std.proofs.Common.{refl}
+use Rattle.valid_writes.specs.declared.desk.Stage.TheVariants.{NoSession, InSession}
+use Rattle.valid_writes.proofs.Standing.{desk_closes, at_stage}
+use Rattle.valid_writes.proofs.calls.close_session.Goals as goal
+
+pub returns-clause-kept : goal.returns-clause-kept
+returns-clause-kept c =
+    desk_closes c.args.desk.now (record { store = c.append_end.new.store; given = c.args.desk.now.given; from = c.args.desk.now.from; session = c.args.desk.now.session; stage = NoSession }) c.requires.kept c.append_end.ensures.kept
+    (record { history = c.append_end.ensures.adds; given = refl; from = refl; session = refl; stands = refl })
+
+pub append_end-requires-clause-follows : goal.append_end-requires-clause-follows
+append_end-requires-clause-follows c = (at_stage c.args.desk.now.store.history c.args.desk.now.session c.args.desk.now.stage InSession c.requires.idle c.requires.kept.served).stands
