@@ -8,7 +8,7 @@ use cell_base::{Items, Level, Memory};
 use choice_stream::ListWords;
 use history_core::InitialState;
 use session_core::{End, serve_link};
-use solo_book::SoloBook;
+use valid_writes::{SeatBook, Store};
 use std::alloc::Global;
 use std::test::Fail;
 
@@ -35,10 +35,10 @@ const MARKS: &[(usize, usize)] = &[
 ];
 
 // The book of a new history without a row.
-fn new_book(alloc: Global) -> Result<SoloBook, Memory>
+fn new_book(alloc: Global) -> Result<SeatBook, Memory>
     ensures { IfOk result (λ book. book.state ≡ no_session) }
 {
-    SoloBook::new(alloc, Level::Rc, InitialState::empty(alloc))
+    Ok(Store::new(alloc, Level::Rc, InitialState::empty(alloc))?.seat(None))
 }
 
 #[test]
