@@ -8,6 +8,7 @@ mod Wanting
 mod Advancing
 mod Asking
 mod Turning
+mod Driving
 mod Sounds
 mod Columns
 mod Carried

@@ -1,0 +1,118 @@
+-- The statements of a query message one after another.
+use Rattle.std.proofs.Common.{◌≡◌, ℕ, Bool, true, false, List, [], ◌∷◌, length, refl, sym, ◌∙◌, ap, subst, ◌⊎◌, inl, inr}
+use Rattle.pg_framing.specs.declared.replies.TransactionState.{TransactionState}
+use Rattle.sql_tree.specs.declared.statement.Statement.{Statement}
+use Rattle.outcome_replies.specs.declared.description.RowDescription.TheVariants as described
+use Rattle.block_machine.specs.declared.block.Block.{Block}
+use Rattle.block_machine.specs.declared.block.Owed.TheVariants as owes
+use Rattle.block_machine.specs.declared.ending.ReadyForQuery.{ReadyForQuery}
+use Rattle.block_machine.specs.declared.ending.ReadyForQuery.TheVariants as told
+use Rattle.block_machine.specs.declared.stage.ErrorState.TheVariants as errors
+use Rattle.block_machine.specs.declared.stage.MessageStage.{MessageStage}
+use Rattle.block_machine.specs.declared.stage.MessageStage.TheVariants as stages
+use Rattle.block_machine.specs.Knowledge.{Knowledge}
+use Rattle.block_machine.specs.Replies.{empty_reply}
+use Rattle.block_machine.specs.Script.{Said, Entry}
+use Rattle.block_machine.specs.Statements.{Around, succeeds, told_of}
+use Rattle.block_machine.specs.Messages.{Outside, before, finishes, opens, statements}
+use Rattle.block_machine.specs.Stages.{IsBetween, IsBusy, IsDriven, IsFrom, LeadsTo, TurnsTo, goes_on, resumes, block_in, is_skipping, least, owed_at, with_short, work_at}
+
+pub least_busy : (stage : MessageStage) → IsBusy stage → least stage ≡ 1
+least_busy (stages.Over state) h = absurd h
+least_busy _ h = refl
+
+pub from_busy : (stage : MessageStage) (sent : ℕ) (es : List Entry) → IsBusy stage → IsFrom 1 sent es → IsFrom (least stage) sent es
+from_busy stage sent es busy from = subst (λ (k : ℕ). IsFrom k sent es) (sym (least_busy stage busy)) from
+
+pub busy_from : (stage : MessageStage) (sent : ℕ) (es : List Entry) → IsBusy stage → IsFrom (least stage) sent es → IsFrom 1 sent es
+busy_from stage sent es busy from = subst (λ (k : ℕ). IsFrom k sent es) (least_busy stage busy) from
+
+-- what is driven and isn't over is under way
+pub driven_busy : (stage : MessageStage) → IsDriven stage → IsBusy stage ⊎ ((state : TransactionState) × (stage ≡ stages.Over state))
+driven_busy (stages.Over state) h = inr (state, refl)
+driven_busy (stages.Resting block) h = absurd h
+driven_busy (stages.Skipping state) h = absurd h
+driven_busy (stages.Refreshing block) h = absurd h
+driven_busy (stages.Finishing told.Omitted) h = absurd h
+driven_busy (stages.Finishing told.Told) h = inl tt
+driven_busy _ h = inl tt
+
+pub busy_driven : (stage : MessageStage) → IsBusy stage → IsDriven stage
+busy_driven (stages.Over state) h = absurd h
+busy_driven _ h = h
+
+-- ---- the next statement
+
+pub turns_more : (s : Statement) (all more : List Statement) (block : Block) (known after : Knowledge) (next : MessageStage) (w : Bool) (built : List ℕ) → all ≡ s ∷ more → IsBusy next →
+    LeadsTo (told_of described.Told s block known) next w built after → TurnsTo (statements all block known) next w built after more
+turns_more s all more block known after next w built is busy goes outside said es from =
+    ap (λ (xs : List Statement). statements xs block known outside said (with_short w said.bytes es)) is
+    ∙ goes (before more outside) outside said es (busy_from next (length said.bytes) es busy from)
+
+-- the end of a message
+pub turns_end : (all more : List Statement) (block : Block) (known after : Knowledge) (next : MessageStage) (built : List ℕ) → all ≡ [] →
+    ((around : Around) (outside : Outside) (said : Said) (es : List Entry) → finishes told.Told block known outside said es ≡ resumes next built after around outside said es) →
+    TurnsTo (statements all block known) next false built after more
+turns_end all more block known after next built is goes outside said es from =
+    ap (λ (xs : List Statement). statements xs block known outside said es) is ∙ goes (before more outside) outside said es
+
+-- ---- the beginning of a message
+
+pub opens_more : (s : Statement) (all more : List Statement) (block : Block) (known after : Knowledge) (next : MessageStage) (w : Bool) (built : List ℕ) → all ≡ s ∷ more → IsBusy next →
+    LeadsTo (told_of described.Told s block known) next w built after → TurnsTo (opens all block known) next w built after more
+opens_more s all more block known after next w built is busy goes outside said es from =
+    ap (λ (xs : List Statement). opens xs block known outside said (with_short w said.bytes es)) is
+    ∙ goes (before more outside) outside said es (busy_from next (length said.bytes) es busy from)
+
+pub opens_none : (all more : List Statement) (block : Block) (known after : Knowledge) (next : MessageStage) (built : List ℕ) → all ≡ [] → more ≡ [] →
+    ((around : Around) (outside : Outside) (said : Said) (es : List Entry) → succeeds empty_reply block known around said es ≡ resumes next built after around outside said es) →
+    TurnsTo (opens all block known) next false built after more
+opens_none all more block known after next built is none goes outside said es from =
+    ap (λ (xs : List Statement). opens xs block known outside said es) is ∙ goes (before [] outside) outside said es
+    ∙ ap (λ (xs : List Statement). goes_on next built after xs outside said es) (sym none)
+
+-- ---- after a statement
+
+-- one that failed
+pub skips : (stage : MessageStage) (built : List ℕ) (known : Knowledge) (more : List Statement) (outside : Outside) (said : Said) (es : List Entry) → is_skipping stage ≡ true →
+    goes_on stage built known more outside said es ≡ finishes told.Told (block_in stage) known outside said es
+skips (stages.Skipping errors.Idle) built known more outside said es h = refl
+skips (stages.Skipping errors.Failed) built known more outside said es h = refl
+skips (stages.Resting block) built known more outside said es h = absurd (cc h)
+skips (stages.Over state) built known more outside said es h = absurd (cc h)
+skips (stages.Defining table block) built known more outside said es h = absurd (cc h)
+skips (stages.Looking statement description block) built known more outside said es h = absurd (cc h)
+skips (stages.Refreshing block) built known more outside said es h = absurd (cc h)
+skips (stages.Beginning plan description) built known more outside said es h = absurd (cc h)
+skips (stages.Running run p) built known more outside said es h = absurd (cc h)
+skips (stages.Starting start) built known more outside said es h = absurd (cc h)
+skips (stages.Showing description block) built known more outside said es h = absurd (cc h)
+skips (stages.Committing reply) built known more outside said es h = absurd (cc h)
+skips (stages.RollingBack reply) built known more outside said es h = absurd (cc h)
+skips (stages.Telling reply block) built known more outside said es h = absurd (cc h)
+skips (stages.Undoing code p) built known more outside said es h = absurd (cc h)
+skips (stages.Failing code state) built known more outside said es h = absurd (cc h)
+skips (stages.Finishing ready) built known more outside said es h = absurd (cc h)
+skips (stages.Readying state) built known more outside said es h = absurd (cc h)
+
+-- one that succeeded
+pub rests : (stage : MessageStage) (built : List ℕ) (known : Knowledge) (more : List Statement) (outside : Outside) (said : Said) (es : List Entry) → IsBetween stage → is_skipping stage ≡ false →
+    goes_on stage built known more outside said es ≡ statements more (block_in stage) known outside said es
+rests (stages.Resting block) built known more outside said es b h = refl
+rests (stages.Skipping state) built known more outside said es b h = absurd (cc h)
+rests _ built known more outside said es b h = absurd b
+
+pub skipping_work : (stage : MessageStage) → IsBetween stage → is_skipping stage ≡ true → work_at stage ≡ 1
+skipping_work (stages.Skipping state) b h = refl
+skipping_work (stages.Resting block) b h = absurd (cc h)
+skipping_work _ b h = absurd b
+
+pub resting_work : (stage : MessageStage) → IsBetween stage → is_skipping stage ≡ false → work_at stage ≡ 2
+resting_work (stages.Skipping state) b h = absurd (cc h)
+resting_work (stages.Resting block) b h = refl
+resting_work _ b h = absurd b
+
+pub skipping_owed : (stage : MessageStage) → IsBetween stage → is_skipping stage ≡ true → owed_at stage ≡ owes.Close
+skipping_owed (stages.Skipping state) b h = refl
+skipping_owed (stages.Resting block) b h = absurd (cc h)
+skipping_owed _ b h = absurd b
