@@ -8,7 +8,7 @@ mod Wanting
 mod Advancing
 mod Asking
 mod Turning
-mod Driving
+mod Succeeding
 mod Sounds
 mod Columns
 mod Carried
