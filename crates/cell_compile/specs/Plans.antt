@@ -55,7 +55,7 @@ demanded (Keys table) = Scan table
 demanded (questions.Presence table key) = Touch (Presence table key)
 demanded (questions.Field table key column) = Touch (Field table key column)
 
--- What follows a demand. The two go together in each plan that is made; a plan of two that don't is spent.
+-- What follows a demand. Of two that don't go together nothing comes.
 abbrev pub next_course : Demand → Next → Course
 next_course (Scan table) (Reads reading purpose) = reading_course (Keys table) reading (ending purpose)
 next_course (Touch (Presence table key)) (Reads reading purpose) = reading_course (questions.Presence table key) reading (ending purpose)

@@ -1,11 +1,12 @@
 // What follows an answer.
-ghost use Rattle.std.specs.Prelude.{◌≡◌, ◌<◌, IfOk};
+ghost use Rattle.std.specs.Prelude.{◌≡◌, ◌<◌, true, IfOk};
 ghost use Rattle.statement_course.specs.declared.demand.Demand.TheVariants as demands;
 ghost use Rattle.statement_course.specs.declared.demand.Outcome as outcomes;
 ghost use Rattle.statement_course.specs.declared.demand.PlanAnswer.TheVariants as answers;
 ghost use Rattle.statement_course.specs.Course.{FitsDemand, behind};
 ghost use Rattle.cell_compile.specs.declared.next.Next.TheVariants as nexts;
 ghost use Rattle.cell_compile.specs.Plans.{left_of, next_answers, next_course, rest_of};
+ghost use Rattle.cell_compile.specs.Together.{go_together};
 
 use crate::Plan;
 use crate::ending::{after_step, writes_left};
@@ -23,7 +24,8 @@ pub fn with_keys(
     next: Next,
     keys: Items<Key>,
 ) -> Result<Plan, Memory>
-    requires { FitsDemand (next_course demand next) (answers.Keys keys) }
+    requires together { go_together demand next ≡ true }
+    requires fits { FitsDemand (next_course demand next) (answers.Keys keys) }
     ensures course { IfOk result (λ plan. rest_of plan ≡ behind (next_course demand next) (answers.Keys keys)) }
     ensures less { IfOk result (λ plan. left_of plan < next_answers demand next) }
 {
@@ -31,20 +33,21 @@ pub fn with_keys(
         (Demand::Scan(_), Next::Reads(reading, purpose)) => {
             after_step(alloc, reading.with_keys(keys)?, purpose)
         }
-        _ => Err(Memory),
+        _ => unreachable!(),
     }
 }
 
 /// Goes on with the value of a cell.
 pub fn with_value(alloc: Global, demand: Demand, next: Next, value: Value) -> Result<Plan, Memory>
-    requires { FitsDemand (next_course demand next) (answers.Value value) }
+    requires together { go_together demand next ≡ true }
+    requires fits { FitsDemand (next_course demand next) (answers.Value value) }
     ensures course { IfOk result (λ plan. rest_of plan ≡ behind (next_course demand next) (answers.Value value)) }
     ensures less { IfOk result (λ plan. left_of plan < next_answers demand next) }
 {
     match next {
         Next::Reads(reading, purpose) => read_value(alloc, demand, reading, purpose, value),
         Next::Inserts(insertion) => read_presence(alloc, demand, insertion, value),
-        _ => Err(Memory),
+        _ => unreachable!(),
     }
 }
 
@@ -55,7 +58,8 @@ fn read_value(
     purpose: Purpose,
     value: Value,
 ) -> Result<Plan, Memory>
-    requires { FitsDemand (next_course demand (nexts.Reads reading purpose)) (answers.Value value) }
+    requires together { go_together demand (nexts.Reads reading purpose) ≡ true }
+    requires fits { FitsDemand (next_course demand (nexts.Reads reading purpose)) (answers.Value value) }
     ensures course { IfOk result (λ plan. rest_of plan ≡ behind (next_course demand (nexts.Reads reading purpose)) (answers.Value value)) }
     ensures less { IfOk result (λ plan. left_of plan < next_answers demand (nexts.Reads reading purpose)) }
 {
@@ -66,7 +70,7 @@ fn read_value(
         Demand::Touch(Cell::Field(_, key, column)) => {
             after_step(alloc, reading.with_field(key, column, value)?, purpose)
         }
-        _ => Err(Memory),
+        _ => unreachable!(),
     }
 }
 
@@ -76,19 +80,21 @@ fn read_presence(
     insertion: Insertion,
     value: Value,
 ) -> Result<Plan, Memory>
-    requires { FitsDemand (next_course demand (nexts.Inserts insertion)) (answers.Value value) }
+    requires together { go_together demand (nexts.Inserts insertion) ≡ true }
+    requires fits { FitsDemand (next_course demand (nexts.Inserts insertion)) (answers.Value value) }
     ensures course { IfOk result (λ plan. rest_of plan ≡ behind (next_course demand (nexts.Inserts insertion)) (answers.Value value)) }
     ensures less { IfOk result (λ plan. left_of plan < next_answers demand (nexts.Inserts insertion)) }
 {
     match demand {
         Demand::Touch(_cell) => Ok(after_presence(alloc, insertion, &value)),
-        _ => Err(Memory),
+        _ => unreachable!(),
     }
 }
 
 /// Goes on when a cell is written.
 pub fn with_written(alloc: Global, demand: Demand, next: Next) -> Result<Plan, Memory>
-    requires { FitsDemand (next_course demand next) answers.Written }
+    requires together { go_together demand next ≡ true }
+    requires fits { FitsDemand (next_course demand next) answers.Written }
     ensures course { IfOk result (λ plan. rest_of plan ≡ behind (next_course demand next) answers.Written) }
     ensures less { IfOk result (λ plan. left_of plan < next_answers demand next) }
 {
@@ -96,7 +102,7 @@ pub fn with_written(alloc: Global, demand: Demand, next: Next) -> Result<Plan, M
         (Demand::Write(_, _), Next::Writes(writes, outcome)) => {
             Ok(writes_left(alloc, writes, outcome))
         }
-        _ => Err(Memory),
+        _ => unreachable!(),
     }
 }
 

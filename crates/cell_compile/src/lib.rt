@@ -8,5 +8,6 @@ mod inserting;
 mod next;
 mod parts;
 mod plan;
+mod planning;
 
 pub use plan::Plan;
