@@ -1,11 +1,10 @@
 -- The statements of a query message one after another.
-use Rattle.std.proofs.Common.{◌≡◌, ℕ, Bool, true, false, List, [], ◌∷◌, length, refl, sym, ◌∙◌, ap, subst, ◌⊎◌, inl, inr}
-use Rattle.pg_framing.specs.declared.replies.TransactionState.{TransactionState}
+use Rattle.std.proofs.Common.{◌≡◌, ℕ, Bool, true, false, List, [], ◌∷◌, length, refl, sym, ◌∙◌, ap, subst}
 use Rattle.sql_tree.specs.declared.statement.Statement.{Statement}
 use Rattle.outcome_replies.specs.declared.description.RowDescription.TheVariants as described
 use Rattle.block_machine.specs.declared.block.Block.{Block}
 use Rattle.block_machine.specs.declared.block.Owed.TheVariants as owes
-use Rattle.block_machine.specs.declared.ending.ReadyForQuery.{ReadyForQuery}
+use Rattle.block_machine.specs.declared.call.Answer.{Answer}
 use Rattle.block_machine.specs.declared.ending.ReadyForQuery.TheVariants as told
 use Rattle.block_machine.specs.declared.stage.ErrorState.TheVariants as errors
 use Rattle.block_machine.specs.declared.stage.MessageStage.{MessageStage}
@@ -15,7 +14,7 @@ use Rattle.block_machine.specs.Replies.{empty_reply}
 use Rattle.block_machine.specs.Script.{Said, Entry}
 use Rattle.block_machine.specs.Statements.{Around, succeeds, told_of}
 use Rattle.block_machine.specs.Messages.{Outside, before, finishes, opens, statements}
-use Rattle.block_machine.specs.Stages.{IsBetween, IsBusy, IsDriven, IsFrom, LeadsTo, TurnsTo, goes_on, resumes, block_in, is_skipping, least, owed_at, with_short, work_at}
+use Rattle.block_machine.specs.Stages.{IsBetween, FitsWant, IsBusy, IsDriven, IsFrom, LeadsTo, TurnsTo, goes_on, resumes, block_in, is_skipping, least, owed_at, wants, with_short, work_at}
 
 pub least_busy : (stage : MessageStage) → IsBusy stage → least stage ≡ 1
 least_busy (stages.Over state) h = absurd h
@@ -27,19 +26,15 @@ from_busy stage sent es busy from = subst (λ (k : ℕ). IsFrom k sent es) (sym 
 pub busy_from : (stage : MessageStage) (sent : ℕ) (es : List Entry) → IsBusy stage → IsFrom (least stage) sent es → IsFrom 1 sent es
 busy_from stage sent es busy from = subst (λ (k : ℕ). IsFrom k sent es) (least_busy stage busy) from
 
--- what is driven and isn't over is under way
-pub driven_busy : (stage : MessageStage) → IsDriven stage → IsBusy stage ⊎ ((state : TransactionState) × (stage ≡ stages.Over state))
-driven_busy (stages.Over state) h = inr (state, refl)
-driven_busy (stages.Resting block) h = absurd h
-driven_busy (stages.Skipping state) h = absurd h
-driven_busy (stages.Refreshing block) h = absurd h
-driven_busy (stages.Finishing told.Omitted) h = absurd h
-driven_busy (stages.Finishing told.Told) h = inl tt
-driven_busy _ h = inl tt
-
+-- what is under way is driven
 pub busy_driven : (stage : MessageStage) → IsBusy stage → IsDriven stage
 busy_driven (stages.Over state) h = absurd h
 busy_driven _ h = h
+
+-- and so is what asks a call
+pub asked_busy : (stage : MessageStage) (known : Knowledge) (answer : Answer) → IsDriven stage → FitsWant (wants stage known) answer → IsBusy stage
+asked_busy (stages.Over state) known answer driven fits = absurd fits
+asked_busy _ known answer driven fits = driven
 
 -- ---- the next statement
 

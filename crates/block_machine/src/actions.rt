@@ -300,7 +300,10 @@ fn act(
 {
     match statement {
         Statement::Select(select) => match select.from.as_slice() {
-            [] => Some(or_short(answer_alone(alloc, statement, description, block, built), block)),
+            [] => Some(or_short(
+                answer_alone(alloc, statement, description, block, built),
+                block,
+            )),
             [_, ..] => None,
         },
         Statement::Insert(_) | Statement::Update(_) | Statement::Delete(_) => None,
@@ -326,11 +329,7 @@ fn keep(
 ) -> Result<MessageStage, Memory>
     ensures { IfOk result (λ stage. stage ≡ MessageStage.Looking statement description block) }
 {
-    Ok(MessageStage::Looking(
-        Kept::new(alloc, statement)?,
-        description,
-        block,
-    ))
+    Ok(MessageStage::Looking(Kept::new(alloc, statement)?, description, block))
 }
 
 // The step of a statement outside a failed block.
@@ -383,6 +382,13 @@ pub fn take(
 {
     match block {
         Block::Failed => at_rest(refuse(&statement)),
-        Block::Implicit(_) | Block::Regular => perform(alloc, statement, description, block, known, built),
+        Block::Implicit(_) | Block::Regular => perform(
+            alloc,
+            statement,
+            description,
+            block,
+            known,
+            built,
+        ),
     }
 }

@@ -88,9 +88,12 @@ pub fn want_of(stage: &MessageStage, known: u32, level: Level) -> MessageWant
     ensures over { result ≡ MessageWant.Nothing → IsBusy stage.now → ⊥ }
 {
     match stage {
-        MessageStage::Resting(_) | MessageStage::Skipping(_) | MessageStage::Over(_) => MessageWant::Nothing,
+        MessageStage::Resting(_) | MessageStage::Skipping(_) | MessageStage::Over(_) =>
+            MessageWant::Nothing,
         MessageStage::Defining(_, _) => MessageWant::Define,
-        MessageStage::Looking(_, _, _) | MessageStage::Refreshing(_) => MessageWant::Book(Call::Look(known)),
+        MessageStage::Looking(_, _, _) | MessageStage::Refreshing(_) => MessageWant::Book(
+            Call::Look(known),
+        ),
         MessageStage::Beginning(_, _) | MessageStage::Starting(_) => MessageWant::Book(Call::Begin(
             level,
         )),

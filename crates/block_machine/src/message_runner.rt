@@ -110,13 +110,7 @@ impl MessageRunner {
         ensures busy { IsBusy (stage_of self.new) }
         ensures some { HasReply (stage_of self.new) self.new.runner.built.items }
     {
-        begin(
-            self.alloc,
-            &mut self.runner,
-            &mut self.rest,
-            message,
-            state,
-        )
+        begin(self.alloc, &mut self.runner, &mut self.rest, message, state)
     }
 
     /// Takes the answer to the call that is wanted. Answers whether the session was out of memory.
@@ -176,13 +170,7 @@ impl MessageRunner {
         ensures busy { IsBusy (stage_of self.new) }
         ensures some { HasReply (stage_of self.new) self.new.runner.built.items }
     {
-        refuse(
-            self.alloc,
-            &mut self.runner,
-            &mut self.rest,
-            code,
-            state,
-        )
+        refuse(self.alloc, &mut self.runner, &mut self.rest, code, state)
     }
 
     /// The state in which the last message left the session; none while a message is under way.

@@ -14,8 +14,8 @@ ghost use Rattle.block_machine.specs.Statements.{Around, fails, owed_in, refresh
 ghost use Rattle.block_machine.specs.Stages.{FitsWant, IsFrom, IsAtRest, IsBetween, IsHolding, IsKnownAfter, IsReady, IsSameButLevel, IsBusy, IsRunning, IsSoundStage, IsSoundStatement, KnowsTables, HasReply, breaks, entry_for, is_skipping, left_at, owed_after, owed_at, running_at, with_short, work_at};
 ghost use Rattle.block_machine.specs.Stages as stages_spec;
 
-use crate::advance::want_of;
 use crate::actions::take;
+use crate::advance::want_of;
 use crate::block::{Block, Owed};
 use crate::blocks::{block_in, finish, owed_between};
 use crate::call::Answer;
@@ -63,7 +63,9 @@ fn owed_of(stage: &MessageStage) -> Owed
     match stage {
         MessageStage::Over(state) | MessageStage::Readying(state) => owed_between(*state),
         MessageStage::Resting(block) | MessageStage::Refreshing(block) => owed_in_block(*block),
-        MessageStage::Defining(_, block) | MessageStage::Looking(_, _, block) => owed_in_block(*block),
+        MessageStage::Defining(_, block) | MessageStage::Looking(_, _, block) => owed_in_block(
+            *block,
+        ),
         MessageStage::Showing(_, block) | MessageStage::Telling(_, block) => owed_in_block(*block),
         MessageStage::Beginning(_, _) | MessageStage::Starting(_) => Owed::Close,
         MessageStage::Failing(_, _) | MessageStage::Skipping(_) => Owed::Close,

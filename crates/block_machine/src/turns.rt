@@ -47,7 +47,15 @@ fn answered_plain(
 {
     match (stage, answer) {
         (MessageStage::Looking(statement, description, block), Answer::Looked(tables)) => {
-            look(alloc, statement.get(), *description, *block, known, tables, built)
+            look(
+                alloc,
+                statement.get(),
+                *description,
+                *block,
+                known,
+                tables,
+                built,
+            )
         }
         (MessageStage::Refreshing(block), Answer::Looked(tables)) => refresh(*block, known, tables),
         (MessageStage::Showing(description, block), Answer::Shown(n)) => {
