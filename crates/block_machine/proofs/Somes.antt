@@ -3,10 +3,12 @@ use Rattle.std.proofs.Common.{ℕ, ◌<◌, List, ◌++◌, length, arith, lengt
 use Rattle.cell_base.specs.declared.sql_state.SqlState.{SqlState}
 use Rattle.statement_course.specs.declared.demand.Outcome.{Outcome}
 use Rattle.statement_course.specs.declared.demand.Outcome.TheVariants.{Rows, Inserted, Updated, Deleted, Failed}
-use Rattle.outcome_replies.specs.Replies.{outcome_reply}
+use Rattle.std.specs.Prelude.{flat_map, codes}
+use Rattle.std.specs.Fmt.{decimal}
+use Rattle.outcome_replies.specs.Replies.{columns_reply, outcome_reply}
 use Rattle.pg_framing.specs.declared.replies.Severity.{Severity}
 use Rattle.pg_framing.specs.declared.replies.TransactionState.{TransactionState}
-use Rattle.pg_framing.specs.Replies.{framed, ready, command_complete, empty_query, error_response, notice_response}
+use Rattle.pg_framing.specs.Replies.{framed, ready, command_complete, data_row, empty_query, error_response, notice_response}
 use Rattle.outcome_replies.specs.declared.description.RowDescription.{RowDescription}
 use Rattle.block_machine.specs.declared.reply.Fixed.{Fixed}
 use Rattle.block_machine.specs.declared.reply.Fixed.TheVariants as fixed
@@ -60,7 +62,10 @@ show_some description name value = second-some _ _ (second-some _ _ (complete-so
 
 pub outcome_some : (description : RowDescription) (outcome : Outcome) → 0 < length (outcome_reply description outcome)
 unfolding outcome_reply
-outcome_some description (Rows fields rows) = second-some _ _ (second-some _ _ (complete-some _))
+outcome_some description (Rows fields rows) =
+    second-some (columns_reply description fields) (flat_map data_row rows ++ command_complete (codes "SELECT " ++ decimal (length rows)))
+    (second-some (flat_map data_row rows) (command_complete (codes "SELECT " ++ decimal (length rows)))
+    (complete-some (codes "SELECT " ++ decimal (length rows))))
 outcome_some description (Inserted n) = complete-some _
 outcome_some description (Updated n) = complete-some _
 outcome_some description (Deleted n) = complete-some _

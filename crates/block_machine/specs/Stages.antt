@@ -353,10 +353,14 @@ IsReady (stages.Resting block) = Unit {0}
 IsReady (stages.Over state) = Unit {0}
 IsReady _ = ⊥
 
+-- whether a query message is under way, or at its end
+abbrev pub is_driven : MessageStage → Bool
+is_driven (stages.Over state) = true
+is_driven stage = is_busy stage
+
 -- a query message is under way, or at its end
 abbrev pub IsDriven : MessageStage → Type 0
-IsDriven (stages.Over state) = Unit {0}
-IsDriven stage = IsBusy stage
+IsDriven stage = is_driven stage ≡ true
 
 -- A statement that begins or runs asks only for cells of the tables that are known, and reads before it writes.
 abbrev pub KnowsTables : MessageStage → List Table → Type 0

@@ -1,10 +1,10 @@
 // The statements of a query message one after another, by a runner of single statements.
-ghost use Rattle.std.specs.Prelude.{◌≡◌, ◌+◌, ◌*◌, ◌<◌, ◌≤◌, List, length, All};
+ghost use Rattle.std.specs.Prelude.{◌≡◌, ◌+◌, ◌*◌, ◌<◌, ◌≤◌, List, length, All, true};
 ghost use Rattle.std.specs.Vec.Iter.{into_iter_items};
 ghost use Rattle.block_machine.specs.Script.{Said, Entry};
 ghost use Rattle.block_machine.specs.Messages.{Outside, message as told, opens, owed_between, statements};
 ghost use Rattle.block_machine.specs.StatementRunners.{knowledge_of, tables_of};
-ghost use Rattle.block_machine.specs.Stages.{IsBetween, IsBusy, IsDriven, IsHolding, IsReady, IsRunning, IsSameButLevel, IsSoundMessage, IsSoundStage, IsSoundStatement, KnowsTables, HasReply, TurnsTo, after_reply, block_in, goes_on, length_of, owed_at, work_at};
+ghost use Rattle.block_machine.specs.Stages.{IsBetween, IsBusy, IsHolding, IsReady, IsRunning, IsSameButLevel, IsSoundMessage, IsSoundStage, IsSoundStatement, KnowsTables, HasReply, TurnsTo, after_reply, block_in, goes_on, is_driven, length_of, owed_at, work_at};
 
 use crate::ending::ReadyForQuery;
 use crate::message::Message;
@@ -17,6 +17,7 @@ use std::alloc::Global;
 use std::vec::IntoIter;
 
 /// Begins with a message that finds the session in this state and fails before its first statement, with this code.
+#[tactic(auto, using(crate::proofs::Succeeding::busy_driven))]
 pub fn refuse(
     alloc: Global,
     runner: &mut Runner,
@@ -35,6 +36,7 @@ pub fn refuse(
     ensures silent { IsRunning runner.new.stage → ⊥ }
     ensures sound { IsSoundStage runner.new.stage }
     ensures busy { IsBusy runner.new.stage }
+    ensures driven { is_driven runner.new.stage ≡ true }
     ensures some { HasReply runner.new.stage runner.new.built.items }
 {
     *rest = Vec::new(alloc).into_iter();
@@ -68,6 +70,7 @@ fn open(runner: &mut Runner, rest: &mut IntoIter<Statement>) -> bool
 }
 
 /// Begins with a message that finds the session in this state. Answers whether the session was out of memory.
+#[tactic(auto, using(crate::proofs::Succeeding::busy_driven))]
 pub fn begin(
     alloc: Global,
     runner: &mut Runner,
@@ -86,6 +89,7 @@ pub fn begin(
     ensures silent { IsRunning runner.new.stage → ⊥ }
     ensures sound { IsSoundStage runner.new.stage }
     ensures busy { IsBusy runner.new.stage }
+    ensures driven { is_driven runner.new.stage ≡ true }
     ensures some { HasReply runner.new.stage runner.new.built.items }
 {
     match message {
@@ -151,6 +155,7 @@ fn after_statement(runner: &mut Runner, rest: &mut IntoIter<Statement>) -> bool
 }
 
 /// Goes on after a reply that was sent. Answers whether the session was out of memory for what follows it.
+#[tactic(auto, using(crate::proofs::Succeeding::busy_driven))]
 pub fn go_on(runner: &mut Runner, rest: &mut IntoIter<Statement>) -> bool
     requires holding { IsHolding runner.old.stage }
     requires rest { All IsSoundStatement (into_iter_items rest.old) }
@@ -164,7 +169,7 @@ pub fn go_on(runner: &mut Runner, rest: &mut IntoIter<Statement>) -> bool
     ensures knows { KnowsTables runner.new.stage (tables_of runner.new) }
     ensures silent { IsRunning runner.new.stage → ⊥ }
     ensures sound { IsSoundStage runner.new.stage }
-    ensures driven { IsDriven runner.new.stage }
+    ensures driven { is_driven runner.new.stage ≡ true }
     ensures some { HasReply runner.new.stage runner.new.built.items }
 {
     runner.sent();

@@ -8,8 +8,7 @@ ghost use Rattle.block_machine.specs.Calls.{Call as Asked, IsWant, asks_cells, c
 ghost use Rattle.block_machine.specs.Knowledge.{at_start};
 ghost use Rattle.block_machine.specs.Script.{Said, Entry, call as asking, with_call, tell};
 ghost use Rattle.block_machine.specs.Messages.{Outside, message as told, owed_between};
-ghost use Rattle.block_machine.specs.Statements.{owed_in};
-ghost use Rattle.block_machine.specs.Stages.{FitsWant, IsDriven, IsFrom, IsHolding, IsKnownAfter, IsSameButLevel, IsBusy, IsRunning, IsSoundMessage, IsSoundStage, IsSoundStatement, KnowsTables, HasReply, entry_for, least, left_at, length_of, owed_after, owed_at, running_at, with_short};
+ghost use Rattle.block_machine.specs.Stages.{FitsWant, IsFrom, IsHolding, IsKnownAfter, IsSameButLevel, IsBusy, IsRunning, IsSoundMessage, IsSoundStage, IsSoundStatement, KnowsTables, HasReply, entry_for, is_driven, least, left_at, length_of, owed_after, owed_at, running_at, with_short};
 
 use crate::block::Owed;
 use crate::call::Answer;
@@ -32,7 +31,7 @@ pub struct MessageRunner {
     alloc: Global,
     runner: Runner,
     rest: IntoIter<Statement>,
-    ghost driven: { IsDriven runner.stage },
+    ghost driven: { is_driven runner.stage ≡ true },
 }
 
 impl MessageRunner {

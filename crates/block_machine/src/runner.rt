@@ -11,7 +11,7 @@ ghost use Rattle.block_machine.specs.Replies.{empty_reply};
 ghost use Rattle.block_machine.specs.Script.{Said, Entry, call as asking, with_call, tell};
 ghost use Rattle.block_machine.specs.Messages.{Outside, finishes};
 ghost use Rattle.block_machine.specs.Statements.{Around, fails, owed_in, refreshes, succeeds, told_of};
-ghost use Rattle.block_machine.specs.Stages.{FitsWant, IsFrom, IsAtRest, IsBetween, IsHolding, IsKnownAfter, IsReady, IsSameButLevel, IsBusy, IsRunning, IsSoundStage, IsSoundStatement, KnowsTables, HasReply, breaks, entry_for, is_skipping, left_at, owed_after, owed_at, running_at, with_short, work_at};
+ghost use Rattle.block_machine.specs.Stages.{FitsWant, IsFrom, IsAtRest, IsBetween, IsHolding, IsKnownAfter, IsReady, IsSameButLevel, IsBusy, IsRunning, IsSoundStage, IsSoundStatement, KnowsTables, HasReply, breaks, entry_for, is_driven, is_skipping, left_at, owed_after, owed_at, running_at, with_short, work_at};
 ghost use Rattle.block_machine.specs.Stages as stages_spec;
 
 use crate::actions::take;
@@ -125,7 +125,7 @@ impl Runner {
     pub fn left(&self) -> Option<TransactionState>
         ensures some { IfSome result (λ state. self.now.stage ≡ MessageStage.Over state) }
         ensures none { IsNone result → IsAtRest self.now.stage → IsBetween self.now.stage }
-        ensures driven { IsNone result → stages_spec.IsDriven self.now.stage → IsBusy self.now.stage }
+        ensures driven { IsNone result → is_driven self.now.stage ≡ true → IsBusy self.now.stage }
     {
         match &self.stage {
             MessageStage::Over(state) => Some(*state),
@@ -322,6 +322,7 @@ impl Runner {
         ensures sound { IsSoundStage self.new.stage }
         ensures tables { All IsSound (tables_of self.new) }
         ensures busy { IsBusy self.old.stage → IsBusy self.new.stage }
+        ensures driven { is_driven self.old.stage ≡ true → is_driven self.new.stage ≡ true }
         ensures some { HasReply self.new.stage self.new.built.items }
     {
         let stage = std::mem::replace(&mut self.stage, MessageStage::Over(TransactionState::Idle));
