@@ -5,7 +5,7 @@ ghost use Rattle.block_machine.specs.Calls.{Call as Asked, IsWant};
 ghost use Rattle.block_machine.specs.Knowledge.{Knowledge};
 ghost use Rattle.block_machine.specs.Script.{ask};
 ghost use Rattle.block_machine.specs.Statements.{Around, fails, refused_with};
-ghost use Rattle.block_machine.specs.Stages.{block_of, Advances, FitsWant, IsPlain, IsQuiet, IsBusy, IsHolding, IsRunning, NoBuilt, wants, owed_at, owed_after, state_after_error, work_at, running_at};
+ghost use Rattle.block_machine.specs.Stages.{block_of, Advances, FitsWant, IsPlain, IsQuiet, IsAtRest, IsBusy, IsHolding, IsRunning, NoBuilt, wants, owed_at, owed_after, state_after_error, work_at, running_at};
 
 use crate::block::{Block, Pending};
 use crate::blocks::{finished, started};
@@ -86,6 +86,7 @@ pub fn want_of(stage: &MessageStage, known: u32, level: Level) -> MessageWant
     ensures running { result ≡ MessageWant.Cells → IsRunning stage.now }
     ensures at_rest { (result ≡ MessageWant.Cells → ⊥) → running_at stage.now ≡ 0 }
     ensures over { result ≡ MessageWant.Nothing → IsBusy stage.now → ⊥ }
+    ensures idle { result ≡ MessageWant.Nothing → IsAtRest stage.now }
 {
     match stage {
         MessageStage::Resting(_) | MessageStage::Skipping(_) | MessageStage::Over(_) =>
