@@ -1,6 +1,8 @@
 -- Each reply has bytes.
-use Rattle.std.proofs.Common.{ℕ, ◌<◌, List, ◌++◌, length, arith, length-append}
+use Rattle.std.proofs.Common.{ℕ, ◌<◌, List, [], ◌∷◌, ◌++◌, length, arith, length-append}
 use Rattle.cell_base.specs.declared.sql_state.SqlState.{SqlState}
+use Rattle.cell_base.specs.declared.sql_type.SqlType.TheVariants as types
+use Rattle.cell_base.specs.declared.value.Value.TheVariants as values
 use Rattle.statement_course.specs.declared.demand.Outcome.{Outcome}
 use Rattle.statement_course.specs.declared.demand.Outcome.TheVariants.{Rows, Inserted, Updated, Deleted, Failed}
 use Rattle.std.specs.Prelude.{flat_map, codes}
@@ -58,7 +60,9 @@ warned-some state tag = first-some _ _ (notice-some state)
 
 pub show_some : (description : RowDescription) (name value : List ℕ) → 0 < length (show_reply description name value)
 unfolding show_reply
-show_some description name value = second-some _ _ (second-some _ _ (complete-some _))
+show_some description name value =
+    second-some (columns_reply description (record { name = name; kind = types.Text } ∷ [])) (data_row (values.Text value ∷ []) ++ command_complete (codes "SHOW"))
+    (second-some (data_row (values.Text value ∷ [])) (command_complete (codes "SHOW")) (complete-some (codes "SHOW")))
 
 pub outcome_some : (description : RowDescription) (outcome : Outcome) → 0 < length (outcome_reply description outcome)
 unfolding outcome_reply
