@@ -13,6 +13,7 @@ use Rattle.statement_course.specs.Course.{Course, scan, touch, write, first_dema
 use Rattle.statement_course.specs.Course as course
 use Rattle.statement_course.specs.Laws.{ReadsFirst, OnlyWrites}
 use Rattle.outcome_replies.specs.Replies.{outcome_reply}
+use Rattle.outcome_replies.specs.declared.description.RowDescription.{RowDescription}
 use Rattle.outcome_replies.specs.Ends.{EndsIn}
 use Rattle.block_machine.specs.declared.block.Block.{Block}
 use Rattle.block_machine.specs.declared.call.Answer.TheVariants as answers
@@ -87,37 +88,37 @@ ends_done P c outcome is h = subst (EndsIn P) is h
 
 -- ---- scripts
 
-pub runs_asks : (c : Course) (block : Block) (known : Knowledge) (around : Around) (said : Said) → asks_cells (first_demand c) ≡ true → runs c block known around said [] ≡ (said, call (call_for (first_demand c)))
-runs_asks (scan table next) block known around said h = refl
-runs_asks (touch cell next) block known around said h = refl
-runs_asks (write cell value next) block known around said h = refl
-runs_asks (course.done outcome) block known around said h = absurd (cc h)
+pub runs_asks : (description : RowDescription) (c : Course) (block : Block) (known : Knowledge) (around : Around) (said : Said) → asks_cells (first_demand c) ≡ true → runs description c block known around said [] ≡ (said, call (call_for (first_demand c)))
+runs_asks description (scan table next) block known around said h = refl
+runs_asks description (touch cell next) block known around said h = refl
+runs_asks description (write cell value next) block known around said h = refl
+runs_asks description (course.done outcome) block known around said h = absurd (cc h)
 
-pub runs_answered : (c : Course) (b : PlanAnswer) (block : Block) (known : Knowledge) (around : Around) (said : Said) (e : Event) (es : List Entry) → FitsDemand c b →
-    runs c block known around said (entry_for (answer_with b) e ∷ es) ≡ continues (behind c b) block known around (with_call said (call_for (first_demand c))) es
-runs_answered (scan table next) (plan_answers.Keys keys) block known around said e es f = refl
-runs_answered (touch cell next) (plan_answers.Value value) block known around said e es f = refl
-runs_answered (write cell value next) plan_answers.Written block known around said e es f = refl
-runs_answered (course.done outcome) b block known around said e es f = absurd f
-runs_answered (scan table next) (plan_answers.Value value) block known around said e es f = absurd f
-runs_answered (scan table next) plan_answers.Written block known around said e es f = absurd f
-runs_answered (touch cell next) (plan_answers.Keys keys) block known around said e es f = absurd f
-runs_answered (touch cell next) plan_answers.Written block known around said e es f = absurd f
-runs_answered (write cell value next) (plan_answers.Keys keys) block known around said e es f = absurd f
-runs_answered (write cell value next) (plan_answers.Value v) block known around said e es f = absurd f
+pub runs_answered : (description : RowDescription) (c : Course) (b : PlanAnswer) (block : Block) (known : Knowledge) (around : Around) (said : Said) (e : Event) (es : List Entry) → FitsDemand c b →
+    runs description c block known around said (entry_for (answer_with b) e ∷ es) ≡ continues description (behind c b) block known around (with_call said (call_for (first_demand c))) es
+runs_answered description (scan table next) (plan_answers.Keys keys) block known around said e es f = refl
+runs_answered description (touch cell next) (plan_answers.Value value) block known around said e es f = refl
+runs_answered description (write cell value next) plan_answers.Written block known around said e es f = refl
+runs_answered description (course.done outcome) b block known around said e es f = absurd f
+runs_answered description (scan table next) (plan_answers.Value value) block known around said e es f = absurd f
+runs_answered description (scan table next) plan_answers.Written block known around said e es f = absurd f
+runs_answered description (touch cell next) (plan_answers.Keys keys) block known around said e es f = absurd f
+runs_answered description (touch cell next) plan_answers.Written block known around said e es f = absurd f
+runs_answered description (write cell value next) (plan_answers.Keys keys) block known around said e es f = absurd f
+runs_answered description (write cell value next) (plan_answers.Value v) block known around said e es f = absurd f
 
-pub runs_refused : (c : Course) (why : BookFault) (block : Block) (known : Knowledge) (around : Around) (said : Said) (e : Event) (es : List Entry) → asks_cells (first_demand c) ≡ true →
-    runs c block known around said (entry_for (answers.Refused why) e ∷ es) ≡ fails (refusal_state why) block known around (with_call said (call_for (first_demand c))) es
-runs_refused (scan table next) why block known around said e es h = refl
-runs_refused (touch cell next) why block known around said e es h = refl
-runs_refused (write cell value next) why block known around said e es h = refl
-runs_refused (course.done outcome) why block known around said e es h = absurd (cc h)
+pub runs_refused : (description : RowDescription) (c : Course) (why : BookFault) (block : Block) (known : Knowledge) (around : Around) (said : Said) (e : Event) (es : List Entry) → asks_cells (first_demand c) ≡ true →
+    runs description c block known around said (entry_for (answers.Refused why) e ∷ es) ≡ fails (refusal_state why) block known around (with_call said (call_for (first_demand c))) es
+runs_refused description (scan table next) why block known around said e es h = refl
+runs_refused description (touch cell next) why block known around said e es h = refl
+runs_refused description (write cell value next) why block known around said e es h = refl
+runs_refused description (course.done outcome) why block known around said e es h = absurd (cc h)
 
 -- a statement that is done, and didn't fail
-pub concludes_told : (outcome : Outcome) (block : Block) (known : Knowledge) (around : Around) (said : Said) (es : List Entry) → ((code : SqlState) → outcome ≡ outcomes.Failed code → ⊥) →
-    concludes outcome block known around said es ≡ succeeds (outcome_reply outcome) block known around said es
-concludes_told (outcomes.Failed code) block known around said es h = absurd (h code refl)
-concludes_told (outcomes.Rows fields rows) block known around said es h = refl
-concludes_told (outcomes.Inserted n) block known around said es h = refl
-concludes_told (outcomes.Updated n) block known around said es h = refl
-concludes_told (outcomes.Deleted n) block known around said es h = refl
+pub concludes_told : (description : RowDescription) (outcome : Outcome) (block : Block) (known : Knowledge) (around : Around) (said : Said) (es : List Entry) → ((code : SqlState) → outcome ≡ outcomes.Failed code → ⊥) →
+    concludes description outcome block known around said es ≡ succeeds (outcome_reply description outcome) block known around said es
+concludes_told description (outcomes.Failed code) block known around said es h = absurd (h code refl)
+concludes_told description (outcomes.Rows fields rows) block known around said es h = refl
+concludes_told description (outcomes.Inserted n) block known around said es h = refl
+concludes_told description (outcomes.Updated n) block known around said es h = refl
+concludes_told description (outcomes.Deleted n) block known around said es h = refl

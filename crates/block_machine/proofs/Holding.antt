@@ -8,8 +8,9 @@ use Rattle.block_machine.specs.declared.stage.MessageStage.{MessageStage}
 use Rattle.block_machine.specs.declared.stage.MessageStage.TheVariants as stages
 use Rattle.block_machine.specs.Knowledge.{Knowledge}
 use Rattle.block_machine.specs.Script.{Said, Entry, tell}
+use Rattle.block_machine.specs.Statements.{Around}
 use Rattle.block_machine.specs.Messages.{Outside}
-use Rattle.block_machine.specs.Stages.{NoBuilt, HasReply, IsHolding, reply_of, after_reply, owed_at, goes_on, IsQuiet, IsRunning, IsSoundStage, KnowsTables}
+use Rattle.block_machine.specs.Stages.{NoBuilt, HasReply, IsHolding, reply_of, after_reply, after_sent, breaks, owed_at, goes_on, resumes, IsQuiet, IsRunning, IsSoundStage, KnowsTables}
 use Rattle.block_machine.proofs.Somes.{fixed_some, error_some, ready_some}
 
 pub holding_some : (built : List ℕ) (stage : MessageStage) → NoBuilt stage → HasReply stage built
@@ -24,24 +25,32 @@ pub built_some : (built reply : List ℕ) (block : Block) → built ≡ reply �
 built_some built reply block is some k = subst (λ (bytes : List ℕ). 0 < length bytes) (sym is) some
 
 -- a held reply is told
-pub holding_tells : (stage : MessageStage) (built : List ℕ) (known : Knowledge) (more : List Statement) (outside : Outside) (said : Said) (es : List Entry) → IsHolding stage →
+pub holding_tells : (stage : MessageStage) (built : List ℕ) (known : Knowledge) (around : Around) (outside : Outside) (said : Said) (es : List Entry) → IsHolding stage →
+    resumes stage built known around outside said es ≡ tell (reply_of built stage) (breaks stage around outside (owed_at stage)) (after_sent stage known around outside) said es
+holding_tells (stages.Telling reply block) built known around outside said es h = refl
+holding_tells (stages.Failing code state) built known around outside said es h = refl
+holding_tells (stages.Readying state) built known around outside said es h = refl
+holding_tells _ built known around outside said es h = absurd h
+
+-- in a query message
+pub message_tells : (stage : MessageStage) (built : List ℕ) (known : Knowledge) (more : List Statement) (outside : Outside) (said : Said) (es : List Entry) → IsHolding stage →
     goes_on stage built known more outside said es ≡ tell (reply_of built stage) (outside.broken (owed_at stage)) (after_reply stage known more outside) said es
-holding_tells (stages.Telling reply block) built known more outside said es h = refl
-holding_tells (stages.Failing code state) built known more outside said es h = refl
-holding_tells (stages.Readying state) built known more outside said es h = refl
-holding_tells _ built known more outside said es h = absurd h
+message_tells (stages.Telling reply block) built known more outside said es h = refl
+message_tells (stages.Failing code state) built known more outside said es h = refl
+message_tells (stages.Readying state) built known more outside said es h = refl
+message_tells _ built known more outside said es h = absurd h
 
 -- ---- what holds where neither a table nor a statement is kept
 
 pub quiet_knows : (stage : MessageStage) → IsQuiet stage → (known : List Table) → KnowsTables stage known
-quiet_knows (stages.Beginning plan) h known = absurd h
+quiet_knows (stages.Beginning plan description) h known = absurd h
 quiet_knows (stages.Running run p) h known = absurd h
 quiet_knows _ h known = tt
 
 pub quiet_sound : (stage : MessageStage) → IsQuiet stage → IsSoundStage stage
 quiet_sound (stages.Defining table block) h = absurd h
-quiet_sound (stages.Looking statement block) h = absurd h
-quiet_sound (stages.Beginning plan) h = absurd h
+quiet_sound (stages.Looking statement description block) h = absurd h
+quiet_sound (stages.Beginning plan description) h = absurd h
 quiet_sound (stages.Running run p) h = absurd h
 quiet_sound _ h = tt
 

@@ -8,6 +8,7 @@ mod Wanting
 mod Advancing
 mod Asking
 mod Turning
+mod Succeeding
 mod Sounds
 mod Columns
 mod Carried

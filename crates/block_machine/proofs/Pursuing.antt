@@ -4,6 +4,7 @@ use Rattle.std.specs.Prelude.{if◌then◌else◌, not}
 use Rattle.std.proofs.Math.Seq.{take-append_seam}
 use Rattle.cell_base.specs.declared.memory.Memory.{Memory}
 use Rattle.cell_base.specs.declared.sql_state.SqlState.{SqlState}
+use Rattle.cell_base.specs.declared.sql_state.SqlState.TheVariants as states
 use Rattle.history_core.specs.declared.fault.BookFault.{BookFault}
 use Rattle.sql_tree.specs.declared.statement.Statement.{Statement}
 use Rattle.sql_tree.specs.declared.table.Table.{Table}
@@ -12,6 +13,7 @@ use Rattle.statement_course.specs.declared.demand.PlanAnswer.{PlanAnswer}
 use Rattle.statement_course.specs.Course.{first_demand, behind, FitsDemand}
 use Rattle.cell_compile.specs.declared.plan.Plan.{Plan}
 use Rattle.cell_compile.specs.Plans.{rest_of}
+use Rattle.outcome_replies.specs.declared.description.RowDescription.{RowDescription}
 use Rattle.block_machine.specs.Calls.{call_for}
 use Rattle.block_machine.specs.declared.block.Block.{Block}
 use Rattle.block_machine.specs.declared.block.Block.TheVariants.{Implicit}
@@ -31,7 +33,8 @@ use Rattle.block_machine.specs.Stages.{IsScriptAt, IsScriptOf, LeadsTo, Advances
 use Rattle.block_machine.proofs.Answered.{fits_demand}
 use Rattle.block_machine.proofs.Holding.{holding_some}
 use Rattle.block_machine.proofs.Wanting.{ok_at}
-use Rattle.block_machine.proofs.Advancing.{run_advances, run_refused, begin_advances, look_advances}
+use Rattle.block_machine.proofs.Advancing.{run_advances, run_refused, begin_advances, look_advances, refresh_advances}
+use Rattle.block_machine.proofs.Passes.{passes}
 
 -- a pending transaction is rolled back
 pub owed_pending : (p : Pending) → owed_in (block_of p) ≡ owes.Rollback
@@ -55,14 +58,14 @@ demand_fits run answer b is fits =
 
 pub pursue_goes : (run : Run) (p : Pending) (answer : Answer) (b : PlanAnswer) (block : Block) (r : Result MessageStage Memory) (next : MessageStage) (w : Bool) (built : List ℕ) (known : Knowledge) →
     answer ≡ answer_with b → Fits (call_for (first_demand (rest_of run.plan))) answer → block ≡ block_of p →
-    IfOk r (λ stage. IsScriptOf (runs (behind (rest_of run.plan) b) (block_of p)) stage built) →
+    IfOk r (λ stage. IsScriptOf (runs run.description (behind (rest_of run.plan) b) (block_of p)) stage built) →
     ((script : Around → Script) (bytes : List ℕ) (other : Knowledge) → IfOk r (λ it. IsScriptAt script it bytes other) →
     LeadsTo (λ around. unless_short_in block other around (script around)) next w bytes other) →
     Advances (stages.Running run p) known answer next w built known
 pursue_goes run p answer b block r next w built known is fits same goes leads =
     run_advances run p answer b next w built known is (demand_fits run answer b is fits)
-    (subst (λ (x : Block). LeadsTo (λ around. unless_short_in x known around (runs (behind (rest_of run.plan) b) (block_of p) known around)) next w built known) same
-    (leads (runs (behind (rest_of run.plan) b) (block_of p) known) built known (ok_at r (runs (behind (rest_of run.plan) b) (block_of p)) built known goes)))
+    (subst (λ (x : Block). LeadsTo (λ around. unless_short_in x known around (runs run.description (behind (rest_of run.plan) b) (block_of p) known around)) next w built known) same
+    (leads (runs run.description (behind (rest_of run.plan) b) (block_of p) known) built known (ok_at r (runs run.description (behind (rest_of run.plan) b) (block_of p)) built known goes)))
 
 pub pursue_refused : (run : Run) (p : Pending) (answer : Answer) (why : BookFault) (code : SqlState) (block : Block) (next : MessageStage) (built : List ℕ) (known : Knowledge) →
     answer ≡ answers.Refused why → code ≡ refusal_state why → block ≡ block_of p →
@@ -74,29 +77,53 @@ pursue_refused run p answer why code block next built known is coded same goes =
 
 -- ---- the begin of its transaction
 
-pub start_goes : (plan : Plan) (answer : Answer) (n : ℕ) (r : Result MessageStage Memory) (next : MessageStage) (w : Bool) (built : List ℕ) (known : Knowledge) → answer ≡ answers.Begun n →
-    IfOk r (λ stage. IsScriptOf (runs (rest_of plan) (Implicit true)) stage built) →
+pub start_goes : (plan : Plan) (description : RowDescription) (answer : Answer) (n : ℕ) (r : Result MessageStage Memory) (next : MessageStage) (w : Bool) (built : List ℕ) (known : Knowledge) → answer ≡ answers.Begun n →
+    IfOk r (λ stage. IsScriptOf (runs description (rest_of plan) (Implicit true)) stage built) →
     ((script : Around → Script) (bytes : List ℕ) (other : Knowledge) → IfOk r (λ it. IsScriptAt script it bytes other) →
     LeadsTo (λ around. unless_short_in (Implicit true) other around (script around)) next w bytes other) →
-    Advances (stages.Beginning plan) known answer next w built known
-start_goes plan answer n r next w built known is goes leads =
-    subst (λ (a : Answer). Advances (stages.Beginning plan) known a next w built known) (sym is)
-    (begin_advances plan n next w built known
-    (leads (runs (rest_of plan) (Implicit true) known) built known (ok_at r (runs (rest_of plan) (Implicit true)) built known goes)))
+    Advances (stages.Beginning plan description) known answer next w built known
+start_goes plan description answer n r next w built known is goes leads =
+    subst (λ (a : Answer). Advances (stages.Beginning plan description) known a next w built known) (sym is)
+    (begin_advances plan description n next w built known
+    (leads (runs description (rest_of plan) (Implicit true) known) built known (ok_at r (runs description (rest_of plan) (Implicit true)) built known goes)))
 
 -- ---- a look
 
-pub look_short : (statement : Statement) (block : Block) (known : Knowledge) (tables : List Table) (after : Knowledge) (next : MessageStage) (w : Bool) (built : List ℕ) → after ≡ known →
+pub look_short : (statement : Statement) (description : RowDescription) (block : Block) (known : Knowledge) (tables : List Table) (after : Knowledge) (next : MessageStage) (w : Bool) (built : List ℕ) → after ≡ known →
     ((script : Around → Script) (bytes : List ℕ) (other : Knowledge) → LeadsTo (λ around. unless_short_in block other around (script around)) next w bytes other) →
-    Advances (stages.Looking statement block) known (answers.Looked tables) next w built after
-look_short statement block known tables after next w built is leads =
-    subst (λ (x : Knowledge). Advances (stages.Looking statement block) known (answers.Looked tables) next w built x) (sym is)
-    (look_advances statement block known tables next w built known
-    (leads (judged (typed (known.tables ++ tables) statement) block (with_tables known tables)) built known))
+    Advances (stages.Looking statement description block) known (answers.Looked tables) next w built after
+look_short statement description block known tables after next w built is leads =
+    subst (λ (x : Knowledge). Advances (stages.Looking statement description block) known (answers.Looked tables) next w built x) (sym is)
+    (look_advances statement description block known tables next w built known
+    (leads (judged description (typed (known.tables ++ tables) statement) block (with_tables known tables)) built known))
+
+-- a look of its own, out of memory
+pub refresh_short : (block : Block) (known : Knowledge) (tables : List Table) (after : Knowledge) (next : MessageStage) (w : Bool) (built : List ℕ) → after ≡ known →
+    ((script : Around → Script) (bytes : List ℕ) (other : Knowledge) → LeadsTo (λ around. unless_short_in block other around (script around)) next w bytes other) →
+    Advances (stages.Refreshing block) known (answers.Looked tables) next w built after
+refresh_short block known tables after next w built is leads =
+    subst (λ (x : Knowledge). Advances (stages.Refreshing block) known (answers.Looked tables) next w built x) (sym is)
+    (refresh_advances block known tables next w built known (leads (λ around. around.succeeded block (with_tables known tables)) built known))
+
+-- and with memory for the tables
+pub refresh_goes : (block : Block) (known after : Knowledge) (tables : List Table) (step : MessageStep) (built : List ℕ) → after ≡ with_tables known tables →
+    step ≡ record { stage = stages.Resting block; out_of_memory = false } →
+    Advances (stages.Refreshing block) known (answers.Looked tables) step.stage step.out_of_memory built after
+refresh_goes block known after tables step built same is =
+    at_rest_advances (stages.Refreshing block) known (answers.Looked tables) step (stages.Resting block) built after is
+    (refresh_advances block known tables (stages.Resting block) false built after
+    (λ around outside said es from.
+    passes (fails states.S53200 block known around) (around.succeeded block (with_tables known tables)) said es from
+    ∙ ap (λ (k : Knowledge). around.succeeded block k said es) (sym same)))
 
 -- other tables, and the same level
 pub known_tables : (known : Knowledge) (tables : List Table) → tables ≡ known.tables → record { tables = tables; level = known.level; served = known.served } ≡ known
 known_tables known tables is = ap (λ (xs : List Table). record { tables = xs; level = known.level; served = known.served }) is
+
+-- more tables, and the same level
+pub joined_tables : (known : Knowledge) (after tables : List Table) → after ≡ known.tables ++ tables →
+    record { tables = after; level = known.level; served = known.served } ≡ with_tables known tables
+joined_tables known after tables is = ap (λ (xs : List Table). record { tables = xs; level = known.level; served = known.served }) is
 
 -- the tables known where memory for more was refused
 pub appended_not : (ok err : Bool) (after both known : List Table) → after ≡ (if ok then both else known) → ok ≡ not err → err ≡ true → after ≡ known

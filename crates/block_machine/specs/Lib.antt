@@ -6,4 +6,5 @@ pub mod Replies
 pub mod Statements
 pub mod Messages
 pub mod Stages
+pub mod StatementRunners
 pub mod Runners

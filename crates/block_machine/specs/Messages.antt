@@ -4,6 +4,7 @@ use Rattle.std.specs.Str.{IsUtf8}
 use Rattle.cell_base.specs.declared.sql_state.SqlState.TheVariants as states
 use Rattle.pg_framing.specs.declared.replies.TransactionState.{TransactionState}
 use Rattle.pg_framing.specs.declared.replies.TransactionState.TheVariants as ready
+use Rattle.outcome_replies.specs.declared.description.RowDescription.TheVariants as described
 use Rattle.sql_statements.specs.declared.fault.ParseFault.{ParseFault}
 use Rattle.sql_statements.specs.Faults.{AreStatementsOf, IsFaultOfText, state_of}
 use Rattle.sql_tree.specs.declared.statement.Statement.{Statement}
@@ -16,6 +17,8 @@ use Rattle.block_machine.specs.declared.block.Block.{Block}
 use Rattle.block_machine.specs.declared.block.Block.TheVariants.{Implicit, Regular, Failed}
 use Rattle.block_machine.specs.declared.block.Owed.{Owed}
 use Rattle.block_machine.specs.declared.block.Owed.TheVariants as owes
+use Rattle.block_machine.specs.declared.ending.ReadyForQuery.{ReadyForQuery}
+use Rattle.block_machine.specs.declared.ending.ReadyForQuery.TheVariants as told
 use Rattle.block_machine.specs.declared.message.Message.{Message}
 use Rattle.block_machine.specs.declared.message.Message.TheVariants as messages
 
@@ -35,18 +38,27 @@ owed_between ready.Failed = owes.Close
 abbrev pub readied : TransactionState → Knowledge → Outside → Script
 readied state known outside = tell (ready_reply state) (outside.broken (owed_between state)) (outside.next state known)
 
--- The end of a message commits the message's own transaction, where one is pending, and then ReadyForQuery is told.
+-- the same where ReadyForQuery is told or left out
+abbrev pub finished : ReadyForQuery → TransactionState → Knowledge → Outside → Script
+finished told.Told state known outside = readied state known outside
+finished told.Omitted state known outside = outside.next state known
+
+-- The end of a message commits the message's own transaction, where one is pending. Then ReadyForQuery is told, where it is asked for.
+abbrev pub finishes : ReadyForQuery → Block → Knowledge → Outside → Script
+finishes ready_for (Implicit false) known outside = finished ready_for ready.Idle known outside
+finishes ready_for (Implicit true) known outside = ask calls.Commit (λ _. finished ready_for ready.Idle known outside)
+finishes ready_for Regular known outside = finished ready_for ready.Block known outside
+finishes ready_for Failed known outside = finished ready_for ready.Failed known outside
+
+-- the end of a query message
 abbrev pub ends : Block → Knowledge → Outside → Script
-ends (Implicit false) known outside = readied ready.Idle known outside
-ends (Implicit true) known outside = ask calls.Commit (λ _. readied ready.Idle known outside)
-ends Regular known outside = readied ready.Block known outside
-ends Failed known outside = readied ready.Failed known outside
+ends block known outside = finishes told.Told block known outside
 
 -- Statements one after another. After the ErrorResponse of one that fails the others are skipped, and ReadyForQuery is told.
 abbrev pub statements : List Statement → Block → Knowledge → Outside → Script
 statements [] block known outside = ends block known outside
 statements (s ∷ more) block known outside =
-    told_of s block known (record {
+    told_of described.Told s block known (record {
       succeeded = λ b k. statements more b k outside;
       failed = λ state k. readied state k outside;
       broken = outside.broken;

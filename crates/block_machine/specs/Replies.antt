@@ -6,7 +6,9 @@ use Rattle.cell_base.specs.declared.sql_type.SqlType.TheVariants as types
 use Rattle.cell_base.specs.declared.value.Value.TheVariants as values
 use Rattle.pg_framing.specs.declared.replies.Severity.TheVariants as severities
 use Rattle.pg_framing.specs.declared.replies.TransactionState.{TransactionState}
-use Rattle.pg_framing.specs.Replies.{ready, command_complete, empty_query, error_response, notice_response, row_description, data_row}
+use Rattle.pg_framing.specs.Replies.{ready, command_complete, empty_query, error_response, notice_response, data_row}
+use Rattle.outcome_replies.specs.Replies.{columns_reply}
+use Rattle.outcome_replies.specs.declared.description.RowDescription.{RowDescription}
 use Rattle.block_machine.specs.declared.reply.Fixed.{Fixed}
 use Rattle.block_machine.specs.declared.reply.Fixed.TheVariants as fixed
 use Rattle.block_machine.specs.declared.reply.StatementReply.{StatementReply}
@@ -65,10 +67,11 @@ abbrev pub needless_start_reply : Bool → List ℕ
 needless_start_reply false = warned_reply states.S25001 (codes "BEGIN")
 needless_start_reply true = warned_reply states.S25001 (codes "START TRANSACTION")
 
--- SHOW: RowDescription of one column of type text, with the name that was asked for; DataRow with the value; CommandComplete
-unfoldable pub show_reply : List ℕ → List ℕ → List ℕ
-show_reply name value =
-    row_description (record { name = name; kind = types.Text } ∷ [])
+-- SHOW: RowDescription of one column of type text, with the name that was asked for, where it is told; DataRow with the value;
+-- CommandComplete
+unfoldable pub show_reply : RowDescription → List ℕ → List ℕ → List ℕ
+show_reply description name value =
+    columns_reply description (record { name = name; kind = types.Text } ∷ [])
     ++ (data_row (values.Text value ∷ []) ++ command_complete (codes "SHOW"))
 
 -- the messages of a reply that is known beforehand

@@ -22,16 +22,17 @@ use Rattle.block_machine.specs.Calls as calls
 use Rattle.block_machine.specs.Knowledge.{Knowledge, with_tables, with_level}
 use Rattle.block_machine.specs.Replies.{ready_reply, error_reply, fixed_reply, bytes_of}
 use Rattle.block_machine.specs.Script.{Entry, did, refused, short, unsent, stop, Said, Script, lost, with_call, ask}
-use Rattle.block_machine.specs.Statements.{Around, owed_in, succeeds, refused_with, fails, starts, defines, runs, begins, looks, shows_history}
-use Rattle.block_machine.specs.Messages.{Outside, owed_between, readied, ends, statements, before}
+use Rattle.block_machine.specs.Statements.{Around, owed_in, succeeds, refused_with, fails, starts, defines, runs, begins, looks, refreshes, shows_history}
+use Rattle.block_machine.specs.Messages.{Outside, owed_between, readied, finishes, before, block_at}
 use Rattle.block_machine.specs.declared.block.Block.{Block}
-use Rattle.block_machine.specs.declared.block.Block.TheVariants.{Implicit, Regular}
+use Rattle.block_machine.specs.declared.block.Block.TheVariants.{Implicit, Regular, Failed}
 use Rattle.block_machine.specs.declared.block.Owed.{Owed}
 use Rattle.block_machine.specs.declared.block.Owed.TheVariants as owes
 use Rattle.block_machine.specs.declared.block.Pending.{Pending}
 use Rattle.block_machine.specs.declared.block.Pending.TheVariants as pending
 use Rattle.block_machine.specs.declared.call.Answer.{Answer}
 use Rattle.block_machine.specs.declared.call.Answer.TheVariants as answers
+use Rattle.block_machine.specs.declared.ending.ReadyForQuery.TheVariants as told
 use Rattle.block_machine.specs.declared.message.Message.{Message}
 use Rattle.block_machine.specs.declared.message.Message.TheVariants as messages
 use Rattle.block_machine.specs.declared.reply.StatementReply.TheVariants as replies
@@ -50,57 +51,76 @@ abbrev pub state_after_error : ErrorState → TransactionState
 state_after_error errors.Idle = ready.Idle
 state_after_error errors.Failed = ready.Failed
 
--- What a stage goes on with, given the reply that was built, what the session knows, and the statements that the message still has.
+-- What a stage goes on with, given the reply that was built, what the session knows, what follows the statement, and what follows the end
+-- of the message. After a statement a runner rests in a block, or skips what follows in its message; after the end of the message it is over.
+abbrev pub resumes : MessageStage → List ℕ → Knowledge → Around → Outside → Script
+resumes (stages.Resting block) built known around outside = around.succeeded block known
+resumes (stages.Skipping state) built known around outside = around.failed (state_after_error state) known
+resumes (stages.Over state) built known around outside = outside.next state known
+resumes (stages.Defining table block) built known around outside = defines (Ok table) block known around
+resumes (stages.Looking statement description block) built known around outside = looks description statement block known around
+resumes (stages.Refreshing block) built known around outside = refreshes block known around
+resumes (stages.Beginning plan description) built known around outside = begins description (rest_of plan) (Implicit false) known around
+resumes (stages.Running run p) built known around outside = runs run.description (rest_of run.plan) (block_of p) known around
+resumes (stages.Starting start) built known around outside = starts start (Implicit false) known around
+resumes (stages.Showing description block) built known around outside = shows_history description block known around
+resumes (stages.Committing reply) built known around outside = ask calls.Commit (λ _. succeeds (fixed_reply reply) (Implicit false) known around)
+resumes (stages.RollingBack reply) built known around outside = ask calls.Rollback (λ _. succeeds (fixed_reply reply) (Implicit false) known around)
+resumes (stages.Telling reply block) built known around outside = succeeds (bytes_of built reply) block known around
+resumes (stages.Undoing code p) built known around outside = fails code (block_of p) known around
+resumes (stages.Failing code state) built known around outside = refused_with code (state_after_error state) known around
+resumes (stages.Finishing ready_for) built known around outside = finishes ready_for (Implicit true) known outside
+resumes (stages.Readying state) built known around outside = readied state known outside
+
+-- the same in a query message that has these statements left
 abbrev pub goes_on : MessageStage → List ℕ → Knowledge → List Statement → Outside → Script
-goes_on (stages.Over state) built known more outside = outside.next state known
-goes_on (stages.Defining table block) built known more outside = defines (Ok table) block known (before more outside)
-goes_on (stages.Looking statement block) built known more outside = looks statement block known (before more outside)
-goes_on (stages.Beginning plan) built known more outside = begins (rest_of plan) (Implicit false) known (before more outside)
-goes_on (stages.Running run p) built known more outside = runs (rest_of run.plan) (block_of p) known (before more outside)
-goes_on (stages.Starting start) built known more outside = starts start (Implicit false) known (before more outside)
-goes_on (stages.Showing block) built known more outside = shows_history block known (before more outside)
-goes_on (stages.Committing reply) built known more outside =
-    ask calls.Commit (λ _. succeeds (fixed_reply reply) (Implicit false) known (before more outside))
-goes_on (stages.RollingBack reply) built known more outside =
-    ask calls.Rollback (λ _. succeeds (fixed_reply reply) (Implicit false) known (before more outside))
-goes_on (stages.Telling reply block) built known more outside = succeeds (bytes_of built reply) block known (before more outside)
-goes_on (stages.Undoing code p) built known more outside = fails code (block_of p) known (before more outside)
-goes_on (stages.Failing code state) built known more outside = refused_with code (state_after_error state) known (before more outside)
-goes_on stages.Finishing built known more outside = ends (Implicit true) known outside
-goes_on (stages.Readying state) built known more outside = readied state known outside
+goes_on stage built known more outside = resumes stage built known (before more outside) outside
+
+-- the block in which the next statement stands, where nothing is under way
+abbrev pub block_in : MessageStage → Block
+block_in (stages.Resting block) = block
+block_in (stages.Skipping state) = block_at (state_after_error state)
+block_in (stages.Over state) = block_at state
+block_in _ = Failed
 
 -- what a stage wants, given what the session knows
 abbrev pub wants : MessageStage → Knowledge → MessageWant
+wants (stages.Resting block) known = calls.Nothing
+wants (stages.Skipping state) known = calls.Nothing
 wants (stages.Over state) known = calls.Nothing
 wants (stages.Defining table block) known = calls.Book (calls.Define table)
-wants (stages.Looking statement block) known = calls.Book (calls.Look (length known.tables))
-wants (stages.Beginning plan) known = calls.Book (calls.Begin known.level)
+wants (stages.Looking statement description block) known = calls.Book (calls.Look (length known.tables))
+wants (stages.Refreshing block) known = calls.Book (calls.Look (length known.tables))
+wants (stages.Beginning plan description) known = calls.Book (calls.Begin known.level)
 wants (stages.Running run p) known = calls.Book (call_for (first_demand (rest_of run.plan)))
 wants (stages.Starting start) known = calls.Book (calls.Begin known.level)
-wants (stages.Showing block) known = calls.Book calls.Show
+wants (stages.Showing description block) known = calls.Book calls.Show
 wants (stages.Committing reply) known = calls.Book calls.Commit
 wants (stages.RollingBack reply) known = calls.Book calls.Rollback
 wants (stages.Telling reply block) known = calls.Send
 wants (stages.Undoing code p) known = calls.Book calls.Rollback
 wants (stages.Failing code state) known = calls.Send
-wants stages.Finishing known = calls.Book calls.Commit
+wants (stages.Finishing ready_for) known = calls.Book calls.Commit
 wants (stages.Readying state) known = calls.Send
 
 -- what the session owes its book
 abbrev pub owed_at : MessageStage → Owed
+owed_at (stages.Resting block) = owed_in block
+owed_at (stages.Skipping state) = owes.Close
 owed_at (stages.Over state) = owed_between state
 owed_at (stages.Defining table block) = owed_in block
-owed_at (stages.Looking statement block) = owed_in block
-owed_at (stages.Beginning plan) = owes.Close
+owed_at (stages.Looking statement description block) = owed_in block
+owed_at (stages.Refreshing block) = owed_in block
+owed_at (stages.Beginning plan description) = owes.Close
 owed_at (stages.Running run p) = owes.Rollback
 owed_at (stages.Starting start) = owes.Close
-owed_at (stages.Showing block) = owed_in block
+owed_at (stages.Showing description block) = owed_in block
 owed_at (stages.Committing reply) = owes.Rollback
 owed_at (stages.RollingBack reply) = owes.Rollback
 owed_at (stages.Telling reply block) = owed_in block
 owed_at (stages.Undoing code p) = owes.Rollback
 owed_at (stages.Failing code state) = owes.Close
-owed_at stages.Finishing = owes.Rollback
+owed_at (stages.Finishing ready_for) = owes.Rollback
 owed_at (stages.Readying state) = owed_between state
 
 -- what is owed after the answer to a call: a refusal changes nothing
@@ -129,11 +149,20 @@ reply_of built (stages.Readying state) = ready_reply state
 reply_of built _ = []
 
 -- what follows a reply that was sent
+abbrev pub after_sent : MessageStage → Knowledge → Around → Outside → Script
+after_sent (stages.Telling reply block) known around outside = around.succeeded block known
+after_sent (stages.Failing code state) known around outside = around.failed (state_after_error state) known
+after_sent (stages.Readying state) known around outside = outside.next state known
+after_sent _ known around outside = lost
+
+-- what follows where it could not be sent, by what is owed
+abbrev pub breaks : MessageStage → Around → Outside → Owed → Script
+breaks (stages.Readying state) around outside owed = outside.broken owed
+breaks _ around outside owed = around.broken owed
+
+-- what follows a reply that was sent, in a query message that has these statements left
 abbrev pub after_reply : MessageStage → Knowledge → List Statement → Outside → Script
-after_reply (stages.Telling reply block) known more outside = statements more block known outside
-after_reply (stages.Failing code state) known more outside = readied (state_after_error state) known outside
-after_reply (stages.Readying state) known more outside = outside.next state known
-after_reply _ known more outside = lost
+after_reply stage known more outside = after_sent stage known (before more outside) outside
 
 -- the reply that is held isn't one that was built
 abbrev pub NoBuilt : MessageStage → Type 0
@@ -210,8 +239,8 @@ wants_memory _ = false
 -- the script of a statement is what a stage goes on with
 abbrev pub IsScriptAt : (Around → Script) → MessageStage → List ℕ → Knowledge → Type 0
 IsScriptAt script stage built known =
-    (more : List Statement) (outside : Outside) (said : Said) (es : List Entry) →
-    script (before more outside) said es ≡ goes_on stage built known more outside said es
+    (around : Around) (outside : Outside) (said : Said) (es : List Entry) →
+    script around said es ≡ resumes stage built known around outside said es
 
 -- whatever the session knows
 abbrev pub IsScriptOf : (Knowledge → Around → Script) → MessageStage → List ℕ → Type 0
@@ -220,8 +249,8 @@ IsScriptOf script stage built = (known : Knowledge) → IsScriptAt (script known
 -- the script of a statement leads to a stage and what the session then knows, out of memory on the way where it was
 abbrev pub LeadsTo : (Around → Script) → MessageStage → Bool → List ℕ → Knowledge → Type 0
 LeadsTo script next out_of_memory built known =
-    (more : List Statement) (outside : Outside) (said : Said) (es : List Entry) → IsFrom 1 (length said.bytes) es →
-    script (before more outside) said (with_short out_of_memory said.bytes es) ≡ goes_on next built known more outside said es
+    (around : Around) (outside : Outside) (said : Said) (es : List Entry) → IsFrom 1 (length said.bytes) es →
+    script around said (with_short out_of_memory said.bytes es) ≡ resumes next built known around outside said es
 
 -- a message, or what follows a reply, leads to a stage, what the session then knows, and the statements that are then left
 abbrev pub TurnsTo : (Outside → Script) → MessageStage → Bool → List ℕ → Knowledge → List Statement → Type 0
@@ -232,10 +261,10 @@ TurnsTo script next out_of_memory built known more =
 -- An answer to a stage's call leads on, out of memory after it where the session was.
 abbrev pub Advances : MessageStage → Knowledge → Answer → MessageStage → Bool → List ℕ → Knowledge → Type 0
 Advances stage known answer next out_of_memory built after =
-    (c : Call) (unbuilt : List ℕ) (more : List Statement) (outside : Outside) (said : Said) (es : List Entry) (e : Event) →
+    (c : Call) (unbuilt : List ℕ) (around : Around) (outside : Outside) (said : Said) (es : List Entry) (e : Event) →
     wants stage known ≡ calls.Book c → IsFrom 1 (length said.bytes) es →
-    goes_on stage unbuilt known more outside said (entry_for answer e ∷ with_short out_of_memory said.bytes es)
-    ≡ goes_on next built after more outside (with_call said c) es
+    resumes stage unbuilt known around outside said (entry_for answer e ∷ with_short out_of_memory said.bytes es)
+    ≡ resumes next built after around outside (with_call said c) es
 
 -- What the session knows after an answer is what it knew before, and, after a look, perhaps the tables that it showed.
 abbrev pub IsKnownAfter : Knowledge → Answer → Knowledge → Type 0
@@ -255,9 +284,10 @@ answer_with plan_answers.Written = answers.Written
 
 -- the answers that need memory are left out, and those of a statement that runs or begins to
 abbrev pub IsPlain : MessageStage → Answer → Type 0
-IsPlain (stages.Looking statement block) (answers.Looked tables) = ⊥
-IsPlain (stages.Showing block) (answers.Shown n) = ⊥
-IsPlain (stages.Beginning plan) _ = ⊥
+IsPlain (stages.Looking statement description block) (answers.Looked tables) = ⊥
+IsPlain (stages.Refreshing block) (answers.Looked tables) = ⊥
+IsPlain (stages.Showing description block) (answers.Shown n) = ⊥
+IsPlain (stages.Beginning plan description) _ = ⊥
 IsPlain (stages.Running run p) _ = ⊥
 IsPlain _ _ = Unit {0}
 
@@ -269,31 +299,72 @@ IsRunning _ = ⊥
 
 -- no statement begins to run or runs
 abbrev pub IsNoStatement : MessageStage → Type 0
-IsNoStatement (stages.Beginning plan) = ⊥
+IsNoStatement (stages.Beginning plan description) = ⊥
 IsNoStatement (stages.Running run p) = ⊥
 IsNoStatement _ = Unit {0}
 
 -- neither a table nor a statement nor its plan is kept
 abbrev pub IsQuiet : MessageStage → Type 0
 IsQuiet (stages.Defining table block) = ⊥
-IsQuiet (stages.Looking statement block) = ⊥
-IsQuiet (stages.Beginning plan) = ⊥
+IsQuiet (stages.Looking statement description block) = ⊥
+IsQuiet (stages.Beginning plan description) = ⊥
 IsQuiet (stages.Running run p) = ⊥
 IsQuiet _ = Unit {0}
 
--- whether a message is under way
+-- whether a statement of a query message is under way, or the end of one, which is told
 abbrev pub is_busy : MessageStage → Bool
+is_busy (stages.Resting block) = false
+is_busy (stages.Skipping state) = false
 is_busy (stages.Over state) = false
+is_busy (stages.Refreshing block) = false
+is_busy (stages.Finishing told.Omitted) = false
 is_busy _ = true
 
--- a message is under way
+-- a statement of a query message is under way, or the end of one, which is told
 abbrev pub IsBusy : MessageStage → Type 0
+IsBusy (stages.Resting block) = ⊥
+IsBusy (stages.Skipping state) = ⊥
 IsBusy (stages.Over state) = ⊥
+IsBusy (stages.Refreshing block) = ⊥
+IsBusy (stages.Finishing told.Omitted) = ⊥
 IsBusy _ = Unit {0}
+
+-- whether what follows in the message is skipped
+abbrev pub is_skipping : MessageStage → Bool
+is_skipping (stages.Skipping state) = true
+is_skipping _ = false
+
+-- nothing is under way
+abbrev pub IsAtRest : MessageStage → Type 0
+IsAtRest (stages.Resting block) = Unit {0}
+IsAtRest (stages.Skipping state) = Unit {0}
+IsAtRest (stages.Over state) = Unit {0}
+IsAtRest _ = ⊥
+
+-- nothing is under way, in a message that isn't at its end
+abbrev pub IsBetween : MessageStage → Type 0
+IsBetween (stages.Resting block) = Unit {0}
+IsBetween (stages.Skipping state) = Unit {0}
+IsBetween _ = ⊥
+
+-- nothing is under way, and a statement may begin
+abbrev pub IsReady : MessageStage → Type 0
+IsReady (stages.Resting block) = Unit {0}
+IsReady (stages.Over state) = Unit {0}
+IsReady _ = ⊥
+
+-- whether a query message is under way, or at its end
+abbrev pub is_driven : MessageStage → Bool
+is_driven (stages.Over state) = true
+is_driven stage = is_busy stage
+
+-- a query message is under way, or at its end
+abbrev pub IsDriven : MessageStage → Type 0
+IsDriven stage = is_driven stage ≡ true
 
 -- A statement that begins or runs asks only for cells of the tables that are known, and reads before it writes.
 abbrev pub KnowsTables : MessageStage → List Table → Type 0
-KnowsTables (stages.Beginning plan) known = ReadsFirst (length known) (rest_of plan)
+KnowsTables (stages.Beginning plan description) known = ReadsFirst (length known) (rest_of plan)
 KnowsTables (stages.Running run p) known = ReadsFirst (length known) (rest_of run.plan)
 KnowsTables _ known = Unit {0}
 
@@ -316,8 +387,8 @@ length_of (messages.Unread code) = 0
 -- be told.
 abbrev pub IsSoundStage : MessageStage → Type 0
 IsSoundStage (stages.Defining table block) = IsSound table
-IsSoundStage (stages.Looking statement block) = HasPlainNames statement
-IsSoundStage (stages.Beginning plan) = EndsIn CanBeTold (rest_of plan)
+IsSoundStage (stages.Looking statement description block) = HasPlainNames statement
+IsSoundStage (stages.Beginning plan description) = EndsIn CanBeTold (rest_of plan)
 IsSoundStage (stages.Running run p) = EndsIn CanBeTold (rest_of run.plan)
 IsSoundStage _ = Unit {0}
 
@@ -325,19 +396,22 @@ IsSoundStage _ = Unit {0}
 
 -- how much work a stage leaves until the message is done, but for the demands of a running statement and for the statements after it
 abbrev pub work_at : MessageStage → ℕ
+work_at (stages.Resting block) = 2
+work_at (stages.Skipping state) = 1
 work_at (stages.Over state) = 0
 work_at (stages.Defining table block) = 4
-work_at (stages.Looking statement block) = 7
-work_at (stages.Beginning plan) = 6
+work_at (stages.Looking statement description block) = 7
+work_at (stages.Refreshing block) = 4
+work_at (stages.Beginning plan description) = 6
 work_at (stages.Running run p) = 5
 work_at (stages.Starting start) = 4
-work_at (stages.Showing block) = 4
+work_at (stages.Showing description block) = 4
 work_at (stages.Committing reply) = 4
 work_at (stages.RollingBack reply) = 4
 work_at (stages.Telling reply block) = 3
 work_at (stages.Undoing code p) = 3
 work_at (stages.Failing code state) = 2
-work_at stages.Finishing = 2
+work_at (stages.Finishing ready_for) = 2
 work_at (stages.Readying state) = 1
 
 -- how many demands of a running statement are left at most

@@ -23,6 +23,7 @@ use Rattle.statement_course.specs.declared.demand.Outcome.TheVariants as outcome
 use Rattle.statement_course.specs.Course.{Course, scan, touch, write, done}
 use Rattle.statement_course.specs.Statements.{course_of}
 use Rattle.outcome_replies.specs.Replies.{outcome_reply}
+use Rattle.outcome_replies.specs.declared.description.RowDescription.{RowDescription}
 use Rattle.block_machine.specs.Calls as calls
 use Rattle.block_machine.specs.Knowledge.{Knowledge, with_tables, with_level}
 use Rattle.block_machine.specs.Settings.{is_own, history_name, level_name, chosen_level, value_of}
@@ -114,72 +115,81 @@ defines (Ok table) block known around =
 -- ---- SELECT, INSERT, UPDATE, DELETE
 
 -- what a statement comes to
-abbrev pub concludes : Outcome → Block → Knowledge → Around → Script
-concludes (outcomes.Failed code) block known around = fails code block known around
-concludes outcome block known around = succeeds (outcome_reply outcome) block known around
+abbrev pub concludes : RowDescription → Outcome → Block → Knowledge → Around → Script
+concludes description (outcomes.Failed code) block known around = fails code block known around
+concludes description outcome block known around = succeeds (outcome_reply description outcome) block known around
 
 -- A statement in its transaction asks for what its course demands, one call for each demand. The session itself may be out of memory
 -- after each answer.
-abbrev pub runs : Course → Block → Knowledge → Around → Script
-runs (scan table next) block known around =
+abbrev pub runs : RowDescription → Course → Block → Knowledge → Around → Script
+runs description (scan table next) block known around =
     ask (calls.Scan table) (λ a.
-    on_listed a (λ keys. unless_short_in block known around (runs (next keys) block known around)) (declined block known around))
-runs (touch cell next) block known around =
+    on_listed a (λ keys. unless_short_in block known around (runs description (next keys) block known around)) (declined block known around))
+runs description (touch cell next) block known around =
     ask (calls.Touch cell) (λ a.
-    on_found a (λ value. unless_short_in block known around (runs (next value) block known around)) (declined block known around))
-runs (write cell value next) block known around =
+    on_found a (λ value. unless_short_in block known around (runs description (next value) block known around)) (declined block known around))
+runs description (write cell value next) block known around =
     ask (calls.Write cell value) (λ a.
-    on_written a (unless_short_in block known around (runs next block known around)) (declined block known around))
-runs (done outcome) block known around = concludes outcome block known around
+    on_written a (unless_short_in block known around (runs description next block known around)) (declined block known around))
+runs description (done outcome) block known around = concludes description outcome block known around
 
 -- the same after an answer, where the session may be out of memory
-abbrev pub continues : Course → Block → Knowledge → Around → Script
-continues c block known around = unless_short_in block known around (runs c block known around)
+abbrev pub continues : RowDescription → Course → Block → Knowledge → Around → Script
+continues description c block known around = unless_short_in block known around (runs description c block known around)
 
 -- A statement that runs: an implicit block begins its transaction, at the session's level, where none is pending.
-abbrev pub begins : Course → Block → Knowledge → Around → Script
-begins c (Implicit false) known around =
-    ask (calls.Begin known.level) (λ a. on_begun a (continues c (Implicit true) known around) (declined (Implicit false) known around))
-begins c (Implicit true) known around = runs c (Implicit true) known around
-begins c Regular known around = runs c Regular known around
-begins c Failed known around = fails states.S25P02 Failed known around
+abbrev pub begins : RowDescription → Course → Block → Knowledge → Around → Script
+begins description c (Implicit false) known around =
+    ask (calls.Begin known.level) (λ a. on_begun a (continues description c (Implicit true) known around) (declined (Implicit false) known around))
+begins description c (Implicit true) known around = runs description c (Implicit true) known around
+begins description c Regular known around = runs description c Regular known around
+begins description c Failed known around = fails states.S25P02 Failed known around
 
 -- a statement that has its types runs over the tables that are known
-abbrev pub judged : Result Typed → Block → Knowledge → Around → Script
-judged (Ok t) block known around = begins (course_of known.tables t) block known around
-judged (Err code) block known around = fails code block known around
+abbrev pub judged : RowDescription → Result Typed → Block → Knowledge → Around → Script
+judged description (Ok t) block known around = begins description (course_of known.tables t) block known around
+judged description (Err code) block known around = fails code block known around
 
 -- A statement is typed over the tables that are known after its look. A session that is out of memory for its typing forgets what the
 -- look showed.
-abbrev pub typed_over : Statement → Block → Knowledge → List Table → Around → Script
-typed_over statement block known tables around =
+abbrev pub typed_over : RowDescription → Statement → Block → Knowledge → List Table → Around → Script
+typed_over description statement block known tables around =
     unless_short_in block known around
-    (judged (typed (known.tables ++ tables) statement) block (with_tables known tables) around)
+    (judged description (typed (known.tables ++ tables) statement) block (with_tables known tables) around)
 
 -- A statement looks at the tables: the session is shown those that it doesn't know.
-abbrev pub looks : Statement → Block → Knowledge → Around → Script
-looks statement block known around =
+abbrev pub looks : RowDescription → Statement → Block → Knowledge → Around → Script
+looks description statement block known around =
     ask (calls.Look (length known.tables)) (λ a.
-    on_looked a (λ tables. typed_over statement block known tables around) (declined block known around))
+    on_looked a (λ tables. typed_over description statement block known tables around) (declined block known around))
 
 -- the statement is kept meanwhile, and the session may be out of memory for it
-abbrev pub prepares : Statement → Block → Knowledge → Around → Script
-prepares statement block known around = unless_short_in block known around (looks statement block known around)
+abbrev pub prepares : RowDescription → Statement → Block → Knowledge → Around → Script
+prepares description statement block known around = unless_short_in block known around (looks description statement block known around)
 
 -- A SELECT without FROM is answered at once. It begins no transaction, and its course asks for nothing.
-abbrev pub at_once : Course → Block → Knowledge → Around → Script
-at_once (done outcome) block known around = concludes outcome block known around
-at_once _ block known around = lost
+abbrev pub at_once : RowDescription → Course → Block → Knowledge → Around → Script
+at_once description (done outcome) block known around = concludes description outcome block known around
+at_once description _ block known around = lost
 
-abbrev pub judged_at_once : Result Typed → Block → Knowledge → Around → Script
-judged_at_once (Ok t) block known around = at_once (course_of [] t) block known around
-judged_at_once (Err code) block known around = fails code block known around
+abbrev pub judged_at_once : RowDescription → Result Typed → Block → Knowledge → Around → Script
+judged_at_once description (Ok t) block known around = at_once description (course_of [] t) block known around
+judged_at_once description (Err code) block known around = fails code block known around
 
 -- a SELECT, given its FROM
-abbrev pub selects : List TableRef → Statement → Block → Knowledge → Around → Script
-selects [] statement block known around =
-    unless_short_in block known around (judged_at_once (typed [] statement) block known around)
-selects (entry ∷ more) statement block known around = prepares statement block known around
+abbrev pub selects : RowDescription → List TableRef → Statement → Block → Knowledge → Around → Script
+selects description [] statement block known around =
+    unless_short_in block known around (judged_at_once description (typed [] statement) block known around)
+selects description (entry ∷ more) statement block known around = prepares description statement block known around
+
+-- ---- a look of its own
+
+-- The tables that are known are brought up to date. Nothing is told where that succeeds; where the session is out of memory for the
+-- tables that it is shown, it forgets them.
+abbrev pub refreshes : Block → Knowledge → Around → Script
+refreshes block known around =
+    ask (calls.Look (length known.tables)) (λ a.
+    on_looked a (λ tables. unless_short_in block known around (around.succeeded block (with_tables known tables))) (declined block known around))
 
 -- ---- SET, SHOW
 
@@ -197,37 +207,38 @@ sets name values block known around =
     else succeeds set_reply block known around
 
 -- a setting that isn't there is 0A000
-abbrev pub shows_value : List ℕ → Option (List ℕ) → Block → Knowledge → Around → Script
-shows_value name None block known around = fails states.S0A000 block known around
-shows_value name (Some value) block known around = unless_short_in block known around (succeeds (show_reply name value) block known around)
+abbrev pub shows_value : RowDescription → List ℕ → Option (List ℕ) → Block → Knowledge → Around → Script
+shows_value description name None block known around = fails states.S0A000 block known around
+shows_value description name (Some value) block known around =
+    unless_short_in block known around (succeeds (show_reply description name value) block known around)
 
 -- how many events the history has is asked of the book
-abbrev pub shows_history : Block → Knowledge → Around → Script
-shows_history block known around =
+abbrev pub shows_history : RowDescription → Block → Knowledge → Around → Script
+shows_history description block known around =
     ask calls.Show (λ a.
-    on_shown a (λ n. unless_short_in block known around (succeeds (show_reply history_name (decimal n)) block known around))
+    on_shown a (λ n. unless_short_in block known around (succeeds (show_reply description history_name (decimal n)) block known around))
     (declined block known around))
 
-abbrev pub shows : List ℕ → Block → Knowledge → Around → Script
-shows name block known around =
-    if bytes_eq name history_name then shows_history block known around
-    else shows_value name (value_of known.level name) block known around
+abbrev pub shows : RowDescription → List ℕ → Block → Knowledge → Around → Script
+shows description name block known around =
+    if bytes_eq name history_name then shows_history description block known around
+    else shows_value description name (value_of known.level name) block known around
 
 -- ---- all of them
 
 -- a statement outside a failed block
-abbrev pub performs : Statement → Block → Knowledge → Around → Script
-performs (tree.Select select) block known around = selects select.from (tree.Select select) block known around
-performs (tree.Insert insert) block known around = prepares (tree.Insert insert) block known around
-performs (tree.Update update) block known around = prepares (tree.Update update) block known around
-performs (tree.Delete delete) block known around = prepares (tree.Delete delete) block known around
-performs (tree.Create create) block known around = unless_short_in block known around (defines (built create) block known around)
-performs (tree.Begin start) block known around = starts start block known around
-performs tree.Commit block known around = commits block known around
-performs tree.Rollback block known around = rolls_back block known around
-performs (tree.Set name values) block known around = sets name values block known around
-performs tree.SetModes block known around = succeeds set_reply block known around
-performs (tree.Show name) block known around = shows name block known around
+abbrev pub performs : RowDescription → Statement → Block → Knowledge → Around → Script
+performs description (tree.Select select) block known around = selects description select.from (tree.Select select) block known around
+performs description (tree.Insert insert) block known around = prepares description (tree.Insert insert) block known around
+performs description (tree.Update update) block known around = prepares description (tree.Update update) block known around
+performs description (tree.Delete delete) block known around = prepares description (tree.Delete delete) block known around
+performs description (tree.Create create) block known around = unless_short_in block known around (defines (built create) block known around)
+performs description (tree.Begin start) block known around = starts start block known around
+performs description tree.Commit block known around = commits block known around
+performs description tree.Rollback block known around = rolls_back block known around
+performs description (tree.Set name values) block known around = sets name values block known around
+performs description tree.SetModes block known around = succeeds set_reply block known around
+performs description (tree.Show name) block known around = shows description name block known around
 
 -- a failed block takes its end alone
 abbrev pub in_failed : Statement → Knowledge → Around → Script
@@ -235,8 +246,8 @@ in_failed tree.Commit known around = commits Failed known around
 in_failed tree.Rollback known around = rolls_back Failed known around
 in_failed _ known around = fails states.S25P02 Failed known around
 
--- a statement, in the block in which it stands
-abbrev pub told_of : Statement → Block → Knowledge → Around → Script
-told_of statement (Implicit pending) known around = performs statement (Implicit pending) known around
-told_of statement Regular known around = performs statement Regular known around
-told_of statement Failed known around = in_failed statement known around
+-- A statement, in the block in which it stands; whether the reply of a SELECT or a SHOW is told with its RowDescription.
+abbrev pub told_of : RowDescription → Statement → Block → Knowledge → Around → Script
+told_of description statement (Implicit pending) known around = performs description statement (Implicit pending) known around
+told_of description statement Regular known around = performs description statement Regular known around
+told_of description statement Failed known around = in_failed statement known around

@@ -1,7 +1,6 @@
 // One statement as it begins.
 ghost use Rattle.std.specs.Prelude.{◌≡◌, ℕ, ◌+◌, ◌*◌, ◌<◌, ◌≤◌, List, [], length, All, true, false, Ok, IfOk, IfSome, IsNone};
 ghost use Rattle.std.specs.Fmt.{decimal};
-ghost use Rattle.std.specs.Vec.Iter.{into_iter_items};
 ghost use Rattle.sql_tree.specs.declared.statement.Statement.{Statement as Tree};
 ghost use Rattle.sql_tree.specs.declared.table.Table.{Table as Defined};
 ghost use Rattle.typing_rules.specs.Building.{built as table_built};
@@ -17,11 +16,10 @@ ghost use Rattle.block_machine.specs.Script.{Said, Entry};
 ghost use Rattle.block_machine.specs.Replies.{show_reply};
 ghost use Rattle.block_machine.specs.Settings.{IsShown, history_name, value_of};
 ghost use Rattle.block_machine.specs.Statements.{Around, owed_in, succeeds, concludes, defines, prepares, at_once, judged_at_once, sets, sets_level, shows, shows_value, performs, told_of};
-ghost use Rattle.block_machine.specs.Messages.{statements};
-ghost use Rattle.block_machine.specs.Stages.{IsScriptAt, IsScriptOf, LeadsTo, TurnsTo, Advances, IsSameButLevel, IsQuiet, IsBusy, IsRunning, IsSoundStage, IsSoundStatement, KnowsTables, NoBuilt, HasReply, owed_at, work_at};
+ghost use Rattle.block_machine.specs.Stages.{IsScriptAt, IsScriptOf, LeadsTo, Advances, IsSameButLevel, IsQuiet, IsBusy, IsRunning, IsSoundStage, IsSoundStatement, KnowsTables, NoBuilt, HasReply, owed_at, work_at};
 
 use crate::block::Block;
-use crate::blocks::{commit, finish, refuse, roll_back, start};
+use crate::blocks::{commit, refuse, roll_back, start};
 use crate::courses::conclude;
 use crate::kept::Kept;
 use crate::known::Known;
@@ -33,11 +31,11 @@ use crate::step::{MessageStep, at_rest, fail, or_short, tell};
 use cell_base::{Items, Level, Memory, SqlFault, SqlState, Text};
 use cell_compile::Plan;
 use itoa::Buffer;
+use outcome_replies::RowDescription;
 use sql_tree::{CreateTable, Statement, Typed};
 use sql_types::typed;
 use statement_course::Demand;
 use std::alloc::Global;
-use std::vec::IntoIter;
 use table_schema::build;
 
 // The stage of a CREATE TABLE.
@@ -63,12 +61,13 @@ fn define(alloc: Global, create: &CreateTable, block: Block) -> Result<MessageSt
 fn conclude_demand(
     alloc: Global,
     demand: &Demand,
+    description: RowDescription,
     block: Block,
     built: &mut Vec<u8>,
 ) -> Result<MessageStage, Memory>
     requires { (outcome : CameTo) × (demand.now ≡ Demand.Reply outcome) × CanBeTold outcome }
     ensures goes { (outcome : CameTo) → demand.now ≡ Demand.Reply outcome →
-        IfOk result (λ stage. IsScriptOf (concludes outcome block) stage built.new.items) }
+        IfOk result (λ stage. IsScriptOf (concludes description outcome block) stage built.new.items) }
     ensures owed { IfOk result (λ stage. owed_at stage ≡ owed_in block) }
     ensures work { IfOk result (λ stage. work_at stage ≤ 3) }
     ensures quiet { IfOk result IsQuiet }
@@ -76,7 +75,7 @@ fn conclude_demand(
     ensures some { IfOk result (λ stage. HasReply stage built.new.items) }
 {
     match demand {
-        Demand::Reply(outcome) => conclude(alloc, outcome, block, built),
+        Demand::Reply(outcome) => conclude(alloc, outcome, description, block, built),
         _ => unreachable!(),
     }
 }
@@ -85,11 +84,12 @@ fn conclude_demand(
 fn answer_typed(
     alloc: Global,
     alone: Typed,
+    description: RowDescription,
     block: Block,
     built: &mut Vec<u8>,
 ) -> Result<MessageStage, Memory>
     requires { (statement : Tree) × HasPlainNames statement × (typed [] statement ≡ Ok alone) }
-    ensures goes { IfOk result (λ stage. IsScriptOf (at_once (course_of [] alone) block) stage built.new.items) }
+    ensures goes { IfOk result (λ stage. IsScriptOf (at_once description (course_of [] alone) block) stage built.new.items) }
     ensures owed { IfOk result (λ stage. owed_at stage ≡ owed_in block) }
     ensures work { IfOk result (λ stage. work_at stage ≤ 3) }
     ensures quiet { IfOk result IsQuiet }
@@ -97,18 +97,19 @@ fn answer_typed(
     ensures some { IfOk result (λ stage. HasReply stage built.new.items) }
 {
     let plan = Plan::new(alloc, alone, &[])?;
-    conclude_demand(alloc, plan.demand(), block, built)
+    conclude_demand(alloc, plan.demand(), description, block, built)
 }
 
 // The stage of a SELECT without FROM.
 fn answer_alone(
     alloc: Global,
     statement: &Statement,
+    description: RowDescription,
     block: Block,
     built: &mut Vec<u8>,
 ) -> Result<MessageStage, Memory>
     requires { HasPlainNames statement.now }
-    ensures goes { IfOk result (λ stage. IsScriptOf (judged_at_once (typed [] statement.now) block) stage built.new.items) }
+    ensures goes { IfOk result (λ stage. IsScriptOf (judged_at_once description (typed [] statement.now) block) stage built.new.items) }
     ensures owed { IfOk result (λ stage. owed_at stage ≡ owed_in block) }
     ensures work { IfOk result (λ stage. work_at stage ≤ 3) }
     ensures quiet { IfOk result IsQuiet }
@@ -116,7 +117,7 @@ fn answer_alone(
     ensures some { IfOk result (λ stage. HasReply stage built.new.items) }
 {
     match typed(alloc, statement, &[]) {
-        Ok(alone) => answer_typed(alloc, alone, block, built),
+        Ok(alone) => answer_typed(alloc, alone, description, block, built),
         Err(SqlFault::State(code)) => Ok(fail(code, block)),
         Err(SqlFault::Memory) => Err(Memory),
     }
@@ -167,19 +168,20 @@ fn tell_setting(
     alloc: Global,
     name: &str,
     value: &str,
+    description: RowDescription,
     block: Block,
     built: &mut Vec<u8>,
 ) -> Result<MessageStage, Memory>
     requires name { IsShown name.now }
     requires value { length value.now ≤ 64 }
-    ensures goes { IfOk result (λ stage. IsScriptOf (succeeds (show_reply name.now value.now) block) stage built.new.items) }
+    ensures goes { IfOk result (λ stage. IsScriptOf (succeeds (show_reply description name.now value.now) block) stage built.new.items) }
     ensures owed { IfOk result (λ stage. owed_at stage ≡ owed_in block) }
     ensures work { IfOk result (λ stage. work_at stage ≤ 3) }
     ensures quiet { IfOk result IsQuiet }
     ensures busy { IfOk result IsBusy }
     ensures some { IfOk result (λ stage. HasReply stage built.new.items) }
 {
-    *built = shown(alloc, name, value)?;
+    *built = shown(alloc, name, value, description)?;
     Ok(MessageStage::Telling(StatementReply::Built, block))
 }
 
@@ -188,11 +190,12 @@ fn show_value(
     alloc: Global,
     level: Level,
     name: &str,
+    description: RowDescription,
     block: Block,
     built: &mut Vec<u8>,
 ) -> MessageStep
     ensures goes { (known : Knowledge) →
-        LeadsTo (shows_value name.now (value_of level name.now) block known) result.stage result.out_of_memory built.new.items known }
+        LeadsTo (shows_value description name.now (value_of level name.now) block known) result.stage result.out_of_memory built.new.items known }
     ensures owed { owed_at result.stage ≡ owed_in block }
     ensures work { work_at result.stage ≤ 3 }
     ensures quiet { IsQuiet result.stage }
@@ -200,14 +203,24 @@ fn show_value(
     ensures some { HasReply result.stage built.new.items }
 {
     match value_of(level, name) {
-        Some(value) => or_short(tell_setting(alloc, name, value, block, built), block),
+        Some(value) => or_short(
+            tell_setting(alloc, name, value, description, block, built),
+            block,
+        ),
         None => at_rest(fail(SqlState::S0A000, block)),
     }
 }
 
 // The step of a SHOW.
-fn show(alloc: Global, known: &Known, name: &str, block: Block, built: &mut Vec<u8>) -> MessageStep
-    ensures goes { LeadsTo (shows name.now block (knowledge_in known.now))
+fn show(
+    alloc: Global,
+    known: &Known,
+    name: &str,
+    description: RowDescription,
+    block: Block,
+    built: &mut Vec<u8>,
+) -> MessageStep
+    ensures goes { LeadsTo (shows description name.now block (knowledge_in known.now))
         result.stage result.out_of_memory built.new.items (knowledge_in known.now) }
     ensures owed { owed_at result.stage ≡ owed_in block }
     ensures work { work_at result.stage ≤ 4 }
@@ -216,9 +229,9 @@ fn show(alloc: Global, known: &Known, name: &str, block: Block, built: &mut Vec<
     ensures some { HasReply result.stage built.new.items }
 {
     if name == HISTORY {
-        at_rest(MessageStage::Showing(block))
+        at_rest(MessageStage::Showing(description, block))
     } else {
-        show_value(alloc, known.level, name, block, built)
+        show_value(alloc, known.level, name, description, block, built)
     }
 }
 
@@ -226,10 +239,11 @@ fn show(alloc: Global, known: &Known, name: &str, block: Block, built: &mut Vec<
 fn tell_history(
     alloc: Global,
     n: u32,
+    description: RowDescription,
     block: Block,
     built: &mut Vec<u8>,
 ) -> Result<MessageStage, Memory>
-    ensures goes { IfOk result (λ stage. IsScriptOf (succeeds (show_reply history_name (decimal n)) block) stage built.new.items) }
+    ensures goes { IfOk result (λ stage. IsScriptOf (succeeds (show_reply description history_name (decimal n)) block) stage built.new.items) }
     ensures owed { IfOk result (λ stage. owed_at stage ≡ owed_in block) }
     ensures work { IfOk result (λ stage. work_at stage ≤ 3) }
     ensures quiet { IfOk result IsQuiet }
@@ -237,37 +251,44 @@ fn tell_history(
     ensures some { IfOk result (λ stage. HasReply stage built.new.items) }
 {
     let mut buffer = Buffer::new();
-    tell_setting(alloc, HISTORY, buffer.format(n), block, built)
+    tell_setting(alloc, HISTORY, buffer.format(n), description, block, built)
 }
 
 /// The step of SHOW monkey.history after its number.
-pub fn show_history(alloc: Global, n: u32, block: Block, built: &mut Vec<u8>) -> MessageStep
+pub fn show_history(
+    alloc: Global,
+    n: u32,
+    description: RowDescription,
+    block: Block,
+    built: &mut Vec<u8>,
+) -> MessageStep
     ensures goes { (known : Knowledge) →
-        Advances (MessageStage.Showing block) known (Answer.Shown n) result.stage result.out_of_memory built.new.items known }
+        Advances (MessageStage.Showing description block) known (Answer.Shown n) result.stage result.out_of_memory built.new.items known }
     ensures owed { owed_at result.stage ≡ owed_in block }
     ensures work { work_at result.stage ≤ 3 }
     ensures quiet { IsQuiet result.stage }
     ensures busy { IsBusy result.stage }
     ensures some { HasReply result.stage built.new.items }
 {
-    or_short(tell_history(alloc, n, block, built), block)
+    or_short(tell_history(alloc, n, description, block, built), block)
 }
 
 // The step of a statement outside a failed block that doesn't look at the tables; none for one that does.
 fn act(
     alloc: Global,
     statement: &Statement,
+    description: RowDescription,
     block: Block,
     known: &mut Known,
     built: &mut Vec<u8>,
 ) -> Option<MessageStep>
     requires { IsSoundStatement statement.now }
-    ensures goes { IfSome result (λ step. LeadsTo (performs statement.now block (knowledge_in known.old))
+    ensures goes { IfSome result (λ step. LeadsTo (performs description statement.now block (knowledge_in known.old))
         step.stage step.out_of_memory built.new.items (knowledge_in known.new)) }
     ensures known { IsSameButLevel (knowledge_in known.old) (knowledge_in known.new) }
     ensures same { IsNone result → knowledge_in known.new ≡ knowledge_in known.old }
     ensures looks { IsNone result → (it : Knowledge) (around : Around) (said : Said) (es : List Entry) →
-        performs statement.now block it around said es ≡ prepares statement.now block it around said es }
+        performs description statement.now block it around said es ≡ prepares description statement.now block it around said es }
     ensures plain { IsNone result → HasPlainNames statement.now }
     ensures owed { IfSome result (λ step. owed_at step.stage ≡ owed_in block) }
     ensures work { IfSome result (λ step. work_at step.stage ≤ 4) }
@@ -279,7 +300,10 @@ fn act(
 {
     match statement {
         Statement::Select(select) => match select.from.as_slice() {
-            [] => Some(or_short(answer_alone(alloc, statement, block, built), block)),
+            [] => Some(or_short(
+                answer_alone(alloc, statement, description, block, built),
+                block,
+            )),
             [_, ..] => None,
         },
         Statement::Insert(_) | Statement::Update(_) | Statement::Delete(_) => None,
@@ -292,27 +316,33 @@ fn act(
             StatementReply::Fixed(Fixed::Set),
             block,
         ))),
-        Statement::Show(name) => Some(show(alloc, known, name.as_str(), block, built)),
+        Statement::Show(name) => Some(show(alloc, known, name.as_str(), description, block, built)),
     }
 }
 
 // The stage of a statement that looks at the tables.
-fn keep(alloc: Global, statement: Statement, block: Block) -> Result<MessageStage, Memory>
-    ensures { IfOk result (λ stage. stage ≡ MessageStage.Looking statement block) }
+fn keep(
+    alloc: Global,
+    statement: Statement,
+    description: RowDescription,
+    block: Block,
+) -> Result<MessageStage, Memory>
+    ensures { IfOk result (λ stage. stage ≡ MessageStage.Looking statement description block) }
 {
-    Ok(MessageStage::Looking(Kept::new(alloc, statement)?, block))
+    Ok(MessageStage::Looking(Kept::new(alloc, statement)?, description, block))
 }
 
 // The step of a statement outside a failed block.
 fn perform(
     alloc: Global,
     statement: Statement,
+    description: RowDescription,
     block: Block,
     known: &mut Known,
     built: &mut Vec<u8>,
 ) -> MessageStep
     requires { IsSoundStatement statement }
-    ensures goes { LeadsTo (performs statement block (knowledge_in known.old))
+    ensures goes { LeadsTo (performs description statement block (knowledge_in known.old))
         result.stage result.out_of_memory built.new.items (knowledge_in known.new) }
     ensures known { IsSameButLevel (knowledge_in known.old) (knowledge_in known.new) }
     ensures owed { owed_at result.stage ≡ owed_in block }
@@ -323,9 +353,9 @@ fn perform(
     ensures busy { IsBusy result.stage }
     ensures some { HasReply result.stage built.new.items }
 {
-    match act(alloc, &statement, block, known, built) {
+    match act(alloc, &statement, description, block, known, built) {
         Some(step) => step,
-        None => or_short(keep(alloc, statement, block), block),
+        None => or_short(keep(alloc, statement, description, block), block),
     }
 }
 
@@ -333,12 +363,13 @@ fn perform(
 pub fn take(
     alloc: Global,
     statement: Statement,
+    description: RowDescription,
     block: Block,
     known: &mut Known,
     built: &mut Vec<u8>,
 ) -> MessageStep
     requires { IsSoundStatement statement }
-    ensures goes { LeadsTo (told_of statement block (knowledge_in known.old))
+    ensures goes { LeadsTo (told_of description statement block (knowledge_in known.old))
         result.stage result.out_of_memory built.new.items (knowledge_in known.new) }
     ensures known { IsSameButLevel (knowledge_in known.old) (knowledge_in known.new) }
     ensures owed { owed_at result.stage ≡ owed_in block }
@@ -351,33 +382,13 @@ pub fn take(
 {
     match block {
         Block::Failed => at_rest(refuse(&statement)),
-        Block::Implicit(_) | Block::Regular => perform(alloc, statement, block, known, built),
-    }
-}
-
-/// The step to the next statement, or to the end of the message.
-pub fn next_statement(
-    alloc: Global,
-    rest: &mut IntoIter<Statement>,
-    block: Block,
-    known: &mut Known,
-    built: &mut Vec<u8>,
-) -> MessageStep
-    requires { All IsSoundStatement (into_iter_items rest.old) }
-    ensures goes { TurnsTo (statements (into_iter_items rest.old) block (knowledge_in known.old))
-        result.stage result.out_of_memory built.new.items (knowledge_in known.new) (into_iter_items rest.new) }
-    ensures known { IsSameButLevel (knowledge_in known.old) (knowledge_in known.new) }
-    ensures rest { All IsSoundStatement (into_iter_items rest.new) }
-    ensures owed { owed_at result.stage ≡ owed_in block }
-    ensures work { work_at result.stage + 8 * length (into_iter_items rest.new) < 3 + 8 * length (into_iter_items rest.old) }
-    ensures knows { (tables : List Defined) → KnowsTables result.stage tables }
-    ensures silent { IsRunning result.stage → ⊥ }
-    ensures sound { IsSoundStage result.stage }
-    ensures busy { IsBusy result.stage }
-    ensures some { HasReply result.stage built.new.items }
-{
-    match rest.next() {
-        Some(statement) => take(alloc, statement, block, known, built),
-        None => at_rest(finish(block)),
+        Block::Implicit(_) | Block::Regular => perform(
+            alloc,
+            statement,
+            description,
+            block,
+            known,
+            built,
+        ),
     }
 }

@@ -5,10 +5,10 @@ ghost use Rattle.block_machine.specs.Calls.{Call as Asked, IsWant};
 ghost use Rattle.block_machine.specs.Knowledge.{Knowledge};
 ghost use Rattle.block_machine.specs.Script.{ask};
 ghost use Rattle.block_machine.specs.Statements.{Around, fails, refused_with};
-ghost use Rattle.block_machine.specs.Stages.{block_of, Advances, FitsWant, IsPlain, IsQuiet, IsBusy, IsHolding, IsRunning, NoBuilt, wants, owed_at, owed_after, state_after_error, work_at, running_at};
+ghost use Rattle.block_machine.specs.Stages.{block_of, Advances, FitsWant, IsPlain, IsQuiet, IsAtRest, IsBusy, IsHolding, IsRunning, NoBuilt, wants, owed_at, owed_after, state_after_error, work_at, running_at};
 
 use crate::block::{Block, Pending};
-use crate::blocks::started;
+use crate::blocks::{finished, started};
 use crate::call::{Answer, Call};
 use crate::courses::refusal;
 use crate::reply::Fixed;
@@ -39,7 +39,7 @@ pub fn advance(stage: &MessageStage, answer: &Answer) -> MessageStage
         owed_at result ≡ owed_after c answer.now (owed_at stage.now) }
     ensures work { work_at result < work_at stage.now }
     ensures quiet { IsQuiet result }
-    ensures busy { IsBusy result }
+    ensures busy { IsBusy stage.now → IsBusy result }
     ensures constant { NoBuilt result }
 {
     match (stage, answer) {
@@ -51,8 +51,9 @@ pub fn advance(stage: &MessageStage, answer: &Answer) -> MessageStage
         }
         (
             MessageStage::Defining(_, block)
-            | MessageStage::Looking(_, block)
-            | MessageStage::Showing(block),
+            | MessageStage::Looking(_, _, block)
+            | MessageStage::Refreshing(block)
+            | MessageStage::Showing(_, block),
             Answer::Refused(why),
         ) => fail(refusal(why), *block),
         (MessageStage::Starting(flag), Answer::Begun(_)) => tell(started(*flag), Block::Regular),
@@ -71,9 +72,9 @@ pub fn advance(stage: &MessageStage, answer: &Answer) -> MessageStage
         (MessageStage::Undoing(code, pending), Answer::RolledBack) => {
             MessageStage::Failing(*code, failed(*pending))
         }
-        (MessageStage::Finishing, Answer::Committed) => MessageStage::Readying(
-            TransactionState::Idle,
-        ),
+        (MessageStage::Finishing(ready), Answer::Committed) => {
+            finished(*ready, TransactionState::Idle)
+        }
         _ => unreachable!(),
     }
 }
@@ -85,17 +86,21 @@ pub fn want_of(stage: &MessageStage, known: u32, level: Level) -> MessageWant
     ensures running { result ≡ MessageWant.Cells → IsRunning stage.now }
     ensures at_rest { (result ≡ MessageWant.Cells → ⊥) → running_at stage.now ≡ 0 }
     ensures over { result ≡ MessageWant.Nothing → IsBusy stage.now → ⊥ }
+    ensures idle { result ≡ MessageWant.Nothing → IsAtRest stage.now }
 {
     match stage {
-        MessageStage::Over(_) => MessageWant::Nothing,
+        MessageStage::Resting(_) | MessageStage::Skipping(_) | MessageStage::Over(_) =>
+            MessageWant::Nothing,
         MessageStage::Defining(_, _) => MessageWant::Define,
-        MessageStage::Looking(_, _) => MessageWant::Book(Call::Look(known)),
-        MessageStage::Beginning(_) | MessageStage::Starting(_) => MessageWant::Book(Call::Begin(
+        MessageStage::Looking(_, _, _) | MessageStage::Refreshing(_) => MessageWant::Book(
+            Call::Look(known),
+        ),
+        MessageStage::Beginning(_, _) | MessageStage::Starting(_) => MessageWant::Book(Call::Begin(
             level,
         )),
         MessageStage::Running(_, _) => MessageWant::Cells,
-        MessageStage::Showing(_) => MessageWant::Book(Call::Show),
-        MessageStage::Committing(_) | MessageStage::Finishing => MessageWant::Book(Call::Commit),
+        MessageStage::Showing(_, _) => MessageWant::Book(Call::Show),
+        MessageStage::Committing(_) | MessageStage::Finishing(_) => MessageWant::Book(Call::Commit),
         MessageStage::RollingBack(_) | MessageStage::Undoing(_, _) => MessageWant::Book(
             Call::Rollback,
         ),

@@ -1,18 +1,18 @@
 // The statements that begin and end blocks, and the end of a message.
 ghost use Rattle.std.specs.Prelude.{◌≡◌, ℕ, ◌≤◌, List, IfSome, IsNone};
-ghost use Rattle.sql_tree.specs.declared.statement.Statement.{Statement as Tree};
 ghost use Rattle.block_machine.specs.Knowledge.{Knowledge};
 ghost use Rattle.block_machine.specs.Script.{Said, Entry};
 ghost use Rattle.block_machine.specs.Replies.{fixed_reply, start_reply, needless_start_reply};
-ghost use Rattle.block_machine.specs.Statements.{owed_in, starts, commits, rolls_back, in_failed};
-ghost use Rattle.block_machine.specs.Messages.{Outside, owed_between, ends};
+ghost use Rattle.block_machine.specs.Statements.{Around, owed_in, starts, commits, rolls_back, in_failed};
+ghost use Rattle.block_machine.specs.Messages.{Outside, owed_between, finishes};
 ghost use Rattle.block_machine.specs.Messages as spec;
-ghost use Rattle.block_machine.specs.Stages.{IsScriptOf, IsQuiet, IsBusy, NoBuilt, owed_at, work_at, goes_on};
+ghost use Rattle.block_machine.specs.Stages.{IsScriptOf, IsAtRest, IsQuiet, IsBusy, NoBuilt, owed_at, work_at, resumes};
 ghost use Rattle.block_machine.specs.Stages as stages_spec;
 
 use crate::block::{Block, Owed, Pending};
+use crate::ending::ReadyForQuery;
 use crate::reply::Fixed;
-use crate::stage::MessageStage;
+use crate::stage::{ErrorState, MessageStage};
 use crate::step::{fail, tell};
 use cell_base::SqlState;
 use pg_framing::TransactionState;
@@ -135,20 +135,52 @@ pub fn refuse(statement: &Statement) -> MessageStage
     }
 }
 
+/// The stage in which a message is at its end, or in which its ReadyForQuery is held.
+pub fn finished(ready: ReadyForQuery, state: TransactionState) -> MessageStage
+    ensures goes { (built : List ℕ) (known : Knowledge) (around : Around) (outside : Outside) (said : Said) (es : List Entry) →
+        spec.finished ready state known outside said es ≡ resumes result built known around outside said es }
+    ensures owed { owed_at result ≡ owed_between state }
+    ensures work { work_at result ≤ 1 }
+    ensures quiet { IsQuiet result }
+    ensures told { ready ≡ ReadyForQuery.Told → IsBusy result }
+    ensures constant { NoBuilt result }
+{
+    match ready {
+        ReadyForQuery::Told => MessageStage::Readying(state),
+        ReadyForQuery::Omitted => MessageStage::Over(state),
+    }
+}
+
 /// The stage of the end of a message.
-pub fn finish(block: Block) -> MessageStage
-    ensures goes { (built : List ℕ) (known : Knowledge) (more : List Tree) (outside : Outside) (said : Said) (es : List Entry) →
-        ends block known outside said es ≡ goes_on result built known more outside said es }
+pub fn finish(ready: ReadyForQuery, block: Block) -> MessageStage
+    ensures goes { (built : List ℕ) (known : Knowledge) (around : Around) (outside : Outside) (said : Said) (es : List Entry) →
+        finishes ready block known outside said es ≡ resumes result built known around outside said es }
     ensures owed { owed_at result ≡ owed_in block }
     ensures work { work_at result ≤ 2 }
+    ensures closed { owed_in block ≡ Owed.Close → work_at result ≤ 1 }
     ensures quiet { IsQuiet result }
-    ensures busy { IsBusy result }
+    ensures told { ready ≡ ReadyForQuery.Told → IsBusy result }
     ensures constant { NoBuilt result }
 {
     match block {
-        Block::Implicit(false) => MessageStage::Readying(TransactionState::Idle),
-        Block::Implicit(true) => MessageStage::Finishing,
-        Block::Regular => MessageStage::Readying(TransactionState::Block),
-        Block::Failed => MessageStage::Readying(TransactionState::Failed),
+        Block::Implicit(false) => finished(ready, TransactionState::Idle),
+        Block::Implicit(true) => MessageStage::Finishing(ready),
+        Block::Regular => finished(ready, TransactionState::Block),
+        Block::Failed => finished(ready, TransactionState::Failed),
+    }
+}
+
+/// The block in which the next statement stands, where nothing is under way.
+pub fn block_in(stage: &MessageStage) -> Block
+    requires { IsAtRest stage.now }
+    ensures block { result ≡ stages_spec.block_in stage.now }
+    ensures owed { owed_in result ≡ owed_at stage.now }
+{
+    match stage {
+        MessageStage::Resting(block) => *block,
+        MessageStage::Skipping(ErrorState::Idle) => Block::Implicit(false),
+        MessageStage::Skipping(ErrorState::Failed) => Block::Failed,
+        MessageStage::Over(state) => block_at(*state),
+        _ => unreachable!(),
     }
 }

@@ -31,7 +31,7 @@ use crate::step::{MessageStep, at_rest, fail, or_short, short};
 use cell_base::{Items, Memory, SqlFault, SqlState};
 use cell_compile::Plan;
 use history_core::BookFault;
-use outcome_replies::reply_of;
+use outcome_replies::{RowDescription, reply_of};
 use sql_tree::{Statement, Table, Typed};
 use sql_types::typed;
 use statement_course::{Demand, Outcome, PlanAnswer};
@@ -51,11 +51,12 @@ pub fn refusal(why: &BookFault) -> SqlState
 pub fn conclude(
     alloc: Global,
     outcome: &Outcome,
+    description: RowDescription,
     block: Block,
     built: &mut Vec<u8>,
 ) -> Result<MessageStage, Memory>
     requires { CanBeTold outcome.now }
-    ensures goes { IfOk result (λ stage. IsScriptOf (concludes outcome.now block) stage built.new.items) }
+    ensures goes { IfOk result (λ stage. IsScriptOf (concludes description outcome.now block) stage built.new.items) }
     ensures owed { IfOk result (λ stage. owed_at stage ≡ owed_in block) }
     ensures work { IfOk result (λ stage. work_at stage ≤ 3) }
     ensures quiet { IfOk result IsQuiet }
@@ -65,7 +66,7 @@ pub fn conclude(
     if let Outcome::Failed(code) = outcome {
         return Ok(fail(*code, block));
     }
-    *built = reply_of(alloc, outcome)?;
+    *built = reply_of(alloc, outcome, description)?;
     Ok(MessageStage::Telling(StatementReply::Built, block))
 }
 
@@ -73,11 +74,12 @@ pub fn conclude(
 pub fn settle(
     alloc: Global,
     plan: Kept<Plan>,
+    description: RowDescription,
     pending: Pending,
     built: &mut Vec<u8>,
 ) -> Result<MessageStage, Memory>
     requires { EndsIn CanBeTold (rest_of plan) }
-    ensures goes { IfOk result (λ stage. IsScriptOf (runs (rest_of plan) (stages_spec.block_of pending)) stage built.new.items) }
+    ensures goes { IfOk result (λ stage. IsScriptOf (runs description (rest_of plan) (stages_spec.block_of pending)) stage built.new.items) }
     ensures owed { IfOk result (λ stage. owed_at stage ≡ Owed.Rollback) }
     ensures work { IfOk result (λ stage. work_at stage ≤ 4 + running_at stage) }
     ensures left { IfOk result (λ stage. left_at stage ≤ 1 + left_of plan) }
@@ -87,9 +89,9 @@ pub fn settle(
     ensures some { IfOk result (λ stage. HasReply stage built.new.items) }
 {
     if let Demand::Reply(outcome) = plan.get().demand() {
-        return conclude(alloc, outcome, block_of(pending), built);
+        return conclude(alloc, outcome, description, block_of(pending), built);
     }
-    Ok(MessageStage::Running(Run { plan }, pending))
+    Ok(MessageStage::Running(Run { plan, description }, pending))
 }
 
 /// The stage of a statement whose course begins.
@@ -97,11 +99,12 @@ pub fn settle(
 pub fn begin_course(
     alloc: Global,
     plan: Kept<Plan>,
+    description: RowDescription,
     block: Block,
     built: &mut Vec<u8>,
 ) -> Result<MessageStage, Memory>
     requires { EndsIn CanBeTold (rest_of plan) }
-    ensures goes { IfOk result (λ stage. IsScriptOf (begins (rest_of plan) block) stage built.new.items) }
+    ensures goes { IfOk result (λ stage. IsScriptOf (begins description (rest_of plan) block) stage built.new.items) }
     ensures owed { IfOk result (λ stage. owed_at stage ≡ owed_in block) }
     ensures work { IfOk result (λ stage. work_at stage ≤ 6) }
     ensures knows { IfOk result (λ stage. (tables : List Defined) → ReadsFirst (length tables) (rest_of plan) → KnowsTables stage tables) }
@@ -110,9 +113,9 @@ pub fn begin_course(
     ensures some { IfOk result (λ stage. HasReply stage built.new.items) }
 {
     match block {
-        Block::Implicit(false) => Ok(MessageStage::Beginning(plan)),
-        Block::Implicit(true) => settle(alloc, plan, Pending::Implicit, built),
-        Block::Regular => settle(alloc, plan, Pending::Regular, built),
+        Block::Implicit(false) => Ok(MessageStage::Beginning(plan, description)),
+        Block::Implicit(true) => settle(alloc, plan, description, Pending::Implicit, built),
+        Block::Regular => settle(alloc, plan, description, Pending::Regular, built),
         Block::Failed => Ok(fail(SqlState::S25P02, Block::Failed)),
     }
 }
@@ -121,6 +124,7 @@ pub fn begin_course(
 fn go_on(
     alloc: Global,
     plan: Kept<Plan>,
+    description: RowDescription,
     pending: Pending,
     answer: PlanAnswer,
     built: &mut Vec<u8>,
@@ -128,7 +132,7 @@ fn go_on(
     requires fits { FitsDemand (rest_of plan) answer }
     requires told { EndsIn CanBeTold (rest_of plan) }
     ensures goes { IfOk result (λ stage.
-        IsScriptOf (runs (behind (rest_of plan) answer) (stages_spec.block_of pending)) stage built.new.items) }
+        IsScriptOf (runs description (behind (rest_of plan) answer) (stages_spec.block_of pending)) stage built.new.items) }
     ensures owed { IfOk result (λ stage. owed_at stage ≡ Owed.Rollback) }
     ensures work { IfOk result (λ stage. work_at stage ≤ 4 + running_at stage) }
     ensures left { IfOk result (λ stage. left_at stage ≤ left_of plan) }
@@ -140,7 +144,7 @@ fn go_on(
 {
     let mut plan = plan.into_box();
     match plan.answer(answer) {
-        Ok(()) => settle(alloc, Kept::from_box(plan), pending, built),
+        Ok(()) => settle(alloc, Kept::from_box(plan), description, pending, built),
         Err(Memory) => Err(Memory),
     }
 }
@@ -182,7 +186,8 @@ pub fn pursue(
 {
     match answer_to_demand(answer) {
         Ok(answer) => {
-            let stage = go_on(alloc, run.plan, pending, answer, built);
+            let Run { plan, description } = run;
+            let stage = go_on(alloc, plan, description, pending, answer, built);
             or_short(stage, block_of(pending))
         }
         Err(why) => at_rest(fail(refusal(&why), block_of(pending))),
@@ -193,12 +198,13 @@ pub fn pursue(
 pub fn start_course(
     alloc: Global,
     plan: Kept<Plan>,
+    description: RowDescription,
     answer: Answer,
     built: &mut Vec<u8>,
 ) -> MessageStep
     requires fits { (level : Level) × Fits (calls.Begin level) answer }
     requires told { EndsIn CanBeTold (rest_of plan) }
-    ensures goes { (known : Knowledge) → Advances (MessageStage.Beginning plan) known answer result.stage result.out_of_memory built.new.items known }
+    ensures goes { (known : Knowledge) → Advances (MessageStage.Beginning plan description) known answer result.stage result.out_of_memory built.new.items known }
     ensures owed { (level : Level) → owed_at result.stage ≡ owed_after (calls.Begin level) answer Owed.Close }
     ensures work { work_at result.stage ≤ 4 + running_at result.stage }
     ensures knows { (tables : List Defined) → ReadsFirst (length tables) (rest_of plan) → KnowsTables result.stage tables }
@@ -208,7 +214,7 @@ pub fn start_course(
 {
     match answer {
         Answer::Begun(_) => {
-            let stage = settle(alloc, plan, Pending::Implicit, built);
+            let stage = settle(alloc, plan, description, Pending::Implicit, built);
             or_short(stage, Block::Implicit(true))
         }
         Answer::Refused(why) => at_rest(fail(refusal(&why), Block::Implicit(false))),
@@ -229,6 +235,7 @@ fn planned(alloc: Global, typed: Typed, tables: &[Table]) -> Result<Kept<Plan>, 
 fn judge(
     alloc: Global,
     statement: &Statement,
+    description: RowDescription,
     block: Block,
     known: &Known,
     built: &mut Vec<u8>,
@@ -237,7 +244,7 @@ fn judge(
     requires tables { All IsSound known.now.tables.items }
     requires plain { HasPlainNames statement.now }
     ensures goes { IfOk result (λ stage.
-        IsScriptAt (judged (typed known.now.tables.items statement.now) block (knowledge_in known.now))
+        IsScriptAt (judged description (typed known.now.tables.items statement.now) block (knowledge_in known.now))
         stage built.new.items (knowledge_in known.now)) }
     ensures owed { IfOk result (λ stage. owed_at stage ≡ owed_in block) }
     ensures work { IfOk result (λ stage. work_at stage ≤ 6) }
@@ -250,7 +257,7 @@ fn judge(
     match typed(alloc, statement, tables) {
         Ok(t) => {
             let plan = planned(alloc, t, tables)?;
-            begin_course(alloc, plan, block, built)
+            begin_course(alloc, plan, description, block, built)
         }
         Err(SqlFault::State(code)) => Ok(fail(code, block)),
         Err(SqlFault::Memory) => Err(Memory),
@@ -261,6 +268,7 @@ fn judge(
 pub fn look(
     alloc: Global,
     statement: &Statement,
+    description: RowDescription,
     block: Block,
     known: &mut Known,
     tables: Items<Table>,
@@ -270,7 +278,7 @@ pub fn look(
     requires sound { All IsSound known.old.tables.items }
     requires more { All IsSound tables }
     requires plain { HasPlainNames statement.now }
-    ensures goes { Advances (MessageStage.Looking statement.now block) (knowledge_in known.old) (Answer.Looked tables)
+    ensures goes { Advances (MessageStage.Looking statement.now description block) (knowledge_in known.old) (Answer.Looked tables)
         result.stage result.out_of_memory built.new.items (knowledge_in known.new) }
     ensures known { IsKnownAfter (knowledge_in known.old) (Answer.Looked tables) (knowledge_in known.new) }
     ensures few { length known.new.tables.items < 2 ^ 32 }
@@ -287,11 +295,33 @@ pub fn look(
     if known.tables.append(&mut tables).is_err() {
         return short(block);
     }
-    match judge(alloc, statement, block, known, built) {
+    match judge(alloc, statement, description, block, known, built) {
         Ok(stage) => at_rest(stage),
         Err(Memory) => {
             known.tables.truncate(before);
             short(block)
         }
     }
+}
+
+/// The step of a look of its own, to which the session was shown the tables that it didn't know. Out of memory it forgets them.
+pub fn refresh(block: Block, known: &mut Known, tables: Items<Table>) -> MessageStep
+    requires few { length known.old.tables.items + length tables < 2 ^ 32 }
+    requires sound { All IsSound known.old.tables.items }
+    requires more { All IsSound tables }
+    ensures goes { (built : List ℕ) → Advances (MessageStage.Refreshing block) (knowledge_in known.old) (Answer.Looked tables)
+        result.stage result.out_of_memory built (knowledge_in known.new) }
+    ensures known { IsKnownAfter (knowledge_in known.old) (Answer.Looked tables) (knowledge_in known.new) }
+    ensures few { length known.new.tables.items < 2 ^ 32 }
+    ensures tables { All IsSound known.new.tables.items }
+    ensures owed { owed_at result.stage ≡ owed_in block }
+    ensures work { work_at result.stage ≤ 3 }
+    ensures quiet { IsQuiet result.stage }
+    ensures some { (built : List ℕ) → HasReply result.stage built }
+{
+    let mut tables = tables.into_vec();
+    if known.tables.append(&mut tables).is_err() {
+        return short(block);
+    }
+    at_rest(MessageStage::Resting(block))
 }

@@ -1,10 +1,10 @@
 //! The statements of a session's query messages: one after another, in implicit, regular and failed blocks.
 //!
-//! A [`Runner`] takes a message (its statements, or the code with which it can't be read), asks for the calls of its statements,
-//! takes their answers, and hands out replies until the message is done. What a message asks for and is told stands in
-//! `specs/Statements` and `specs/Messages`, as scripts over what became of it; each step of the runner is one step of a script,
-//! whatever follows the message. What the session knows, as the tables that it was shown and the level of its transactions, is handed on
-//! through all of it.
+//! A [`Runner`] takes one statement after another, asks for their calls, takes the answers, and hands out replies. What a statement asks
+//! for and is told stands in `specs/Statements`, and the end of a message in `specs/Messages`, as scripts over what became of it; each step
+//! of the runner is one step of a script, whatever follows the statement. A [`MessageRunner`] takes a whole query message (its statements,
+//! or the code with which it can't be read), and drives a runner through it. What the session knows, as the tables that it was shown and the
+//! level of its transactions, is handed on through all of it.
 #![tactic(auto)]
 
 mod actions;
@@ -13,11 +13,14 @@ mod block;
 mod blocks;
 mod call;
 mod courses;
+mod driving;
 mod end;
+mod ending;
 mod errors;
 mod kept;
 mod known;
 mod message;
+mod message_runner;
 mod prepared;
 mod reading;
 mod ready;
@@ -30,11 +33,14 @@ mod step;
 mod turns;
 mod want;
 
-pub use block::Owed;
+pub use block::{Block, Owed};
 pub use blocks::owed_between;
 pub use call::{Answer, Call};
 pub use end::{End, Stop};
+pub use ending::ReadyForQuery;
 pub use message::Message;
+pub use message_runner::MessageRunner;
+pub use outcome_replies::RowDescription;
 pub use reading::read_message;
 pub use ready::ReadyReplies;
 pub use replies::error;

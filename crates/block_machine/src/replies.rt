@@ -1,10 +1,12 @@
 // The replies to the statements of a message as bytes.
-ghost use Rattle.std.specs.Prelude.{◌≡◌, ◌≤◌, length, IfOk};
+ghost use Rattle.std.specs.Prelude.{◌≡◌, ◌≤◌, ◌++◌, ◌∷◌, [], length, IfOk, OnOk};
+ghost use Rattle.outcome_replies.specs.Replies.{columns_reply};
 ghost use Rattle.cell_base.specs.Texts.{HasNoZero};
 ghost use Rattle.block_machine.specs.Settings.{IsShown};
 ghost use Rattle.block_machine.specs.Replies.{ready_reply, error_reply, empty_reply, done_reply, warned_reply, show_reply};
 
 use cell_base::{Memory, SqlState, SqlType, Text, TextFault, Value};
+use outcome_replies::RowDescription;
 use pg_framing::{
     Severity, TransactionState, append_command_complete, append_data_row,
     append_empty_query_response, append_error_response, append_notice_response,
@@ -90,17 +92,41 @@ fn column(alloc: Global, name: &str) -> Result<OutField, Memory>
     })
 }
 
-/// The reply to a SHOW: RowDescription with the name that was asked for, DataRow with the value, and CommandComplete.
+// The column of a SHOW, where it is told.
+fn append_column(
+    alloc: Global,
+    reply: &mut Vec<u8>,
+    name: &str,
+    description: RowDescription,
+) -> Result<(), Memory>
+    requires { IsShown name.now }
+    ensures { OnOk result (reply.new.items ≡ reply.old.items ++
+        columns_reply description (record { name = name.now; kind = SqlType.Text } ∷ [])) }
+{
+    match description {
+        RowDescription::Told => {
+            let field = column(alloc, name)?;
+            append_row_description(alloc, reply, &[field])
+        }
+        RowDescription::Omitted => Ok(()),
+    }
+}
+
+/// The reply to a SHOW: RowDescription with the name that was asked for, where it is told, DataRow with the value, and CommandComplete.
 #[tactic(auto, unfolding(crate::specs::Replies::show_reply))]
-pub fn shown(alloc: Global, name: &str, value: &str) -> Result<Vec<u8>, Memory>
+pub fn shown(
+    alloc: Global,
+    name: &str,
+    value: &str,
+    description: RowDescription,
+) -> Result<Vec<u8>, Memory>
     requires name { IsShown name.now }
     requires value { length value.now ≤ 64 }
-    ensures { IfOk result (λ reply. reply.items ≡ show_reply name.now value.now) }
+    ensures { IfOk result (λ reply. reply.items ≡ show_reply description name.now value.now) }
 {
-    let field = column(alloc, name)?;
     let value = text_of(alloc, value)?;
     let mut reply = Vec::new(alloc);
-    append_row_description(alloc, &mut reply, &[field])?;
+    append_column(alloc, &mut reply, name, description)?;
     append_data_row(alloc, &mut reply, &[Value::Text(value)])?;
     append_command_complete(alloc, &mut reply, b"SHOW")?;
     Ok(reply)

@@ -1,91 +1,23 @@
-// The steps of a message by what comes in: the message itself, an answer, or that a reply was sent.
-ghost use Rattle.std.specs.Prelude.{◌≡◌, ◌+◌, ◌*◌, ◌<◌, ◌≤◌, ◌^◌, List, length, All};
-ghost use Rattle.std.specs.Vec.Iter.{into_iter_items};
-ghost use Rattle.sql_tree.specs.declared.table.Table.{Table as Defined};
+// The steps of a statement, or of the end of a message, by what comes in: an answer, or that a reply was sent.
+ghost use Rattle.std.specs.Prelude.{◌≡◌, ℕ, ◌+◌, ◌<◌, ◌^◌, List, length, All};
 ghost use Rattle.sound_table.specs.Sound.{IsSound};
 ghost use Rattle.block_machine.specs.Calls as calls;
 ghost use Rattle.block_machine.specs.Calls.{Call as Asked};
-ghost use Rattle.block_machine.specs.Knowledge.{knowledge_in};
-ghost use Rattle.block_machine.specs.Statements.{owed_in};
-ghost use Rattle.block_machine.specs.Messages.{block_at as block_before, message as told, opens, owed_between};
-ghost use Rattle.block_machine.specs.Stages.{Advances, FitsWant, IsBusy, IsHolding, IsKnownAfter, IsSameButLevel, IsNoStatement, IsRunning, IsSoundMessage, IsSoundStage, IsSoundStatement, KnowsTables, HasReply, TurnsTo, after_reply, left_at, length_of, owed_after, owed_at, running_at, state_after_error, wants, work_at};
+ghost use Rattle.block_machine.specs.Knowledge.{Knowledge, knowledge_in};
+ghost use Rattle.block_machine.specs.Script.{Said, Entry};
+ghost use Rattle.block_machine.specs.Statements.{Around};
+ghost use Rattle.block_machine.specs.Messages.{Outside};
+ghost use Rattle.block_machine.specs.Stages.{Advances, FitsWant, IsAtRest, IsBusy, IsHolding, IsKnownAfter, IsNoStatement, IsQuiet, IsRunning, IsSoundStage, KnowsTables, HasReply, NoBuilt, left_at, owed_after, owed_at, resumes, running_at, wants, work_at};
+ghost use Rattle.block_machine.specs.Stages as stages_spec;
 
-use crate::actions::{next_statement, show_history, take};
+use crate::actions::show_history;
 use crate::advance::advance;
-use crate::block::{Block, Owed};
 use crate::call::Answer;
-use crate::courses::{look, pursue, start_course};
+use crate::courses::{look, pursue, refresh, start_course};
 use crate::known::Known;
-use crate::message::Message;
-use crate::reply::{Fixed, StatementReply};
-use crate::stage::{ErrorState, MessageStage};
-use crate::step::{MessageStep, at_rest, fail};
-use pg_framing::TransactionState;
-use sql_tree::Statement;
+use crate::stage::MessageStage;
+use crate::step::{MessageStep, at_rest};
 use std::alloc::Global;
-use std::vec::IntoIter;
-
-// The step to the first of these statements, or to the reply of none.
-fn open(
-    alloc: Global,
-    rest: &mut IntoIter<Statement>,
-    block: Block,
-    known: &mut Known,
-    built: &mut Vec<u8>,
-) -> MessageStep
-    requires { All IsSoundStatement (into_iter_items rest.old) }
-    ensures goes { TurnsTo (opens (into_iter_items rest.old) block (knowledge_in known.old))
-        result.stage result.out_of_memory built.new.items (knowledge_in known.new) (into_iter_items rest.new) }
-    ensures known { IsSameButLevel (knowledge_in known.old) (knowledge_in known.new) }
-    ensures rest { All IsSoundStatement (into_iter_items rest.new) }
-    ensures owed { owed_at result.stage ≡ owed_in block }
-    ensures work { work_at result.stage + 8 * length (into_iter_items rest.new) ≤ 3 + 8 * length (into_iter_items rest.old) }
-    ensures knows { (tables : List Defined) → KnowsTables result.stage tables }
-    ensures silent { IsRunning result.stage → ⊥ }
-    ensures sound { IsSoundStage result.stage }
-    ensures busy { IsBusy result.stage }
-    ensures some { HasReply result.stage built.new.items }
-{
-    match rest.next() {
-        Some(statement) => take(alloc, statement, block, known, built),
-        None => at_rest(MessageStage::Telling(StatementReply::Fixed(Fixed::Empty), block)),
-    }
-}
-
-/// The step to what a message asks for first.
-pub fn begin_message(
-    alloc: Global,
-    message: Message,
-    rest: &mut IntoIter<Statement>,
-    block: Block,
-    known: &mut Known,
-    built: &mut Vec<u8>,
-) -> MessageStep
-    requires { IsSoundMessage message }
-    ensures goes { (state : TransactionState) → block ≡ block_before state →
-        TurnsTo (told message state (knowledge_in known.old))
-        result.stage result.out_of_memory built.new.items (knowledge_in known.new) (into_iter_items rest.new) }
-    ensures known { IsSameButLevel (knowledge_in known.old) (knowledge_in known.new) }
-    ensures rest { All IsSoundStatement (into_iter_items rest.new) }
-    ensures owed { owed_at result.stage ≡ owed_in block }
-    ensures work { work_at result.stage + 8 * length (into_iter_items rest.new) ≤ 8 + 8 * length_of message }
-    ensures knows { (tables : List Defined) → KnowsTables result.stage tables }
-    ensures silent { IsRunning result.stage → ⊥ }
-    ensures sound { IsSoundStage result.stage }
-    ensures busy { IsBusy result.stage }
-    ensures some { HasReply result.stage built.new.items }
-{
-    match message {
-        Message::Unread(code) => {
-            *rest = Vec::new(alloc).into_iter();
-            at_rest(fail(code, block))
-        }
-        Message::Statements(statements) => {
-            *rest = statements.into_vec().into_iter();
-            open(alloc, rest, block, known, built)
-        }
-    }
-}
 
 // The step after the answer to a call that isn't a statement's own.
 fn answered_plain(
@@ -110,14 +42,25 @@ fn answered_plain(
     ensures work { work_at result.stage < work_at stage.now }
     ensures knows { KnowsTables result.stage known.new.tables.items }
     ensures sound { IsSoundStage result.stage }
-    ensures busy { IsBusy result.stage }
+    ensures busy { IsBusy stage.now → IsBusy result.stage }
     ensures some { HasReply result.stage built.new.items }
 {
     match (stage, answer) {
-        (MessageStage::Looking(statement, block), Answer::Looked(tables)) => {
-            look(alloc, statement.get(), *block, known, tables, built)
+        (MessageStage::Looking(statement, description, block), Answer::Looked(tables)) => {
+            look(
+                alloc,
+                statement.get(),
+                *description,
+                *block,
+                known,
+                tables,
+                built,
+            )
         }
-        (MessageStage::Showing(block), Answer::Shown(n)) => show_history(alloc, n, *block, built),
+        (MessageStage::Refreshing(block), Answer::Looked(tables)) => refresh(*block, known, tables),
+        (MessageStage::Showing(description, block), Answer::Shown(n)) => {
+            show_history(alloc, n, *description, *block, built)
+        }
         (stage, answer) => at_rest(advance(stage, &answer)),
     }
 }
@@ -145,53 +88,33 @@ pub fn answered(
     ensures left { IsRunning stage → left_at result.stage < left_at stage }
     ensures knows { KnowsTables stage known.old.tables.items → KnowsTables result.stage known.new.tables.items }
     ensures sound { IsSoundStage result.stage }
-    ensures busy { IsBusy result.stage }
+    ensures busy { IsBusy stage → IsBusy result.stage }
     ensures some { HasReply result.stage built.new.items }
 {
     match stage {
-        MessageStage::Beginning(plan) => start_course(alloc, plan, answer, built),
+        MessageStage::Beginning(plan, description) => {
+            start_course(alloc, plan, description, answer, built)
+        },
         MessageStage::Running(run, pending) => pursue(alloc, run, pending, answer, built),
         stage => answered_plain(alloc, &stage, known, built, answer),
     }
 }
 
-// The state of the session after a statement that failed.
-fn state_after(state: ErrorState) -> TransactionState
-    ensures state { result ≡ state_after_error state }
-    ensures owed { owed_between result ≡ Owed.Close }
-{
-    match state {
-        ErrorState::Idle => TransactionState::Idle,
-        ErrorState::Failed => TransactionState::Failed,
-    }
-}
-
-/// The step after a reply that was sent.
-pub fn next_step(
-    alloc: Global,
-    stage: &MessageStage,
-    rest: &mut IntoIter<Statement>,
-    known: &mut Known,
-    built: &mut Vec<u8>,
-) -> MessageStep
-    requires holding { IsHolding stage.now }
-    requires rest { All IsSoundStatement (into_iter_items rest.old) }
-    ensures goes { TurnsTo (after_reply stage.now (knowledge_in known.old) (into_iter_items rest.old))
-        result.stage result.out_of_memory built.new.items (knowledge_in known.new) (into_iter_items rest.new) }
-    ensures known { IsSameButLevel (knowledge_in known.old) (knowledge_in known.new) }
-    ensures rest { All IsSoundStatement (into_iter_items rest.new) }
-    ensures owed { owed_at result.stage ≡ owed_at stage.now }
-    ensures work { work_at result.stage + 8 * length (into_iter_items rest.new)
-        < work_at stage.now + 8 * length (into_iter_items rest.old) }
-    ensures knows { (tables : List Defined) → KnowsTables result.stage tables }
-    ensures silent { IsRunning result.stage → ⊥ }
-    ensures sound { IsSoundStage result.stage }
-    ensures some { HasReply result.stage built.new.items }
+/// The stage after a reply that was sent.
+pub fn after_sent(stage: &MessageStage) -> MessageStage
+    requires { IsHolding stage.now }
+    ensures goes { (built : List ℕ) (known : Knowledge) (around : Around) (outside : Outside) (said : Said) (es : List Entry) →
+        stages_spec.after_sent stage.now known around outside said es ≡ resumes result built known around outside said es }
+    ensures owed { owed_at result ≡ owed_at stage.now }
+    ensures work { work_at result < work_at stage.now }
+    ensures rest { IsAtRest result }
+    ensures quiet { IsQuiet result }
+    ensures constant { NoBuilt result }
 {
     match stage {
-        MessageStage::Telling(_, block) => next_statement(alloc, rest, *block, known, built),
-        MessageStage::Failing(_, state) => at_rest(MessageStage::Readying(state_after(*state))),
-        MessageStage::Readying(state) => at_rest(MessageStage::Over(*state)),
+        MessageStage::Telling(_, block) => MessageStage::Resting(*block),
+        MessageStage::Failing(_, state) => MessageStage::Skipping(*state),
+        MessageStage::Readying(state) => MessageStage::Over(*state),
         _ => unreachable!(),
     }
 }

@@ -2,8 +2,10 @@
 //! comes to something that fits messages.
 #![tactic(auto)]
 
+mod description;
 mod law;
 mod reply;
 
+pub use description::RowDescription;
 pub use law::outcomes_can_be_told;
 pub use reply::reply_of;

@@ -4,8 +4,9 @@ ghost use Rattle.std.specs.Fmt.{decimal};
 ghost use Rattle.cell_base.specs.Texts.{HasNoZero};
 ghost use Rattle.pg_framing.specs.Replies.{data_row, command_complete};
 ghost use Rattle.described_columns.specs.Described.{AreDescribed};
-ghost use Rattle.outcome_replies.specs.Replies.{outcome_reply, CanBeTold, IsShortRow};
+ghost use Rattle.outcome_replies.specs.Replies.{columns_reply, outcome_reply, CanBeTold, IsShortRow};
 
+use crate::description::RowDescription;
 use cell_base::{Items, Memory, Value};
 use itoa::Buffer;
 use pg_framing::{
@@ -40,28 +41,50 @@ fn append_count(alloc: Global, out: &mut Vec<u8>, word: &[u8], n: u64) -> Result
     append_command_complete(alloc, out, &tag)
 }
 
-// The columns of a result, its rows and how many they are.
+// The columns of a result, where they are told.
+fn append_columns(
+    alloc: Global,
+    out: &mut Vec<u8>,
+    fields: &[OutField],
+    description: RowDescription,
+) -> Result<(), Memory>
+    requires { AreDescribed fields.now }
+    ensures { OnOk result (out.new.items ≡ out.old.items ++ columns_reply description fields.now) }
+{
+    match description {
+        RowDescription::Told => append_row_description(alloc, out, fields),
+        RowDescription::Omitted => Ok(()),
+    }
+}
+
+// The columns of a result, where they are told, its rows and how many they are.
 #[tactic(auto, unfolding(crate::specs::Replies::outcome_reply))]
 fn append_result(
     alloc: Global,
     out: &mut Vec<u8>,
     fields: &[OutField],
     rows: &[Items<Value>],
+    description: RowDescription,
 ) -> Result<(), Memory>
     requires described { AreDescribed fields.now }
     requires short { All IsShortRow rows.now }
-    ensures { OnOk result (out.new.items ≡ out.old.items ++ outcome_reply (Outcome.Rows fields.now rows.now)) }
+    ensures { OnOk result (out.new.items ≡ out.old.items ++ outcome_reply description (Outcome.Rows fields.now rows.now)) }
 {
-    append_row_description(alloc, out, fields)?;
+    append_columns(alloc, out, fields, description)?;
     append_rows(alloc, out, rows)?;
     append_count(alloc, out, b"SELECT ", rows.len() as u64)
 }
 
 // The messages that tell what a statement came to.
 #[tactic(auto, unfolding(crate::specs::Replies::outcome_reply))]
-fn append_outcome(alloc: Global, out: &mut Vec<u8>, outcome: &Outcome) -> Result<(), Memory>
+fn append_outcome(
+    alloc: Global,
+    out: &mut Vec<u8>,
+    outcome: &Outcome,
+    description: RowDescription,
+) -> Result<(), Memory>
     requires { CanBeTold outcome.now }
-    ensures { OnOk result (out.new.items ≡ out.old.items ++ outcome_reply outcome.now) }
+    ensures { OnOk result (out.new.items ≡ out.old.items ++ outcome_reply description outcome.now) }
 {
     match outcome {
         Outcome::Rows(fields, rows) => append_result(
@@ -69,6 +92,7 @@ fn append_outcome(alloc: Global, out: &mut Vec<u8>, outcome: &Outcome) -> Result
             out,
             fields.as_slice(),
             rows.as_slice(),
+            description,
         ),
         Outcome::Inserted(n) => append_count(alloc, out, b"INSERT 0 ", *n as u64),
         Outcome::Updated(n) => append_count(alloc, out, b"UPDATE ", *n as u64),
@@ -77,12 +101,16 @@ fn append_outcome(alloc: Global, out: &mut Vec<u8>, outcome: &Outcome) -> Result
     }
 }
 
-/// The messages that tell what a statement came to.
-pub fn reply_of(alloc: Global, outcome: &Outcome) -> Result<Vec<u8>, Memory>
+/// The messages that tell what a statement came to, with or without the RowDescription of a SELECT.
+pub fn reply_of(
+    alloc: Global,
+    outcome: &Outcome,
+    description: RowDescription,
+) -> Result<Vec<u8>, Memory>
     requires { CanBeTold outcome.now }
-    ensures { IfOk result (λ reply. reply.items ≡ outcome_reply outcome.now) }
+    ensures { IfOk result (λ reply. reply.items ≡ outcome_reply description outcome.now) }
 {
     let mut reply = Vec::new(alloc);
-    append_outcome(alloc, &mut reply, outcome)?;
+    append_outcome(alloc, &mut reply, outcome, description)?;
     Ok(reply)
 }

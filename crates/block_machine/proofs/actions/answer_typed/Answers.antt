@@ -23,5 +23,5 @@ conclude_demand-requires c =
 pub returns-clause-goes : goal.returns-clause-goes
 returns-clause-goes c =
     let (outcome, is) = alone_done c.args.alone in
-    subst (λ (x : Course). IfOk c.conclude_demand.result (λ stage. IsScriptOf (at_once x c.args.block) stage c.conclude_demand.new.built.items)) (sym is)
+    subst (λ (x : Course). IfOk c.conclude_demand.result (λ stage. IsScriptOf (at_once c.args.description x c.args.block) stage c.conclude_demand.new.built.items)) (sym is)
     (c.conclude_demand.ensures.goes outcome (c.demand.ensures ∙ ap first_demand (c.in_ok-plan.ensures ∙ is)))

@@ -8,6 +8,6 @@ use Rattle.block_machine.proofs.actions.show_history.Goals as goal
 
 pub returns-clause-goes : goal.returns-clause-goes
 returns-clause-goes c = λ known.
-    show_advances c.args.n c.args.block c.or_short.result.stage c.or_short.result.out_of_memory c.tell_history.new.built.items known
-    (c.or_short.ensures.goes (succeeds (show_reply history_name (decimal c.args.n)) c.args.block known) c.tell_history.new.built.items known
-    (ok_at c.tell_history.result (succeeds (show_reply history_name (decimal c.args.n)) c.args.block) c.tell_history.new.built.items known c.tell_history.ensures.goes))
+    show_advances c.args.n c.args.description c.args.block c.or_short.result.stage c.or_short.result.out_of_memory c.tell_history.new.built.items known
+    (c.or_short.ensures.goes (succeeds (show_reply c.args.description history_name (decimal c.args.n)) c.args.block known) c.tell_history.new.built.items known
+    (ok_at c.tell_history.result (succeeds (show_reply c.args.description history_name (decimal c.args.n)) c.args.block) c.tell_history.new.built.items known c.tell_history.ensures.goes))

@@ -7,7 +7,7 @@ use Rattle.block_machine.proofs.actions.show_value.Goals as goal
 
 pub returns-in-Some-clause-goes : goal.returns-in-Some-clause-goes
 returns-in-Some-clause-goes c =
-    leads_value c.args.name.now c.in-Some.value.now (value_of c.args.level c.args.name.now) c.args.block c.tell_setting.result c.or_short.result.stage c.or_short.result.out_of_memory c.tell_setting.new.built.items
+    leads_value c.args.description c.args.name.now c.in-Some.value.now (value_of c.args.level c.args.name.now) c.args.block c.tell_setting.result c.or_short.result.stage c.or_short.result.out_of_memory c.tell_setting.new.built.items
     c.in-Some.ensures.some c.tell_setting.ensures.goes c.or_short.ensures.goes
 
 pub returns-in-Some-clause-work : goal.returns-in-Some-clause-work

@@ -14,7 +14,7 @@ returns-in-Beginning-clause-goes c =
 
 pub returns-in-Beginning-clause-owed : goal.returns-in-Beginning-clause-owed
 returns-in-Beginning-clause-owed c = λ k wanted.
-    begin_owed c.args.stage c.in-Beginning.plan (knowledge_in c.args.known.now) c.args.answer k (owed_at c.start_course.result.stage)
+    begin_owed c.args.stage c.in-Beginning.plan c.in-Beginning.description (knowledge_in c.args.known.now) c.args.answer k (owed_at c.start_course.result.stage)
     c.in-Beginning.is c.start_course.ensures.owed wanted
 
 pub returns-in-Running-clause-goes : goal.returns-in-Running-clause-goes

@@ -14,10 +14,10 @@ pub returns-in-Looking-Looked-clause-goes : goal.returns-in-Looking-Looked-claus
 returns-in-Looking-Looked-clause-goes c =
     subst (λ (x : MessageStage). Advances x (knowledge_in c.args.known.now) c.args.answer c.look.result.stage c.look.result.out_of_memory c.look.new.built.items
     (knowledge_in c.look.new.known)) (sym c.in-Looking-Looked.is-0)
-    (subst (λ (x : Answer). Advances (stages.Looking c.in-Looking-Looked.statement c.in-Looking-Looked.block) (knowledge_in c.args.known.now) x
+    (subst (λ (x : Answer). Advances (stages.Looking c.in-Looking-Looked.statement c.in-Looking-Looked.description c.in-Looking-Looked.block) (knowledge_in c.args.known.now) x
     c.look.result.stage c.look.result.out_of_memory c.look.new.built.items (knowledge_in c.look.new.known))
     (sym c.in-Looking-Looked.is-1)
-    (subst (λ (x : Statement). Advances (stages.Looking x c.in-Looking-Looked.block) (knowledge_in c.args.known.now)
+    (subst (λ (x : Statement). Advances (stages.Looking x c.in-Looking-Looked.description c.in-Looking-Looked.block) (knowledge_in c.args.known.now)
     (answers.Looked c.in-Looking-Looked.tables) c.look.result.stage c.look.result.out_of_memory c.look.new.built.items
     (knowledge_in c.look.new.known))
     c.get.ensures c.look.ensures.goes))
@@ -26,10 +26,19 @@ pub returns-in-Showing-Shown-clause-goes : goal.returns-in-Showing-Shown-clause-
 returns-in-Showing-Shown-clause-goes c =
     subst (λ (x : MessageStage). Advances x (knowledge_in c.args.known.now) c.args.answer c.show_history.result.stage c.show_history.result.out_of_memory
     c.show_history.new.built.items (knowledge_in c.args.known.now)) (sym c.in-Showing-Shown.is-0)
-    (subst (λ (x : Answer). Advances (stages.Showing c.in-Showing-Shown.block) (knowledge_in c.args.known.now) x c.show_history.result.stage
+    (subst (λ (x : Answer). Advances (stages.Showing c.in-Showing-Shown.description c.in-Showing-Shown.block) (knowledge_in c.args.known.now) x c.show_history.result.stage
     c.show_history.result.out_of_memory c.show_history.new.built.items (knowledge_in c.args.known.now))
     (sym c.in-Showing-Shown.is-1)
     (c.show_history.ensures.goes (knowledge_in c.args.known.now)))
+
+pub returns-in-Refreshing-Looked-clause-goes : goal.returns-in-Refreshing-Looked-clause-goes
+returns-in-Refreshing-Looked-clause-goes c =
+    subst (λ (x : MessageStage). Advances x (knowledge_in c.args.known.now) c.args.answer c.refresh.result.stage c.refresh.result.out_of_memory
+    c.args.built.now.items (knowledge_in c.refresh.new.known)) (sym c.in-Refreshing-Looked.is-0)
+    (subst (λ (x : Answer). Advances (stages.Refreshing c.in-Refreshing-Looked.block) (knowledge_in c.args.known.now) x
+    c.refresh.result.stage c.refresh.result.out_of_memory c.args.built.now.items (knowledge_in c.refresh.new.known))
+    (sym c.in-Refreshing-Looked.is-1)
+    (c.refresh.ensures.goes c.args.built.now.items))
 
 pub returns-in_default-clause-goes : goal.returns-in_default-clause-goes
 returns-in_default-clause-goes c =
