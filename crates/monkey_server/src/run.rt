@@ -11,8 +11,8 @@ use choice_stream::ListWords;
 use history_core::InitialState;
 use link_traits::{Host, HostFault, Link};
 use session_core::{End, Served, serve_link};
-use valid_writes::{SeatBook, Store};
 use std::alloc::Global;
+use valid_writes::{SeatBook, Store};
 
 const USAGE: &str =
     "usage: monkeydb pipe LEVEL WORDS | serve [OPTIONS] | check PATH | sim LEVEL SEED SESSIONS QUERIES\n";

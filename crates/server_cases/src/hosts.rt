@@ -9,8 +9,8 @@ use history_core::InitialState;
 use link_traits::{MemHost, MemLink, MemPlan, MemReturned, MemSink};
 use monkey_server::monkey_main;
 use session_core::serve_link;
-use valid_writes::Store;
 use std::alloc::Global;
+use valid_writes::Store;
 
 fn plan(alloc: Global, piece: u32) -> MemPlan
     ensures { result.piece ≡ piece }
@@ -43,15 +43,7 @@ fn host(alloc: Global, link: MemLink) -> Result<MemHost, Memory>
     let made = plan(alloc, 64);
     let nothing = Items::new(alloc);
     let fails = Items::new(alloc);
-    Ok(MemHost::new(
-        alloc,
-        Some(link),
-        nothing,
-        out,
-        fails,
-        opened,
-        made,
-    ))
+    Ok(MemHost::new(alloc, Some(link), nothing, out, fails, opened, made))
 }
 
 fn text(alloc: Global, bytes: &[u8]) -> Result<Text, Memory> {

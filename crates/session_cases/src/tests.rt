@@ -19,9 +19,9 @@ use choice_stream::ListWords;
 use history_core::{Event, InitialState};
 use link_traits::MemLink;
 use session_core::{End, Served, serve_link};
-use valid_writes::{SeatBook, Store};
 use std::alloc::{AllocError, Global};
 use std::test::Fail;
+use valid_writes::{SeatBook, Store};
 
 fn shown(alloc: Global, event: &Event) -> Result<String, AllocError> {
     let mut out = String::new(alloc);
