@@ -1,17 +1,15 @@
 -- Steps out of memory, and others.
-use Rattle.std.proofs.Common.{◌≡◌, ℕ, Bool, true, false, List, [], ◌∷◌, length, refl, ◌∙◌, ap, subst, Result, Ok, Err, IfOk}
+use Rattle.std.proofs.Common.{◌≡◌, ℕ, true, false, List, refl, ◌∙◌, Result, Ok, Err, IfOk}
 use Rattle.cell_base.specs.declared.memory.Memory.{Memory}
 use Rattle.cell_base.specs.declared.sql_state.SqlState.TheVariants as states
-use Rattle.sql_tree.specs.declared.statement.Statement.{Statement}
 use Rattle.block_machine.specs.declared.block.Block.{Block}
 use Rattle.block_machine.specs.declared.block.Pending.{Pending}
 use Rattle.block_machine.specs.declared.stage.Run.{Run}
 use Rattle.block_machine.specs.declared.stage.MessageStage.{MessageStage}
 use Rattle.block_machine.specs.declared.stage.MessageStage.TheVariants as stages
 use Rattle.block_machine.specs.Knowledge.{Knowledge}
-use Rattle.block_machine.specs.Script.{Script, Said, Entry}
-use Rattle.block_machine.specs.Statements.{Around, fails, unless_short_in, told_of}
-use Rattle.block_machine.specs.Messages.{Outside}
+use Rattle.block_machine.specs.Script.{Script}
+use Rattle.block_machine.specs.Statements.{Around, fails, unless_short_in}
 use Rattle.block_machine.specs.Stages.{IsScriptAt, IsScriptOf, LeadsTo, IsRunning}
 use Rattle.block_machine.proofs.Passes.{passes, takes}
 

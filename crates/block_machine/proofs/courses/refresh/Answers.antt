@@ -1,9 +1,9 @@
-use Rattle.std.proofs.Common.{◌≡◌, ◌++◌, length, All, sym, subst}
+use Rattle.std.proofs.Common.{◌≡◌, ◌++◌, All, sym, subst}
 use Rattle.std.specs.Prelude.{is_ok}
 use Rattle.std.proofs.lemmas.List.Elements.{All-append}
 use Rattle.sound_table.specs.Sound.{IsSound}
 use Rattle.block_machine.specs.declared.stage.MessageStage.TheVariants as stages
-use Rattle.block_machine.specs.Knowledge.{knowledge_in, with_tables}
+use Rattle.block_machine.specs.Knowledge.{knowledge_in}
 use Rattle.block_machine.proofs.Holding.{holding_some}
 use Rattle.block_machine.proofs.Pursuing.{appended, appended_not, at_rest_some, known_tables, refresh_goes, refresh_short, joined_tables}
 use Rattle.block_machine.proofs.courses.refresh.Goals as goal

@@ -1,4 +1,4 @@
-use Rattle.std.proofs.Common.{◌≡◌, ◌≤◌, ◌∙◌, sym, subst, arith, true, false}
+use Rattle.std.proofs.Common.{◌≡◌, ◌≤◌, ◌∙◌, sym, arith, true, false}
 use Rattle.std.specs.Vec.Iter.{into_iter_items}
 use Rattle.block_machine.specs.StatementRunners.{knowledge_of}
 use Rattle.block_machine.specs.Messages.{before}

@@ -1,4 +1,4 @@
-use Rattle.std.proofs.Common.{◌∙◌, refl}
+use Rattle.std.proofs.Common.{◌∙◌}
 use Rattle.std.specs.Vec.Iter.{into_iter_items}
 use Rattle.block_machine.specs.Messages.{before}
 use Rattle.block_machine.proofs.driving.go_on.Goals as goal
