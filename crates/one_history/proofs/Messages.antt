@@ -3,6 +3,7 @@ use Rattle.std.proofs.Common.{true, false, List, [], ◌∷◌}
 use Rattle.pg_framing.specs.declared.replies.TransactionState.{TransactionState}
 use Rattle.pg_framing.specs.declared.replies.TransactionState.TheVariants as ready
 use Rattle.sql_tree.specs.declared.statement.Statement.{Statement}
+use Rattle.outcome_replies.specs.declared.description.RowDescription.TheVariants as described
 use Rattle.block_machine.specs.declared.end.End.{End}
 use Rattle.block_machine.specs.Calls as calls
 use Rattle.block_machine.specs.Knowledge.{Knowledge}
@@ -48,7 +49,7 @@ statements E x y h (s ∷ more) block known =
       left = h.left;
       right = h.right;
     })
-    s block known
+    described.Told s block known
 
 -- before other statements, and before the end
 pub alike : (E : End → Type 0) → (x y : Outside) → Beside E x y → (more : List Statement) → Alike E (before more x) (before more y)

@@ -21,6 +21,7 @@ use Rattle.statement_course.specs.declared.demand.Outcome.TheVariants as outcome
 use Rattle.statement_course.specs.Course.{Course, scan, touch, write, done}
 use Rattle.statement_course.specs.Statements.{course_of}
 use Rattle.outcome_replies.specs.Replies.{outcome_reply}
+use Rattle.outcome_replies.specs.declared.description.RowDescription.{RowDescription}
 use Rattle.block_machine.specs.declared.end.End.{End}
 use Rattle.block_machine.specs.Calls as calls
 use Rattle.block_machine.specs.Knowledge.{Knowledge, with_tables, with_level}
@@ -113,78 +114,78 @@ defines E x y h (Ok table) block known = define_asks E x y h table block known
 
 -- ---- SELECT, INSERT, UPDATE, DELETE
 
-concludes : (E : End → Type 0) → (x y : Around) → Alike E x y → (outcome : Outcome) (block : Block) (known : Knowledge) →
-    Agree E (told.concludes outcome block known x) (told.concludes outcome block known y)
-concludes E x y h (outcomes.Failed code) block known = fails E x y h code block known
-concludes E x y h outcome block known = succeeds E x y h (outcome_reply outcome) block known
+concludes : (E : End → Type 0) → (x y : Around) → Alike E x y → (description : RowDescription) (outcome : Outcome) (block : Block) (known : Knowledge) →
+    Agree E (told.concludes description outcome block known x) (told.concludes description outcome block known y)
+concludes E x y h description (outcomes.Failed code) block known = fails E x y h code block known
+concludes E x y h description outcome block known = succeeds E x y h (outcome_reply description outcome) block known
 
-runs : (E : End → Type 0) → (x y : Around) → Alike E x y → (c : Course) (block : Block) (known : Knowledge) → Agree E (told.runs c block known x) (told.runs c block known y)
-runs E x y h (scan table next) block known =
+runs : (E : End → Type 0) → (x y : Around) → Alike E x y → (description : RowDescription) (c : Course) (block : Block) (known : Knowledge) → Agree E (told.runs description c block known x) (told.runs description c block known y)
+runs E x y h description (scan table next) block known =
     ask_agrees E (calls.Scan table) _ _
-    (λ a. listed_agrees E a _ _ _ _ (λ keys. at_rest E x y block known (told.runs (next keys) block known x) (told.runs (next keys) block known y) (runs E x y h (next keys) block known))
+    (λ a. listed_agrees E a _ _ _ _ (λ keys. at_rest E x y block known (told.runs description (next keys) block known x) (told.runs description (next keys) block known y) (runs E x y h description (next keys) block known))
     (declined E x y h block known))
-runs E x y h (touch cell next) block known =
+runs E x y h description (touch cell next) block known =
     ask_agrees E (calls.Touch cell) _ _
-    (λ a. found_agrees E a _ _ _ _ (λ value. at_rest E x y block known (told.runs (next value) block known x) (told.runs (next value) block known y) (runs E x y h (next value) block known))
+    (λ a. found_agrees E a _ _ _ _ (λ value. at_rest E x y block known (told.runs description (next value) block known x) (told.runs description (next value) block known y) (runs E x y h description (next value) block known))
     (declined E x y h block known))
-runs E x y h (write cell value next) block known =
+runs E x y h description (write cell value next) block known =
     ask_agrees E (calls.Write cell value) _ _
-    (λ a. written_agrees E a _ _ _ _ (at_rest E x y block known (told.runs next block known x) (told.runs next block known y) (runs E x y h next block known))
+    (λ a. written_agrees E a _ _ _ _ (at_rest E x y block known (told.runs description next block known x) (told.runs description next block known y) (runs E x y h description next block known))
     (declined E x y h block known))
-runs E x y h (done outcome) block known = concludes E x y h outcome block known
+runs E x y h description (done outcome) block known = concludes E x y h description outcome block known
 
-begins : (E : End → Type 0) → (x y : Around) → Alike E x y → (c : Course) (block : Block) (known : Knowledge) →
-    Agree E (told.begins c block known x) (told.begins c block known y)
-begins E x y h c (Implicit false) known =
+begins : (E : End → Type 0) → (x y : Around) → Alike E x y → (description : RowDescription) (c : Course) (block : Block) (known : Knowledge) →
+    Agree E (told.begins description c block known x) (told.begins description c block known y)
+begins E x y h description c (Implicit false) known =
     ask_agrees E (calls.Begin known.level) _ _
     (λ a. begun_agrees E a _ _ _ _
-    (at_rest E x y (Implicit true) known (told.runs c (Implicit true) known x) (told.runs c (Implicit true) known y) (runs E x y h c (Implicit true) known))
+    (at_rest E x y (Implicit true) known (told.runs description c (Implicit true) known x) (told.runs description c (Implicit true) known y) (runs E x y h description c (Implicit true) known))
     (declined E x y h (Implicit false) known))
-begins E x y h c (Implicit true) known = runs E x y h c (Implicit true) known
-begins E x y h c Regular known = runs E x y h c Regular known
-begins E x y h c Failed known = fails E x y h states.S25P02 Failed known
+begins E x y h description c (Implicit true) known = runs E x y h description c (Implicit true) known
+begins E x y h description c Regular known = runs E x y h description c Regular known
+begins E x y h description c Failed known = fails E x y h states.S25P02 Failed known
 
-judged : (E : End → Type 0) → (x y : Around) → Alike E x y → (t : Result Typed) (block : Block) (known : Knowledge) →
-    Agree E (told.judged t block known x) (told.judged t block known y)
-judged E x y h (Ok t) block known = begins E x y h (course_of known.tables t) block known
-judged E x y h (Err code) block known = fails E x y h code block known
+judged : (E : End → Type 0) → (x y : Around) → Alike E x y → (description : RowDescription) (t : Result Typed) (block : Block) (known : Knowledge) →
+    Agree E (told.judged description t block known x) (told.judged description t block known y)
+judged E x y h description (Ok t) block known = begins E x y h description (course_of known.tables t) block known
+judged E x y h description (Err code) block known = fails E x y h code block known
 
-typed_over : (E : End → Type 0) → (x y : Around) → Alike E x y → (statement : Statement) (block : Block) (known : Knowledge) (tables : List Table) →
-    Agree E (told.typed_over statement block known tables x) (told.typed_over statement block known tables y)
-typed_over E x y h statement block known tables =
-    at_rest E x y block known (told.judged (typed (known.tables ++ tables) statement) block (with_tables known tables) x)
-    (told.judged (typed (known.tables ++ tables) statement) block (with_tables known tables) y)
-    (judged E x y h (typed (known.tables ++ tables) statement) block (with_tables known tables))
+typed_over : (E : End → Type 0) → (x y : Around) → Alike E x y → (description : RowDescription) (statement : Statement) (block : Block) (known : Knowledge) (tables : List Table) →
+    Agree E (told.typed_over description statement block known tables x) (told.typed_over description statement block known tables y)
+typed_over E x y h description statement block known tables =
+    at_rest E x y block known (told.judged description (typed (known.tables ++ tables) statement) block (with_tables known tables) x)
+    (told.judged description (typed (known.tables ++ tables) statement) block (with_tables known tables) y)
+    (judged E x y h description (typed (known.tables ++ tables) statement) block (with_tables known tables))
 
-looks : (E : End → Type 0) → (x y : Around) → Alike E x y → (statement : Statement) (block : Block) (known : Knowledge) →
-    Agree E (told.looks statement block known x) (told.looks statement block known y)
-looks E x y h statement block known =
+looks : (E : End → Type 0) → (x y : Around) → Alike E x y → (description : RowDescription) (statement : Statement) (block : Block) (known : Knowledge) →
+    Agree E (told.looks description statement block known x) (told.looks description statement block known y)
+looks E x y h description statement block known =
     ask_agrees E (calls.Look (length known.tables)) _ _
-    (λ a. looked_agrees E a _ _ _ _ (λ tables. typed_over E x y h statement block known tables) (declined E x y h block known))
+    (λ a. looked_agrees E a _ _ _ _ (λ tables. typed_over E x y h description statement block known tables) (declined E x y h block known))
 
-prepares : (E : End → Type 0) → (x y : Around) → Alike E x y → (statement : Statement) (block : Block) (known : Knowledge) →
-    Agree E (told.prepares statement block known x) (told.prepares statement block known y)
-prepares E x y h statement block known =
-    at_rest E x y block known (told.looks statement block known x) (told.looks statement block known y) (looks E x y h statement block known)
+prepares : (E : End → Type 0) → (x y : Around) → Alike E x y → (description : RowDescription) (statement : Statement) (block : Block) (known : Knowledge) →
+    Agree E (told.prepares description statement block known x) (told.prepares description statement block known y)
+prepares E x y h description statement block known =
+    at_rest E x y block known (told.looks description statement block known x) (told.looks description statement block known y) (looks E x y h description statement block known)
 
-at_once : (E : End → Type 0) → (x y : Around) → Alike E x y → (c : Course) (block : Block) (known : Knowledge) →
-    Agree E (told.at_once c block known x) (told.at_once c block known y)
-at_once E x y h (done outcome) block known = concludes E x y h outcome block known
-at_once E x y h (scan table next) block known = (lost_agrees E)
-at_once E x y h (touch cell next) block known = (lost_agrees E)
-at_once E x y h (write cell value next) block known = (lost_agrees E)
+at_once : (E : End → Type 0) → (x y : Around) → Alike E x y → (description : RowDescription) (c : Course) (block : Block) (known : Knowledge) →
+    Agree E (told.at_once description c block known x) (told.at_once description c block known y)
+at_once E x y h description (done outcome) block known = concludes E x y h description outcome block known
+at_once E x y h description (scan table next) block known = (lost_agrees E)
+at_once E x y h description (touch cell next) block known = (lost_agrees E)
+at_once E x y h description (write cell value next) block known = (lost_agrees E)
 
-judged_at_once : (E : End → Type 0) → (x y : Around) → Alike E x y → (t : Result Typed) (block : Block) (known : Knowledge) →
-    Agree E (told.judged_at_once t block known x) (told.judged_at_once t block known y)
-judged_at_once E x y h (Ok t) block known = at_once E x y h (course_of [] t) block known
-judged_at_once E x y h (Err code) block known = fails E x y h code block known
+judged_at_once : (E : End → Type 0) → (x y : Around) → Alike E x y → (description : RowDescription) (t : Result Typed) (block : Block) (known : Knowledge) →
+    Agree E (told.judged_at_once description t block known x) (told.judged_at_once description t block known y)
+judged_at_once E x y h description (Ok t) block known = at_once E x y h description (course_of [] t) block known
+judged_at_once E x y h description (Err code) block known = fails E x y h code block known
 
-selects : (E : End → Type 0) → (x y : Around) → Alike E x y → (entries : List TableRef) (statement : Statement) (block : Block) (known : Knowledge) →
-    Agree E (told.selects entries statement block known x) (told.selects entries statement block known y)
-selects E x y h [] statement block known =
-    at_rest E x y block known (told.judged_at_once (typed [] statement) block known x) (told.judged_at_once (typed [] statement) block known y)
-    (judged_at_once E x y h (typed [] statement) block known)
-selects E x y h (entry ∷ more) statement block known = prepares E x y h statement block known
+selects : (E : End → Type 0) → (x y : Around) → Alike E x y → (description : RowDescription) (entries : List TableRef) (statement : Statement) (block : Block) (known : Knowledge) →
+    Agree E (told.selects description entries statement block known x) (told.selects description entries statement block known y)
+selects E x y h description [] statement block known =
+    at_rest E x y block known (told.judged_at_once description (typed [] statement) block known x) (told.judged_at_once description (typed [] statement) block known y)
+    (judged_at_once E x y h description (typed [] statement) block known)
+selects E x y h description (entry ∷ more) statement block known = prepares E x y h description statement block known
 
 -- ---- SET, SHOW
 
@@ -203,42 +204,42 @@ sets E x y h name values block known =
     either E (bytes_eq name level_name) _ _ _ _ (sets_level E x y h (chosen_level known.served values) block known)
     (either E (is_own name) _ _ _ _ (fails E x y h states.S0A000 block known) (succeeds E x y h set_reply block known))
 
-shows_value : (E : End → Type 0) → (x y : Around) → Alike E x y → (name : List ℕ) (value : Option (List ℕ)) (block : Block) (known : Knowledge) →
-    Agree E (told.shows_value name value block known x) (told.shows_value name value block known y)
-shows_value E x y h name None block known = fails E x y h states.S0A000 block known
-shows_value E x y h name (Some value) block known =
-    at_rest E x y block known (told.succeeds (show_reply name value) block known x) (told.succeeds (show_reply name value) block known y)
-    (succeeds E x y h (show_reply name value) block known)
+shows_value : (E : End → Type 0) → (x y : Around) → Alike E x y → (description : RowDescription) (name : List ℕ) (value : Option (List ℕ)) (block : Block) (known : Knowledge) →
+    Agree E (told.shows_value description name value block known x) (told.shows_value description name value block known y)
+shows_value E x y h description name None block known = fails E x y h states.S0A000 block known
+shows_value E x y h description name (Some value) block known =
+    at_rest E x y block known (told.succeeds (show_reply description name value) block known x) (told.succeeds (show_reply description name value) block known y)
+    (succeeds E x y h (show_reply description name value) block known)
 
-shows_history : (E : End → Type 0) → (x y : Around) → Alike E x y → (block : Block) (known : Knowledge) → Agree E (told.shows_history block known x) (told.shows_history block known y)
-shows_history E x y h block known =
+shows_history : (E : End → Type 0) → (x y : Around) → Alike E x y → (description : RowDescription) (block : Block) (known : Knowledge) → Agree E (told.shows_history description block known x) (told.shows_history description block known y)
+shows_history E x y h description block known =
     ask_agrees E calls.Show _ _
     (λ a. shown_agrees E a _ _ _ _
-    (λ n. at_rest E x y block known (told.succeeds (show_reply history_name (decimal n)) block known x)
-    (told.succeeds (show_reply history_name (decimal n)) block known y) (succeeds E x y h (show_reply history_name (decimal n)) block known))
+    (λ n. at_rest E x y block known (told.succeeds (show_reply description history_name (decimal n)) block known x)
+    (told.succeeds (show_reply description history_name (decimal n)) block known y) (succeeds E x y h (show_reply description history_name (decimal n)) block known))
     (declined E x y h block known))
 
-shows : (E : End → Type 0) → (x y : Around) → Alike E x y → (name : List ℕ) (block : Block) (known : Knowledge) → Agree E (told.shows name block known x) (told.shows name block known y)
-shows E x y h name block known =
-    either E (bytes_eq name history_name) _ _ _ _ (shows_history E x y h block known)
-    (shows_value E x y h name (value_of known.level name) block known)
+shows : (E : End → Type 0) → (x y : Around) → Alike E x y → (description : RowDescription) (name : List ℕ) (block : Block) (known : Knowledge) → Agree E (told.shows description name block known x) (told.shows description name block known y)
+shows E x y h description name block known =
+    either E (bytes_eq name history_name) _ _ _ _ (shows_history E x y h description block known)
+    (shows_value E x y h description name (value_of known.level name) block known)
 
 -- ---- all of them
 
-performs : (E : End → Type 0) → (x y : Around) → Alike E x y → (statement : Statement) (block : Block) (known : Knowledge) →
-    Agree E (told.performs statement block known x) (told.performs statement block known y)
-performs E x y h (tree.Select select) block known = selects E x y h select.from (tree.Select select) block known
-performs E x y h (tree.Insert insert) block known = prepares E x y h (tree.Insert insert) block known
-performs E x y h (tree.Update update) block known = prepares E x y h (tree.Update update) block known
-performs E x y h (tree.Delete delete) block known = prepares E x y h (tree.Delete delete) block known
-performs E x y h (tree.Create create) block known =
+performs : (E : End → Type 0) → (x y : Around) → Alike E x y → (description : RowDescription) (statement : Statement) (block : Block) (known : Knowledge) →
+    Agree E (told.performs description statement block known x) (told.performs description statement block known y)
+performs E x y h description (tree.Select select) block known = selects E x y h description select.from (tree.Select select) block known
+performs E x y h description (tree.Insert insert) block known = prepares E x y h description (tree.Insert insert) block known
+performs E x y h description (tree.Update update) block known = prepares E x y h description (tree.Update update) block known
+performs E x y h description (tree.Delete delete) block known = prepares E x y h description (tree.Delete delete) block known
+performs E x y h description (tree.Create create) block known =
     at_rest E x y block known (told.defines (built create) block known x) (told.defines (built create) block known y) (defines E x y h (built create) block known)
-performs E x y h (tree.Begin start) block known = starts E x y h start block known
-performs E x y h tree.Commit block known = commits E x y h block known
-performs E x y h tree.Rollback block known = rolls_back E x y h block known
-performs E x y h (tree.Set name values) block known = sets E x y h name values block known
-performs E x y h tree.SetModes block known = succeeds E x y h set_reply block known
-performs E x y h (tree.Show name) block known = shows E x y h name block known
+performs E x y h description (tree.Begin start) block known = starts E x y h start block known
+performs E x y h description tree.Commit block known = commits E x y h block known
+performs E x y h description tree.Rollback block known = rolls_back E x y h block known
+performs E x y h description (tree.Set name values) block known = sets E x y h name values block known
+performs E x y h description tree.SetModes block known = succeeds E x y h set_reply block known
+performs E x y h description (tree.Show name) block known = shows E x y h description name block known
 
 in_failed : (E : End → Type 0) → (x y : Around) → Alike E x y → (statement : Statement) (known : Knowledge) →
     Agree E (told.in_failed statement known x) (told.in_failed statement known y)
@@ -246,8 +247,8 @@ in_failed E x y h tree.Commit known = commits E x y h Failed known
 in_failed E x y h tree.Rollback known = rolls_back E x y h Failed known
 in_failed E x y h _ known = fails E x y h states.S25P02 Failed known
 
-pub told_of : (E : End → Type 0) → (x y : Around) → Alike E x y → (statement : Statement) (block : Block) (known : Knowledge) →
-    Agree E (told.told_of statement block known x) (told.told_of statement block known y)
-told_of E x y h statement (Implicit pending) known = performs E x y h statement (Implicit pending) known
-told_of E x y h statement Regular known = performs E x y h statement Regular known
-told_of E x y h statement Failed known = in_failed E x y h statement known
+pub told_of : (E : End → Type 0) → (x y : Around) → Alike E x y → (description : RowDescription) (statement : Statement) (block : Block) (known : Knowledge) →
+    Agree E (told.told_of description statement block known x) (told.told_of description statement block known y)
+told_of E x y h description statement (Implicit pending) known = performs E x y h description statement (Implicit pending) known
+told_of E x y h description statement Regular known = performs E x y h description statement Regular known
+told_of E x y h description statement Failed known = in_failed E x y h statement known

@@ -9,9 +9,9 @@ use Rattle.block_machine.specs.Script.{Entry, Said, with_call}
 use Rattle.block_machine.specs.Stages.{IsFrom, entry_for, with_short}
 use Rattle.block_machine.specs.Stages as running
 use Rattle.block_machine.specs.Messages.{Outside}
-use Rattle.block_machine.specs.Runners.{follows_reply, follows, knowledge_of, wanted}
+use Rattle.block_machine.specs.Runners.{follows_reply, follows, knowledge_of, stage_of, wanted}
 use Rattle.block_machine.specs.declared.call.Answer.{Answer}
-use Rattle.block_machine.specs.declared.runner.Runner.{Runner}
+use Rattle.block_machine.specs.declared.message_runner.MessageRunner.{MessageRunner}
 use Rattle.block_machine.specs.declared.stage.MessageStage.{MessageStage as Inner}
 use Rattle.block_machine.specs.declared.stage.MessageStage.TheVariants as inners
 use Rattle.session_core.specs.declared.phase.Phase.TheVariants as phases
@@ -37,23 +37,23 @@ book_message calls.Send c is = cc
 book_message calls.Nothing c is = cc
 
 -- the message goes on after its reply
-pub sends_on : (old new : Runner) (short : Bool) (w : Option Shortage) → running.IsBusy new.stage →
+pub sends_on : (old new : MessageRunner) (short : Bool) (w : Option Shortage) → running.IsBusy (stage_of new) →
     (short ≡ false → w ≡ None) → (short ≡ true → w ≡ Some shortages.Passing) →
     ((outside : Outside) (said : Said) (es : List Entry) →
-    IsFrom (running.least new.stage) (length said.bytes) es →
+    IsFrom (running.least (stage_of new)) (length said.bytes) es →
     follows_reply old outside said (with_short short said.bytes es) ≡ follows new outside said es) → Sends stages.Running old stages.Running new w
 sends_on old new short w busy at_rest shorts goes startup requests said es from =
     ap (λ (x : List Entry). follows_reply old (outside_of (on requests)) said x)
     (sym (with_passing short w said.bytes es at_rest shorts))
     ∙ goes (outside_of (on requests)) said es
-    (subst (λ (n : ℕ). IsFrom n (length said.bytes) es) (sym (least_busy new.stage busy)) from)
+    (subst (λ (n : ℕ). IsFrom n (length said.bytes) es) (sym (least_busy (stage_of new) busy)) from)
 
 -- the message is done
-pub sends_done : (old new : Runner) (state : TransactionState) (short : Bool) (w : Option Shortage) →
-    new.stage ≡ inners.Over state →
+pub sends_done : (old new : MessageRunner) (state : TransactionState) (short : Bool) (w : Option Shortage) →
+    (stage_of new) ≡ inners.Over state →
     (short ≡ false → w ≡ None) → (short ≡ true → w ≡ Some shortages.Passing) →
     ((outside : Outside) (said : Said) (es : List Entry) →
-    IsFrom (running.least new.stage) (length said.bytes) es →
+    IsFrom (running.least (stage_of new)) (length said.bytes) es →
     follows_reply old outside said (with_short short said.bytes es) ≡ follows new outside said es) →
     Sends stages.Running old (stages.Taking (phases.Normal state)) new w
 sends_done old new state short w over at_rest shorts goes startup requests said es from =
@@ -61,11 +61,11 @@ sends_done old new state short w over at_rest shorts goes startup requests said 
     (sym (with_passing short w said.bytes es at_rest shorts))
     ∙ goes (outside_of (on requests)) said es
     (subst (λ (s : Inner). IsFrom (running.least s) (length said.bytes) es) (sym over) from)
-    ∙ ap (λ (s : Inner). running.goes_on s new.built.items (knowledge_of new) (into_iter_items new.rest)
+    ∙ ap (λ (s : Inner). running.goes_on s new.runner.built.items (knowledge_of new) (into_iter_items new.rest)
     (outside_of (on requests)) said es) over
 
 -- an answer to the call of a message
-pub advances_running : (old new : Runner) (answer : Answer) (short : Bool) (w : Option Shortage) (startup : List ℕ) →
+pub advances_running : (old new : MessageRunner) (answer : Answer) (short : Bool) (w : Option Shortage) (startup : List ℕ) →
     (short ≡ false → w ≡ None) → (short ≡ true → w ≡ Some shortages.Passing) →
     ((c : Call) (outside : Outside) (said : Said) (es : List Entry) (e : Event) → wanted old ≡ calls.Book c →
     IsFrom 1 (length said.bytes) es →

@@ -15,13 +15,13 @@ use Rattle.block_machine.specs.Knowledge.{Knowledge, at_start}
 use Rattle.block_machine.specs.Messages.{Outside}
 use Rattle.block_machine.specs.Stages.{IsFrom, entry_for}
 use Rattle.block_machine.specs.Stages as message_stages
-use Rattle.block_machine.specs.Runners.{follows, wanted, held, knowledge_of, statements_of}
+use Rattle.block_machine.specs.Runners.{follows, wanted, held, knowledge_of, stage_of, statements_of}
 use Rattle.block_machine.specs.declared.call.Answer.{Answer}
 use Rattle.block_machine.specs.declared.call.Answer.TheVariants as answers
 use Rattle.block_machine.specs.declared.end.End.{End}
 use Rattle.block_machine.specs.declared.end.End.TheVariants as ends
 use Rattle.block_machine.specs.declared.end.Stop.{Stop}
-use Rattle.block_machine.specs.declared.runner.Runner.{Runner}
+use Rattle.block_machine.specs.declared.message_runner.MessageRunner.{MessageRunner}
 use Rattle.block_machine.specs.declared.stage.MessageStage.{MessageStage}
 use Rattle.block_machine.specs.declared.stage.MessageStage.TheVariants as message_stage
 use Rattle.session_core.specs.declared.phase.Phase.{Phase}
@@ -42,7 +42,7 @@ use Rattle.session_core.proofs.Stepping.{session-short}
 -- ---- what is shown
 
 -- with nothing more to come
-at_end : (stage : SessionStage) (r : Runner) (startup : List ℕ) (held : Held) (taken : List ℕ) (es : List Entry) (asked : List Call)
+at_end : (stage : SessionStage) (r : MessageRunner) (startup : List ℕ) (held : Held) (taken : List ℕ) (es : List Entry) (asked : List Call)
     (sent : List ℕ) (requests : Requests) →
     (s : StandsFor stage r startup held taken es asked sent) → AreRequests held.started held.rest requests →
     AreRequests false taken (s.whole requests) × (told (served_of r) (s.whole requests) es ≡
@@ -53,7 +53,7 @@ at_end stage r startup held taken es asked sent requests s h = (
   ap (told (served_of r) (s.whole requests)) (sym (append-nil es)) ∙ s.goes requests [] tt,
 )
 
-shown : (stage : SessionStage) (r : Runner) (startup : List ℕ) (held : Held) (taken : List ℕ) (es : List Entry) (asked : List Call)
+shown : (stage : SessionStage) (r : MessageRunner) (startup : List ℕ) (held : Held) (taken : List ℕ) (es : List Entry) (asked : List Call)
     (sent : List ℕ) (requests : Requests) (next : Next) →
     StandsFor stage r startup held taken es asked sent → AreRequests held.started held.rest requests →
     goes_on stage r startup requests (record { bytes = sent; calls = asked }) [] ≡ (record { bytes = sent; calls = asked }, next) →
@@ -62,11 +62,11 @@ shown stage r startup held taken es asked sent requests next s h e =
     let (a, b) = at_end stage r startup held taken es asked sent requests s h in (s.whole requests, a, b ∙ e)
 
 -- what a message that runs wants is asked by its script
-abbrev pub IsAsked : Runner → Type 0
+abbrev pub IsAsked : MessageRunner → Type 0
 IsAsked r = (c : Call) (outside : Outside) (said : Said) → wants stages.Running r ≡ wishes.Book c →
     follows r outside said [] ≡ (said, call c)
 
-Shows-message : (r : Runner) (w : calls.Want) (startup : List ℕ) (held : Held) (taken : List ℕ) (es : List Entry) (asked : List Call)
+Shows-message : (r : MessageRunner) (w : calls.Want) (startup : List ℕ) (held : Held) (taken : List ℕ) (es : List Entry) (asked : List Call)
     (sent : List ℕ) →
     ((c : Call) (outside : Outside) (said : Said) → of_message w ≡ wishes.Book c → follows r outside said [] ≡ (said, call c)) →
     StandsFor stages.Running r startup held taken es asked sent → Shows (served_of r) (of_message w) taken es asked sent
@@ -76,7 +76,7 @@ Shows-message r (calls.Book c) startup held taken es asked sent asks s =
 Shows-message r calls.Send startup held taken es asked sent asks s = tt
 Shows-message r calls.Nothing startup held taken es asked sent asks s = tt
 
-pub Shows-stands : (stage : SessionStage) (r : Runner) (startup : List ℕ) (held : Held) (taken : List ℕ) (es : List Entry) (asked : List Call)
+pub Shows-stands : (stage : SessionStage) (r : MessageRunner) (startup : List ℕ) (held : Held) (taken : List ℕ) (es : List Entry) (asked : List Call)
     (sent : List ℕ) → (stage ≡ stages.Running → IsAsked r) →
     StandsFor stage r startup held taken es asked sent → Shows (served_of r) (wants stage r) taken es asked sent
 Shows-stands (stages.Waiting phase) r startup held taken es asked sent asks s =
@@ -99,7 +99,7 @@ Shows-stands (stages.Ended f) r startup held taken es asked sent asks s = shown 
 
 -- ---- a message is taken, a piece comes in
 
-pub StandsFor-taken : (phase : Phase) (r next : Runner) (startup : List ℕ) (before after : Held) (taken : List ℕ) (es : List Entry)
+pub StandsFor-taken : (phase : Phase) (r next : MessageRunner) (startup : List ℕ) (before after : Held) (taken : List ℕ) (es : List Entry)
     (asked : List Call) (sent : List ℕ) (stage : SessionStage) (w : Option Shortage) →
     StandsFor (stages.Taking phase) r startup before taken es asked sent → Steps phase r before stage next w after →
     served_of next ≡ served_of r → HasReply stage next startup →
@@ -117,7 +117,7 @@ StandsFor-taken phase r next startup before after taken es asked sent stage w s 
   some = some;
 }
 
-StandsFor-fed : (phase : Phase) (r : Runner) (startup : List ℕ) (held : Held) (piece taken : List ℕ) (es : List Entry) (asked : List Call)
+StandsFor-fed : (phase : Phase) (r : MessageRunner) (startup : List ℕ) (held : Held) (piece taken : List ℕ) (es : List Entry) (asked : List Call)
     (sent : List ℕ) →
     StandsFor (stages.Waiting phase) r startup held taken es asked sent →
     StandsFor (stages.Taking phase) r startup (record held { rest = held.rest ++ piece }) (taken ++ piece) (es ++ []) asked sent
@@ -132,7 +132,7 @@ StandsFor-fed phase r startup held piece taken es asked sent s = record {
 }
 
 -- the feeding itself met lack of memory
-StandsFor-no_memory : (phase : Phase) (r : Runner) (startup : List ℕ) (held : Held) (piece taken : List ℕ) (es : List Entry)
+StandsFor-no_memory : (phase : Phase) (r : MessageRunner) (startup : List ℕ) (held : Held) (piece taken : List ℕ) (es : List Entry)
     (asked : List Call) (sent : List ℕ) (stage : SessionStage) →
     StandsFor (stages.Waiting phase) r startup held taken es asked sent → HasReply stage r startup →
     LeadsTo stage (ending (owed_by phase) ends.Memory) →
@@ -151,7 +151,7 @@ StandsFor-no_memory phase r startup held piece taken es asked sent stage s some 
 }
 
 -- a piece that came in
-pub StandsFor-piece : (phase : Phase) (r : Runner) (startup : List ℕ) (held after : Held) (piece taken : List ℕ) (es : List Entry)
+pub StandsFor-piece : (phase : Phase) (r : MessageRunner) (startup : List ℕ) (held after : Held) (piece taken : List ℕ) (es : List Entry)
     (asked : List Call) (sent : List ℕ) (stage : SessionStage) (w : Option Shortage) →
     Feeds phase piece held stage w after → StandsFor (stages.Waiting phase) r startup held taken es asked sent →
     HasReply stage r startup →
@@ -174,7 +174,7 @@ pub IsFrom-entry : (l n : ℕ) (a : Answer) (e : Event) (es : List Entry) → Is
 IsFrom-entry l n (answers.Refused why) e es = tt
 IsFrom-entry l n _ e es = tt
 
-pub StandsFor-answered : (stage next : SessionStage) (r after : Runner) (startup now_startup : List ℕ) (held : Held) (taken : List ℕ)
+pub StandsFor-answered : (stage next : SessionStage) (r after : MessageRunner) (startup now_startup : List ℕ) (held : Held) (taken : List ℕ)
     (es : List Entry) (asked : List Call) (sent : List ℕ) (c : Call) (a : Answer) (e : Event) (w : Option Shortage) →
     StandsFor stage r startup held taken es asked sent → Advances stage r a next after w now_startup → wants stage r ≡ wishes.Book c →
     served_of after ≡ served_of r → HasReply next after now_startup →
@@ -209,26 +209,26 @@ message_tells (message_stage.Readying state) built known rest outside said es h 
 message_tells _ built known rest outside said es h = absurd h
 
 -- a reply that is held is what the script tells next
-holding_tells : (stage : SessionStage) (r : Runner) (startup : List ℕ) (requests : Requests) (said : Said) (es : List Entry) → IsHolding stage r →
+holding_tells : (stage : SessionStage) (r : MessageRunner) (startup : List ℕ) (requests : Requests) (said : Said) (es : List Entry) → IsHolding stage r →
     goes_on stage r startup requests said es ≡ tell (reply_of stage r startup) (broken (owed_at stage r)) (after_reply stage r requests) said es
-holding_tells stages.Running r startup requests said es h = message_tells r.stage r.built.items (knowledge_of r) (statements_of r)
+holding_tells stages.Running r startup requests said es h = message_tells (stage_of r) r.runner.built.items (knowledge_of r) (statements_of r)
     (outside_of (on requests)) said es h
 holding_tells (stages.Telling reply) r startup requests said es h = refl
 holding_tells (stages.Parting fatal) r startup requests said es h = refl
 holding_tells _ r startup requests said es h = absurd h
 
-least_holding : (stage : SessionStage) (r : Runner) → IsHolding stage r → least stage ≡ 1
+least_holding : (stage : SessionStage) (r : MessageRunner) → IsHolding stage r → least stage ≡ 1
 least_holding stages.Running r h = refl
 least_holding (stages.Telling reply) r h = refl
 least_holding (stages.Parting fatal) r h = refl
 least_holding _ r h = absurd h
 
-from_holding : (stage : SessionStage) (r : Runner) (sent : List ℕ) (es : List Entry) → IsHolding stage r → IsFrom 1 (length sent) es →
+from_holding : (stage : SessionStage) (r : MessageRunner) (sent : List ℕ) (es : List Entry) → IsHolding stage r → IsFrom 1 (length sent) es →
     IsFrom (least stage) (length sent) es
 from_holding stage r sent es h from = subst (λ (n : ℕ). IsFrom n (length sent) es) (sym (least_holding stage r h)) from
 
 -- a reply that is held is told
-pub Tells-stands : (stage : SessionStage) (r : Runner) (startup : List ℕ) (held : Held) (taken : List ℕ) (es : List Entry) (asked : List Call)
+pub Tells-stands : (stage : SessionStage) (r : MessageRunner) (startup : List ℕ) (held : Held) (taken : List ℕ) (es : List Entry) (asked : List Call)
     (sent reply : List ℕ) →
     StandsFor stage r startup held taken es asked sent → IsHolding stage r → reply ≡ reply_of stage r startup →
     Tells (served_of r) (owed_at stage r) reply taken es asked sent
@@ -245,7 +245,7 @@ Tells-stands stage r startup held taken es asked sent reply s holds is =
     )
 
 -- a reply that was sent
-pub StandsFor-sent : (stage next : SessionStage) (r after : Runner) (startup : List ℕ) (held : Held) (taken : List ℕ) (es : List Entry)
+pub StandsFor-sent : (stage next : SessionStage) (r after : MessageRunner) (startup : List ℕ) (held : Held) (taken : List ℕ) (es : List Entry)
     (asked : List Call) (sent : List ℕ) (w : Option Shortage) →
     Sends stage r next after w → IsHolding stage r → (IsLast stage → IsLast next) → IsAwake next → served_of after ≡ served_of r →
     HasReply next after startup →
@@ -274,7 +274,7 @@ StandsFor-sent stage next r after startup held taken es asked sent w sends holds
     }
 
 -- a reply that was not sent whole
-pub StandsFor-unsent : (stage next : SessionStage) (r : Runner) (startup : List ℕ) (held : Held) (taken : List ℕ) (es : List Entry)
+pub StandsFor-unsent : (stage next : SessionStage) (r : MessageRunner) (startup : List ℕ) (held : Held) (taken : List ℕ) (es : List Entry)
     (asked : List Call) (sent : List ℕ) →
     StandsFor stage r startup held taken es asked sent → IsHolding stage r → LeadsTo next (broken (owed_at stage r)) →
     HasReply next r startup →
@@ -298,7 +298,7 @@ StandsFor-unsent stage next r startup held taken es asked sent s holds leads som
 
 -- ---- the end of the input
 
-pub StandsFor-stopped : (phase : Phase) (r : Runner) (startup : List ℕ) (held : Held) (taken : List ℕ) (es : List Entry)
+pub StandsFor-stopped : (phase : Phase) (r : MessageRunner) (startup : List ℕ) (held : Held) (taken : List ℕ) (es : List Entry)
     (asked : List Call) (sent : List ℕ) (stage : SessionStage) (cause : Stop) (end : End) →
     StandsFor (stages.Waiting phase) r startup held taken es asked sent → LeadsTo stage (ending (owed_by phase) end) →
     HasReply stage r startup →
@@ -344,7 +344,7 @@ nothing_waits = record {
   no_fault = λ fault has. no_fault fault has;
 }
 
-pub StandsFor-new : (level : Level) (r : Runner) (startup : List ℕ) → knowledge_of r ≡ at_start level →
+pub StandsFor-new : (level : Level) (r : MessageRunner) (startup : List ℕ) → knowledge_of r ≡ at_start level →
     StandsFor (stages.Waiting phases.Startup) r startup (record { started = false; rest = []; fault = None }) [] [] [] []
 unfolding told
 StandsFor-new level r startup is = record {

@@ -13,7 +13,7 @@ use Rattle.block_machine.specs.declared.block.Owed.{Owed}
 use Rattle.block_machine.specs.declared.end.End.TheVariants as ends
 use Rattle.block_machine.specs.declared.message.Message.{Message}
 use Rattle.block_machine.specs.declared.message.Message.TheVariants as messages
-use Rattle.block_machine.specs.declared.runner.Runner.{Runner}
+use Rattle.block_machine.specs.declared.message_runner.MessageRunner.{MessageRunner}
 use Rattle.session_core.specs.declared.phase.Phase.TheVariants as phases
 use Rattle.session_core.specs.declared.stage.Fatal.TheVariants as fatals
 use Rattle.session_core.specs.declared.stage.Finish.TheVariants as finishes
@@ -40,7 +40,7 @@ with_passing false w sent es at_rest short = ap (λ (x : Option Shortage). with_
 with_passing true w sent es at_rest short = ap (λ (x : Option Shortage). with_out_of_memory x sent es) (sym (short refl))
 
 -- a message begins
-pub message_begins : (asked : Message) (state : TransactionState) (old new : Runner) (short : Bool) (w : Option Shortage) →
+pub message_begins : (asked : Message) (state : TransactionState) (old new : MessageRunner) (short : Bool) (w : Option Shortage) →
     (short ≡ false → w ≡ None) → (short ≡ true → w ≡ Some shortages.Passing) →
     ((outside : Outside) (said : Said) (es : List Entry) → IsFrom 1 (length said.bytes) es →
     message asked state (knowledge_of old) outside said (with_short short said.bytes es) ≡ follows new outside said es) →
@@ -55,7 +55,7 @@ message_begins asked state old new short w at_rest shorts goes startup requests 
 -- ---- what a message leads to
 
 -- to a stage of the session's own
-pub leads_own : (owed : Owed) (stage : SessionStage) (r : Runner) → owed_at stage r ≡ owed → IsUnder stage r → outer stage ≡ None →
+pub leads_own : (owed : Owed) (stage : SessionStage) (r : MessageRunner) → owed_at stage r ≡ owed → IsUnder stage r → outer stage ≡ None →
     Lacks stage [] → NoBuilt stage → IsFit r → Leads owed r stage r
 leads_own owed stage r is under inner lacks constant fit = record {
   owed_is = is;
@@ -69,31 +69,31 @@ leads_own owed stage r is under inner lacks constant fit = record {
 
 -- ---- messages before the startup
 
-pub meets_ssl : (r : Runner) → Meets fronts.Ssl phases.Startup r (stages.Telling replies.NoEncryption) r None
+pub meets_ssl : (r : MessageRunner) → Meets fronts.Ssl phases.Startup r (stages.Telling replies.NoEncryption) r None
 meets_ssl r = inl (record { asked = encryption; says = tt; busy = tt; passing = tt; goes = λ startup requests said es from. refl })
 
-pub meets_gss : (r : Runner) → Meets fronts.Gss phases.Startup r (stages.Telling replies.NoEncryption) r None
+pub meets_gss : (r : MessageRunner) → Meets fronts.Gss phases.Startup r (stages.Telling replies.NoEncryption) r None
 meets_gss r = inl (record { asked = encryption; says = tt; busy = tt; passing = tt; goes = λ startup requests said es from. refl })
 
-pub meets_cancel : (pid secret : ℕ) (r : Runner) → Meets (fronts.Cancel pid secret) phases.Startup r
+pub meets_cancel : (pid secret : ℕ) (r : MessageRunner) → Meets (fronts.Cancel pid secret) phases.Startup r
     (stages.Ended finishes.Cancelled) r None
 meets_cancel pid secret r = inl (record { asked = cancel; says = tt; busy = tt; passing = tt; goes = λ startup requests said es from. refl })
 
-pub meets_start : (pairs : List ((List ℕ) × (List ℕ))) (r : Runner) → HasUser pairs →
+pub meets_start : (pairs : List ((List ℕ) × (List ℕ))) (r : MessageRunner) → HasUser pairs →
     Meets (fronts.Startup pairs) phases.Startup r stages.Opening r None
 meets_start pairs r has = inl (record { asked = start; says = has; busy = tt; passing = tt; goes = λ startup requests said es from. refl })
 
-pub meets_userless : (pairs : List ((List ℕ) × (List ℕ))) (r : Runner) → (HasUser pairs → ⊥) →
+pub meets_userless : (pairs : List ((List ℕ) × (List ℕ))) (r : MessageRunner) → (HasUser pairs → ⊥) →
     Meets (fronts.Startup pairs) phases.Startup r (stages.Parting fatals.NoUser) r None
 meets_userless pairs r none =
     inl (record { asked = userless; says = none; busy = tt; passing = tt; goes = λ startup requests said es from. refl })
 
-pub meets_version : (code : ℕ) (r : Runner) → Meets (fronts.Version code) phases.Startup r (stages.Parting fatals.OtherVersion) r None
+pub meets_version : (code : ℕ) (r : MessageRunner) → Meets (fronts.Version code) phases.Startup r (stages.Parting fatals.OtherVersion) r None
 meets_version code r = inl (record { asked = version; says = tt; busy = tt; passing = tt; goes = λ startup requests said es from. refl })
 
 -- ---- messages that are served
 
-pub meets_terminate : (state : TransactionState) (stage : SessionStage) (r : Runner) →
+pub meets_terminate : (state : TransactionState) (stage : SessionStage) (r : MessageRunner) →
     LeadsTo stage (ending (owed_between state) ends.Terminated) → Meets fronts.Terminate (phases.Normal state) r stage r None
 meets_terminate state stage r leads =
     inl (record {
@@ -105,26 +105,26 @@ meets_terminate state stage r leads =
           λ startup requests said es from. leads.1 r startup requests said es;
     })
 
-pub meets_sync : (state : TransactionState) (r : Runner) → Meets fronts.Sync (phases.Normal state) r (stages.Telling
+pub meets_sync : (state : TransactionState) (r : MessageRunner) → Meets fronts.Sync (phases.Normal state) r (stages.Telling
     (replies.Ready state)) r None
 meets_sync state r = inl (record { asked = sync; says = tt; busy = tt; passing = tt; goes = λ startup requests said es from. refl })
 
-pub meets_extended : (step : Extended) (state : TransactionState) (stage : SessionStage) (r : Runner) → IsBusy stage →
+pub meets_extended : (step : Extended) (state : TransactionState) (stage : SessionStage) (r : MessageRunner) → IsBusy stage →
     ((startup : List ℕ) (requests : Requests) (said : Said) (es : List Entry) →
     refuses state (knowledge_of r) (on requests) said es ≡ goes_on stage r startup requests said es) →
     Meets (fronts.Extended step) (phases.Normal state) r stage r None
 meets_extended step state stage r busy goes =
     inl (record { asked = extended; says = tt; busy = busy; passing = tt; goes = λ startup requests said es from. goes startup requests said es })
 
-pub meets_flush : (state : TransactionState) (r : Runner) → Meets fronts.Flush (phases.Normal state) r (stages.Taking
+pub meets_flush : (state : TransactionState) (r : MessageRunner) → Meets fronts.Flush (phases.Normal state) r (stages.Taking
     (phases.Normal state)) r None
 meets_flush state r = inr (record { asked = nothing; says = tt; goes = λ known rest. refl }, refl, refl, refl)
 
-pub meets_copy : (part : CopyMessage) (state : TransactionState) (r : Runner) →
+pub meets_copy : (part : CopyMessage) (state : TransactionState) (r : MessageRunner) →
     Meets (fronts.Copy part) (phases.Normal state) r (stages.Taking (phases.Normal state)) r None
 meets_copy part state r = inr (record { asked = nothing; says = tt; goes = λ known rest. refl }, refl, refl, refl)
 
-pub meets_query : (text : List ℕ) (asked : Message) (state : TransactionState) (old new : Runner) (w : Option Shortage) → IsMessage text asked →
+pub meets_query : (text : List ℕ) (asked : Message) (state : TransactionState) (old new : MessageRunner) (w : Option Shortage) → IsMessage text asked →
     IsPassing w →
     ((startup : List ℕ) (requests : Requests) (said : Said) (es : List Entry) → IsFrom 1 (length said.bytes) es →
     message asked state (knowledge_of old) (outside_of (on requests)) said
@@ -134,7 +134,7 @@ meets_query text asked state old new w is passing goes =
     inl (record { asked = query asked; says = is; busy = tt; passing = passing; goes = goes })
 
 -- memory runs out for what a query asks
-pub meets_unread : (text : List ℕ) (state : TransactionState) (old new : Runner) →
+pub meets_unread : (text : List ℕ) (state : TransactionState) (old new : MessageRunner) →
     ((startup : List ℕ) (requests : Requests) (said : Said) (es : List Entry) →
     message (messages.Unread states.S53200) state (knowledge_of old)
     (outside_of (on requests)) said es ≡ goes_on stages.Running new startup requests said es) →
@@ -150,7 +150,7 @@ meets_unread text state old new goes =
           (outside_of (on requests))) lost said es ∙ goes startup requests said es;
     })
 
-pub meets_function : (state : TransactionState) (old new : Runner) →
+pub meets_function : (state : TransactionState) (old new : MessageRunner) →
     ((startup : List ℕ) (requests : Requests) (said : Said) (es : List Entry) →
     message (messages.Unread states.S0A000) state (knowledge_of old)
     (outside_of (on requests)) said es ≡ goes_on stages.Running new startup requests said es) →
@@ -160,7 +160,7 @@ meets_function state old new goes =
 
 -- ---- messages that are discarded
 
-pub drops_terminate : (state : TransactionState) (stage : SessionStage) (r : Runner) →
+pub drops_terminate : (state : TransactionState) (stage : SessionStage) (r : MessageRunner) →
     LeadsTo stage (ending (owed_between state) ends.Terminated) → Meets fronts.Terminate (phases.Discarding state) r stage r None
 drops_terminate state stage r leads =
     inl (record {
@@ -172,26 +172,26 @@ drops_terminate state stage r leads =
           λ startup requests said es from. leads.1 r startup requests said es;
     })
 
-pub drops_sync : (state : TransactionState) (r : Runner) → Meets fronts.Sync (phases.Discarding state) r (stages.Telling
+pub drops_sync : (state : TransactionState) (r : MessageRunner) → Meets fronts.Sync (phases.Discarding state) r (stages.Telling
     (replies.Ready state)) r None
 drops_sync state r = inl (record { asked = sync; says = tt; busy = tt; passing = tt; goes = λ startup requests said es from. refl })
 
-pub drops_query : (text : List ℕ) (state : TransactionState) (r : Runner) →
+pub drops_query : (text : List ℕ) (state : TransactionState) (r : MessageRunner) →
     Meets (fronts.Query text) (phases.Discarding state) r (stages.Taking (phases.Discarding state)) r None
 drops_query text state r = inr (record { asked = unread_query; says = tt; goes = λ known rest. refl }, refl, refl, refl)
 
-pub drops_flush : (state : TransactionState) (r : Runner) → Meets fronts.Flush (phases.Discarding state) r (stages.Taking
+pub drops_flush : (state : TransactionState) (r : MessageRunner) → Meets fronts.Flush (phases.Discarding state) r (stages.Taking
     (phases.Discarding state)) r None
 drops_flush state r = inr (record { asked = nothing; says = tt; goes = λ known rest. refl }, refl, refl, refl)
 
-pub drops_extended : (step : Extended) (state : TransactionState) (r : Runner) →
+pub drops_extended : (step : Extended) (state : TransactionState) (r : MessageRunner) →
     Meets (fronts.Extended step) (phases.Discarding state) r (stages.Taking (phases.Discarding state)) r None
 drops_extended step state r = inr (record { asked = extended; says = tt; goes = λ known rest. refl }, refl, refl, refl)
 
-pub drops_function : (state : TransactionState) (r : Runner) →
+pub drops_function : (state : TransactionState) (r : MessageRunner) →
     Meets fronts.FunctionCall (phases.Discarding state) r (stages.Taking (phases.Discarding state)) r None
 drops_function state r = inr (record { asked = function; says = tt; goes = λ known rest. refl }, refl, refl, refl)
 
-pub drops_copy : (part : CopyMessage) (state : TransactionState) (r : Runner) →
+pub drops_copy : (part : CopyMessage) (state : TransactionState) (r : MessageRunner) →
     Meets (fronts.Copy part) (phases.Discarding state) r (stages.Taking (phases.Discarding state)) r None
 drops_copy part state r = inr (record { asked = nothing; says = tt; goes = λ known rest. refl }, refl, refl, refl)

@@ -30,13 +30,13 @@ use Rattle.block_machine.specs.Knowledge.{Knowledge, with_tables}
 use Rattle.block_machine.specs.Script.{Entry, did, refused}
 use Rattle.block_machine.specs.Stages.{Fits, IsKnownAfter, IsSoundStage, KnowsTables, owed_after}
 use Rattle.block_machine.specs.Stages as message_stages
-use Rattle.block_machine.specs.Runners.{knowledge_of, tables_of, wanted}
+use Rattle.block_machine.specs.Runners.{knowledge_of, stage_of, tables_of, wanted}
 use Rattle.block_machine.specs.declared.block.Block.{Block}
 use Rattle.block_machine.specs.declared.block.Block.TheVariants.{Implicit, Regular, Failed}
 use Rattle.block_machine.specs.declared.block.Owed.TheVariants as owed_kinds
 use Rattle.block_machine.specs.declared.call.Answer.{Answer}
 use Rattle.block_machine.specs.declared.call.Answer.TheVariants as answers
-use Rattle.block_machine.specs.declared.runner.Runner.{Runner}
+use Rattle.block_machine.specs.declared.message_runner.MessageRunner.{MessageRunner}
 use Rattle.block_machine.specs.declared.stage.MessageStage.{MessageStage}
 use Rattle.block_machine.specs.declared.stage.MessageStage.TheVariants as message_stage
 use Rattle.session_core.specs.declared.session.Session.{Session}
@@ -230,7 +230,7 @@ book_of : (d c : Call) → calls.Book d ≡ calls.Book c → d ≡ c
 book_of d c h = cc h
 
 -- a state with a session
-in_session_of : (block : Block) (state : SessionState) → owed_of state ≡ message_stages.owed_at (message_stage.Showing block) → HasSession state
+in_session_of : (block : Block) (state : SessionState) → owed_of state ≡ message_stages.owed_at (message_stage.Refreshing block) → HasSession state
 in_session_of (Implicit false) no_session h = absurd (cc h)
 in_session_of (Implicit true) no_session h = absurd (cc h)
 in_session_of Regular no_session h = absurd (cc h)
@@ -242,19 +242,23 @@ in_session_of block (pending s ws) h = tt
 may_ask_message : (stage : MessageStage) (known : Knowledge) (past : Past) (c : Call) → owed_of past.state ≡ message_stages.owed_at stage →
     length known.tables ≤ length past.seen.tables → KnowsTables stage known.tables → IsSoundStage stage →
     message_stages.wants stage known ≡ calls.Book c → MayAsk c past
+may_ask_message (message_stage.Resting block) known past c o k t s w = absurd (cc w)
+may_ask_message (message_stage.Skipping state) known past c o k t s w = absurd (cc w)
 may_ask_message (message_stage.Over state) known past c o k t s w = absurd (cc w)
+may_ask_message (message_stage.Refreshing block) known past c o k t s w = subst (λ (x : Call). MayAsk x past)
+    (book_of (calls.Look (length known.tables)) c w) (in_session_of block past.state o, k)
 may_ask_message (message_stage.Defining table block) known past c o k t s w = subst (λ (x : Call). MayAsk x past)
     (book_of (calls.Define table) c w) (in_session_of block past.state o, s)
-may_ask_message (message_stage.Looking statement block) known past c o k t s w = subst (λ (x : Call). MayAsk x past)
+may_ask_message (message_stage.Looking statement description block) known past c o k t s w = subst (λ (x : Call). MayAsk x past)
     (book_of (calls.Look (length known.tables)) c w) (in_session_of block past.state o, k)
-may_ask_message (message_stage.Beginning plan) known past c o k t s w = subst (λ (x : Call). MayAsk x past) (book_of (calls.Begin known.level) c w)
+may_ask_message (message_stage.Beginning plan description) known past c o k t s w = subst (λ (x : Call). MayAsk x past) (book_of (calls.Begin known.level) c w)
     (idle past.state o)
 may_ask_message (message_stage.Running run p) known past c o k t s w =
     subst (λ (x : Call). MayAsk x past) (book_of (call_for (first_demand (rest_of run.plan))) c w)
     (may_ask_cells (rest_of run.plan) (length known.tables) past (in_transaction past.state o) t k run.asks)
 may_ask_message (message_stage.Starting start) known past c o k t s w = subst (λ (x : Call). MayAsk x past) (book_of (calls.Begin known.level) c w)
     (idle past.state o)
-may_ask_message (message_stage.Showing block) known past c o k t s w = subst (λ (x : Call). MayAsk x past) (book_of calls.Show c w)
+may_ask_message (message_stage.Showing description block) known past c o k t s w = subst (λ (x : Call). MayAsk x past) (book_of calls.Show c w)
     (in_session_of block past.state o)
 may_ask_message (message_stage.Committing reply) known past c o k t s w = subst (λ (x : Call). MayAsk x past) (book_of calls.Commit c w)
     (in_transaction past.state o)
@@ -264,7 +268,7 @@ may_ask_message (message_stage.Telling reply block) known past c o k t s w = abs
 may_ask_message (message_stage.Undoing code p) known past c o k t s w = subst (λ (x : Call). MayAsk x past) (book_of calls.Rollback c w)
     (in_transaction past.state o)
 may_ask_message (message_stage.Failing code state) known past c o k t s w = absurd (cc w)
-may_ask_message message_stage.Finishing known past c o k t s w = subst (λ (x : Call). MayAsk x past) (book_of calls.Commit c w)
+may_ask_message (message_stage.Finishing ready) known past c o k t s w = subst (λ (x : Call). MayAsk x past) (book_of calls.Commit c w)
     (in_transaction past.state o)
 may_ask_message (message_stage.Readying state) known past c o k t s w = absurd (cc w)
 
@@ -276,12 +280,12 @@ message_wish (calls.Book d) c h = ap calls.Book (wish_of d c h)
 message_wish calls.Send c h = absurd (cc h)
 message_wish calls.Nothing c h = absurd (cc h)
 
-may_ask_stage : (stage : SessionStage) (r : Runner) (past : Past) (c : Call) → owed_of past.state ≡ owed_at stage r →
+may_ask_stage : (stage : SessionStage) (r : MessageRunner) (past : Past) (c : Call) → owed_of past.state ≡ owed_at stage r →
     length (tables_of r) ≤ length past.seen.tables → IsFit r → wants stage r ≡ wishes.Book c → MayAsk c past
 may_ask_stage (stages.Waiting phase) r past c o k f w = absurd (cc w)
 may_ask_stage (stages.Taking phase) r past c o k f w = absurd (cc w)
 may_ask_stage stages.Opening r past c o k f w = subst (λ (x : Call). MayAsk x past) (wish_of calls.Open c w) (none_away past.state o)
-may_ask_stage stages.Running r past c o k f w = may_ask_message r.stage (knowledge_of r) past c o k f.knows f.sound.stage
+may_ask_stage stages.Running r past c o k f w = may_ask_message (stage_of r) (knowledge_of r) past c o k f.knows f.sound.stage
     (message_wish (wanted r) c w)
 may_ask_stage stages.Undoing r past c o k f w = subst (λ (x : Call). MayAsk x past) (wish_of calls.Rollback c w)
     (in_transaction past.state o)
@@ -334,30 +338,34 @@ cells_look (demands.Reply outcome) known = tt
 
 message_look : (stage : MessageStage) (known : Knowledge) (c : Call) → message_stages.wants stage known ≡ calls.Book c →
     LooksFrom c (length known.tables)
+message_look (message_stage.Resting block) known c w = absurd (cc w)
+message_look (message_stage.Skipping state) known c w = absurd (cc w)
 message_look (message_stage.Over state) known c w = absurd (cc w)
+message_look (message_stage.Refreshing block) known c w = subst (λ (x : Call). LooksFrom x (length known.tables))
+    (book_of (calls.Look (length known.tables)) c w) refl
 message_look (message_stage.Defining table block) known c w = subst (λ (x : Call). LooksFrom x (length known.tables))
     (book_of (calls.Define table) c w) tt
-message_look (message_stage.Looking statement block) known c w = subst (λ (x : Call). LooksFrom x (length known.tables))
+message_look (message_stage.Looking statement description block) known c w = subst (λ (x : Call). LooksFrom x (length known.tables))
     (book_of (calls.Look (length known.tables)) c w) refl
-message_look (message_stage.Beginning plan) known c w = subst (λ (x : Call). LooksFrom x (length known.tables)) (book_of (calls.Begin known.level) c w) tt
+message_look (message_stage.Beginning plan description) known c w = subst (λ (x : Call). LooksFrom x (length known.tables)) (book_of (calls.Begin known.level) c w) tt
 message_look (message_stage.Running run p) known c w =
     subst (λ (x : Call). LooksFrom x (length known.tables)) (book_of (call_for (first_demand (rest_of run.plan))) c w)
     (cells_look (first_demand (rest_of run.plan)) (length known.tables))
 message_look (message_stage.Starting start) known c w = subst (λ (x : Call). LooksFrom x (length known.tables)) (book_of (calls.Begin known.level) c w) tt
-message_look (message_stage.Showing block) known c w = subst (λ (x : Call). LooksFrom x (length known.tables)) (book_of calls.Show c w) tt
+message_look (message_stage.Showing description block) known c w = subst (λ (x : Call). LooksFrom x (length known.tables)) (book_of calls.Show c w) tt
 message_look (message_stage.Committing reply) known c w = subst (λ (x : Call). LooksFrom x (length known.tables)) (book_of calls.Commit c w) tt
 message_look (message_stage.RollingBack reply) known c w = subst (λ (x : Call). LooksFrom x (length known.tables)) (book_of calls.Rollback c w) tt
 message_look (message_stage.Telling reply block) known c w = absurd (cc w)
 message_look (message_stage.Undoing code p) known c w = subst (λ (x : Call). LooksFrom x (length known.tables)) (book_of calls.Rollback c w) tt
 message_look (message_stage.Failing code state) known c w = absurd (cc w)
-message_look message_stage.Finishing known c w = subst (λ (x : Call). LooksFrom x (length known.tables)) (book_of calls.Commit c w) tt
+message_look (message_stage.Finishing ready) known c w = subst (λ (x : Call). LooksFrom x (length known.tables)) (book_of calls.Commit c w) tt
 message_look (message_stage.Readying state) known c w = absurd (cc w)
 
-stage_look : (stage : SessionStage) (r : Runner) (c : Call) → wants stage r ≡ wishes.Book c → LooksFrom c (length (tables_of r))
+stage_look : (stage : SessionStage) (r : MessageRunner) (c : Call) → wants stage r ≡ wishes.Book c → LooksFrom c (length (tables_of r))
 stage_look (stages.Waiting phase) r c w = absurd (cc w)
 stage_look (stages.Taking phase) r c w = absurd (cc w)
 stage_look stages.Opening r c w = subst (λ (x : Call). LooksFrom x (length (tables_of r))) (wish_of calls.Open c w) tt
-stage_look stages.Running r c w = message_look r.stage (knowledge_of r) c (message_wish (wanted r) c w)
+stage_look stages.Running r c w = message_look (stage_of r) (knowledge_of r) c (message_wish (wanted r) c w)
 stage_look stages.Undoing r c w = subst (λ (x : Call). LooksFrom x (length (tables_of r))) (wish_of calls.Rollback c w) tt
 stage_look (stages.Telling reply) r c w = absurd (cc w)
 stage_look (stages.Leaving finish) r c w = subst (λ (x : Call). LooksFrom x (length (tables_of r))) (wish_of calls.Rollback c w) tt

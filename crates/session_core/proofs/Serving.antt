@@ -19,7 +19,7 @@ use Rattle.block_machine.specs.declared.end.End.{End}
 use Rattle.block_machine.specs.declared.end.End.TheVariants as ends
 use Rattle.block_machine.specs.declared.end.Stop.{Stop}
 use Rattle.block_machine.specs.declared.end.Stop.TheVariants as stops
-use Rattle.block_machine.specs.declared.runner.Runner.{Runner}
+use Rattle.block_machine.specs.declared.message_runner.MessageRunner.{MessageRunner}
 use Rattle.session_core.specs.declared.phase.Phase.{Phase}
 use Rattle.session_core.specs.declared.phase.Phase.TheVariants as phases
 use Rattle.session_core.specs.declared.stage.Finish.{Finish}
@@ -47,33 +47,33 @@ message_rests (calls.Book c) = ((λ e. cc e), (λ end e. cc e), (λ e. cc e))
 message_rests calls.Send = ((λ e. cc e), (λ end e. cc e), (λ e. cc e))
 message_rests calls.Nothing = ((λ e. cc e), (λ end e. cc e), (λ e. cc e))
 
-pub stage_waiting : (stage : SessionStage) (r : Runner) → wants stage r ≡ wishes.Bytes → (phase : Phase) × (stage ≡ stages.Waiting phase)
+pub stage_waiting : (stage : SessionStage) (r : MessageRunner) → wants stage r ≡ wishes.Bytes → (phase : Phase) × (stage ≡ stages.Waiting phase)
 stage_waiting (stages.Waiting phase) r w = (phase, refl)
 stage_waiting stages.Running r w = absurd ((message_rests (wanted r)).0 w)
 stage_waiting _ r w = absurd (cc w)
 
-pub stage_taking : (stage : SessionStage) (r : Runner) → wants stage r ≡ wishes.Message → (phase : Phase) × (stage ≡ stages.Taking phase)
+pub stage_taking : (stage : SessionStage) (r : MessageRunner) → wants stage r ≡ wishes.Message → (phase : Phase) × (stage ≡ stages.Taking phase)
 stage_taking (stages.Taking phase) r w = (phase, refl)
 stage_taking stages.Running r w = absurd ((message_rests (wanted r)).2 w)
 stage_taking _ r w = absurd (cc w)
 
-stage_over : (stage : SessionStage) (r : Runner) (end : End) → wants stage r ≡ wishes.Ended end → (finish : Finish) ×
+stage_over : (stage : SessionStage) (r : MessageRunner) (end : End) → wants stage r ≡ wishes.Ended end → (finish : Finish) ×
     (stage ≡ stages.Ended finish) × (end_of finish ≡ end)
 stage_over (stages.Ended finish) r end w = (finish, refl, cc w)
 stage_over stages.Running r end w = absurd ((message_rests (wanted r)).1 end w)
 stage_over _ r end w = absurd (cc w)
 
 -- where a reply is held, or bytes or a message are wanted, nothing is lost yet
-pub Lacks-holding : (stage : SessionStage) (r : Runner) (lost : List ℕ) → IsHolding stage r → Lacks stage lost → lost ≡ []
+pub Lacks-holding : (stage : SessionStage) (r : MessageRunner) (lost : List ℕ) → IsHolding stage r → Lacks stage lost → lost ≡ []
 Lacks-holding (stages.Parting x) r lost w l = l
 Lacks-holding (stages.Telling reply) r lost w l = l
 Lacks-holding stages.Running r lost w l = l
 Lacks-holding _ r lost w l = absurd w
 
-Lacks-bytes : (stage : SessionStage) (r : Runner) (lost : List ℕ) → wants stage r ≡ wishes.Bytes → Lacks stage lost → lost ≡ []
+Lacks-bytes : (stage : SessionStage) (r : MessageRunner) (lost : List ℕ) → wants stage r ≡ wishes.Bytes → Lacks stage lost → lost ≡ []
 Lacks-bytes stage r lost w l = let (phase, is) = stage_waiting stage r w in subst (λ (x : SessionStage). Lacks x lost) is l
 
-Lacks-taking : (stage : SessionStage) (r : Runner) (lost : List ℕ) → wants stage r ≡ wishes.Message → Lacks stage lost → lost ≡ []
+Lacks-taking : (stage : SessionStage) (r : MessageRunner) (lost : List ℕ) → wants stage r ≡ wishes.Message → Lacks stage lost → lost ≡ []
 Lacks-taking stage r lost w l = let (phase, is) = stage_taking stage r w in subst (λ (x : SessionStage). Lacks x lost) is l
 
 shows_more : (s : Session) (level : Level) (taken : List ℕ) (es : List Entry) (asked : List Call) (sent : List ℕ) →
@@ -443,14 +443,14 @@ message_resting (calls.Book c) h = h
 message_resting calls.Send h = h
 message_resting calls.Nothing h = h
 
-pub wants_bytes : (stage : SessionStage) (r : Runner) → IsResting (wants stage r) → ((end : End) → wants stage r ≡ wishes.Ended end → ⊥) →
+pub wants_bytes : (stage : SessionStage) (r : MessageRunner) → IsResting (wants stage r) → ((end : End) → wants stage r ≡ wishes.Ended end → ⊥) →
     wants stage r ≡ wishes.Bytes
 wants_bytes (stages.Waiting phase) r h n = refl
 wants_bytes (stages.Ended e) r h n = absurd (n (end_of e) refl)
 wants_bytes stages.Running r h n = absurd (message_resting (wanted r) h)
 wants_bytes _ r h n = absurd h
 
-pub is_over : (stage : SessionStage) (r : Runner) → IsResting (wants stage r) → IsLast stage → IsOver (wants stage r)
+pub is_over : (stage : SessionStage) (r : MessageRunner) → IsResting (wants stage r) → IsLast stage → IsOver (wants stage r)
 is_over (stages.Ended e) r h l = tt
 is_over (stages.Waiting phase) r h l = absurd l
 is_over stages.Running r h l = absurd l
@@ -489,7 +489,7 @@ message_over (calls.Book c) h = h
 message_over calls.Send h = h
 message_over calls.Nothing h = h
 
-stage_away : (stage : SessionStage) (r : Runner) (state : SessionState) → IsOver (wants stage r) → owed_of state ≡ owed_at stage r → state ≡ no_session
+stage_away : (stage : SessionStage) (r : MessageRunner) (state : SessionState) → IsOver (wants stage r) → owed_of state ≡ owed_at stage r → state ≡ no_session
 stage_away (stages.Ended e) r state over owed = is_away state owed
 stage_away stages.Running r state over owed = absurd (message_over (wanted r) over)
 stage_away _ r state over owed = absurd over

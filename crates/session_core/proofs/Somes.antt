@@ -5,7 +5,7 @@ use Rattle.pg_framing.specs.declared.replies.Severity.{Severity}
 use Rattle.pg_framing.specs.declared.replies.TransactionState.{TransactionState}
 use Rattle.pg_framing.specs.Replies.{framed, auth_ok, ready, error_response}
 use Rattle.block_machine.specs.Replies.{ready_reply, error_reply}
-use Rattle.block_machine.specs.declared.runner.Runner.{Runner}
+use Rattle.block_machine.specs.declared.message_runner.MessageRunner.{MessageRunner}
 use Rattle.session_core.specs.declared.stage.SessionStage.{SessionStage}
 use Rattle.session_core.specs.declared.stage.SessionStage.TheVariants as stages
 use Rattle.session_core.specs.declared.stage.SessionReply.TheVariants as replies
@@ -44,7 +44,7 @@ unfolding fatal_reply
 fatal-some state = report-some _ state
 
 -- each reply but one that was built has bytes
-pub plain_some : (stage : SessionStage) (r : Runner) (startup : List ℕ) → NoBuilt stage → HasReply stage r startup
+pub plain_some : (stage : SessionStage) (r : MessageRunner) (startup : List ℕ) → NoBuilt stage → HasReply stage r startup
 plain_some stages.Running r startup h k = absurd h
 plain_some (stages.Telling replies.NoEncryption) r startup h k = omega arith
 plain_some (stages.Telling replies.Startup) r startup h k = absurd h

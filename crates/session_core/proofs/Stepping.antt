@@ -11,7 +11,7 @@ use Rattle.block_machine.specs.Stages.{IsFrom}
 use Rattle.block_machine.specs.Knowledge.{Knowledge}
 use Rattle.block_machine.specs.Runners.{knowledge_of}
 use Rattle.block_machine.specs.declared.end.End.TheVariants as ends
-use Rattle.block_machine.specs.declared.runner.Runner.{Runner}
+use Rattle.block_machine.specs.declared.message_runner.MessageRunner.{MessageRunner}
 use Rattle.session_core.specs.declared.phase.Phase.{Phase}
 use Rattle.session_core.specs.declared.stage.SessionStage.{SessionStage}
 use Rattle.session_core.specs.declared.stage.SessionStage.TheVariants as stages
@@ -45,7 +45,7 @@ session-again phase known (faulty f) said es =
     unless_short-twice true (ending (owed_by phase) ends.Memory) (ending (owed_by phase) (ends.Protocol f)) said es
 session-again phase known unread said es = unless_short-twice true (ending (owed_by phase) ends.Memory) lost said es
 
-pub Steps-partial : (phase : Phase) (r : Runner) (before after : Held) → after ≡ before → IsPartial before.started before.rest →
+pub Steps-partial : (phase : Phase) (r : MessageRunner) (before after : Held) → after ≡ before → IsPartial before.started before.rest →
     Steps phase r before (stages.Waiting phase) r None after
 Steps-partial phase r before after is nothing = record {
   turns = λ requests. requests;
@@ -66,7 +66,7 @@ taken_off before after front bytes takes = record {
   whole = ap (λ x. x ++ bytes) takes.whole ∙ append_assoc takes.taken after.rest bytes;
 }
 
-Steps-entered : (phase : Phase) (r : Runner) (before after : Held) (front : FrontendMessage) (stage : SessionStage) (next : Runner) (out_of_memory : Option Shortage) →
+Steps-entered : (phase : Phase) (r : MessageRunner) (before after : Held) (front : FrontendMessage) (stage : SessionStage) (next : MessageRunner) (out_of_memory : Option Shortage) →
     TakesFront before.started before.rest front after.rest →
     after.started ≡ phase_after before.started front → Enters front phase r stage next out_of_memory →
     Steps phase r before stage next out_of_memory after
@@ -87,7 +87,7 @@ Steps-entered phase r before after front stage next out_of_memory takes started 
   waits = λ other is. absurd (subst IsBusy is enters.busy);
 }
 
-Steps-skipped : (phase : Phase) (r : Runner) (before after : Held) (front : FrontendMessage) →
+Steps-skipped : (phase : Phase) (r : MessageRunner) (before after : Held) (front : FrontendMessage) →
     TakesFront before.started before.rest front after.rest →
     after.started ≡ phase_after before.started front → Skips front phase → Steps phase r before (stages.Taking phase) r None after
 Steps-skipped phase r before after front takes started skips = record {
@@ -106,7 +106,7 @@ Steps-skipped phase r before after front takes started skips = record {
   waits = λ other is. absurd (cc is);
 }
 
-pub Steps-front : (phase : Phase) (r : Runner) (before after : Held) (front : FrontendMessage) (stage : SessionStage) (next : Runner)
+pub Steps-front : (phase : Phase) (r : MessageRunner) (before after : Held) (front : FrontendMessage) (stage : SessionStage) (next : MessageRunner)
     (out_of_memory : Option Shortage) → TakesFront before.started before.rest front after.rest →
     after.started ≡ phase_after before.started front → Meets front phase r stage next out_of_memory →
     Steps phase r before stage next out_of_memory after
@@ -114,11 +114,11 @@ Steps-front phase r before after front stage next out_of_memory takes started (i
     Steps-entered phase r before after front stage next out_of_memory takes started enters
 Steps-front phase r before after front stage next out_of_memory takes started (inr (skips, stage_is, next_is, out_of_memory_is)) =
     subst (λ (x : SessionStage). Steps phase r before x next out_of_memory after) (sym stage_is)
-    (subst (λ (x : Runner). Steps phase r before (stages.Taking phase) x out_of_memory after) (sym next_is)
+    (subst (λ (x : MessageRunner). Steps phase r before (stages.Taking phase) x out_of_memory after) (sym next_is)
     (subst (λ (x : Option Shortage). Steps phase r before (stages.Taking phase) r x after) (sym out_of_memory_is)
     (Steps-skipped phase r before after front takes started skips)))
 
-pub Steps-faulty : (phase : Phase) (r : Runner) (before after : Held) (fault : FrameFault) (stage : SessionStage) →
+pub Steps-faulty : (phase : Phase) (r : MessageRunner) (before after : Held) (fault : FrameFault) (stage : SessionStage) →
     after.started ≡ before.started → after.rest ≡ before.rest →
     HasFault before.started before.rest fault → LeadsTo stage (ending (owed_by phase) (ends.Protocol fault)) →
     Steps phase r before stage r None after
@@ -135,7 +135,7 @@ Steps-faulty phase r before after fault stage same_phase same_rest has leads = r
   waits = λ other is. absurd (subst IsBusy is (busy-last stage leads.0));
 }
 
-pub Steps-memory : (phase : Phase) (r : Runner) (before after : Held) (stage : SessionStage) → after ≡ before →
+pub Steps-memory : (phase : Phase) (r : MessageRunner) (before after : Held) (stage : SessionStage) → after ≡ before →
     LeadsTo stage (ending (owed_by phase) ends.Memory) → Steps phase r before stage r (Some shortages.Ending) after
 Steps-memory phase r before after stage is leads = record {
   turns = λ requests. requests;
@@ -153,7 +153,7 @@ memory_or frame_faults.NoTerminator = inr (λ e. cc e)
 memory_or frame_faults.Memory = inl refl
 
 -- a fault of the stream, or a lack of memory in its reading
-pub Steps-broken : (phase : Phase) (r : Runner) (before after : Held) (fault : FrameFault) (stage : SessionStage) (w : Option Shortage) →
+pub Steps-broken : (phase : Phase) (r : MessageRunner) (before after : Held) (fault : FrameFault) (stage : SessionStage) (w : Option Shortage) →
     (fault ≡ frame_faults.Memory → after ≡ before) →
     (fault ≢ frame_faults.Memory → (after ≡ record before { fault = Some fault }) × HasFault before.started before.rest fault) →
     (fault ≡ frame_faults.Memory → (w ≡ Some shortages.Ending) × LeadsTo stage (ending (owed_by phase) ends.Memory)) →

@@ -19,7 +19,7 @@ use Rattle.block_machine.specs.declared.end.End.{End}
 use Rattle.block_machine.specs.declared.end.End.TheVariants as ends
 use Rattle.block_machine.specs.declared.end.Stop.{Stop}
 use Rattle.block_machine.specs.declared.end.Stop.TheVariants as stops
-use Rattle.block_machine.specs.declared.runner.Runner.{Runner}
+use Rattle.block_machine.specs.declared.message_runner.MessageRunner.{MessageRunner}
 use Rattle.session_core.specs.declared.phase.Phase.{Phase}
 use Rattle.session_core.specs.declared.phase.Phase.TheVariants as phases
 use Rattle.session_core.specs.declared.stage.Fatal.{Fatal}
@@ -55,7 +55,7 @@ end_of finishes.Memory = ends.Memory
 end_of (finishes.Fatal fatal) = fatal_end fatal
 
 -- the level of the server
-abbrev pub served_of : Runner → Level
+abbrev pub served_of : MessageRunner → Level
 served_of r = (knowledge_of r).served
 
 -- the messages from here on, by the phase and what the session knows
@@ -63,7 +63,7 @@ abbrev pub on : Requests → Phase → Knowledge → Script
 on requests phase known = session phase known requests
 
 -- What a stage goes on with, given what its runner goes on with, the startup reply that was built, and what the client says from here on.
-abbrev pub goes_on : SessionStage → Runner → List ℕ → Requests → Script
+abbrev pub goes_on : SessionStage → MessageRunner → List ℕ → Requests → Script
 goes_on (stages.Waiting phase) r startup requests = on requests phase (knowledge_of r)
 goes_on (stages.Taking phase) r startup requests = on requests phase (knowledge_of r)
 goes_on stages.Opening r startup requests = opens (on requests (phases.Normal block_states.Idle) (knowledge_of r))
@@ -77,7 +77,7 @@ goes_on (stages.Parting fatal) r startup requests = tell (fatal_reply (fatal_sta
 goes_on (stages.Ended finish) r startup requests = done (end_of finish)
 
 -- what a stage wants
-abbrev pub wants : SessionStage → Runner → Want
+abbrev pub wants : SessionStage → MessageRunner → Want
 wants (stages.Waiting phase) r = wishes.Bytes
 wants (stages.Taking phase) r = wishes.Message
 wants stages.Opening r = wishes.Book calls.Open
@@ -103,7 +103,7 @@ own_want (stages.Parting fatal) = wishes.Send
 own_want (stages.Ended finish) = wishes.Ended (end_of finish)
 
 -- what the session owes its book
-abbrev pub owed_at : SessionStage → Runner → Owed
+abbrev pub owed_at : SessionStage → MessageRunner → Owed
 owed_at (stages.Waiting phase) r = owed_by phase
 owed_at (stages.Taking phase) r = owed_by phase
 owed_at stages.Opening r = owed_kinds.Nothing
@@ -116,27 +116,27 @@ owed_at (stages.Parting fatal) r = owed_kinds.Nothing
 owed_at (stages.Ended finish) r = owed_kinds.Nothing
 
 -- a reply is held
-abbrev pub IsHolding : SessionStage → Runner → Type 0
+abbrev pub IsHolding : SessionStage → MessageRunner → Type 0
 IsHolding stages.Running r = Holds r
 IsHolding (stages.Telling reply) r = Unit {0}
 IsHolding (stages.Parting fatal) r = Unit {0}
 IsHolding _ r = ⊥
 
-abbrev pub reply_of : SessionStage → Runner → List ℕ → List ℕ
+abbrev pub reply_of : SessionStage → MessageRunner → List ℕ → List ℕ
 reply_of stages.Running r startup = held r
 reply_of (stages.Telling reply) r startup = bytes_of startup reply
 reply_of (stages.Parting fatal) r startup = fatal_reply (fatal_state fatal)
 reply_of _ r startup = []
 
 -- what follows a reply that was sent
-abbrev pub after_reply : SessionStage → Runner → Requests → Script
+abbrev pub after_reply : SessionStage → MessageRunner → Requests → Script
 after_reply stages.Running r requests = follows_reply r (outside_of (on requests))
 after_reply (stages.Telling reply) r requests = on requests (phase_after_reply reply) (knowledge_of r)
 after_reply (stages.Parting fatal) r requests = done (fatal_end fatal)
 after_reply _ r requests = broken owed_kinds.Nothing
 
 -- a held reply has bytes
-abbrev pub HasReply : SessionStage → Runner → List ℕ → Type 0
+abbrev pub HasReply : SessionStage → MessageRunner → List ℕ → Type 0
 HasReply stage r startup = IsHolding stage r → 0 < length (reply_of stage r startup)
 
 -- ---- what holds of a stage
@@ -187,11 +187,11 @@ abbrev pub InPhase : SessionStage → Bool → Type 0
 InPhase stage started = phase_fits stage started ≡ true
 
 -- where a message runs, its runner has one under way
-abbrev pub is_under : SessionStage → Runner → Bool
+abbrev pub is_under : SessionStage → MessageRunner → Bool
 is_under stages.Running r = is_under_way r
 is_under _ r = true
 
-abbrev pub IsUnder : SessionStage → Runner → Type 0
+abbrev pub IsUnder : SessionStage → MessageRunner → Type 0
 IsUnder stage r = is_under stage r ≡ true
 
 -- the reply that is held, if one is, isn't one that was built
@@ -201,7 +201,7 @@ NoBuilt (stages.Telling replies.Startup) = ⊥
 NoBuilt _ = Unit {0}
 
 -- What holds of a runner whatever the stage: its tables, statements and demands are sound.
-pub record IsFit (r : Runner) : Type 0 where
+pub record IsFit (r : MessageRunner) : Type 0 where
   pub knows : Knows r
   pub sound : IsSoundRunner r
   pub tables : All IsSound (tables_of r)
@@ -260,7 +260,7 @@ IsStopped _ _ = ⊥
 
 -- Whatever comes, told of the lists grown by it is what the state goes on with. `whole` puts what the client says from here on after what
 -- it said before.
-pub record StandsFor (stage : SessionStage) (r : Runner) (startup : List ℕ) (held : Held) (taken : List ℕ) (entries : List Entry)
+pub record StandsFor (stage : SessionStage) (r : MessageRunner) (startup : List ℕ) (held : Held) (taken : List ℕ) (entries : List Entry)
     (asked : List Call) (sent : List ℕ) : Type 0 where
   pub whole : Requests → Requests
   pub heard : (bytes : List ℕ) (requests : Requests) → IsFed stage bytes → AreRequests held.started (held.rest ++ bytes) requests →
@@ -313,16 +313,16 @@ message_at stages.Running = 1
 message_at _ = 0
 
 -- how much work a message that runs leaves, but for the demands of its running statement
-abbrev pub message_work : SessionStage → Runner → ℕ
+abbrev pub message_work : SessionStage → MessageRunner → ℕ
 message_work stages.Running r = 1 + work_of r
 message_work _ r = 0
 
 -- 1 where a statement runs
-abbrev pub statement_at : SessionStage → Runner → ℕ
+abbrev pub statement_at : SessionStage → MessageRunner → ℕ
 statement_at stages.Running r = running_of r
 statement_at _ r = 0
 
 -- how many demands of a running statement are left at most
-abbrev pub left_at : SessionStage → Runner → ℕ
+abbrev pub left_at : SessionStage → MessageRunner → ℕ
 left_at stages.Running r = left_of r
 left_at _ r = 0

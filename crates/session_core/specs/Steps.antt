@@ -14,7 +14,7 @@ use Rattle.block_machine.specs.declared.block.Owed.{Owed}
 use Rattle.block_machine.specs.declared.call.Answer.{Answer}
 use Rattle.block_machine.specs.declared.call.Answer.TheVariants as answers
 use Rattle.block_machine.specs.declared.end.End.TheVariants as ends
-use Rattle.block_machine.specs.declared.runner.Runner.{Runner}
+use Rattle.block_machine.specs.declared.message_runner.MessageRunner.{MessageRunner}
 use Rattle.session_core.specs.declared.phase.Phase.{Phase}
 use Rattle.session_core.specs.declared.stage.SessionStage.{SessionStage}
 use Rattle.session_core.specs.declared.stage.SessionStage.TheVariants as stages
@@ -55,7 +55,7 @@ IsShort sent (stop cause ∷ es) = ⊥
 
 -- an end leads to a stage
 abbrev pub LeadsTo : SessionStage → Script → Type 0
-LeadsTo stage script = IsLast stage × ((r : Runner) (startup : List ℕ) (requests : Requests) (said : Said) (es : List Entry) →
+LeadsTo stage script = IsLast stage × ((r : MessageRunner) (startup : List ℕ) (requests : Requests) (said : Said) (es : List Entry) →
     script said es ≡ goes_on stage r startup requests said es)
 
 -- the message stands after the startup
@@ -83,7 +83,7 @@ abbrev pub IsHeard : Phase → FrontendMessage → Type 0
 IsHeard phase front = (bytes : List ℕ) × (more : List ℕ) × TakesFront (has_started phase) bytes front more
 
 -- A message of a client leads to a stage, with a lack of memory in its reading where there was one.
-pub record Enters (front : FrontendMessage) (phase : Phase) (r : Runner) (stage : SessionStage) (next : Runner) (out_of_memory : Option Shortage) : Type 0 where
+pub record Enters (front : FrontendMessage) (phase : Phase) (r : MessageRunner) (stage : SessionStage) (next : MessageRunner) (out_of_memory : Option Shortage) : Type 0 where
   pub asked : Request
   pub says : Says front asked
   pub busy : IsBusy stage
@@ -100,7 +100,7 @@ pub record Skips (front : FrontendMessage) (phase : Phase) : Type 0 where
       handled asked phase known rest ≡ rest phase known
 
 -- What a message leads to, given what was owed: the end isn't there yet, and no more of what is known has changed than the level.
-pub record Leads (owed : Owed) (r : Runner) (stage : SessionStage) (next : Runner) : Type 0 where
+pub record Leads (owed : Owed) (r : MessageRunner) (stage : SessionStage) (next : MessageRunner) : Type 0 where
   pub owed_is : owed_at stage next ≡ owed
   pub known : IsSameButLevel (knowledge_of r) (knowledge_of next)
   pub fit : IsFit next
@@ -110,13 +110,13 @@ pub record Leads (owed : Owed) (r : Runner) (stage : SessionStage) (next : Runne
   pub some : (startup : List ℕ) → HasReply stage next startup
 
 -- A message leads to a stage, or is passed over.
-abbrev pub Meets : FrontendMessage → Phase → Runner → SessionStage → Runner → Option Shortage → Type 0
+abbrev pub Meets : FrontendMessage → Phase → MessageRunner → SessionStage → MessageRunner → Option Shortage → Type 0
 Meets front phase r stage next out_of_memory =
     Enters front phase r stage next out_of_memory
     ⊎ (Skips front phase × (stage ≡ stages.Taking phase) × (next ≡ r) × (out_of_memory ≡ None))
 
 -- Where a message is wanted, the next one, a fault or a lack of memory is looked at, or bytes are wanted.
-pub record Steps (phase : Phase) (r : Runner) (before : Held) (stage : SessionStage) (next : Runner) (out_of_memory : Option Shortage)
+pub record Steps (phase : Phase) (r : MessageRunner) (before : Held) (stage : SessionStage) (next : MessageRunner) (out_of_memory : Option Shortage)
     (after : Held) : Type 0 where
   pub turns : Requests → Requests
   pub heard : (bytes : List ℕ) (requests : Requests) → IsFed stage bytes → AreRequests after.started (after.rest ++ bytes) requests →
@@ -132,13 +132,13 @@ Feeds phase piece before stage out_of_memory after =
     ⊎ ((after ≡ before) × (out_of_memory ≡ Some shortages.Ending) × LeadsTo stage (ending (owed_by phase) ends.Memory))
 
 -- A reply that was sent leads on, with a lack of memory after it where there was one.
-abbrev pub Sends : SessionStage → Runner → SessionStage → Runner → Option Shortage → Type 0
+abbrev pub Sends : SessionStage → MessageRunner → SessionStage → MessageRunner → Option Shortage → Type 0
 Sends stage r next after out_of_memory =
     (startup : List ℕ) (requests : Requests) (said : Said) (es : List Entry) → IsFrom (least next) (length said.bytes) es →
     after_reply stage r requests said (with_out_of_memory out_of_memory said.bytes es) ≡ goes_on next after startup requests said es
 
 -- An answer to a stage's call leads on, with a lack of memory after it where there was one.
-pub record Advances (stage : SessionStage) (r : Runner) (answer : Answer) (next : SessionStage) (after : Runner) (out_of_memory : Option Shortage)
+pub record Advances (stage : SessionStage) (r : MessageRunner) (answer : Answer) (next : SessionStage) (after : MessageRunner) (out_of_memory : Option Shortage)
     (startup : List ℕ) : Type 0 where
   pub goes : (c : Call) (before : List ℕ) (requests : Requests) (said : Said) (es : List Entry) (e : Event) → wants stage r ≡ wishes.Book c →
       IsFrom 1 (length said.bytes) es →

@@ -3,7 +3,7 @@ ghost use Rattle.std.specs.Prelude.{◌≡◌, ℕ, ◌+◌, ◌<◌, List, [], 
 ghost use Rattle.block_machine.specs.Calls.{Call as Asked};
 ghost use Rattle.block_machine.specs.Stages.{IsKnownAfter, IsSameButLevel, owed_after, wants_memory};
 ghost use Rattle.block_machine.specs.Runners.{Runs, knowledge_of};
-ghost use Rattle.block_machine.specs.declared.runner.Runner.{Runner as Machine};
+ghost use Rattle.block_machine.specs.declared.message_runner.MessageRunner.{MessageRunner as Machine};
 ghost use Rattle.session_core.specs.Told.{opened_after};
 ghost use Rattle.session_core.specs.Wants as wishes;
 ghost use Rattle.session_core.specs.Stands.{FitsWant, HasReply, InPhase, IsAwake, IsFit, IsHolding, IsLast, IsUnder, Lacks, left_at, message_at, message_work, outer, own_want, owed_at, statement_at, wants, work_at};
@@ -14,13 +14,13 @@ use crate::phase::Phase;
 use crate::replies;
 use crate::stage::{Finish, SessionReply, SessionStage};
 use crate::turns::{SessionStep, Shortage, advance, at_rest, owed_by, phase_after_reply};
-use block_machine::{Answer, Owed, Runner};
+use block_machine::{Answer, Owed, MessageRunner};
 use cell_base::Memory;
 use history_core::BookFault;
 use std::alloc::Global;
 
 // The step after a reply of a message that runs.
-fn run_on(runner: &mut Runner) -> SessionStep
+fn run_on(runner: &mut MessageRunner) -> SessionStep
     requires holding { IsHolding SessionStage.Running runner.old }
     requires fit { IsFit runner.old }
     ensures sends { Sends SessionStage.Running runner.old result.stage runner.new result.out_of_memory }
@@ -50,7 +50,7 @@ fn run_on(runner: &mut Runner) -> SessionStep
 }
 
 /// The step after a reply that was sent.
-pub fn after_sent(stage: SessionStage, runner: &mut Runner) -> SessionStep
+pub fn after_sent(stage: SessionStage, runner: &mut MessageRunner) -> SessionStep
     requires holding { IsHolding stage runner.old }
     requires fit { IsFit runner.old }
     ensures sends { Sends stage runner.old result.stage runner.new result.out_of_memory }
@@ -76,7 +76,7 @@ pub fn after_sent(stage: SessionStage, runner: &mut Runner) -> SessionStep
 }
 
 /// What a session owes where a reply is held.
-pub fn owed_holding(stage: SessionStage, runner: &Runner) -> Owed
+pub fn owed_holding(stage: SessionStage, runner: &MessageRunner) -> Owed
     requires { IsHolding stage runner.now }
     ensures { result ≡ owed_at stage runner.now }
 {
@@ -137,7 +137,7 @@ fn answer_own(
 }
 
 // The step after the answer to a call of a message that runs.
-fn answer_message(runner: &mut Runner, answer: Answer) -> SessionStep
+fn answer_message(runner: &mut MessageRunner, answer: Answer) -> SessionStep
     requires fits { FitsWant (wants SessionStage.Running runner.old) answer }
     requires fit { IsFit runner.old }
     ensures goes { (startup : List ℕ) → Advances SessionStage.Running runner.old answer result.stage runner.new result.out_of_memory startup }
@@ -163,7 +163,7 @@ fn answer_message(runner: &mut Runner, answer: Answer) -> SessionStep
 pub fn answered(
     alloc: Global,
     stage: SessionStage,
-    runner: &mut Runner,
+    runner: &mut MessageRunner,
     answer: Answer,
     startup: &mut Vec<u8>,
 ) -> SessionStep

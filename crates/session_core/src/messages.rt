@@ -6,7 +6,7 @@ ghost use Rattle.block_machine.specs.Messages as blocks;
 ghost use Rattle.block_machine.specs.Script.{Said, Entry};
 ghost use Rattle.block_machine.specs.Stages.{IsFrom, IsSoundMessage};
 ghost use Rattle.block_machine.specs.Runners.{knowledge_of};
-ghost use Rattle.block_machine.specs.declared.runner.Runner.{Runner as Machine};
+ghost use Rattle.block_machine.specs.declared.message_runner.MessageRunner.{MessageRunner as Machine};
 ghost use Rattle.session_core.specs.Requests.{Requests};
 ghost use Rattle.session_core.specs.Told as told_spec;
 ghost use Rattle.session_core.specs.Told.{ending, outside_of};
@@ -17,7 +17,7 @@ use crate::phase::Phase;
 use crate::stage::{Fatal, Finish, SessionReply, SessionStage};
 use crate::turns::{SessionStep, Shortage, at_rest, leave, owed_by, refuse};
 use crate::user::has_user;
-use block_machine::{End, Message, Owed, Runner, owed_between, read_message};
+use block_machine::{End, Message, Owed, MessageRunner, owed_between, read_message};
 use cell_base::{Memory, SqlState};
 use client_framing::{FrameFault, Frames, FrontendMessage};
 use pg_framing::TransactionState;
@@ -37,7 +37,7 @@ pub fn passing(out_of_memory: bool) -> Option<Shortage>
 }
 
 // The step to a message whose statements run.
-fn run(message: Message, state: TransactionState, runner: &mut Runner) -> SessionStep
+fn run(message: Message, state: TransactionState, runner: &mut MessageRunner) -> SessionStep
     requires sound { IsSoundMessage message }
     requires fit { IsFit runner.old }
     ensures goes { (startup : List ℕ) (requests : Requests) (said : Said) (es : List Entry) → IsFrom 1 (length said.bytes) es →
@@ -55,7 +55,7 @@ fn run(message: Message, state: TransactionState, runner: &mut Runner) -> Sessio
 }
 
 // Runs a message that fails before its first statement, with this code.
-fn fail(code: SqlState, state: TransactionState, runner: &mut Runner)
+fn fail(code: SqlState, state: TransactionState, runner: &mut MessageRunner)
     requires fit { IsFit runner.old }
     ensures goes { (startup : List ℕ) (requests : Requests) (said : Said) (es : List Entry) →
         blocks.message (Message.Unread code) state (knowledge_of runner.old) (outside_of (on requests)) said es ≡
@@ -66,7 +66,7 @@ fn fail(code: SqlState, state: TransactionState, runner: &mut Runner)
 }
 
 // The step that a query leads to.
-fn query(alloc: Global, text: &[u8], state: TransactionState, runner: &mut Runner) -> SessionStep
+fn query(alloc: Global, text: &[u8], state: TransactionState, runner: &mut MessageRunner) -> SessionStep
     requires short { length text.now < 2 ^ 32 }
     requires no_zero { HasNoZero text.now }
     requires fit { IsFit runner.old }
@@ -130,7 +130,7 @@ fn serve_plain(front: &FrontendMessage, state: TransactionState) -> SessionStage
 }
 
 // The step that a function call leads to.
-fn call_function(state: TransactionState, runner: &mut Runner) -> SessionStep
+fn call_function(state: TransactionState, runner: &mut MessageRunner) -> SessionStep
     requires fit { IsFit runner.old }
     ensures goes { Meets FrontendMessage.FunctionCall (Phase.Normal state) runner.old result.stage runner.new result.out_of_memory }
     ensures leads { Leads (blocks.owed_between state) runner.old result.stage runner.new }
@@ -145,7 +145,7 @@ fn serve(
     alloc: Global,
     front: &FrontendMessage,
     state: TransactionState,
-    runner: &mut Runner,
+    runner: &mut MessageRunner,
 ) -> SessionStep
     requires main { is_main front.now ≡ true }
     requires readable { IsReadable front.now }
@@ -183,7 +183,7 @@ fn discard(front: &FrontendMessage, state: TransactionState) -> SessionStage
 }
 
 // The step that a message leads to.
-fn enter(alloc: Global, front: &FrontendMessage, phase: Phase, runner: &mut Runner) -> SessionStep
+fn enter(alloc: Global, front: &FrontendMessage, phase: Phase, runner: &mut MessageRunner) -> SessionStep
     requires heard { IsHeard phase front.now }
     requires fit { IsFit runner.old }
     ensures goes { Meets front.now phase runner.old result.stage runner.new result.out_of_memory }
@@ -222,7 +222,7 @@ pub fn take_message(
     alloc: Global,
     frames: &mut Frames,
     phase: Phase,
-    runner: &mut Runner,
+    runner: &mut MessageRunner,
 ) -> SessionStep
     requires started { frames.old.started ≡ has_started phase }
     requires fit { IsFit runner.old }

@@ -11,7 +11,7 @@ ghost use Rattle.block_machine.specs.Script.{Entry, Said, call as asking, unsent
 ghost use Rattle.block_machine.specs.Messages.{Outside};
 ghost use Rattle.block_machine.specs.Stages.{IsKnownAfter, IsSameButLevel, entry_for, owed_after};
 ghost use Rattle.block_machine.specs.Runners.{Runs, follows, knowledge_of};
-ghost use Rattle.block_machine.specs.declared.runner.Runner.{Runner as Machine};
+ghost use Rattle.block_machine.specs.declared.message_runner.MessageRunner.{MessageRunner as Machine};
 ghost use Rattle.session_core.specs.Wants as wishes;
 ghost use Rattle.session_core.specs.Wants.{IsWant};
 ghost use Rattle.session_core.specs.Told.{opened_in};
@@ -24,7 +24,7 @@ use crate::prepared::SessionReplies;
 use crate::stage::{Finish, SessionStage};
 use crate::turns::{end_at, finish_of, leave, owed_by};
 use crate::want::Want;
-use block_machine::{Answer, Call, End, Runner, Stop};
+use block_machine::{Answer, Call, End, MessageRunner, Stop};
 use cell_base::{Level, Memory};
 use client_framing::Frames;
 use sql_tree::Table;
@@ -39,7 +39,7 @@ pub struct Session {
     prepared: SessionReplies,
     // The startup reply, once it was built.
     startup: Vec<u8>,
-    runner: Runner,
+    runner: MessageRunner,
     stage: SessionStage,
     number: Option<u32>,
     short: bool,
@@ -77,7 +77,7 @@ fn either(a: bool, b: bool) -> bool
 }
 
 // What a session wants while a message runs.
-fn want_of(runner: &Runner) -> Want
+fn want_of(runner: &MessageRunner) -> Want
     requires { IsUnder SessionStage.Running runner.now }
     ensures want { IsWant result (wants SessionStage.Running runner.now) }
     ensures holding { result ≡ Want.Send → IsHolding SessionStage.Running runner.now }
@@ -111,7 +111,7 @@ impl Session {
             frames: Frames::new(alloc),
             prepared: SessionReplies::new(alloc)?,
             startup: Vec::new(alloc),
-            runner: Runner::new(alloc, level)?,
+            runner: MessageRunner::new(alloc, level)?,
             stage: SessionStage::Waiting(Phase::Startup),
             number: None,
             short: false,

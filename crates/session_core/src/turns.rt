@@ -5,7 +5,7 @@ ghost use Rattle.block_machine.specs.Messages as blocks;
 ghost use Rattle.block_machine.specs.Script.{Said, Entry};
 ghost use Rattle.block_machine.specs.Stages.{owed_after};
 ghost use Rattle.block_machine.specs.Runners.{knowledge_of};
-ghost use Rattle.block_machine.specs.declared.runner.Runner.{Runner};
+ghost use Rattle.block_machine.specs.declared.message_runner.MessageRunner.{MessageRunner};
 ghost use Rattle.session_core.specs.Replies as replies_spec;
 ghost use Rattle.session_core.specs.Wants as wishes;
 ghost use Rattle.session_core.specs.Requests.{Requests};
@@ -70,13 +70,13 @@ pub fn end_at(finish: Finish) -> End
 /// The stage of an end after its close.
 pub fn part(finish: Finish) -> SessionStage
     ensures leads { LeadsTo result (closed (end_of finish)) }
-    ensures owed { (r : Runner) → owed_at result r ≡ Owed.Nothing }
+    ensures owed { (r : MessageRunner) → owed_at result r ≡ Owed.Nothing }
     ensures outer { outer result ≡ outer_end (end_of finish) }
     ensures work { work_at result ≤ 1 }
     ensures lacks { (lost : List ℕ) → LacksBy (end_of finish) lost → lost ≡ [] → Lacks result lost }
     ensures silent { finish ≡ Finish.WriteFault → work_at result ≡ 0 }
     ensures phase { (started : Bool) → InPhase result started }
-    ensures under { (r : Runner) → IsUnder result r }
+    ensures under { (r : MessageRunner) → IsUnder result r }
     ensures constant { NoBuilt result }
 {
     match finish {
@@ -94,13 +94,13 @@ pub fn part(finish: Finish) -> SessionStage
 /// The stage of an end, given what is owed.
 pub fn leave(owed: Owed, finish: Finish) -> SessionStage
     ensures leads { LeadsTo result (ending owed (end_of finish)) }
-    ensures owed { (r : Runner) → owed_at result r ≡ owed }
+    ensures owed { (r : MessageRunner) → owed_at result r ≡ owed }
     ensures outer { outer result ≡ outer_end (end_of finish) }
     ensures work { work_at result ≤ 3 }
     ensures silent { owed ≡ Owed.Nothing → finish ≡ Finish.WriteFault → work_at result ≡ 0 }
     ensures lacks { (lost : List ℕ) → LacksBy (end_of finish) lost → lost ≡ [] → Lacks result lost }
     ensures phase { (started : Bool) → InPhase result started }
-    ensures under { (r : Runner) → IsUnder result r }
+    ensures under { (r : MessageRunner) → IsUnder result r }
     ensures constant { NoBuilt result }
 {
     match owed {
@@ -148,14 +148,14 @@ pub fn finish_of(cause: Stop, nothing: bool) -> Finish
 
 /// The stage of a message of the extended query outside of discarding.
 pub fn refuse(state: TransactionState) -> SessionStage
-    ensures goes { (r : Runner) (startup : List ℕ) (requests : Requests) (said : Said) (es : List Entry) →
+    ensures goes { (r : MessageRunner) (startup : List ℕ) (requests : Requests) (said : Said) (es : List Entry) →
         refuses state (knowledge_of r) (on requests) said es ≡ goes_on result r startup requests said es }
-    ensures owed { (r : Runner) → owed_at result r ≡ blocks.owed_between state }
+    ensures owed { (r : MessageRunner) → owed_at result r ≡ blocks.owed_between state }
     ensures outer { outer result ≡ None }
     ensures work { work_at result ≤ 7 }
     ensures lacks { Lacks result [] }
     ensures phase { InPhase result true }
-    ensures under { (r : Runner) → IsUnder result r }
+    ensures under { (r : MessageRunner) → IsUnder result r }
     ensures busy { IsBusy result }
     ensures constant { NoBuilt result }
 {
@@ -174,13 +174,13 @@ pub fn refuse(state: TransactionState) -> SessionStage
 pub fn advance(stage: SessionStage, answer: &Answer) -> SessionStage
     requires fits { FitsWant (own_want stage) answer.now }
     requires plain { IsPlain stage answer.now }
-    ensures goes { (r : Runner) (startup : List ℕ) → Advances stage r answer.now result r None startup }
-    ensures owed { (c : Asked) (r : Runner) → wants stage r ≡ wishes.Book c → owed_at result r ≡ owed_after c answer.now (owed_at stage r) }
+    ensures goes { (r : MessageRunner) (startup : List ℕ) → Advances stage r answer.now result r None startup }
+    ensures owed { (c : Asked) (r : MessageRunner) → wants stage r ≡ wishes.Book c → owed_at result r ≡ owed_after c answer.now (owed_at stage r) }
     ensures outer { outer result ≡ outer stage }
     ensures lacks { (lost : List ℕ) → Lacks stage lost → Lacks result lost }
     ensures work { work_at result < work_at stage }
     ensures phase { (started : Bool) → InPhase stage started → InPhase result started }
-    ensures under { (r : Runner) → IsUnder result r }
+    ensures under { (r : MessageRunner) → IsUnder result r }
     ensures constant { NoBuilt result }
 {
     match (stage, answer) {
