@@ -67,7 +67,6 @@ IsAsked r = (c : Call) (outside : Outside) (said : Said) → wants stages.Runnin
     follows r outside said [] ≡ (said, call c)
 
 Shows-message : (r : MessageRunner) (w : calls.MessageWant) (startup : List ℕ) (held : Held) (taken : List ℕ) (es : List Entry) (asked : List Call)
-Shows-message : (r : MessageRunner) (w : calls.Want) (startup : List ℕ) (held : Held) (taken : List ℕ) (es : List Entry) (asked : List Call)
     (sent : List ℕ) →
     ((c : Call) (outside : Outside) (said : Said) → of_message w ≡ wishes.Book c → follows r outside said [] ≡ (said, call c)) →
     StandsFor stages.Running r startup held taken es asked sent → Shows (served_of r) (of_message w) taken es asked sent

@@ -15,7 +15,6 @@ use crate::replies;
 use crate::stage::{Finish, SessionReply, SessionStage};
 use crate::turns::{SessionStep, Shortage, advance, at_rest, owed_by, phase_after_reply};
 use block_machine::{Answer, MessageRunner, Owed};
-use block_machine::{Answer, Owed, MessageRunner};
 use cell_base::Memory;
 use history_core::BookFault;
 use std::alloc::Global;

@@ -18,7 +18,6 @@ use crate::stage::{Fatal, Finish, SessionReply, SessionStage};
 use crate::turns::{SessionStep, Shortage, at_rest, leave, owed_by, refuse};
 use crate::user::has_user;
 use block_machine::{End, Message, MessageRunner, Owed, owed_between, read_message};
-use block_machine::{End, Message, Owed, MessageRunner, owed_between, read_message};
 use cell_base::{Memory, SqlState};
 use client_framing::{FrameFault, Frames, FrontendMessage};
 use pg_framing::TransactionState;
@@ -73,7 +72,6 @@ fn query(
     state: TransactionState,
     runner: &mut MessageRunner,
 ) -> SessionStep
-fn query(alloc: Global, text: &[u8], state: TransactionState, runner: &mut MessageRunner) -> SessionStep
     requires short { length text.now < 2 ^ 32 }
     requires no_zero { HasNoZero text.now }
     requires fit { IsFit runner.old }
@@ -196,7 +194,6 @@ fn enter(
     phase: Phase,
     runner: &mut MessageRunner,
 ) -> SessionStep
-fn enter(alloc: Global, front: &FrontendMessage, phase: Phase, runner: &mut MessageRunner) -> SessionStep
     requires heard { IsHeard phase front.now }
     requires fit { IsFit runner.old }
     ensures goes { Meets front.now phase runner.old result.stage runner.new result.out_of_memory }
