@@ -1,0 +1,14 @@
+pub mod Further
+pub mod Records
+pub mod OneSession
+pub mod OfferParts
+pub mod Legality
+pub mod Desks
+pub mod Books
+pub mod Indexes
+pub mod SourceSets
+pub mod Picks
+pub mod Cells
+pub mod KeyLists
+pub mod Scans
+pub mod OwnWrites

@@ -1,0 +1,17 @@
+use Rattle.std.proofs.Common.{◌≡◌, Some, sym, ◌∙◌, subst}
+use Rattle.history_core.specs.declared.event.Event.TheVariants.{Begin}
+use Rattle.history_core.specs.Legal.{full_for}
+use Rattle.history_core.specs.Chronicle.{Chronicle}
+use Rattle.solo_book.proofs.Legality.{legal_with, fits_from_ok}
+use Rattle.solo_book.proofs.append.append_begin.Goals as goal
+
+pub returns-in-Ok-clause-legal : goal.returns-in-Ok-clause-legal
+returns-in-Ok-clause-legal c =
+    rw c.in-Ok.ensures.ok
+    (legal_with c.args.history.now (Begin c.args.session c.args.level) c.requires.legal c.requires.follows
+    (fits_from_ok c.args.history.now.initial c.args.history.now.events (Begin c.args.session c.args.level) c.push_begin.result _ c.in-Ok.is c.push_begin.ensures.full) tt tt)
+
+pub returns-in-Err-clause-full : goal.returns-in-Err-clause-full
+returns-in-Err-clause-full c = λ limit is.
+    subst (λ (h : Chronicle). full_for h.initial h.events (Begin c.args.session c.args.level) ≡ Some limit) (sym c.in-Err.ensures.err)
+    ((c.push_begin.ensures.full limit).0 (c.in-Err.is ∙ is))

@@ -1,0 +1,18 @@
+use Rattle.std.proofs.Common.{sym, subst}
+use Rattle.history_core.specs.Book.{Past, HasSession}
+use Rattle.solo_book.proofs.Books.{if_ok, stage_open, defines_answers, defines_state, err_goes}
+use Rattle.solo_book.proofs.book.SoloBookBook.define.Goals as goal
+
+pub returns-clause-ok : goal.returns-clause-ok
+returns-clause-ok c =
+    let is = stage_open c.self.inside.desk.stage c.self.inside.desk.sessions c.self.inside.desk.history.events
+    (subst (λ (p : Past). HasSession p.state) (sym c.self.view_is) c.requires.open) in
+    rw (← c.self.view_is) (if_ok _ _ c.define_table.result
+    (λ answer defines. defines_answers c.self.inside.desk c.define_table.new.desk c.args.table.now answer is defines) c.define_table.ensures.ok)
+
+pub returns-clause-state : goal.returns-clause-state
+returns-clause-state c =
+    rw (← c.self.view_is) (defines_state c.self.inside.desk c.define_table.new.desk c.args.table.now c.define_table.result c.define_table.ensures.ok c.define_table.ensures.err)
+
+pub returns-clause-err : goal.returns-clause-err
+returns-clause-err c = rw (← c.self.view_is) (err_goes c.self.inside.desk c.define_table.new.desk c.define_table.result c.define_table.ensures.err)

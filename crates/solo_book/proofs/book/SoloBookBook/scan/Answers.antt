@@ -1,0 +1,24 @@
+use Rattle.std.proofs.Common.{refl, sym, subst}
+use Rattle.history_core.specs.Book.{Past, IsInTransaction}
+use Rattle.history_core.specs.declared.event.Event.TheVariants.{Scan}
+use Rattle.solo_book.specs.declared.desk.Stage.TheVariants.{Pending}
+use Rattle.solo_book.proofs.Books.{if_ok, stage_pending, pending_open, adds_in_session, call_state, err_goes}
+use Rattle.solo_book.proofs.book.SoloBookBook.scan.Goals as goal
+
+pub returns-clause-ok : goal.returns-clause-ok
+returns-clause-ok c =
+    let is = stage_pending c.self.inside.desk.stage c.self.inside.desk.sessions c.self.inside.desk.history.events
+    (subst (λ (p : Past). IsInTransaction p.state) (sym c.self.view_is) c.requires.pending) in
+    rw (← c.self.view_is) (if_ok _ _ c.scan_table.result
+    (λ keys goes. adds_in_session c.self.inside.desk c.scan_table.new.desk (λ n. Scan n c.args.table keys) _ Pending (pending_open c.self.inside.desk.stage is) goes)
+    c.scan_table.ensures.ok)
+
+pub returns-clause-state : goal.returns-clause-state
+returns-clause-state c =
+    let is = stage_pending c.self.inside.desk.stage c.self.inside.desk.sessions c.self.inside.desk.history.events
+    (subst (λ (p : Past). IsInTransaction p.state) (sym c.self.view_is) c.requires.pending) in
+    rw (← c.self.view_is) (call_state c.self.inside.desk c.scan_table.new.desk (λ keys. Scan c.self.inside.desk.sessions c.args.table keys) Pending c.scan_table.result (λ keys writes. refl) is
+    c.scan_table.ensures.ok c.scan_table.ensures.err)
+
+pub returns-clause-err : goal.returns-clause-err
+returns-clause-err c = rw (← c.self.view_is) (err_goes c.self.inside.desk c.scan_table.new.desk c.scan_table.result c.scan_table.ensures.err)

@@ -1,0 +1,23 @@
+use Rattle.std.proofs.Common.{sym, subst}
+use Rattle.history_core.specs.Book.{Past, IsInTransaction}
+use Rattle.history_core.specs.declared.event.Event.TheVariants.{Write}
+use Rattle.solo_book.specs.declared.desk.Stage.TheVariants.{Pending}
+use Rattle.solo_book.proofs.Books.{on_ok, stage_pending, pending_open, adds_in_session, write_state, err_goes}
+use Rattle.solo_book.proofs.book.SoloBookBook.write.Goals as goal
+
+pub returns-clause-ok : goal.returns-clause-ok
+returns-clause-ok c =
+    let is = stage_pending c.self.inside.desk.stage c.self.inside.desk.sessions c.self.inside.desk.history.events
+    (subst (λ (p : Past). IsInTransaction p.state) (sym c.self.view_is) c.requires.pending) in
+    rw (← c.self.view_is) (on_ok _ _ c.write_cell.result
+    (λ goes. adds_in_session c.self.inside.desk c.write_cell.new.desk (λ n. Write n c.args.cell c.args.value) _ Pending (pending_open c.self.inside.desk.stage is) goes) c.write_cell.ensures.ok)
+
+pub returns-clause-state : goal.returns-clause-state
+returns-clause-state c =
+    let is = stage_pending c.self.inside.desk.stage c.self.inside.desk.sessions c.self.inside.desk.history.events
+    (subst (λ (p : Past). IsInTransaction p.state) (sym c.self.view_is) c.requires.pending) in
+    rw (← c.self.view_is) (on_ok _ _ c.write_cell.result
+    (λ goes. write_state c.self.inside.desk c.write_cell.new.desk c.args.cell c.args.value is goes) c.write_cell.ensures.ok)
+
+pub returns-clause-err : goal.returns-clause-err
+returns-clause-err c = rw (← c.self.view_is) (err_goes c.self.inside.desk c.write_cell.new.desk c.write_cell.result c.write_cell.ensures.err)

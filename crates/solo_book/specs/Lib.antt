@@ -1,0 +1,4 @@
+pub mod Passed
+pub mod Index
+pub mod Keys
+pub mod Desk

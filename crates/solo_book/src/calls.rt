@@ -1,0 +1,124 @@
+// The calls of a book, on what it keeps.
+ghost use Rattle.std.specs.Prelude.{◌≡◌, ◌≢◌, ◌≤◌, ◌<◌, ◌↔◌, [], ◌∷◌, ◌++◌, ℕ, length, Some, Err, IfOk, OnOk, OnErr, Contains, IsTrue, Any, map};
+ghost use Rattle.sql_tree.specs.declared.table.Table.{Table};
+ghost use Rattle.sound_table.specs.Sound.{IsSound};
+ghost use Rattle.history_core.specs.declared.fault.Limit.{Limit};
+ghost use Rattle.history_core.specs.declared.fault.Limit.TheVariants as limits;
+ghost use Rattle.history_core.specs.Events.{table_of, begun, names};
+ghost use Rattle.history_core.specs.Legal.{IsDefined, WroteItself, full_for, full_load};
+ghost use Rattle.history_core.specs.Chronicle.{followed_by};
+ghost use Rattle.history_core.specs.Initial.{IsStorable};
+ghost use Rattle.solo_book.specs.declared.desk.Stage.TheVariants as stages;
+ghost use Rattle.solo_book.specs.Desk.{IsDesk, GoesTo};
+
+use crate::append::{append, append_begin, append_end, append_write};
+use crate::desk::{Desk, Stage};
+use cell_base::{Cell, Level, Value};
+use history_core::{BookFault, Event};
+
+/// Starts a session and answers its number.
+pub fn open_session(desk: &mut Desk) -> Result<u32, BookFault>
+    requires { IsDesk desk.old }
+    ensures kept { IsDesk desk.new }
+    ensures ok { IfOk result (λ s. GoesTo desk.old (Event.Open s) s stages.InSession desk.new) }
+    ensures full { (limit : Limit) → result ≡ Err (BookFault.Full limit) → full_for desk.new.history.initial desk.new.history.events (Event.Open 0) ≡ Some limit }
+    ensures err { OnErr result (desk.new ≡ desk.old) }
+{
+    let session = desk.sessions + 1;
+    match append(&mut desk.history, Event::Open { session }) {
+        Ok(()) => {
+            desk.sessions = session;
+            desk.stage = Stage::InSession;
+            Ok(session)
+        }
+        Err(fault) => Err(fault),
+    }
+}
+
+/// Ends the session.
+pub fn close_session(desk: &mut Desk)
+    requires kept { IsDesk desk.old }
+    requires idle { desk.old.stage ≡ stages.InSession }
+    ensures kept { IsDesk desk.new }
+    ensures adds { GoesTo desk.old (Event.Close desk.old.sessions) desk.old.sessions stages.NoSession desk.new }
+{
+    let session = desk.sessions;
+    append_end(&mut desk.history, Event::Close { session });
+    desk.stage = Stage::NoSession;
+}
+
+/// Starts a transaction at the level and answers its number.
+pub fn begin_transaction(desk: &mut Desk, level: Level) -> Result<u32, BookFault>
+    requires kept { IsDesk desk.old }
+    requires idle { desk.old.stage ≡ stages.InSession }
+    ensures kept { IsDesk desk.new }
+    ensures ok { OnOk result (GoesTo desk.old (Event.Begin desk.old.sessions level) desk.old.sessions stages.Pending desk.new) }
+    ensures number { IfOk result (λ n. n ≡ begun desk.new.history.events) }
+    ensures full { (limit : Limit) → result ≡ Err (BookFault.Full limit) → full_for desk.new.history.initial desk.new.history.events (Event.Begin 0 level) ≡ Some limit }
+    ensures err { OnErr result (desk.new ≡ desk.old) }
+{
+    match append_begin(&mut desk.history, desk.sessions, level) {
+        Ok(()) => {
+            desk.stage = Stage::Pending;
+            Ok(desk.history.history().begun())
+        }
+        Err(fault) => Err(fault),
+    }
+}
+
+/// Writes a cell.
+pub fn write_cell(desk: &mut Desk, cell: Cell, value: Value) -> Result<(), BookFault>
+    requires kept { IsDesk desk.old }
+    requires pending { desk.old.stage ≡ stages.Pending }
+    requires storable { IsStorable value }
+    requires defined { table_of cell < length desk.old.history.tables }
+    ensures kept { IsDesk desk.new }
+    ensures ok { OnOk result (GoesTo desk.old (Event.Write desk.old.sessions cell value) desk.old.sessions stages.Pending desk.new) }
+    ensures full { (limit : Limit) → result ≡ Err (BookFault.Full limit) → full_load desk.new.history.initial desk.new.history.events ≡ Some limit }
+    ensures err { OnErr result (desk.new ≡ desk.old) }
+{
+    let session = desk.sessions;
+    append_write(&mut desk.history, session, cell, value)
+}
+
+/// Ends the pending transaction by a Commit.
+pub fn commit_transaction(desk: &mut Desk)
+    requires kept { IsDesk desk.old }
+    requires pending { desk.old.stage ≡ stages.Pending }
+    ensures kept { IsDesk desk.new }
+    ensures adds { GoesTo desk.old (Event.Commit desk.old.sessions) desk.old.sessions stages.InSession desk.new }
+{
+    let session = desk.sessions;
+    append_end(&mut desk.history, Event::Commit { session });
+    desk.stage = Stage::InSession;
+}
+
+/// Ends the pending transaction by a Rollback.
+pub fn roll_back_transaction(desk: &mut Desk)
+    requires kept { IsDesk desk.old }
+    requires pending { desk.old.stage ≡ stages.Pending }
+    ensures kept { IsDesk desk.new }
+    ensures adds { GoesTo desk.old (Event.Rollback desk.old.sessions) desk.old.sessions stages.InSession desk.new }
+{
+    let session = desk.sessions;
+    append_end(&mut desk.history, Event::Rollback { session });
+    desk.stage = Stage::InSession;
+}
+
+/// Tells the number of the event that tells it.
+pub fn show_number(desk: &mut Desk) -> Result<u32, BookFault>
+    requires kept { IsDesk desk.old }
+    requires open { desk.old.stage ≢ stages.NoSession }
+    ensures kept { IsDesk desk.new }
+    ensures number { IfOk result (λ number. number ≡ length desk.new.history.events) }
+    ensures ok { IfOk result (λ number. GoesTo desk.old (Event.Show desk.old.sessions number) desk.old.sessions desk.old.stage desk.new) }
+    ensures full { (limit : Limit) → result ≡ Err (BookFault.Full limit) → full_load desk.new.history.initial desk.new.history.events ≡ Some limit }
+    ensures err { OnErr result (desk.new ≡ desk.old) }
+{
+    let number = desk.history.history().next_number();
+    let session = desk.sessions;
+    match append(&mut desk.history, Event::Show { session, number }) {
+        Ok(()) => Ok(number),
+        Err(fault) => Err(fault),
+    }
+}

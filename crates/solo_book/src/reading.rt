@@ -1,0 +1,98 @@
+// A read: what the word picks of the permitted list, and its value.
+ghost use Rattle.std.specs.Prelude.{◌≡◌, ◌<◌, ◌≤◌, ◌%◌, length, slice_get, Some, Err, IfOk, OnErr};
+ghost use Rattle.history_core.specs.declared.fault.Limit.{Limit};
+ghost use Rattle.history_core.specs.Events.{begun, table_of};
+ghost use Rattle.history_core.specs.Initial.{WritesInitially, absent_value};
+ghost use Rattle.history_core.specs.Relations.{Writes, WritesValue};
+ghost use Rattle.history_core.specs.Legal.{WroteItself, full_load};
+ghost use Rattle.solo_book.specs.declared.desk.Stage.TheVariants as stages;
+ghost use Rattle.solo_book.specs.Desk.{IsDesk, IsChosen, ReadsTo};
+
+use crate::append::append_read;
+use crate::desk::{Choice, Desk};
+use crate::offering::tried_choice;
+use crate::own::last_write;
+use crate::single::single_choice;
+use cell_base::{Cell, Memory, Value};
+use history_core::{BookFault, History, InitialState, Limit};
+use std::alloc::Global;
+
+/// What stands in a cell that the initial state doesn't have.
+fn absent(cell: &Cell) -> Value
+    ensures { result ≡ absent_value cell.now }
+{
+    match cell {
+        Cell::Presence(_, _) => Value::Flag(false),
+        Cell::Field(_, _, _) => Value::Unset,
+    }
+}
+
+/// What the initial transaction wrote to the cell.
+fn initial_value(alloc: Global, initial: &InitialState, cell: &Cell) -> Result<Value, Memory>
+    ensures { IfOk result (λ value. WritesInitially initial.now cell.now value) }
+{
+    match initial.value(cell) {
+        Some(value) => {
+            let copy = value.copy(alloc)?;
+            Ok(copy)
+        }
+        None => Ok(absent(cell)),
+    }
+}
+
+/// What the writer wrote to the cell.
+fn value_of(alloc: Global, history: &History, source: u32, cell: &Cell) -> Result<Value, Memory>
+    requires { Writes history.now.events source cell.now }
+    ensures { IfOk result (λ value. WritesValue history.now.initial history.now.events source cell.now value) }
+{
+    if source == 0 {
+        return initial_value(alloc, history.initial(), cell);
+    }
+    last_write(alloc, history, source, cell)
+}
+
+/// What a read of the pending transaction takes.
+fn choose(desk: &Desk, cell: &Cell, word: u32) -> Result<Choice, Memory>
+    requires kept { IsDesk desk.now }
+    requires pending { desk.now.stage ≡ stages.Pending }
+    ensures { IfOk result (IsChosen desk.now.history desk.now.sessions cell.now word) }
+{
+    let session = desk.sessions;
+    if session <= 1 {
+        return Ok(single_choice(&desk.history, session, cell, word));
+    }
+    tried_choice(desk.alloc, desk.history.history(), session, cell, word)
+}
+
+/// Reads a cell that the pending transaction hasn't written.
+pub fn read_cell(desk: &mut Desk, cell: &Cell, word: u32) -> Result<Value, BookFault>
+    requires kept { IsDesk desk.old }
+    requires pending { desk.old.stage ≡ stages.Pending }
+    requires unwritten { ¬ WroteItself desk.old.history.events desk.old.sessions cell.now }
+    requires defined { table_of cell.now < length desk.old.history.tables }
+    ensures kept { IsDesk desk.new }
+    ensures ok { IfOk result (λ value. ReadsTo desk.old cell.now word value desk.new) }
+    ensures full { (limit : Limit) → result ≡ Err (BookFault.Full limit) → full_load desk.new.history.initial desk.new.history.events ≡ Some limit }
+    ensures err { OnErr result (desk.new ≡ desk.old) }
+{
+    if desk.history.load() >= 1_048_576 {
+        return Err(BookFault::Full(Limit::Load));
+    }
+    let Ok(choice) = choose(desk, cell, word) else {
+        return Err(BookFault::Memory);
+    };
+    let Ok(value) = value_of(desk.alloc, desk.history.history(), choice.source, cell) else {
+        return Err(BookFault::Memory);
+    };
+    let Ok(told) = value.copy(desk.alloc) else {
+        return Err(BookFault::Memory);
+    };
+    let Ok(read) = cell.copy(desk.alloc) else {
+        return Err(BookFault::Memory);
+    };
+    let session = desk.sessions;
+    match append_read(&mut desk.history, session, read, choice, word, value) {
+        Ok(()) => Ok(told),
+        Err(fault) => Err(fault),
+    }
+}
