@@ -1,0 +1,5 @@
+// Laws.
+ghost use Rattle.std.specs.Prelude.{◌≡◌, ℕ};
+pub fn trial()
+    ensures { (n : ℕ) → n ≡ n }
+{}
