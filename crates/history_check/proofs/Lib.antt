@@ -1,7 +1,7 @@
 pub mod Rights
 pub mod Settled
-pub mod Seats
+pub mod SeatLemmas
 pub mod Chains
-pub mod Pasts
-pub mod Owners
-pub mod Records
+pub mod PastLemmas
+pub mod OwnerLemmas
+pub mod RecordLemmas

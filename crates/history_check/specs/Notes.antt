@@ -1,12 +1,12 @@
 -- How what the judge has noted stands for the events so far.
-use Rattle.std.specs.Prelude.{◌≡◌, ◌<◌, ◌≤◌, ◌+◌, ◌↔◌, ◌⊎◌, ◌∷◌, ◌++◌, [], ℕ, Option, Some, None, List, length, slice_get, slice_index, unwrap_or}
+use Rattle.std.specs.Prelude.{◌≡◌, ◌<◌, ◌≤◌, ◌+◌, ◌↔◌, ◌⊎◌, ◌∷◌, ◌++◌, [], ℕ, Option, Some, None, false, List, length, slice_get, slice_index, unwrap_or}
 use Rattle.cell_base.specs.declared.cell.Cell.{Cell}
 use Rattle.history_core.specs.declared.event.Event.{Event}
 use Rattle.history_core.specs.declared.txn.Txn.{Txn}
 use Rattle.history_core.specs.Events.{opened, begun, defined, session_in}
 use Rattle.history_core.specs.Transactions.{IsStart, IsOf, IsCommitted, IsPending}
 use Rattle.history_core.specs.Relations.{Reads, IsSessionOrdered, PrecedesCausally}
-use Rattle.history_core.specs.Kept.{IsSessionOf, StandsForTxns}
+use Rattle.history_core.specs.Kept.{IsSessionOf, StandsForTxns, ChangesOne}
 use Rattle.history_check.specs.declared.seat.Seat.{Seat}
 use Rattle.history_check.specs.declared.notes.Notes.{Notes}
 
@@ -18,6 +18,20 @@ IsSeatOf events session seat = IsSessionOf events session (record { is_open = se
 pub record StandsForSeats (events : List Event) (seats : List Seat) : Type 0 where
   pub count : length seats ≡ opened events
   pub each : (i : ℕ) (seat : Seat) → slice_get seats i ≡ Some seat → IsSeatOf events (i + 1) seat
+
+-- one seat is changed, as the relation says
+pub record ChangesSeat (old : List Seat) (session : ℕ) (Changes : Seat → Seat → Type 0) (new : List Seat) : Type 0 where
+  pub place : ℕ
+  pub number : place + 1 ≡ session
+  pub changes : ChangesOne old new place Changes
+
+-- the session has this pending
+abbrev pub TakesPending : List Seat → ℕ → Option ℕ → List Seat → Type 0
+TakesPending old session pending new = ChangesSeat old session (λ before after. after ≡ record before { pending = pending }) new
+
+-- the session is closed
+abbrev pub IsClosed : List Seat → ℕ → List Seat → Type 0
+IsClosed old session new = ChangesSeat old session (λ before after. after ≡ record before { is_open = false }) new
 
 -- each event is one of an opened session
 abbrev pub AreOfSessions : List Event → Type 0

@@ -5,6 +5,7 @@ mod breach;
 mod laws;
 mod notes;
 mod seat;
+mod seats;
 
 pub use breach::{Breach, CheckFault};
 pub use laws::trial;

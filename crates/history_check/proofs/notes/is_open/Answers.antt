@@ -1,7 +1,7 @@
 use Rattle.std.proofs.Common.{arith, sym, ◌∙◌}
 use Rattle.std.proofs.lemmas.Bool.{false≢true}
 use Rattle.history_check.proofs.Rights.{open_bounds}
-use Rattle.history_check.proofs.Seats.{not_open_beyond, seat_read}
+use Rattle.history_check.proofs.SeatLemmas.{not_open_beyond, seat_read}
 use Rattle.history_check.proofs.notes.is_open.Goals as goal
 
 pub returns-then-session-eq0 : goal.returns-then-session-eq0

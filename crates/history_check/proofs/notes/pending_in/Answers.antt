@@ -1,6 +1,6 @@
 use Rattle.std.proofs.Common.{◌≡◌, Some, None, arith}
 use Rattle.history_check.proofs.Rights.{pending_bounds}
-use Rattle.history_check.proofs.Seats.{not_pending_beyond, seat_read}
+use Rattle.history_check.proofs.SeatLemmas.{not_pending_beyond, seat_read}
 use Rattle.history_check.proofs.notes.pending_in.Goals as goal
 
 pub returns-then-session-eq0 : goal.returns-then-session-eq0
