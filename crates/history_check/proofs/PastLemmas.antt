@@ -1,8 +1,9 @@
 -- How the pasts go on standing for the events.
-use Rattle.std.proofs.Common.{◌≡◌, ℕ, ◌+◌, ◌<◌, ◌≤◌, List, [], ◌∷◌, ◌++◌, Some, false, length, set, get_or, arith, refl, ap, sym, ◌∙◌, subst, inl, inr, ◌⊎◌, ◌↔◌}
+use Rattle.std.proofs.Common.{◌≡◌, ℕ, ◌+◌, ◌<◌, ◌≤◌, List, [], ◌∷◌, ◌++◌, Some, false, length, set, get_or, get_or-set_same, get_or-set_other, ◌-◌, arith, refl, ap, sym, ◌∙◌, subst, inl, inr, ◌⊎◌, ◌↔◌}
 use Rattle.std.specs.List.{slice_get}
-use Rattle.std.proofs.lemmas.List.{length_push, length-set}
-use Rattle.std.proofs.lemmas.Bool.{cases_order, cases_eq, false≢true}
+use Rattle.std.proofs.lemmas.List.{length_push, length-set, get_or_append_left, get_or_push, get_or_past}
+use Rattle.std.proofs.lemmas.Option.{slice_get_within, slice_get_cases}
+use Rattle.std.proofs.lemmas.Bool.{cases_order, cases_eq, cases_lt, false≢true}
 use Rattle.txn_buffer.proofs.Lists.{slice_get_push_cases, slice_get-set_cases}
 use Rattle.cell_base.specs.declared.level.Level.{Level}
 use Rattle.cell_base.specs.declared.level.Level.TheVariants.{Cc}
@@ -13,14 +14,17 @@ use Rattle.graph_base.specs.Chain.{IsChain}
 use Rattle.history_core.specs.declared.event.Event.{Event}
 use Rattle.history_core.specs.declared.event.Event.TheVariants.{Open, Close, Define, Look, Begin, Scan, Read, Own, Write, Commit, Rollback, Show}
 use Rattle.history_core.specs.Events.{begun, is_begin, session_in}
-use Rattle.history_core.specs.Transactions.{IsStart, IsPending}
-use Rattle.history_core.specs.Relations.{Gives, Precedes, PrecedesCausally}
+use Rattle.history_core.specs.Transactions.{IsStart, IsPending, IsCommitted}
+use Rattle.history_core.specs.Relations.{Gives, Writes, Precedes, PrecedesCausally}
+use Rattle.history_core.specs.declared.txn.Txn.{Txn}
+use Rattle.history_core.specs.Records.{IsRecordOf}
+use Rattle.history_core.specs.Kept.{StandsForTxns}
 use Rattle.history_core.proofs.Places.{start_session}
-use Rattle.history_core.proofs.Grown.{start_back, start_kept, precedes_back}
+use Rattle.history_core.proofs.Grown.{start_back, start_kept, precedes_back, pending_not_committed}
 use Rattle.history_core.proofs.Prefixes.{IsSound, start_positive, start_bounded, begun-push_other, begun-push_start, new_first, visible_begin, precedes_scan}
 use Rattle.history_core.proofs.Offers.{precedes_read, initial_precedes}
 use Rattle.history_core.proofs.Next.{pending_begin}
-use Rattle.history_check.specs.Notes.{IsPastOf, IsBoundedBy, StandsForPasts, IsRaisedBy, IsRaisedAt}
+use Rattle.history_check.specs.Notes.{IsPastOf, IsBoundedBy, StandsForPasts, IsRaisedBy, IsRaisedAt, IsLastIn, AddsSource}
 use Rattle.history_check.proofs.Chains.{chained_mapped, chained_one, chained_last, chained_first, precedes_kept, causally_kept, in_session, with_read, precedes_now, causally_before, causally_reader, causally_begin, LeadsThrough}
 
 -- a start, where nothing begins
@@ -216,12 +220,6 @@ pasts_read events sound s i x w n u v sw q pasts own other joined past pending s
 
 -- ---- a transaction that begins
 
--- the last transaction of the session
-pub record IsLastIn (events : List Event) (s number : ℕ) : Type 0 where
-  pub place : ℕ
-  pub starts : IsStart events number s place
-  pub last : (other p : ℕ) → IsStart events other s p → other ≤ number
-
 -- the past of a transaction that begins, given by the last one before it in its session
 pub past_after :
     (events : List Event) → IsSound events → (s : ℕ) (level : Level) (number : ℕ) (own past : List ℕ) → IsLastIn events s number → IsPastOf events number own →
@@ -335,3 +333,166 @@ pasts_begin events sound s level pasts past is bounded stands =
             first : (between : List ℕ) → IsChain (Precedes events) a between b → ⊥
             first [] link = new_first events sound s level a b late (precedes_kept events (Begin s level) a b link)
             first (m ∷ rest) (link, more) = new_first events sound s level a m late (precedes_kept events (Begin s level) a m link)
+
+-- ---- the last record of a session
+
+abbrev pub NoneFrom : List Txn → ℕ → ℕ → Type 0
+NoneFrom txns s at = (k : ℕ) (t : Txn) → at ≤ k → slice_get txns k ≡ Some t → t.session ≡ s → ⊥
+
+pub none_init : (txns : List Txn) (s : ℕ) → NoneFrom txns s (length txns)
+none_init txns s k t past is same = let h = slice_get_within txns k t is in absurd (omega arith)
+
+pub none_step : (txns : List Txn) (s at place : ℕ) (t : Txn) → place + 1 ≡ at → slice_get txns place ≡ Some t → (t.session ≡ s → ⊥) → NoneFrom txns s at → NoneFrom txns s place
+none_step txns s at place t number is other none k u past there same =
+    elim (cases_eq k place) [
+      | inl here ↦
+          let both : Some t ≡ Some u = sym is ∙ ap (λ (n : ℕ). slice_get txns n) (sym here) ∙ there in
+          let txn : t ≡ u = cc in
+          other (ap (λ (r : Txn). r.session) txn ∙ same)
+      | inr apart ↦ none k u (omega arith) there same
+    ]
+
+-- a transaction that has started has a record
+started_record :
+    (events : List Event) (txns : List Txn) (s n p : ℕ) → StandsForTxns events txns → IsStart events n s p →
+    (k : ℕ) × ((k + 1 ≡ n) × ((t : Txn) × ((slice_get txns k ≡ Some t) × (t.session ≡ s))))
+started_record events txns s n p stands start =
+    let positive = start_positive events n s p start in
+    let upto = start_bounded events n s p start in
+    let c = stands.count in
+    elim (slice_get_cases txns (n - 1)).1 [
+      | inl there ↦
+          let t = there.0 in
+          let is = there.2 in
+          let number : n - 1 + 1 ≡ n = omega arith in
+          let r : IsRecordOf events n t = subst (λ (m : ℕ). IsRecordOf events m t) number (stands.each (n - 1) t is) in
+          (n - 1, (number, (t, (is, start_session events n t.session s r.place p r.started start))))
+      | inr gone ↦ let h = gone.0 in absurd (omega arith)
+    ]
+
+pub last_found :
+    (events : List Event) (txns : List Txn) (s at place : ℕ) (t : Txn) → StandsForTxns events txns → place + 1 ≡ at → slice_get txns place ≡ Some t → t.session ≡ s →
+    NoneFrom txns s at → IsLastIn events s at
+last_found events txns s at place t stands number is same none =
+    let r : IsRecordOf events at t = subst (λ (m : ℕ). IsRecordOf events m t) number (stands.each place t is) in
+    record {
+      place = r.place;
+      starts = subst (λ (m : ℕ). IsStart events at m r.place) same r.started;
+      last = λ other p start.
+          let found = started_record events txns s other p stands start in
+          elim (cases_lt at other) [
+            | inl more ↦ let h = found.1.0 in absurd (none found.0 found.1.1.0 (omega arith) found.1.1.1.0 found.1.1.1.1)
+            | inr upto ↦ omega arith
+          ];
+    }
+
+pub none_found : (events : List Event) (txns : List Txn) (s at : ℕ) → StandsForTxns events txns → at ≡ 0 → NoneFrom txns s at → (n p : ℕ) → IsStart events n s p → ⊥
+none_found events txns s at stands zero none n p start =
+    let found = started_record events txns s n p stands start in
+    none found.0 found.1.1.0 (omega arith) found.1.1.1.0 found.1.1.1.1
+
+-- ---- lists that are raised
+
+abbrev pub IsRaisedBelow : ℕ → List ℕ → List ℕ → List ℕ → Type 0
+IsRaisedBelow i old other new = (session a : ℕ) → 0 < a → (a ≤ get_or new session 0) ↔ ((a ≤ get_or old session 0) ⊎ ((session < i) × (a ≤ get_or other session 0)))
+
+pub below_none : (old other : List ℕ) → IsRaisedBelow 0 old other old
+below_none old other session a positive = (λ h. inl h, λ h. elim h [ inl is ↦ is | inr none ↦ let b = none.0 in absurd (omega arith) ])
+
+pub below_more :
+    (i : ℕ) (old other mid new : List ℕ) (number : ℕ) → get_or other i 0 ≡ number → IsRaisedBelow i old other mid → IsRaisedAt mid i number new →
+    IsRaisedBelow (i + 1) old other new
+below_more i old other mid new number at before raised session a positive = (
+  λ h. elim ((raised.exact session a positive).0 h) [
+    | inl under ↦ elim ((before session a positive).0 under) [
+      | inl is ↦ inl is
+      | inr is ↦ inr (let b = is.0 in omega arith, is.1)
+    ]
+    | inr here ↦ inr (
+      let e = here.0 in omega arith,
+      let same : get_or other session 0 ≡ number = ap (λ (n : ℕ). get_or other n 0) here.0 ∙ at in let b = here.1 in omega arith,
+    )
+  ],
+  λ h. (raised.exact session a positive).1 (elim h [
+    | inl is ↦ inl ((before session a positive).1 (inl is))
+    | inr is ↦ elim (cases_eq session i) [
+      | inl same ↦ inr (same, let e : get_or other session 0 ≡ number = ap (λ (n : ℕ). get_or other n 0) same ∙ at in let b = is.1 in omega arith)
+      | inr apart ↦ inl ((before session a positive).1 (inr (let b = is.0 in omega arith, is.1)))
+    ]
+  ]),
+)
+
+pub below_all : (i : ℕ) (old other new : List ℕ) → length other ≤ i → IsRaisedBelow i old other new → IsRaisedBy old other new
+below_all i old other new all below = record {
+  exact = λ session a positive. (
+    λ h. elim ((below session a positive).0 h) [ inl is ↦ inl is | inr is ↦ inr is.1 ],
+    λ h. (below session a positive).1 (elim h [
+      | inl is ↦ inl is
+      | inr is ↦ inr (elim (cases_lt session i) [
+        | inl less ↦ (less, is)
+        | inr more ↦ let e : get_or other session 0 ≡ 0 = get_or_past other session 0 (omega arith) in absurd (omega arith)
+      ])
+    ]),
+  );
+}
+
+-- one place is raised, or was as high already
+pub raised_set :
+    (old mid : List ℕ) (at number : ℕ) → at < length mid → ((k : ℕ) → get_or mid k 0 ≡ get_or old k 0) → get_or mid at 0 < number →
+    IsRaisedAt old at number (set mid at number)
+raised_set old mid at number within same low = record {
+  exact = λ session a positive.
+      let e = same session in
+      elim (cases_eq session at) [
+        | inl here ↦
+            let is : get_or (set mid at number) session 0 ≡ number = ap (λ (n : ℕ). get_or (set mid at number) n 0) here ∙ get_or-set_same mid at number 0 within in
+            let was : get_or mid session 0 ≡ get_or mid at 0 = ap (λ (n : ℕ). get_or mid n 0) here in
+            (λ h. inr (here, omega arith), λ h. elim h [ inl b ↦ omega arith | inr b ↦ let c = b.1 in omega arith ])
+        | inr apart ↦
+            let is : get_or (set mid at number) session 0 ≡ get_or mid session 0 = get_or-set_other mid at session number 0 apart in
+            (λ h. inl (omega arith), λ h. elim h [ inl b ↦ omega arith | inr b ↦ absurd (apart b.0) ])
+      ];
+}
+
+pub raised_kept :
+    (old mid : List ℕ) (at number : ℕ) → ((k : ℕ) → get_or mid k 0 ≡ get_or old k 0) → (get_or mid at 0 < number → ⊥) → IsRaisedAt old at number mid
+raised_kept old mid at number same high = record {
+  exact = λ session a positive.
+      let e = same session in (
+        λ h. inl (omega arith),
+        λ h. elim h [
+          | inl b ↦ omega arith
+          | inr b ↦
+              let was : get_or mid session 0 ≡ get_or mid at 0 = ap (λ (n : ℕ). get_or mid n 0) b.0 in
+              elim (cases_lt (get_or mid at 0) number) [ inl low ↦ absurd (high low) | inr up ↦ let c = b.1 in omega arith ]
+        ],
+      );
+}
+
+pub widen_push : (old mid : List ℕ) → ((k : ℕ) → get_or mid k 0 ≡ get_or old k 0) → (k : ℕ) → get_or (mid ++ 0 ∷ []) k 0 ≡ get_or old k 0
+widen_push old mid same k =
+    elim (cases_lt k (length mid)) [
+      | inl within ↦ get_or_append_left mid (0 ∷ []) 0 k within ∙ same k
+      | inr beyond ↦
+          let long : length (mid ++ 0 ∷ []) ≡ length mid + 1 = length_push mid 0 in
+          let was : get_or mid k 0 ≡ 0 = get_or_past mid k 0 (omega arith) in
+          elim (cases_eq (length mid) k) [
+            | inl last ↦ get_or_push mid 0 0 k last ∙ sym was ∙ same k
+            | inr more ↦ get_or_past (mid ++ 0 ∷ []) k 0 (omega arith) ∙ sym was ∙ same k
+          ]
+    ]
+
+-- ---- the source of a read
+
+pub pasts_source :
+    (events : List Event) → IsSound events → (s k : ℕ) (x : Cell) (w n u : ℕ) (v : Value) (old new : List (List ℕ)) → IsPending events k s →
+    Writes events w x → AddsSource events s w old new → StandsForPasts events old → StandsForPasts (with_read events s x w n u v) new
+pasts_source events sound s k x w n u v old new pending writes (inl same) stands =
+    rw same.1 (pasts_initial events sound s k x w n u v old pending same.0 stands)
+pasts_source events sound s k x w n u v old new pending writes (inr j) stands =
+    rw j.set_to (pasts_read events sound s j.at x w n u v j.source_session j.source_place old j.own j.other j.middle j.past j.pending j.starts
+    (λ same. pending_no_source writes same) j.own_is j.from j.number j.other_is j.by j.raised stands)
+  where
+    pending_no_source : Writes events w x → j.at + 1 ≡ w → ⊥
+    pending_no_source (inl initial) same = absurd (omega arith)
+    pending_no_source (inr own) same = pending_not_committed events (j.at + 1) s j.pending (subst (λ (m : ℕ). IsCommitted events m) (sym same) own.0)

@@ -1,8 +1,10 @@
 -- How what the judge has noted stands for the events so far.
-use Rattle.std.specs.Prelude.{◌≡◌, ◌<◌, ◌≤◌, ◌+◌, ◌↔◌, ◌⊎◌, ◌∷◌, ◌++◌, [], ℕ, Option, Some, None, false, List, length, slice_get, slice_index, unwrap_or}
+use Rattle.std.specs.Prelude.{◌≡◌, ◌<◌, ◌≤◌, ◌+◌, ◌↔◌, ◌⊎◌, ◌∷◌, ◌++◌, [], ℕ, Option, Some, None, false, List, length, slice_get, slice_index, slice_set}
 use Rattle.cell_base.specs.declared.cell.Cell.{Cell}
 use Rattle.history_core.specs.declared.event.Event.{Event}
+use Rattle.cell_base.specs.declared.level.Level.{Level}
 use Rattle.history_core.specs.declared.txn.Txn.{Txn}
+use Rattle.history_core.specs.declared.txn.TxnState.TheVariants.{Pending}
 use Rattle.history_core.specs.Events.{opened, begun, defined, session_in}
 use Rattle.history_core.specs.Transactions.{IsStart, IsOf, IsCommitted, IsPending}
 use Rattle.history_core.specs.Relations.{Reads, IsSessionOrdered, PrecedesCausally}
@@ -76,6 +78,43 @@ pub record IsRaisedBy (old other new : List ℕ) : Type 0 where
 -- the new list says of this session at least the number, and else what the old one says
 pub record IsRaisedAt (old : List ℕ) (at number : ℕ) (new : List ℕ) : Type 0 where
   pub exact : (session a : ℕ) → 0 < a → (a ≤ slice_index new session) ↔ ((a ≤ slice_index old session) ⊎ ((session ≡ at) × (a ≤ number)))
+
+-- the last transaction of the session so far
+pub record IsLastIn (events : List Event) (session number : ℕ) : Type 0 where
+  pub place : ℕ
+  pub starts : IsStart events number session place
+  pub last : (other p : ℕ) → IsStart events other session p → other ≤ number
+
+-- the record of a transaction that did nothing yet
+pub record IsFreshRecord (txn : Txn) (session : ℕ) (level : Level) : Type 0 where
+  pub session_is : txn.session ≡ session
+  pub level_is : txn.level ≡ level
+  pub state_is : txn.state ≡ Pending
+  pub nothing_seen : txn.seen ≡ []
+  pub nothing_written : txn.buffer.writes ≡ []
+
+-- the past of the pending transaction has the source and its past besides
+pub record JoinsSource (events : List Event) (session source : ℕ) (old new : List (List ℕ)) : Type 0 where
+  pub at : ℕ
+  pub pending : IsPending events (at + 1) session
+  pub own : List ℕ
+  pub own_is : slice_get old at ≡ Some own
+  pub from : ℕ
+  pub number : from + 1 ≡ source
+  pub other : List ℕ
+  pub other_is : slice_get old from ≡ Some other
+  pub source_session : ℕ
+  pub source_place : ℕ
+  pub starts : IsStart events source source_session source_place
+  pub middle : List ℕ
+  pub by : IsRaisedBy own other middle
+  pub past : List ℕ
+  pub raised : IsRaisedAt middle source_session source past
+  pub set_to : new ≡ slice_set old at past
+
+-- the same, or nothing where the source is the initial transaction
+abbrev pub AddsSource : List Event → ℕ → ℕ → List (List ℕ) → List (List ℕ) → Type 0
+AddsSource events session source old new = ((source ≡ 0) × (new ≡ old)) ⊎ JoinsSource events session source old new
 
 -- the notes stand for the events
 pub record AreNotes (events : List Event) (notes : Notes) : Type 0 where

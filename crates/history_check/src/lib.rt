@@ -4,8 +4,12 @@
 mod breach;
 mod laws;
 mod notes;
+mod noting;
+mod pasts;
+mod records;
 mod seat;
 mod seats;
+mod shape;
 
 pub use breach::{Breach, CheckFault};
 pub use laws::trial;
