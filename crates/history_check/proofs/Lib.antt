@@ -5,3 +5,9 @@ pub mod Chains
 pub mod PastLemmas
 pub mod OwnerLemmas
 pub mod RecordLemmas
+pub mod NameLemmas
+pub mod CountLemmas
+pub mod WriteLemmas
+pub mod Verdicts
+pub mod KeyLemmas
+pub mod EventLemmas

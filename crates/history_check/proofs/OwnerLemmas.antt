@@ -1,6 +1,7 @@
 -- How the owners go on standing for the events.
 use Rattle.std.proofs.Common.{◌≡◌, ℕ, ◌+◌, ◌<◌, ◌≤◌, Option, List, [], ◌∷◌, ◌++◌, Some, None, length, get_or, arith, refl, ap, sym, ◌∙◌, subst, inl, inr, ◌↔◌}
 use Rattle.std.specs.List.{slice_get}
+use Rattle.std.specs.Prelude.{unwrap_or}
 use Rattle.std.proofs.lemmas.List.{length_push, get_or_append_left, get_or_push}
 use Rattle.std.proofs.lemmas.Option.{slice_get_within}
 use Rattle.txn_buffer.proofs.Lists.{slice_get_push_cases}
@@ -10,7 +11,7 @@ use Rattle.history_core.specs.Transactions.{IsOf, IsPending}
 use Rattle.history_core.proofs.Grown.{of_back}
 use Rattle.history_core.proofs.Prefixes.{of_kept, start_positive}
 use Rattle.history_core.proofs.Next.{of_new}
-use Rattle.history_check.specs.Notes.{IsOwnerOf, StandsForOwners}
+use Rattle.history_check.specs.Notes.{IsOwnerOf, StandsForOwners, IsRunningOwner}
 
 -- the number of what is pending in the session of the event, or 0
 abbrev pub IsOwnerNow : List Event → Event → ℕ → Type 0
@@ -65,3 +66,7 @@ owner_none events e exact txn = (
   λ pending. let both : None ≡ Some txn = (exact txn).1 pending in cc,
   λ owns. absurd (let p = owns.0 in let z = owns.1 in omega arith),
 )
+
+pub owner_now : (events : List Event) (e : Event) (owner : Option ℕ) → IsRunningOwner events e owner → IsOwnerNow events e (unwrap_or owner 0)
+owner_now events e (Some owner) exact = owner_some events e owner exact
+owner_now events e None exact = owner_none events e exact

@@ -1,5 +1,5 @@
 -- The breaches of a trace, and the first of them.
-use Rattle.std.specs.Prelude.{◌≡◌, ◌≢◌, ◌<◌, ◌≤◌, ◌+◌, ◌⊎◌, ℕ, Option, Some, List, length, slice_get, take}
+use Rattle.std.specs.Prelude.{◌≡◌, ◌≢◌, ◌<◌, ◌≤◌, ◌+◌, ◌⊎◌, ℕ, Option, Some, None, List, length, slice_get, take}
 use Rattle.std.specs.declared.cmp.Ordering.TheVariants.{Greater}
 use Rattle.graph_base.specs.Order.{HoldsEachOnce, place_of}
 use Rattle.cell_base.specs.declared.cell.Cell.{Cell}
@@ -9,7 +9,11 @@ use Rattle.history_core.specs.declared.event.Event.{Event}
 use Rattle.history_core.specs.declared.event.Event.TheVariants as events
 use Rattle.history_core.specs.Events.{begun}
 use Rattle.history_core.specs.Relations.{Writes, Reads, IsSessionOrdered, IsVisible}
+use Rattle.std.specs.declared.result.Result.{Result}
+use Rattle.std.specs.declared.result.Result.TheVariants.{Ok, Err}
 use Rattle.history_check.specs.declared.breach.Breach.{Breach}
+use Rattle.history_check.specs.declared.breach.CheckFault.{CheckFault}
+use Rattle.history_check.specs.declared.breach.CheckFault.TheVariants.{Breach as IsBreach, Memory}
 use Rattle.history_check.specs.declared.breach.Breach.TheVariants.{Shape, Number, Keys, Own, Source, Value as WrongValue, Count, Order, Session, Read, Axiom}
 use Rattle.history_check.specs.Rules.{Rule, shape, number, keys, own, source, value, count, rank, Keeps, IsRight, right_number, HasCandidates}
 
@@ -128,3 +132,13 @@ IsOrderBreach all order breach = IsOrderOfAll all order × (KeepsSessions all or
 abbrev pub IsFirstBreach : List (Cell × Value) → List Event → List ℕ → Breach → Type 0
 IsFirstBreach initial all order breach =
     IsFirstEventBreach initial all breach ⊎ (AreRight initial all × IsOrderBreach all order breach)
+
+-- what is found of an event: nothing where it keeps to all rules, and else its breach
+abbrev pub IsVerdict : List (Cell × Value) → List Event → Event → Option Breach → Type 0
+IsVerdict initial before event None = IsRight initial before event
+IsVerdict initial before event (Some breach) = IsBreachOf initial before event breach
+
+-- what holds of the breach, where the answer is one
+abbrev pub IfBreach : {X : Type 0} → Result X CheckFault → (Breach → Type 0) → Type 0
+IfBreach (Err (IsBreach breach)) P = P breach
+IfBreach _ P = Unit {0}

@@ -2,6 +2,9 @@
 #![tactic(auto)]
 
 mod breach;
+mod events;
+mod judge;
+mod keys;
 mod laws;
 mod notes;
 mod noting;
@@ -10,6 +13,8 @@ mod records;
 mod seat;
 mod seats;
 mod shape;
+mod sources;
 
 pub use breach::{Breach, CheckFault};
-pub use laws::trial;
+pub use events::check_events;
+pub use laws::event_laws;

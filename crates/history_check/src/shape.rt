@@ -59,7 +59,10 @@ fn is_next_session(notes: &Notes, before: &[Event], session: u32) -> bool
     requires few { length before.now < 4294967295 }
     ensures { IsTrue result ↔ (session ≡ opened before.now + 1) }
 {
-    session > 0 && session - 1 == count_opened(notes, before)
+    if session == 0 {
+        return false;
+    }
+    session - 1 == count_opened(notes, before)
 }
 
 /// Whether the session is open with nothing pending.
@@ -97,12 +100,22 @@ fn has_name(before: &[Event], name: &Text) -> bool
     before.iter().any(|event| defines(event, name))
 }
 
+/// Whether no table has the name.
+fn is_name_free(before: &[Event], name: &Text) -> bool
+    ensures { IsTrue result ↔ (¬ Contains (names before.now) name.now) }
+{
+    if has_name(before, name) {
+        return false;
+    }
+    true
+}
+
 /// Whether the session may define a table of the name.
 fn may_define(notes: &Notes, before: &[Event], session: u32, name: &Text) -> bool
     requires { AreNotes before.now notes.now }
     ensures { IsTrue result ↔ (IsOpen before.now session × (¬ Contains (names before.now) name.now)) }
 {
-    is_open(notes, before, session) && !has_name(before, name)
+    is_open(notes, before, session) && is_name_free(before, name)
 }
 
 /// Whether the session has a pending transaction, and the table is there.
