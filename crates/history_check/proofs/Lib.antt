@@ -1,9 +1,6 @@
 pub mod Rights
 pub mod Settled
 pub mod SeatLemmas
-pub mod Chains
-pub mod PastLemmas
-pub mod OwnerLemmas
 pub mod RecordLemmas
 pub mod NameLemmas
 pub mod CountLemmas

@@ -1,4 +1,7 @@
-//! The judge of a trace: whether its events are a history, and whether its order meets it.
+//! The judge of a trace: whether its events are a history.
+//!
+//! `check_events` goes through the events once, with notes of its own, and answers the first breach: of the first event that breaks a rule,
+//! and of the first rule that it breaks. `event_laws` says what that comes to. The order of a trace isn't judged.
 #![tactic(auto)]
 
 mod breach;
@@ -8,7 +11,6 @@ mod keys;
 mod laws;
 mod notes;
 mod noting;
-mod pasts;
 mod records;
 mod seat;
 mod seats;

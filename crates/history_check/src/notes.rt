@@ -7,20 +7,16 @@ ghost use Rattle.history_core.specs.Records.{IsRecordOf};
 ghost use Rattle.history_check.specs.Notes.{AreNotes};
 
 use crate::seat::Seat;
-use cell_base::Items;
 use history_core::{Event, Txn};
 use std::alloc::Global;
 
-/// A seat for each session, a record and the causal past of each transaction, and the owner of each event: the transaction that it is of,
-/// or 0. Session s has the seat at s - 1, transaction k the record and the past at k - 1. A past says of each session up to which number its
-/// transactions precede.
+/// A seat for each session, a record of each transaction, and the number of tables. Session s has the seat at s - 1, transaction k the record
+/// at k - 1.
 #[derive(Debug, Drop)]
 pub struct Notes {
     pub alloc: Global,
     pub seats: Vec<Seat>,
     pub txns: Vec<Txn>,
-    pub pasts: Vec<Items<u32>>,
-    pub owners: Vec<u32>,
     pub tables: u32,
 }
 
@@ -32,8 +28,6 @@ pub fn no_notes(alloc: Global) -> Notes
         alloc,
         seats: Vec::new(alloc),
         txns: Vec::new(alloc),
-        pasts: Vec::new(alloc),
-        owners: Vec::new(alloc),
         tables: 0,
     }
 }

@@ -5,7 +5,6 @@ ghost use Rattle.history_check.specs.Rules.{IsInShape, HasSource};
 ghost use Rattle.history_check.specs.Notes.{AreNotes};
 
 use crate::notes::{Notes, count_begun, pending_in};
-use crate::pasts::note_past;
 use crate::records::note_record;
 use crate::seats::note_seat;
 use cell_base::Memory;
@@ -22,16 +21,7 @@ pub fn note(notes: &mut Notes, before: &[Event], event: &Event) -> Result<(), Me
     let owner = pending_in(notes, before, session_of(event));
     let started = count_begun(notes, before);
     note_seat(&mut notes.seats, before, event, started)?;
-    note_past(
-        notes.alloc,
-        &mut notes.pasts,
-        notes.txns.as_slice(),
-        before,
-        event,
-        owner,
-    )?;
     note_record(notes.alloc, &mut notes.txns, before, event, owner)?;
-    notes.owners.push(owner.unwrap_or(0))?;
     notes.tables += definitions(event);
     Ok(())
 }

@@ -1,12 +1,8 @@
 use Rattle.std.proofs.Common.{◌≡◌, ◌+◌, ◌<◌, ap, sym, ◌∙◌, arith, ℕ}
 use Rattle.history_check.proofs.Rights.{next_session, sessions_push}
 use Rattle.history_check.proofs.Settled.{settled_push}
-use Rattle.history_check.proofs.OwnerLemmas.{owners_push, owner_now}
 use Rattle.history_check.proofs.NameLemmas.{defined-push, defined_few}
 use Rattle.history_check.proofs.noting.note.Goals as goal
-
-pub note_past-requires-clause-owner : goal.note_past-requires-clause-owner
-note_past-requires-clause-owner c = rw c.session_of.ensures at c.pending_in-owner.ensures
 
 pub note_record-requires-clause-owner : goal.note_record-requires-clause-owner
 note_record-requires-clause-owner c = rw c.session_of.ensures at c.pending_in-owner.ensures
@@ -21,7 +17,6 @@ overflow_add-notes c =
 
 pub returns : goal.returns
 returns c =
-    let owner = rw c.session_of.ensures at c.pending_in-owner.ensures in
     let more = defined-push c.args.before.now c.args.event.now in
     let t = c.requires.notes.tables in
     let d = c.definitions.ensures.value in
@@ -30,8 +25,5 @@ returns c =
       sessions = sessions_push c.args.before.now c.args.event.now (next_session c.args.before.now c.args.event.now c.requires.notes.sessions c.requires.shape) c.requires.notes.sessions;
       seats = c.in_ok-note_seat.ensures;
       txns = c.in_ok-note_record.ensures;
-      pasts = c.in_ok-note_past.ensures;
-      owners = rw c.in_ok-push.ensures.items (rw c.unwrap_or.ensures (owners_push c.args.before.now c.args.event.now c.args.notes.now.owners.items _
-          (owner_now c.args.before.now c.args.event.now c.pending_in-owner.result owner) c.requires.notes.owners));
       tables = omega arith;
     }
