@@ -1,5 +1,5 @@
 -- How many transactions write a cell.
-use Rattle.std.proofs.Common.{◌≡◌, ℕ, ◌+◌, ◌<◌, ◌≤◌, zero, suc, List, [], ◌∷◌, ◌++◌, length, get_or, arith, refl, ap, sym, ◌∙◌, subst, inl, inr, ◌⊎◌, ◌↔◌}
+use Rattle.std.proofs.Common.{◌≡◌, ℕ, ◌+◌, ◌<◌, ◌≤◌, zero, suc, List, [], ◌∷◌, ◌++◌, length, get_or, arith, refl, ap, ◌∙◌, subst, inl, inr}
 use Rattle.std.specs.List.{Contains}
 use Rattle.std.specs.List.Sorted.{IsStrictlyIncreasing}
 use Rattle.std.proofs.lemmas.List.{length_push, get_or_append_left, get_or_push, get_or_default}
@@ -10,7 +10,6 @@ use Rattle.cell_base.specs.declared.cell.Cell.{Cell}
 use Rattle.history_core.specs.declared.event.Event.{Event}
 use Rattle.history_core.specs.Events.{begun}
 use Rattle.history_core.specs.Relations.{Writes}
-use Rattle.history_core.specs.Forced.{AreCandidates}
 use Rattle.history_core.proofs.Offers.{writer_bounded}
 use Rattle.history_check.specs.Rules.{HasCandidates}
 

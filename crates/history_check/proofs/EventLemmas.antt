@@ -1,5 +1,5 @@
 -- The first event that breaks a rule.
-use Rattle.std.proofs.Common.{◌≡◌, ℕ, ◌+◌, ◌<◌, ◌≤◌, zero, suc, List, [], ◌∷◌, ◌++◌, Some, length, take, arith, refl, ap, sym, ◌∙◌, subst, inl, inr, ◌⊎◌}
+use Rattle.std.proofs.Common.{◌≡◌, ℕ, ◌+◌, ◌≤◌, zero, suc, List, [], ◌∷◌, ◌++◌, Some, length, take, arith, refl, ap, sym, ◌∙◌, subst, inl, inr}
 use Rattle.std.specs.List.{slice_get}
 use Rattle.std.specs.Prelude.{OnOk}
 use Rattle.std.proofs.lemmas.Option.{slice_get_within}
@@ -8,14 +8,14 @@ use Rattle.cell_base.specs.declared.cell.Cell.{Cell}
 use Rattle.cell_base.specs.declared.value.Value.{Value}
 use Rattle.history_core.specs.declared.event.Event.{Event}
 use Rattle.history_core.specs.declared.event.Event.TheVariants as events
-use Rattle.history_core.specs.Legal.{Follows, IsFormed, full_for}
+use Rattle.history_core.specs.Legal.{Follows}
 use Rattle.std.specs.declared.result.Result.{Result}
 use Rattle.std.specs.declared.result.Result.TheVariants.{Ok, Err}
 use Rattle.history_check.specs.declared.breach.Breach.{Breach}
 use Rattle.history_check.specs.declared.breach.CheckFault.{CheckFault}
 use Rattle.history_check.specs.declared.breach.CheckFault.TheVariants.{Breach as IsBreach, Memory}
 use Rattle.history_check.specs.declared.breach.Breach.TheVariants.{Count, Number}
-use Rattle.history_check.specs.Rules.{Rule, shape, number, keys, own, source, value, count, rank, Keeps, IsRight, right_number, HasCandidates}
+use Rattle.history_check.specs.Rules.{Rule, shape, number, keys, own, source, value, count, rank, IsRight}
 use Rattle.history_check.specs.Breaches.{IsToldOf, IsBreachOf, AreRightBelow, AreRight, IsFirstEventBreach, IfBreach}
 use Rattle.history_check.proofs.CountLemmas.{candidates_unique}
 use Rattle.history_check.proofs.Rights.{right_follows}

@@ -1,11 +1,11 @@
 -- Keys in order, and the keys that a scan covers.
-use Rattle.std.proofs.Common.{◌≡◌, ◌≢◌, ℕ, ◌+◌, ◌-◌, ◌<◌, ◌≤◌, zero, suc, List, [], ◌∷◌, Some, true, length, get_or, rules, arith, refl, ap, sym, ◌∙◌, subst, inl, inr, ◌⊎◌, ◌↔◌}
+use Rattle.std.proofs.Common.{◌≡◌, ℕ, ◌+◌, ◌<◌, ◌≤◌, zero, suc, List, [], ◌∷◌, Some, true, length, get_or, rules, arith, refl, ap, sym, ◌∙◌, subst, inl, inr, ◌⊎◌}
 use Rattle.std.specs.Ordering.{nat_cmp, int_cmp}
 use Rattle.std.specs.Cmp.{IsTotalOrder}
 use Rattle.std.specs.Cmp.Lexicographic.{slice_cmp}
 use Rattle.std.specs.declared.cmp.Ordering.{Ordering}
 use Rattle.std.specs.declared.cmp.Ordering.TheVariants.{Less, Equal, Greater}
-use Rattle.std.specs.List.{Contains, slice_get, All}
+use Rattle.std.specs.List.{Contains, slice_get}
 use Rattle.std.proofs.lemmas.Cmp.{tied_itself}
 use Rattle.std.proofs.lemmas.Map.Lookups.{CmpEqualImpliesEq, exact_signed, exact_bytes}
 use Rattle.std.proofs.lemmas.List.Elements.{Contains-get_or}
@@ -26,10 +26,10 @@ use Rattle.history_core.specs.Events.{begun}
 use Rattle.history_core.specs.Initial.{IsThereInitially}
 use Rattle.history_core.specs.Relations.{HasWritten, Writes}
 use Rattle.history_core.specs.Records.{IsRecordOf}
-use Rattle.history_core.specs.Legal.{IsKeyBelow, ListsKeys, WroteItself}
+use Rattle.history_core.specs.Legal.{IsKeyBelow, ListsKeys}
 use Rattle.history_core.proofs.Offers.{writer_bounded}
 use Rattle.history_check.specs.Keys.{IsAscending, IsListedIn, IsListed, Covers, CoversInitial, CoversWriter, CoversWriters, CoversOwn, HasLaterWriter, IsToList, ListsNoOther}
-use Rattle.history_check.proofs.WriteLemmas.{written_from_record, none_from_record, writes_later}
+use Rattle.history_check.proofs.WriteLemmas.{written_from_record, none_from_record}
 
 -- ---- keys in order
 
@@ -145,7 +145,7 @@ record_covers events n txn table keys is has i d within =
     let entry = get_or txn.buffer.writes i d in
     record {
       listed = listed_of table keys entry.0 (λ key at.
-      has key (written_from_record events n txn (Presence table key) entry.1 is (placed txn.buffer.writes entry (Presence table key) at (Contains-get_or txn.buffer.writes i d within))));
+          has key (written_from_record events n txn (Presence table key) entry.1 is (placed txn.buffer.writes entry (Presence table key) at (Contains-get_or txn.buffer.writes i d within))));
     }
   where
     placed : (xs : List (Cell × Value)) (e : Cell × Value) (x : Cell) → e.0 ≡ x → Contains xs e → Contains xs (x, e.1)

@@ -1,6 +1,6 @@
 -- How the records of the transactions go on standing for the events.
-use Rattle.std.proofs.Common.{◌≡◌, ℕ, ◌+◌, ◌<◌, ◌≤◌, List, [], ◌∷◌, ◌++◌, Option, Some, None, true, false, length, arith, refl, ap, sym, ◌∙◌, subst, inl, inr, ◌↔◌}
-use Rattle.std.specs.List.{slice_get, Contains}
+use Rattle.std.proofs.Common.{◌≡◌, ℕ, ◌+◌, List, [], ◌∷◌, ◌++◌, Some, None, length, refl, ap, sym, ◌∙◌, subst, ◌↔◌}
+use Rattle.std.specs.List.{Contains}
 use Rattle.cell_base.specs.declared.cell.Cell.{Cell}
 use Rattle.cell_base.specs.declared.value.Value.{Value}
 use Rattle.history_core.specs.declared.event.Event.{Event}
@@ -8,13 +8,13 @@ use Rattle.history_core.specs.declared.event.Event.TheVariants.{Open, Close, Def
 use Rattle.history_core.specs.declared.txn.Txn.{Txn}
 use Rattle.history_core.specs.declared.txn.Seen.{Seen}
 use Rattle.history_core.specs.declared.txn.TxnState.{TxnState}
-use Rattle.history_core.specs.Events.{begun, session_in, is_begin}
+use Rattle.history_core.specs.Events.{session_in}
 use Rattle.history_core.specs.Transactions.{IsPending}
 use Rattle.history_core.specs.Records.{IsRecordOf, seen_of, Saw}
-use Rattle.history_core.specs.Kept.{StandsForTxns, ChangesOne, AddsSeen, AddsWrite, TakesState, IsEndOf, IsUnnoted}
+use Rattle.history_core.specs.Kept.{StandsForTxns, ChangesOne, AddsSeen, AddsWrite, TakesState, IsEndOf}
 use Rattle.history_core.proofs.Prefixes.{IsSound}
 use Rattle.history_core.proofs.Offers.{pending_unique}
-use Rattle.history_core.proofs.TxnLemmas.{IsQuiet, record_goes, seen_same, seen_more, writes_same, writes_more, txns_quiet, txns_change, record_ends}
+use Rattle.history_core.proofs.TxnLemmas.{record_goes, seen_same, seen_more, writes_same, writes_more, txns_quiet, txns_change, record_ends}
 use Rattle.history_core.proofs.KeptLemmas.{middle, shows_middle}
 use Rattle.history_core.proofs.KeptEnds.{ending}
 

@@ -1,7 +1,6 @@
 -- An event that keeps to all rules fits what came before.
-use Rattle.std.proofs.Common.{◌≡◌, ℕ, ◌+◌, ◌<◌, ◌≤◌, List, [], ◌∷◌, ◌++◌, Some, true, false, cond, arith, refl, ap, sym, ◌∙◌, subst, inl, inr, ◌⊎◌, Bool, add-zero}
-use Rattle.std.specs.List.{slice_get, Contains}
-use Rattle.std.proofs.lemmas.List.{length_push}
+use Rattle.std.proofs.Common.{◌≡◌, ℕ, ◌+◌, ◌<◌, ◌≤◌, List, [], ◌∷◌, ◌++◌, cond, arith, subst, inl, inr}
+use Rattle.std.specs.List.{Contains}
 use Rattle.graph_base.proofs.Places.{count_by-push}
 use Rattle.txn_buffer.proofs.Lists.{slice_get_push_cases, at_contains}
 use Rattle.cell_base.specs.declared.cell.Cell.{Cell}
@@ -11,7 +10,7 @@ use Rattle.history_core.specs.declared.event.Event.TheVariants.{Open, Close, Def
 use Rattle.history_core.specs.Events.{opened, session_in, is_open_event}
 use Rattle.history_core.specs.Transactions.{IsPending, HasPending}
 use Rattle.history_core.specs.Legal.{Follows, IsOpen}
-use Rattle.history_check.specs.Rules.{Rule, shape, number, keys, own, source, value, count, IsRight, Keeps, IsInShape}
+use Rattle.history_check.specs.Rules.{shape, number, keys, own, value, IsRight, IsInShape}
 use Rattle.history_check.specs.Notes.{AreOfSessions}
 
 pub right_follows : (initial : List (Cell × Value)) (before : List Event) (e : Event) → IsRight initial before e → Follows initial before e

@@ -1,13 +1,11 @@
 -- The verdict on each event: that it keeps to all rules, or the first one that it breaks.
-use Rattle.std.proofs.Common.{◌≡◌, ℕ, ◌+◌, ◌<◌, ◌≤◌, List, Some, length, arith, refl, ap, sym, ◌∙◌}
+use Rattle.std.proofs.Common.{◌≡◌, ℕ, ◌+◌, ◌<◌, List, Some, length, arith, ap}
 use Rattle.cell_base.specs.declared.level.Level.{Level}
 use Rattle.cell_base.specs.declared.cell.Cell.{Cell}
 use Rattle.cell_base.specs.declared.key.Key.{Key}
 use Rattle.cell_base.specs.declared.value.Value.{Value as CellValue}
 use Rattle.history_core.specs.declared.event.Event.{Event}
 use Rattle.history_core.specs.declared.event.Event.TheVariants as events
-use Rattle.history_core.specs.Events.{defined}
-use Rattle.history_check.specs.declared.breach.Breach.{Breach}
 use Rattle.history_check.specs.declared.breach.Breach.TheVariants.{Shape, Number, Keys, Own, Source, Value, Count}
 use Rattle.history_check.specs.Rules.{right_number, Rule, shape, number, keys, own, source, value, count, rank, Keeps, IsRight, IsInShape, HasCandidates}
 use Rattle.history_check.specs.Breaches.{IsBreachOf}
@@ -299,4 +297,3 @@ own_value_broken initial before s x v k at is_shape is_own broken = record {
     first source less = tt
     first value less = absurd (omega arith)
     first count less = absurd (omega arith)
-

@@ -1,5 +1,5 @@
 -- What the record of a transaction says of its writes.
-use Rattle.std.proofs.Common.{◌≡◌, ℕ, ◌+◌, ◌<◌, ◌≤◌, List, Some, length, arith, refl, ap, sym, ◌∙◌, subst, inl, inr, ◌⊎◌}
+use Rattle.std.proofs.Common.{◌≡◌, ℕ, ◌<◌, ◌≤◌, List, Some, length, arith, refl, ap, sym, ◌∙◌, subst, inl, inr}
 use Rattle.std.specs.List.{slice_get, Contains, Any}
 use Rattle.std.proofs.lemmas.Option.{slice_get_within}
 use Rattle.cell_base.specs.declared.cell.Cell.{Cell}
@@ -7,7 +7,6 @@ use Rattle.cell_base.specs.declared.value.Value.{Value}
 use Rattle.history_core.specs.declared.event.Event.{Event}
 use Rattle.history_core.specs.declared.event.Event.TheVariants.{Write}
 use Rattle.history_core.specs.declared.txn.Txn.{Txn}
-use Rattle.history_core.specs.Initial.{WritesInitially, absent_value}
 use Rattle.history_core.specs.Transactions.{IsOf, IsCommitted}
 use Rattle.history_core.specs.Relations.{HasWritten, LastWrites, Writes}
 use Rattle.history_core.specs.Records.{IsRecordOf}

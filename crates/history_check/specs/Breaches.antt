@@ -1,20 +1,15 @@
 -- The breaches of a trace's events, and the first of them.
-use Rattle.std.specs.Prelude.{◌≡◌, ◌≢◌, ◌<◌, ◌≤◌, ◌+◌, ◌⊎◌, ℕ, Option, Some, None, List, length, slice_get, take}
-use Rattle.std.specs.declared.cmp.Ordering.TheVariants.{Greater}
-use Rattle.graph_base.specs.Order.{HoldsEachOnce, place_of}
+use Rattle.std.specs.Prelude.{◌≡◌, ◌<◌, ◌+◌, ℕ, Option, Some, None, List, length, slice_get, take}
 use Rattle.cell_base.specs.declared.cell.Cell.{Cell}
 use Rattle.cell_base.specs.declared.value.Value.{Value}
-use Rattle.cell_base.specs.contracts.cell.CellOrd.TheImpl as cell_order
 use Rattle.history_core.specs.declared.event.Event.{Event}
 use Rattle.history_core.specs.declared.event.Event.TheVariants as events
-use Rattle.history_core.specs.Events.{begun}
-use Rattle.history_core.specs.Relations.{Writes, Reads, IsSessionOrdered, IsVisible}
 use Rattle.std.specs.declared.result.Result.{Result}
-use Rattle.std.specs.declared.result.Result.TheVariants.{Ok, Err}
+use Rattle.std.specs.declared.result.Result.TheVariants.{Err}
 use Rattle.history_check.specs.declared.breach.Breach.{Breach}
 use Rattle.history_check.specs.declared.breach.CheckFault.{CheckFault}
-use Rattle.history_check.specs.declared.breach.CheckFault.TheVariants.{Breach as IsBreach, Memory}
-use Rattle.history_check.specs.declared.breach.Breach.TheVariants.{Shape, Number, Keys, Own, Source, Value as WrongValue, Count, Order, Session, Read, Axiom}
+use Rattle.history_check.specs.declared.breach.CheckFault.TheVariants.{Breach as IsBreach}
+use Rattle.history_check.specs.declared.breach.Breach.TheVariants.{Shape, Number, Keys, Own, Source, Value as WrongValue, Count}
 use Rattle.history_check.specs.Rules.{Rule, shape, number, keys, own, source, value, count, rank, Keeps, IsRight, right_number, HasCandidates}
 
 -- the breach that is told of an event which breaks the rule

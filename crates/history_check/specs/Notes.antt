@@ -1,13 +1,13 @@
 -- How what the judge has noted stands for the events so far.
-use Rattle.std.specs.Prelude.{◌≡◌, ◌<◌, ◌≤◌, ◌+◌, ◌↔◌, ◌⊎◌, ◌∷◌, ◌++◌, [], ℕ, Option, Some, None, false, List, length, slice_get, slice_index, slice_set}
+use Rattle.std.specs.Prelude.{◌≡◌, ◌<◌, ◌≤◌, ◌+◌, ◌↔◌, ◌⊎◌, [], ℕ, Option, Some, false, List, length, slice_get}
 use Rattle.cell_base.specs.declared.cell.Cell.{Cell}
 use Rattle.history_core.specs.declared.event.Event.{Event}
 use Rattle.cell_base.specs.declared.level.Level.{Level}
 use Rattle.history_core.specs.declared.txn.Txn.{Txn}
 use Rattle.history_core.specs.declared.txn.TxnState.TheVariants.{Pending}
-use Rattle.history_core.specs.Events.{opened, begun, defined, session_in}
-use Rattle.history_core.specs.Transactions.{IsStart, IsOf, IsCommitted, IsPending}
-use Rattle.history_core.specs.Relations.{Reads, IsSessionOrdered, PrecedesCausally}
+use Rattle.history_core.specs.Events.{opened, defined, session_in}
+use Rattle.history_core.specs.Transactions.{IsCommitted, IsPending}
+use Rattle.history_core.specs.Relations.{Reads, IsSessionOrdered}
 use Rattle.history_core.specs.Kept.{IsSessionOf, StandsForTxns, ChangesOne}
 use Rattle.history_check.specs.declared.seat.Seat.{Seat}
 use Rattle.history_check.specs.declared.notes.Notes.{Notes}

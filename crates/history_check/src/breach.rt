@@ -8,31 +8,50 @@ pub enum Breach {
     /// The state of the session doesn't allow the event, it names a session, table or transaction that isn't the next one or isn't there, the name
     /// of a table is taken, or a value can't be written.
     #[error("breach event {event} shape")]
-    Shape { event: u32 },
+    Shape {
+        event: u32,
+    },
     /// A look or a show should say another number: this one.
     #[error("breach event {event} number {expected}")]
-    Number { event: u32, expected: u32 },
+    Number {
+        event: u32,
+        expected: u32,
+    },
     /// A scan doesn't list exactly the keys of the rows that are there from the start, or that committed transactions or its own one wrote, ascending.
     #[error("breach event {event} keys")]
-    Keys { event: u32 },
+    Keys {
+        event: u32,
+    },
     /// An external read of a cell that the own transaction has written, or an internal one of a cell that it hasn't.
     #[error("breach event {event} own")]
-    Own { event: u32 },
+    Own {
+        event: u32,
+    },
     /// The source of a read is neither the initial transaction nor a committed one that writes the cell.
     #[error("breach event {event} source")]
-    Source { event: u32 },
+    Source {
+        event: u32,
+    },
     /// The value isn't that of the source, or not the last that the own transaction wrote.
     #[error("breach event {event} value")]
-    Value { event: u32 },
+    Value {
+        event: u32,
+    },
     /// The number of offered sources is 0, or above that of the candidates.
     #[error("breach event {event} count {candidates}")]
-    Count { event: u32, candidates: u32 },
+    Count {
+        event: u32,
+        candidates: u32,
+    },
     /// The order doesn't hold each transaction once, the initial one first.
     #[error("breach order")]
     Order,
     /// The earlier transaction of a session doesn't stand before the later one in the order; the least such pair.
     #[error("breach session {earlier} {later}")]
-    Session { earlier: u32, later: u32 },
+    Session {
+        earlier: u32,
+        later: u32,
+    },
     /// The transaction that was read from doesn't stand before the reader.
     #[error("breach event {event} read {origin} {reader}")]
     Read {

@@ -1,4 +1,4 @@
-use Rattle.std.proofs.Common.{List, length, take, refl, sym, subst, arith}
+use Rattle.std.proofs.Common.{List, length, refl, sym, subst, arith}
 use Rattle.std.proofs.lemmas.List.{take_all}
 use Rattle.std.proofs.lemmas.Option.{slice_get_read}
 use Rattle.history_core.specs.declared.event.Event.{Event}

@@ -1,4 +1,4 @@
-use Rattle.std.proofs.Common.{take, length, ◌≤◌}
+use Rattle.std.proofs.Common.{take}
 use Rattle.history_check.specs.Notes.{AreNotes}
 use Rattle.history_check.specs.Breaches.{AreRightBelow}
 use Rattle.history_check.proofs.events.note_events.Given as goal

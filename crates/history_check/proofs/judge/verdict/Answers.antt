@@ -57,4 +57,3 @@ returns-in-Commit c = rw c.in-Commit.is (commit_right c.args.initial.now c.args.
 
 pub returns-in-Rollback : goal.returns-in-Rollback
 returns-in-Rollback c = rw c.in-Rollback.is (rollback_right c.args.initial.now c.args.before.now c.in-Rollback.session (rw c.in-Rollback.is at (c.is_in_shape.ensures.0 c.if-not-is_in_shape.false)))
-

@@ -15,7 +15,7 @@ pub returns-then-not-is_listed : goal.returns-then-not-is_listed
 returns-then-not-is_listed c = (
   λ h. absurd (false≢true h),
   λ covers. absurd (false≢true (sym c.if-not-is_listed.true
-  ∙ c.is_listed.ensures.1 (entry_listed c.args.table c.args.keys.now c.args.cells.now c.loop-entry.entry-index c.entry-item.result (slice_get_read c.args.cells.now (length c.args.cells.now) c.loop-entry.entry-index c.entry-item.result refl c.loop-entry-test.true c.entry-item.is) covers))),
+      ∙ c.is_listed.ensures.1 (entry_listed c.args.table c.args.keys.now c.args.cells.now c.loop-entry.entry-index c.entry-item.result (slice_get_read c.args.cells.now (length c.args.cells.now) c.loop-entry.entry-index c.entry-item.result refl c.loop-entry-test.true c.entry-item.is) covers))),
 )
 
 pub returns : goal.returns

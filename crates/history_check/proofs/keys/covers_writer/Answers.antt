@@ -8,7 +8,7 @@ use Rattle.history_check.proofs.keys.covers_writer.Goals as goal
 pub returns-then-not-has_committed : goal.returns-then-not-has_committed
 returns-then-not-has_committed c = (
   λ h key writes. absurd (false≢true (sym c.if-not-has_committed.true
-  ∙ c.has_committed.ensures.1 (writes_later c.args.before.now c.args.number (Presence c.args.table key) c.requires.some writes).0)),
+      ∙ c.has_committed.ensures.1 (writes_later c.args.before.now c.args.number (Presence c.args.table key) c.requires.some writes).0)),
   λ f. refl,
 )
 

@@ -13,7 +13,7 @@ pub returns-then-not-covers_writer : goal.returns-then-not-covers_writer
 returns-then-not-covers_writer c = (
   λ h. absurd (false≢true h),
   λ covers. absurd (false≢true (sym c.if-not-covers_writer.true
-  ∙ c.covers_writer.ensures.1 (covers c.loop-number.number (let h = c.loop-number.auto.number in omega arith)))),
+      ∙ c.covers_writer.ensures.1 (covers c.loop-number.number (let h = c.loop-number.auto.number in omega arith)))),
 )
 
 pub returns : goal.returns

@@ -1,4 +1,4 @@
-use Rattle.std.proofs.Common.{arith, sym, ◌∙◌}
+use Rattle.std.proofs.Common.{arith}
 use Rattle.std.proofs.lemmas.Bool.{false≢true}
 use Rattle.history_check.proofs.Rights.{open_bounds}
 use Rattle.history_check.proofs.SeatLemmas.{not_open_beyond, seat_read}

@@ -1,4 +1,4 @@
-use Rattle.std.proofs.Common.{◌≡◌, ◌+◌, ◌<◌, ap, sym, ◌∙◌, arith, ℕ}
+use Rattle.std.proofs.Common.{arith}
 use Rattle.history_check.proofs.Rights.{next_session, sessions_push}
 use Rattle.history_check.proofs.Settled.{settled_push}
 use Rattle.history_check.proofs.NameLemmas.{defined-push, defined_few}

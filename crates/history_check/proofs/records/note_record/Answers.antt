@@ -1,4 +1,4 @@
-use Rattle.std.proofs.Common.{List, [], ◌∷◌, ◌++◌, refl, subst}
+use Rattle.std.proofs.Common.{[], ◌∷◌, ◌++◌, refl, subst}
 use Rattle.cell_base.specs.declared.level.Level.{Level}
 use Rattle.history_core.specs.declared.event.Event.TheVariants.{Begin, Commit, Rollback}
 use Rattle.history_core.specs.declared.txn.TxnState.TheVariants.{Committed, RolledBack}
@@ -52,4 +52,3 @@ returns-in-Own c = rw c.in-Own.is (txns_leave c.args.before.now _ c.args.txns.no
 
 pub returns-in-Show : goal.returns-in-Show
 returns-in-Show c = rw c.in-Show.is (txns_leave c.args.before.now _ c.args.txns.now.items tt c.requires.txns)
-

@@ -1,4 +1,4 @@
-use Rattle.std.proofs.Common.{◌≡◌, ◌-◌, ◌+◌, Some, None, arith, sym, ◌∙◌}
+use Rattle.std.proofs.Common.{◌≡◌, Some, None, arith, sym, ◌∙◌}
 use Rattle.history_core.proofs.Next.{pending_bounded}
 use Rattle.history_core.proofs.Numbers.{pending_positive}
 use Rattle.history_check.proofs.records.record_place.Goals as goal

@@ -1,4 +1,4 @@
-use Rattle.std.proofs.Common.{◌≡◌, ◌∙◌, refl, arith}
+use Rattle.std.proofs.Common.{refl}
 use Rattle.history_check.proofs.SeatLemmas.{seats_plain, seats_open, seats_begin, seats_close, seats_commit, seats_rollback, plain_look, plain_define, plain_show, plain_scan, plain_read, plain_own, plain_write, open_within, pending_within}
 use Rattle.history_check.proofs.seats.note_seat.Goals as goal
 
@@ -81,4 +81,3 @@ returns-in-Own c =
 pub returns-in-Write : goal.returns-in-Write
 returns-in-Write c =
     rw c.in-Write.is (seats_plain c.args.before.now _ c.args.seats.now.items (plain_write c.in-Write.session c.in-Write.cell c.in-Write.value) c.requires.seats)
-

@@ -35,4 +35,3 @@ returns-in-Rollback c = rw c.in-Rollback.is c.has_pending-in-Rollback.ensures
 
 pub returns-in-Show : goal.returns-in-Show
 returns-in-Show c = rw c.in-Show.is c.is_open-in-Show.ensures
-

@@ -2,7 +2,6 @@ use Rattle.std.proofs.Common.{arith, sym, ◌∙◌}
 use Rattle.std.proofs.lemmas.Bool.{false≢true}
 use Rattle.history_check.proofs.CountLemmas.{writers_none, writers_push, writers_skip, writers_whole}
 use Rattle.history_check.proofs.sources.count_writers.Goals as goal
-
 use Rattle.history_check.proofs.sources.count_writers.Goals.{then-is_writer, else-is_writer}
 
 pub loop-number-init : goal.loop-number-init

@@ -1,7 +1,6 @@
-use Rattle.std.proofs.Common.{refl, arith, inl, inr}
+use Rattle.std.proofs.Common.{refl, arith, inl}
 use Rattle.std.proofs.lemmas.Bool.{false≢true}
 use Rattle.history_core.proofs.Offers.{writer_bounded}
-use Rattle.history_check.proofs.WriteLemmas.{writes_later}
 use Rattle.history_check.proofs.sources.is_writer.Goals as goal
 
 pub returns-then-number-eq0 : goal.returns-then-number-eq0

@@ -1,4 +1,3 @@
-use Rattle.std.proofs.Common.{sym}
 use Rattle.std.proofs.lemmas.Bool.{false≢true}
 use Rattle.history_check.proofs.WriteLemmas.{last_is, last_unique}
 use Rattle.history_check.proofs.sources.wrote_last.Goals as goal
