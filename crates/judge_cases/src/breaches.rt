@@ -56,11 +56,26 @@ fn numbers(rt: HostRuntime) -> Result<(), Memory> {
 #[test]
 fn keys(rt: HostRuntime) -> Result<(), Memory> {
     let alloc = rt.alloc();
-    assert_eq!(&rt; told(alloc, 9, Some(scan(alloc, 1, &[2])?))?, ("keys", 9, 0));
-    assert_eq!(&rt; told(alloc, 13, Some(scan(alloc, 2, &[1])?))?, ("keys", 13, 0));
-    assert_eq!(&rt; told(alloc, 13, Some(scan(alloc, 2, &[2])?))?, ("keys", 13, 0));
-    assert_eq!(&rt; told(alloc, 13, Some(scan(alloc, 2, &[2, 1])?))?, ("keys", 13, 0));
-    assert_eq!(&rt; told(alloc, 13, Some(scan(alloc, 2, &[1, 2, 3])?))?, ("keys", 13, 0));
+    assert_eq!(&rt;
+        told(alloc, 9, Some(scan(alloc, 1, &[2])?))?,
+        ("keys", 9, 0)
+    );
+    assert_eq!(&rt;
+        told(alloc, 13, Some(scan(alloc, 2, &[1])?))?,
+        ("keys", 13, 0)
+    );
+    assert_eq!(&rt;
+        told(alloc, 13, Some(scan(alloc, 2, &[2])?))?,
+        ("keys", 13, 0)
+    );
+    assert_eq!(&rt;
+        told(alloc, 13, Some(scan(alloc, 2, &[2, 1])?))?,
+        ("keys", 13, 0)
+    );
+    assert_eq!(&rt;
+        told(alloc, 13, Some(scan(alloc, 2, &[1, 2, 3])?))?,
+        ("keys", 13, 0)
+    );
     Ok(())
 }
 

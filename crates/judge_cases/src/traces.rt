@@ -49,59 +49,99 @@ pub fn scan(alloc: Global, session: u32, listed: &[i64]) -> Result<Event, Memory
     })
 }
 
-/// The first transaction of session 1, which writes the row (1, 10), with what comes before it: events 1 to 10.
-fn put_writes(alloc: Global, events: &mut Items<Event>) -> Result<(), Memory> {
-    events.push(Event::Open { session: 1 })?;
-    events.push(Event::Define {
-        session: 1,
-        name: name(alloc)?,
-    })?;
-    events.push(Event::Look {
-        session: 1,
-        tables: 1,
-    })?;
-    events.push(Event::Begin {
-        session: 1,
-        level: Level::Cc,
-    })?;
-    events.push(read(1, presence(1), 0, 1, Value::Flag(false)))?;
-    events.push(Event::Write {
-        session: 1,
-        cell: presence(1),
-        value: Value::Flag(true),
-    })?;
-    events.push(Event::Write {
-        session: 1,
-        cell: field(1),
-        value: Value::Int(10),
-    })?;
-    events.push(Event::Own {
-        session: 1,
-        cell: field(1),
-        value: Value::Int(10),
-    })?;
-    events.push(scan(alloc, 1, &[1, 2])?)?;
-    events.push(Event::Commit { session: 1 })?;
-    Ok(())
+/// One event more.
+fn put(events: &mut Items<Event>, event: Event) -> Result<(), Memory> {
+    events.push(event)
 }
 
-/// The transaction of session 2, at another level, which reads the row, and the ends: events 11 to 18.
-fn put_reads(alloc: Global, events: &mut Items<Event>) -> Result<(), Memory> {
-    events.push(Event::Open { session: 2 })?;
-    events.push(Event::Begin {
-        session: 2,
-        level: Level::Rc,
-    })?;
-    events.push(scan(alloc, 2, &[1, 2])?)?;
-    events.push(read(2, presence(1), 1, 2, Value::Flag(true)))?;
-    events.push(read(2, field(1), 1, 1, Value::Int(10)))?;
-    events.push(read(2, field(2), 0, 1, Value::Int(20)))?;
-    events.push(Event::Rollback { session: 2 })?;
-    events.push(Event::Show {
-        session: 2,
-        number: 18,
-    })?;
-    Ok(())
+/// The session, its table and its first transaction's start: events 1 to 4.
+fn put_start(alloc: Global, events: &mut Items<Event>) -> Result<(), Memory> {
+    put(events, Event::Open { session: 1 })?;
+    let name = name(alloc)?;
+    put(events, Event::Define { session: 1, name })?;
+    put(
+        events,
+        Event::Look {
+            session: 1,
+            tables: 1,
+        },
+    )?;
+    put(
+        events,
+        Event::Begin {
+            session: 1,
+            level: Level::Cc,
+        },
+    )
+}
+
+/// A write of session 1.
+fn write(cell: Cell, value: Value) -> Event {
+    Event::Write {
+        session: 1,
+        cell,
+        value,
+    }
+}
+
+/// The row (1, 10) is written: events 5 to 7.
+fn put_row(events: &mut Items<Event>) -> Result<(), Memory> {
+    put(events, read(1, presence(1), 0, 1, Value::Flag(false)))?;
+    put(events, write(presence(1), Value::Flag(true)))?;
+    put(events, write(field(1), Value::Int(10)))
+}
+
+/// The row is read by its own transaction, which commits: events 8 to 10.
+fn put_commit(alloc: Global, events: &mut Items<Event>) -> Result<(), Memory> {
+    put(
+        events,
+        Event::Own {
+            session: 1,
+            cell: field(1),
+            value: Value::Int(10),
+        },
+    )?;
+    put(events, scan(alloc, 1, &[1, 2])?)?;
+    put(events, Event::Commit { session: 1 })
+}
+
+/// Session 2, whose transaction runs at another level, scans the table: events 11 to 13.
+fn put_scan(alloc: Global, events: &mut Items<Event>) -> Result<(), Memory> {
+    put(events, Event::Open { session: 2 })?;
+    put(
+        events,
+        Event::Begin {
+            session: 2,
+            level: Level::Rc,
+        },
+    )?;
+    put(events, scan(alloc, 2, &[1, 2])?)
+}
+
+/// It reads both rows and rolls back: events 14 to 18.
+fn put_reads(events: &mut Items<Event>) -> Result<(), Memory> {
+    put(events, read(2, presence(1), 1, 2, Value::Flag(true)))?;
+    put(events, read(2, field(1), 1, 1, Value::Int(10)))?;
+    put(events, read(2, field(2), 0, 1, Value::Int(20)))?;
+    put(events, Event::Rollback { session: 2 })?;
+    put(
+        events,
+        Event::Show {
+            session: 2,
+            number: 18,
+        },
+    )
+}
+
+/// The good history.
+fn good(alloc: Global) -> Result<Items<Event>, Memory> {
+    let mut events = Items::new(alloc);
+    put_start(alloc, &mut events)?;
+    put_row(&mut events)?;
+    put_commit(alloc, &mut events)?;
+    put_scan(alloc, &mut events)?;
+    put_reads(&mut events)?;
+    Ok(events)
 }
 
 /// The row (2, 20), which is there from the start.
@@ -112,18 +152,30 @@ fn rows(alloc: Global) -> Result<Items<(Cell, Value)>, Memory> {
     Ok(rows)
 }
 
+/// The event of the number is changed, where there is one.
+fn change(events: &mut Vec<Event>, number: usize, other: Event) {
+    if number == 0 {
+        return;
+    }
+    if number > events.len() {
+        return;
+    }
+    events[number - 1] = other;
+}
+
 /// The good history, with one event changed where one is given: the one of this number.
 fn events(alloc: Global, number: usize, other: Option<Event>) -> Result<Items<Event>, Memory> {
-    let mut good = Items::new(alloc);
-    put_writes(alloc, &mut good)?;
-    put_reads(alloc, &mut good)?;
-    let mut events = good.into_vec();
-    if let Some(event) = other {
-        if number > 0 && number <= events.len() {
-            events[number - 1] = event;
-        }
+    let mut events = good(alloc)?.into_vec();
+    match other {
+        Some(event) => change(&mut events, number, event),
+        None => {}
     }
     Ok(Items::from_vec(events))
+}
+
+/// The order of the two transactions after the initial one.
+fn order(alloc: Global) -> Result<Items<u32>, Memory> {
+    Items::from_slice(alloc, &[0, 1, 2])
 }
 
 /// What is told of the good history with the event of the number changed: the kind, the number of the event, and the further number.
@@ -132,15 +184,11 @@ pub fn told(
     number: usize,
     other: Option<Event>,
 ) -> Result<(&'static str, u32, u32), Memory> {
-    let mut order = Items::new(alloc);
-    order.push(0)?;
-    order.push(1)?;
-    order.push(2)?;
     let trace = Trace {
         level: Level::Rc,
         initial: rows(alloc)?,
         events: events(alloc, number, other)?,
-        order,
+        order: order(alloc)?,
     };
     answer(check_events(alloc, &trace))
 }
