@@ -1,0 +1,10 @@
+pub mod Rights
+pub mod Settled
+pub mod SeatLemmas
+pub mod RecordLemmas
+pub mod NameLemmas
+pub mod CountLemmas
+pub mod WriteLemmas
+pub mod Verdicts
+pub mod KeyLemmas
+pub mod EventLemmas

@@ -1,0 +1,4 @@
+pub mod Rules
+pub mod Breaches
+pub mod Notes
+pub mod Keys

@@ -1,0 +1,65 @@
+-- How what the judge has noted stands for the events so far.
+use Rattle.std.specs.Prelude.{◌≡◌, ◌<◌, ◌≤◌, ◌+◌, ◌↔◌, ◌⊎◌, [], ℕ, Option, Some, false, List, length, slice_get}
+use Rattle.cell_base.specs.declared.cell.Cell.{Cell}
+use Rattle.history_core.specs.declared.event.Event.{Event}
+use Rattle.cell_base.specs.declared.level.Level.{Level}
+use Rattle.history_core.specs.declared.txn.Txn.{Txn}
+use Rattle.history_core.specs.declared.txn.TxnState.TheVariants.{Pending}
+use Rattle.history_core.specs.Events.{opened, defined, session_in}
+use Rattle.history_core.specs.Transactions.{IsCommitted, IsPending}
+use Rattle.history_core.specs.Relations.{Reads, IsSessionOrdered}
+use Rattle.history_core.specs.Kept.{IsSessionOf, StandsForTxns, ChangesOne}
+use Rattle.history_check.specs.declared.seat.Seat.{Seat}
+use Rattle.history_check.specs.declared.notes.Notes.{Notes}
+
+-- the seat says whether the session is open, and what is pending in it
+abbrev pub IsSeatOf : List Event → ℕ → Seat → Type 0
+IsSeatOf events session seat = IsSessionOf events session (record { is_open = seat.is_open; pending = seat.pending })
+
+-- session s has the s-th seat
+pub record StandsForSeats (events : List Event) (seats : List Seat) : Type 0 where
+  pub count : length seats ≡ opened events
+  pub each : (i : ℕ) (seat : Seat) → slice_get seats i ≡ Some seat → IsSeatOf events (i + 1) seat
+
+-- one seat is changed, as the relation says
+pub record ChangesSeat (old : List Seat) (session : ℕ) (Changes : Seat → Seat → Type 0) (new : List Seat) : Type 0 where
+  pub place : ℕ
+  pub number : place + 1 ≡ session
+  pub changes : ChangesOne old new place Changes
+
+-- the session has this pending
+abbrev pub TakesPending : List Seat → ℕ → Option ℕ → List Seat → Type 0
+TakesPending old session pending new = ChangesSeat old session (λ before after. after ≡ record before { pending = pending }) new
+
+-- the session is closed
+abbrev pub IsClosed : List Seat → ℕ → List Seat → Type 0
+IsClosed old session new = ChangesSeat old session (λ before after. after ≡ record before { is_open = false }) new
+
+-- each event is one of an opened session
+abbrev pub AreOfSessions : List Event → Type 0
+AreOfSessions events = (k : ℕ) (event : Event) → slice_get events k ≡ Some event → (0 < session_in event) × (session_in event ≤ opened events)
+
+-- each source has committed, and a pending transaction is the last of its session
+pub record IsSettled (events : List Event) : Type 0 where
+  pub sources : (reader place : ℕ) (cell : Cell) (source : ℕ) → Reads events reader place cell source → (source ≡ 0) ⊎ IsCommitted events source
+  pub last : (txn session other : ℕ) → IsPending events txn session → IsSessionOrdered events txn other → ⊥
+
+-- the transaction is pending in the session of the event, or none is
+abbrev pub IsRunningOwner : List Event → Event → Option ℕ → Type 0
+IsRunningOwner events event owner = (txn : ℕ) → (owner ≡ Some txn) ↔ IsPending events txn (session_in event)
+
+-- the record of a transaction that did nothing yet
+pub record IsFreshRecord (txn : Txn) (session : ℕ) (level : Level) : Type 0 where
+  pub session_is : txn.session ≡ session
+  pub level_is : txn.level ≡ level
+  pub state_is : txn.state ≡ Pending
+  pub nothing_seen : txn.seen ≡ []
+  pub nothing_written : txn.buffer.writes ≡ []
+
+-- the notes stand for the events
+pub record AreNotes (events : List Event) (notes : Notes) : Type 0 where
+  pub settled : IsSettled events
+  pub sessions : AreOfSessions events
+  pub seats : StandsForSeats events notes.seats.items
+  pub txns : StandsForTxns events notes.txns.items
+  pub tables : notes.tables ≡ defined events

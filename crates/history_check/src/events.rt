@@ -1,0 +1,104 @@
+// The events of a trace, one after another.
+ghost use Rattle.std.specs.Prelude.{◌≡◌, ◌<◌, ◌+◌, ◌∷◌, ◌++◌, [], ℕ, length, OnOk, IfOk, take};
+ghost use Rattle.history_check.specs.Rules.{IsRight, IsInShape, HasSource};
+ghost use Rattle.history_check.specs.Breaches.{IsBreachOf, AreRight, IsFirstEventBreach, IsVerdict, IfBreach};
+ghost use Rattle.history_check.specs.Notes.{AreNotes};
+
+use crate::judge::verdict;
+use crate::notes::{Notes, no_notes};
+use crate::noting::note;
+use crate::{Breach, CheckFault};
+use cell_base::{Cell, Value};
+use history_core::Event;
+use history_log::Trace;
+use std::alloc::Global;
+
+/// Judges the events of a trace, whatever its order: that they are a history of its initial state, event by event, with sources that are
+/// there, their values, and counts from 1 to the number of candidates. Limits of a history aren't looked at. The breach is the first in the
+/// order of the events.
+pub fn check_events(alloc: Global, trace: &Trace) -> Result<(), CheckFault>
+    requires few { length trace.now.events < 4294967296 }
+    ensures ok { OnOk result (AreRight trace.now.initial trace.now.events) }
+    ensures breach { IfBreach result (IsFirstEventBreach trace.now.initial trace.now.events) }
+{
+    match note_events(alloc, trace.initial.as_slice(), trace.events.as_slice()) {
+        Ok(_notes) => Ok(()),
+        Err(fault) => Err(fault),
+    }
+}
+
+/// The notes of all events, where each of them keeps to the rules.
+pub fn note_events(
+    alloc: Global,
+    initial: &[(Cell, Value)],
+    events: &[Event],
+) -> Result<Notes, CheckFault>
+    requires few { length events.now < 4294967296 }
+    ensures notes { IfOk result (AreNotes events.now) }
+    ensures right { OnOk result (AreRight initial.now events.now) }
+    ensures breach { IfBreach result (IsFirstEventBreach initial.now events.now) }
+{
+    let mut notes = no_notes(alloc);
+    for at in 0..events.len() {
+        match judge_event(&mut notes, initial, &events[..at], &events[at]) {
+            Ok(()) => {}
+            Err(fault) => return Err(fault),
+        }
+    }
+    Ok(notes)
+}
+
+/// Judges one event, and notes it.
+fn judge_event(
+    notes: &mut Notes,
+    initial: &[(Cell, Value)],
+    before: &[Event],
+    event: &Event,
+) -> Result<(), CheckFault>
+    requires notes { AreNotes before.now notes.old }
+    requires few { length before.now < 4294967295 }
+    ensures right { OnOk result (IsRight initial.now before.now event.now) }
+    ensures notes { OnOk result (AreNotes (before.now ++ event.now ∷ []) notes.new) }
+    ensures breach { IfBreach result (IsBreachOf initial.now before.now event.now) }
+{
+    match verdict(notes, initial, before, event) {
+        Ok(found) => note_right(notes, initial, before, event, found),
+        Err(_memory) => Err(CheckFault::Memory),
+    }
+}
+
+/// Notes the event, where the verdict finds no breach.
+fn note_right(
+    notes: &mut Notes,
+    initial: &[(Cell, Value)],
+    before: &[Event],
+    event: &Event,
+    found: Option<Breach>,
+) -> Result<(), CheckFault>
+    requires notes { AreNotes before.now notes.old }
+    requires few { length before.now < 4294967295 }
+    requires verdict { IsVerdict initial.now before.now event.now found }
+    ensures right { OnOk result (IsRight initial.now before.now event.now) }
+    ensures notes { OnOk result (AreNotes (before.now ++ event.now ∷ []) notes.new) }
+    ensures breach { IfBreach result (IsBreachOf initial.now before.now event.now) }
+{
+    match found {
+        Some(breach) => Err(CheckFault::Breach(breach)),
+        None => note_only(notes, before, event),
+    }
+}
+
+/// Notes the event.
+fn note_only(notes: &mut Notes, before: &[Event], event: &Event) -> Result<(), CheckFault>
+    requires notes { AreNotes before.now notes.old }
+    requires shape { IsInShape before.now event.now }
+    requires source { HasSource before.now event.now }
+    requires few { length before.now < 4294967295 }
+    ensures notes { OnOk result (AreNotes (before.now ++ event.now ∷ []) notes.new) }
+    ensures breach { IfBreach result (λ breach. ⊥) }
+{
+    match note(notes, before, event) {
+        Ok(()) => Ok(()),
+        Err(_memory) => Err(CheckFault::Memory),
+    }
+}

@@ -1,0 +1,186 @@
+// What the rules say of one event.
+ghost use Rattle.std.specs.Prelude.{◌≡◌, ◌<◌, ◌≤◌, ◌+◌, ◌∷◌, ◌++◌, [], ℕ, List, length, IfOk, OnOk, IsTrue, take, Err};
+ghost use Rattle.cell_base.specs.declared.cell.Cell.{Cell as CellValue};
+ghost use Rattle.cell_base.specs.declared.value.Value.{Value as ValueOf};
+ghost use Rattle.history_core.specs.declared.event.Event.{Event};
+ghost use Rattle.history_check.specs.Rules.{IsInShape};
+ghost use Rattle.history_check.specs.Breaches.{IsVerdict};
+ghost use Rattle.history_check.specs.Notes.{AreNotes};
+
+use crate::Breach;
+use crate::keys::lists_keys;
+use crate::notes::Notes;
+use crate::shape::is_in_shape;
+use crate::sources::{count_writers, gives_own_value, gives_value, is_writer, wrote_itself};
+use cell_base::{Cell, Key, Memory, Value};
+use history_core::Event;
+
+/// The number of the next event.
+fn next_number(before: &[Event]) -> u32
+    requires { length before.now < 4294967295 }
+    ensures { result ≡ length before.now + 1 }
+{
+    before.len() as u32 + 1
+}
+
+/// The first rule that the event breaks, as a breach.
+pub fn verdict(
+    notes: &Notes,
+    initial: &[(Cell, Value)],
+    before: &[Event],
+    event: &Event,
+) -> Result<Option<Breach>, Memory>
+    requires notes { AreNotes before.now notes.now }
+    requires few { length before.now < 4294967295 }
+    ensures { IfOk result (IsVerdict initial.now before.now event.now) }
+{
+    if !is_in_shape(notes, before, event) {
+        return Ok(Some(Breach::Shape {
+            event: next_number(before),
+        }));
+    }
+    match event {
+        Event::Look { session, tables } => Ok(of_look(notes, before, *session, *tables)),
+        Event::Show { session, number } => Ok(of_show(before, *session, *number)),
+        Event::Scan {
+            session,
+            table,
+            keys,
+        } => of_scan(notes, initial, before, *session, *table, keys.as_slice()),
+        Event::Read {
+            session,
+            cell,
+            source,
+            count,
+            word,
+            value,
+        } => Ok(of_read(
+            notes, initial, before, *session, cell, *source, *count, *word, value,
+        )),
+        Event::Own {
+            session,
+            cell,
+            value,
+        } => Ok(of_own(notes, before, *session, cell, value)),
+        Event::Open { .. } => Ok(None),
+        Event::Close { .. } => Ok(None),
+        Event::Define { .. } => Ok(None),
+        Event::Begin { .. } => Ok(None),
+        Event::Write { .. } => Ok(None),
+        Event::Commit { .. } => Ok(None),
+        Event::Rollback { .. } => Ok(None),
+    }
+}
+
+/// The verdict on a look.
+fn of_look(notes: &Notes, before: &[Event], session: u32, tables: u32) -> Option<Breach>
+    requires notes { AreNotes before.now notes.now }
+    requires shape { IsInShape before.now (Event.Look session tables) }
+    requires few { length before.now < 4294967295 }
+    ensures { (initial : List (CellValue × ValueOf)) → IsVerdict initial before.now (Event.Look session tables) result }
+{
+    let expected = notes.tables;
+    if tables == expected {
+        return None;
+    }
+    let event = next_number(before);
+    Some(Breach::Number { event, expected })
+}
+
+/// The verdict on a show.
+fn of_show(before: &[Event], session: u32, number: u32) -> Option<Breach>
+    requires shape { IsInShape before.now (Event.Show session number) }
+    requires few { length before.now < 4294967295 }
+    ensures { (initial : List (CellValue × ValueOf)) → IsVerdict initial before.now (Event.Show session number) result }
+{
+    let event = next_number(before);
+    if number == event {
+        return None;
+    }
+    Some(Breach::Number {
+        event,
+        expected: event,
+    })
+}
+
+/// The verdict on a scan.
+fn of_scan(
+    notes: &Notes,
+    initial: &[(Cell, Value)],
+    before: &[Event],
+    session: u32,
+    table: u32,
+    keys: &[Key],
+) -> Result<Option<Breach>, Memory>
+    requires notes { AreNotes before.now notes.now }
+    requires shape { IsInShape before.now (Event.Scan session table keys.now) }
+    requires few { length before.now < 4294967295 }
+    ensures { IfOk result (IsVerdict initial.now before.now (Event.Scan session table keys.now)) }
+{
+    let lists = lists_keys(notes, initial, before, session, table, keys)?;
+    if lists {
+        return Ok(None);
+    }
+    let event = next_number(before);
+    Ok(Some(Breach::Keys { event }))
+}
+
+/// The verdict on an external read.
+fn of_read(
+    notes: &Notes,
+    initial: &[(Cell, Value)],
+    before: &[Event],
+    session: u32,
+    cell: &Cell,
+    source: u32,
+    count: u32,
+    word: u32,
+    value: &Value,
+) -> Option<Breach>
+    requires notes { AreNotes before.now notes.now }
+    requires shape { IsInShape before.now (Event.Read session cell.now source count word value.now) }
+    requires few { length before.now < 4294967295 }
+    ensures { IsVerdict initial.now before.now (Event.Read session cell.now source count word value.now) result }
+{
+    let event = next_number(before);
+    if wrote_itself(notes, before, session, cell) {
+        return Some(Breach::Own { event });
+    }
+    if !is_writer(notes, before, source, cell) {
+        return Some(Breach::Source { event });
+    }
+    if !gives_value(notes, initial, before, source, cell, value) {
+        return Some(Breach::Value { event });
+    }
+    let candidates = count_writers(notes, before, cell);
+    if count == 0 {
+        return Some(Breach::Count { event, candidates });
+    }
+    if count > candidates {
+        return Some(Breach::Count { event, candidates });
+    }
+    None
+}
+
+/// The verdict on an internal read.
+fn of_own(
+    notes: &Notes,
+    before: &[Event],
+    session: u32,
+    cell: &Cell,
+    value: &Value,
+) -> Option<Breach>
+    requires notes { AreNotes before.now notes.now }
+    requires shape { IsInShape before.now (Event.Own session cell.now value.now) }
+    requires few { length before.now < 4294967295 }
+    ensures { (initial : List (CellValue × ValueOf)) → IsVerdict initial before.now (Event.Own session cell.now value.now) result }
+{
+    let event = next_number(before);
+    if !wrote_itself(notes, before, session, cell) {
+        return Some(Breach::Own { event });
+    }
+    if !gives_own_value(notes, before, session, cell, value) {
+        return Some(Breach::Value { event });
+    }
+    None
+}

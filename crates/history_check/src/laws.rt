@@ -1,0 +1,19 @@
+// The laws of the breaches of a trace's events.
+ghost use Rattle.std.specs.Prelude.{◌≡◌, ℕ, List, None, Some, slice_get, take};
+ghost use Rattle.cell_base.specs.declared.cell.Cell.{Cell};
+ghost use Rattle.cell_base.specs.declared.value.Value.{Value};
+ghost use Rattle.history_core.specs.declared.event.Event.{Event};
+ghost use Rattle.history_core.specs.Legal.{Follows, IsFormed, full_for};
+ghost use Rattle.history_check.specs.declared.breach.Breach.{Breach};
+ghost use Rattle.history_check.specs.Breaches.{AreRight, IsFirstEventBreach};
+
+/// The laws of the events of a trace: where each keeps to the rules there is no breach, and there is one first breach at most. Events that keep
+/// to the rules fit what comes before each of them, so that within the limits they are a formed history.
+pub fn event_laws()
+    ensures unbroken { (initial : List (Cell × Value)) (events : List Event) (breach : Breach) → AreRight initial events → IsFirstEventBreach initial events breach → ⊥ }
+    ensures one { (initial : List (Cell × Value)) (events : List Event) (a b : Breach) → IsFirstEventBreach initial events a → IsFirstEventBreach initial events b → a ≡ b }
+    ensures follows { (initial : List (Cell × Value)) (events : List Event) (k : ℕ) (event : Event) → AreRight initial events → slice_get events k ≡ Some event →
+        Follows initial (take k events) event }
+    ensures formed { (initial : List (Cell × Value)) (events : List Event) → AreRight initial events →
+        ((k : ℕ) (event : Event) → slice_get events k ≡ Some event → full_for initial (take k events) event ≡ None) → IsFormed initial events }
+{}

@@ -1,0 +1,22 @@
+//! The judge of a trace: whether its events are a history.
+//!
+//! `check_events` goes through the events once, with notes of its own, and answers the first breach: of the first event that breaks a rule,
+//! and of the first rule that it breaks. `event_laws` says what that comes to. The order of a trace isn't judged.
+#![tactic(auto)]
+
+mod breach;
+mod events;
+mod judge;
+mod keys;
+mod laws;
+mod notes;
+mod noting;
+mod records;
+mod seat;
+mod seats;
+mod shape;
+mod sources;
+
+pub use breach::{Breach, CheckFault};
+pub use events::check_events;
+pub use laws::event_laws;

@@ -1,0 +1,89 @@
+// What the judge notes of the events so far.
+ghost use Rattle.std.specs.Prelude.{◌≡◌, ◌≤◌, ◌<◌, ◌+◌, ◌↔◌, ℕ, [], Some, IsTrue, length};
+ghost use Rattle.history_core.specs.Events.{begun, opened};
+ghost use Rattle.history_core.specs.Transactions.{IsPending};
+ghost use Rattle.history_core.specs.Legal.{IsOpen};
+ghost use Rattle.history_core.specs.Records.{IsRecordOf};
+ghost use Rattle.history_check.specs.Notes.{AreNotes};
+
+use crate::seat::Seat;
+use history_core::{Event, Txn};
+use std::alloc::Global;
+
+/// A seat for each session, a record of each transaction, and the number of tables. Session s has the seat at s - 1, transaction k the record
+/// at k - 1.
+#[derive(Debug, Drop)]
+pub struct Notes {
+    pub alloc: Global,
+    pub seats: Vec<Seat>,
+    pub txns: Vec<Txn>,
+    pub tables: u32,
+}
+
+/// No event yet.
+pub fn no_notes(alloc: Global) -> Notes
+    ensures { AreNotes [] result }
+{
+    Notes {
+        alloc,
+        seats: Vec::new(alloc),
+        txns: Vec::new(alloc),
+        tables: 0,
+    }
+}
+
+/// Whether the session is open.
+pub fn is_open(notes: &Notes, before: &[Event], session: u32) -> bool
+    requires { AreNotes before.now notes.now }
+    ensures { IsTrue result ↔ IsOpen before.now session }
+{
+    if session == 0 {
+        return false;
+    }
+    if session as usize > notes.seats.len() {
+        return false;
+    }
+    notes.seats[session as usize - 1].is_open
+}
+
+/// What is pending in the session.
+pub fn pending_in(notes: &Notes, before: &[Event], session: u32) -> Option<u32>
+    requires { AreNotes before.now notes.now }
+    ensures { (txn : ℕ) → (result ≡ Some txn) ↔ IsPending before.now txn session }
+{
+    if session == 0 {
+        return None;
+    }
+    if session as usize > notes.seats.len() {
+        return None;
+    }
+    notes.seats[session as usize - 1].pending
+}
+
+/// The record of a transaction.
+pub fn txn_of<'a>(notes: &'a Notes, before: &[Event], number: u32) -> &'a Txn
+    requires notes { AreNotes before.now notes.now }
+    requires some { 0 < number }
+    requires begun { number ≤ begun before.now }
+    ensures { IsRecordOf before.now number result.now }
+{
+    &notes.txns[number as usize - 1]
+}
+
+/// How many transactions have begun.
+pub fn count_begun(notes: &Notes, before: &[Event]) -> u32
+    requires notes { AreNotes before.now notes.now }
+    requires few { length before.now < 4294967296 }
+    ensures { result ≡ begun before.now }
+{
+    notes.txns.len() as u32
+}
+
+/// How many sessions were opened.
+pub fn count_opened(notes: &Notes, before: &[Event]) -> u32
+    requires notes { AreNotes before.now notes.now }
+    requires few { length before.now < 4294967296 }
+    ensures { result ≡ opened before.now }
+{
+    notes.seats.len() as u32
+}

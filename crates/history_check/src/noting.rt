@@ -1,0 +1,68 @@
+// The notes with one event more.
+ghost use Rattle.std.specs.Prelude.{◌≡◌, ◌<◌, ◌+◌, ◌∷◌, ◌++◌, [], length, OnOk};
+ghost use Rattle.history_core.specs.Events.{session_in, defined};
+ghost use Rattle.history_check.specs.Rules.{IsInShape, HasSource};
+ghost use Rattle.history_check.specs.Notes.{AreNotes};
+
+use crate::notes::{Notes, count_begun, pending_in};
+use crate::records::note_record;
+use crate::seats::note_seat;
+use cell_base::Memory;
+use history_core::Event;
+
+/// Notes the event, which the state of its session allows, and which reads from a source that there is.
+pub fn note(notes: &mut Notes, before: &[Event], event: &Event) -> Result<(), Memory>
+    requires notes { AreNotes before.now notes.old }
+    requires shape { IsInShape before.now event.now }
+    requires source { HasSource before.now event.now }
+    requires few { length before.now < 4294967295 }
+    ensures { OnOk result (AreNotes (before.now ++ event.now ∷ []) notes.new) }
+{
+    let owner = pending_in(notes, before, session_of(event));
+    let started = count_begun(notes, before);
+    note_seat(&mut notes.seats, before, event, started)?;
+    note_record(notes.alloc, &mut notes.txns, before, event, owner)?;
+    notes.tables += definitions(event);
+    Ok(())
+}
+
+/// The session that made the event.
+pub fn session_of(event: &Event) -> u32
+    ensures { result ≡ session_in event.now }
+{
+    match event {
+        Event::Open { session } => *session,
+        Event::Close { session } => *session,
+        Event::Define { session, .. } => *session,
+        Event::Look { session, .. } => *session,
+        Event::Begin { session, .. } => *session,
+        Event::Scan { session, .. } => *session,
+        Event::Read { session, .. } => *session,
+        Event::Own { session, .. } => *session,
+        Event::Write { session, .. } => *session,
+        Event::Commit { session } => *session,
+        Event::Rollback { session } => *session,
+        Event::Show { session, .. } => *session,
+    }
+}
+
+/// How many tables the event defines: one or none.
+fn definitions(event: &Event) -> u32
+    ensures value { result ≡ defined (event.now ∷ []) }
+    ensures small { result < 2 }
+{
+    match event {
+        Event::Define { .. } => 1,
+        Event::Open { .. } => 0,
+        Event::Close { .. } => 0,
+        Event::Look { .. } => 0,
+        Event::Begin { .. } => 0,
+        Event::Scan { .. } => 0,
+        Event::Read { .. } => 0,
+        Event::Own { .. } => 0,
+        Event::Write { .. } => 0,
+        Event::Commit { .. } => 0,
+        Event::Rollback { .. } => 0,
+        Event::Show { .. } => 0,
+    }
+}

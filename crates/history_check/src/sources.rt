@@ -1,0 +1,172 @@
+// Who writes a cell, and what.
+ghost use Rattle.std.specs.Prelude.{◌≡◌, ◌<◌, ◌≤◌, ◌+◌, ◌↔◌, ℕ, length, IsTrue, Contains, Any};
+ghost use Rattle.history_core.specs.Events.{begun};
+ghost use Rattle.history_core.specs.Initial.{WritesInitially, absent_value};
+ghost use Rattle.history_core.specs.Relations.{HasWritten, LastWrites, Writes, WritesValue};
+ghost use Rattle.history_core.specs.Transactions.{IsCommitted, IsPending};
+ghost use Rattle.history_core.specs.Legal.{WroteItself};
+ghost use Rattle.history_check.specs.Rules.{HasCandidates};
+ghost use Rattle.history_check.specs.Notes.{AreNotes};
+
+use crate::notes::{Notes, count_begun, pending_in, txn_of};
+use cell_base::{Cell, Value};
+use history_core::{Event, TxnState};
+
+/// Whether the transaction has written the cell, committed or not.
+pub fn has_written(notes: &Notes, before: &[Event], number: u32, cell: &Cell) -> bool
+    requires notes { AreNotes before.now notes.now }
+    requires some { 0 < number }
+    requires begun { number ≤ begun before.now }
+    ensures { IsTrue result ↔ HasWritten before.now number cell.now }
+{
+    let txn = txn_of(notes, before, number);
+    match txn.buffer.get(cell) {
+        Some(_value) => true,
+        None => false,
+    }
+}
+
+/// Whether the value is the last that the transaction wrote to the cell, committed or not.
+fn wrote_last(notes: &Notes, before: &[Event], number: u32, cell: &Cell, value: &Value) -> bool
+    requires notes { AreNotes before.now notes.now }
+    requires some { 0 < number }
+    requires begun { number ≤ begun before.now }
+    ensures { IsTrue result ↔ LastWrites before.now number cell.now value.now }
+{
+    let txn = txn_of(notes, before, number);
+    match txn.buffer.get(cell) {
+        Some(last) => last.is_same(value),
+        None => false,
+    }
+}
+
+/// Whether the pending transaction of the session has written the cell.
+pub fn wrote_itself(notes: &Notes, before: &[Event], session: u32, cell: &Cell) -> bool
+    requires { AreNotes before.now notes.now }
+    ensures { IsTrue result ↔ WroteItself before.now session cell.now }
+{
+    match pending_in(notes, before, session) {
+        Some(number) => has_written(notes, before, number, cell),
+        None => false,
+    }
+}
+
+/// Whether the transaction has committed.
+pub fn has_committed(notes: &Notes, before: &[Event], number: u32) -> bool
+    requires notes { AreNotes before.now notes.now }
+    requires some { 0 < number }
+    requires begun { number ≤ begun before.now }
+    ensures { IsTrue result ↔ IsCommitted before.now number }
+{
+    let txn = txn_of(notes, before, number);
+    match txn.state {
+        TxnState::Committed => true,
+        TxnState::Pending => false,
+        TxnState::RolledBack => false,
+    }
+}
+
+/// Whether the transaction is the initial one, or a committed one that writes the cell.
+pub fn is_writer(notes: &Notes, before: &[Event], number: u32, cell: &Cell) -> bool
+    requires notes { AreNotes before.now notes.now }
+    requires few { length before.now < 4294967295 }
+    ensures { IsTrue result ↔ Writes before.now number cell.now }
+{
+    if number == 0 {
+        return true;
+    }
+    if number > count_begun(notes, before) {
+        return false;
+    }
+    has_committed(notes, before, number) && has_written(notes, before, number, cell)
+}
+
+/// How many transactions write the cell, the initial one among them.
+pub fn count_writers(notes: &Notes, before: &[Event], cell: &Cell) -> u32
+    requires notes { AreNotes before.now notes.now }
+    requires few { length before.now < 4294967295 }
+    ensures { HasCandidates before.now cell.now result }
+{
+    let mut count = 0;
+    for number in 0..count_begun(notes, before) + 1 {
+        if is_writer(notes, before, number, cell) {
+            count += 1;
+        }
+    }
+    count
+}
+
+/// Whether the initial state has the value at the cell.
+pub fn holds(initial: &[(Cell, Value)], cell: &Cell, value: &Value) -> bool
+    ensures { IsTrue result ↔ Any (λ e. (e.0 ≡ cell.now) × (e.1 ≡ value.now)) initial.now }
+{
+    initial
+        .iter()
+        .any(|entry| entry.0.is_same(cell) && entry.1.is_same(value))
+}
+
+/// Whether the initial state has the cell.
+fn has_cell(initial: &[(Cell, Value)], cell: &Cell) -> bool
+    ensures { IsTrue result ↔ Any (λ e. e.0 ≡ cell.now) initial.now }
+{
+    initial.iter().any(|entry| entry.0.is_same(cell))
+}
+
+/// Whether the value is what stands in a cell that the initial state doesn't have.
+fn is_absent_value(cell: &Cell, value: &Value) -> bool
+    ensures { IsTrue result ↔ (value.now ≡ absent_value cell.now) }
+{
+    match cell {
+        Cell::Presence(_table, _key) => value.is_same(&Value::Flag(false)),
+        Cell::Field(_table, _key, _column) => value.is_same(&Value::Unset),
+    }
+}
+
+/// Whether the initial transaction wrote the value to the cell.
+fn wrote_initially(initial: &[(Cell, Value)], cell: &Cell, value: &Value) -> bool
+    ensures { IsTrue result ↔ WritesInitially initial.now cell.now value.now }
+{
+    if has_cell(initial, cell) {
+        return holds(initial, cell, value);
+    }
+    is_absent_value(cell, value)
+}
+
+/// Whether the transaction is the initial one or a committed one, and wrote the value last to the cell.
+pub fn gives_value(
+    notes: &Notes,
+    initial: &[(Cell, Value)],
+    before: &[Event],
+    number: u32,
+    cell: &Cell,
+    value: &Value,
+) -> bool
+    requires notes { AreNotes before.now notes.now }
+    requires few { length before.now < 4294967295 }
+    ensures { IsTrue result ↔ WritesValue initial.now before.now number cell.now value.now }
+{
+    if number == 0 {
+        return wrote_initially(initial, cell, value);
+    }
+    if number > count_begun(notes, before) {
+        return false;
+    }
+    has_committed(notes, before, number) && wrote_last(notes, before, number, cell, value)
+}
+
+/// Whether the pending transaction of the session wrote the value last to the cell.
+pub fn gives_own_value(
+    notes: &Notes,
+    before: &[Event],
+    session: u32,
+    cell: &Cell,
+    value: &Value,
+) -> bool
+    requires { AreNotes before.now notes.now }
+    ensures { IsTrue result ↔ ((txn : ℕ) × IsPending before.now txn session × LastWrites before.now txn cell.now value.now) }
+{
+    match pending_in(notes, before, session) {
+        Some(number) => wrote_last(notes, before, number, cell, value),
+        None => false,
+    }
+}
