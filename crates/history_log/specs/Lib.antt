@@ -1,0 +1,4 @@
+pub mod Cut
+pub mod Spelling
+pub mod Reading
+pub mod Log

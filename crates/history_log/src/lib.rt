@@ -1,6 +1,25 @@
 //! The text of a history: what is printed of it, and what is read back.
 #![tactic(auto)]
 
+mod cells;
+mod event_lines;
+mod events;
+mod fields;
+mod keyword;
+mod laws;
+mod line_event;
+mod misread;
+mod parts;
+mod printing;
+mod puts;
+mod shapes;
 mod trace;
+mod version;
+mod words;
 
+pub use laws::one_word;
+pub use line_event::read_event;
+pub use misread::Misread;
+pub use printing::print;
 pub use trace::Trace;
+pub use version::Version;

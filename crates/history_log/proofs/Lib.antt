@@ -1,0 +1,9 @@
+pub mod Cuts
+pub mod EventForms
+pub mod LineKinds
+pub mod Misreads
+pub mod Plain
+pub mod Same
+pub mod Spelled
+pub mod WholeEvents
+pub mod Written
