@@ -1,6 +1,6 @@
 -- Why a piece isn't of its form, where a part of it isn't.
 use Rattle.std.proofs.Common.{◌≡◌, ◌≢◌, ℕ, List, [], ◌∷◌, ◌++◌, Result, Ok, Err, refl, sym, ap, ◌∙◌, map, subst, arith, get_or, slice_index}
-use Rattle.std.specs.Prelude.{codes}
+use Rattle.std.specs.Prelude.{codes, OnOk}
 use Rattle.std.specs.Fmt.{decimal}
 use Rattle.std.specs.List.{AllByRecursion, join_with_byte}
 use Rattle.cell_base.specs.declared.cell.Cell.{Cell}
@@ -30,6 +30,10 @@ pub from_end : {Y A : Type 0} (m : Misread) (old : List (List ℕ)) (Q : Y → A
     → ((y : Y) → Q y written → old ≡ []) → Reads Q (Err m) written
 from_end Form old Q written fails found = λ y is. fails tt (found y is)
 from_end Memory old Q written fails found = tt
+
+pub on_ok : {P Q : Type 0} (r : Result (Unit {0}) Misread) → OnOk r P → (P → Q) → OnOk r Q
+on_ok (Ok u) p f = f p
+on_ok (Err e) p f = tt
 
 pub tail : {a b : List ℕ} {old r s : List (List ℕ)} → old ≡ a ∷ r → old ≡ b ∷ s → r ≡ s
 tail e f = cc

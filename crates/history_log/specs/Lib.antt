@@ -2,3 +2,5 @@ pub mod Cut
 pub mod Spelling
 pub mod Reading
 pub mod Log
+pub mod Draft
+pub mod Faults

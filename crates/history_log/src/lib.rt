@@ -2,16 +2,20 @@
 #![tactic(auto)]
 
 mod cells;
+mod draft;
 mod event_lines;
 mod events;
 mod fields;
 mod keyword;
 mod laws;
 mod line_event;
+mod lines;
+mod log_fault;
 mod misread;
 mod parts;
 mod printing;
 mod puts;
+mod reading;
 mod shapes;
 mod trace;
 mod version;
@@ -19,7 +23,9 @@ mod words;
 
 pub use laws::one_word;
 pub use line_event::read_event;
+pub use log_fault::LogFault;
 pub use misread::Misread;
 pub use printing::print;
+pub use reading::read;
 pub use trace::Trace;
 pub use version::Version;
