@@ -1,8 +1,6 @@
 -- What a line adds to a draft.
-use Rattle.std.proofs.Common.{◌≡◌, ◌≢◌, ◌⊎◌, inl, inr, ℕ, List, [], ◌∷◌, ◌++◌, refl, sym, ap, ◌∙◌, map, subst, arith, append_assoc}
+use Rattle.std.proofs.Common.{◌≡◌, ◌≢◌, ◌⊎◌, inl, inr, ℕ, List, [], ◌∷◌, ◌++◌, refl, sym, ap, ◌∙◌, map, subst, append_assoc}
 use Rattle.std.specs.Prelude.{OnOk, Result, Ok, Err}
-use Rattle.std.specs.Fmt.{decimal}
-use Rattle.std.specs.List.{AllByRecursion}
 use Rattle.cell_base.specs.declared.cell.Cell.{Cell}
 use Rattle.cell_base.specs.declared.value.Value.{Value}
 use Rattle.history_core.specs.declared.event.Event.{Event}
@@ -12,11 +10,11 @@ use Rattle.history_log.specs.declared.draft.Place.TheVariants.{Body, End, Done}
 use Rattle.history_log.specs.declared.keyword.Keyword.{Keyword}
 use Rattle.history_log.specs.declared.keyword.Keyword.TheVariants as keywords
 use Rattle.history_log.specs.declared.version.Version.{Version}
-use Rattle.history_log.specs.declared.version.Version.TheVariants.{One, Two, Three}
+use Rattle.history_log.specs.declared.version.Version.TheVariants.{Three}
 use Rattle.history_log.specs.Cut.{cut_at}
-use Rattle.history_log.specs.Spelling.{cell_word, value_word, keyword_word, keyword_of, fields, head_line, event_line, initial_line, order_line, end_line, line}
+use Rattle.history_log.specs.Spelling.{keyword_word, keyword_of, head_line, event_line, initial_line, order_line, end_line, line}
 use Rattle.history_log.specs.Reading.{FitsEvent, IsEventIn}
-use Rattle.history_log.specs.Log.{Ascends, IsInitialCell, AreInitialCells}
+use Rattle.history_log.specs.Log.{IsInitialCell, AreInitialCells}
 use Rattle.history_log.specs.Draft.{IsRight, IsInitialSoFar, IsNextRow, IsNextEvent, IsNextOrder, said, ending}
 use Rattle.history_log.specs.declared.misread.Misread.{Misread}
 use Rattle.history_log.proofs.Cuts.{joined_cut}

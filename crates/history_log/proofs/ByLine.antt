@@ -1,5 +1,5 @@
 -- What reading line by line finds.
-use Rattle.std.proofs.Common.{◌≡◌, ◌≢◌, ◌⊎◌, inl, inr, ℕ, zero, suc, ◌+◌, ◌≤◌, ◌<◌, ◌==◌, List, [], ◌∷◌, ◌++◌, length, refl, sym, ap, ◌∙◌, map, subst, arith, append_assoc, length-append, Option, Some, None}
+use Rattle.std.proofs.Common.{◌≡◌, ◌≢◌, ◌⊎◌, inl, inr, ℕ, zero, suc, ◌+◌, ◌≤◌, ◌<◌, ◌==◌, List, [], ◌∷◌, ◌++◌, length, refl, sym, ap, ◌∙◌, map, subst, arith, append_assoc, length-append}
 use Rattle.std.proofs.lemmas.Bool.{cond_both}
 use Rattle.std.specs.List.{All, AllByRecursion, join_with_byte, slice_split, onto_first}
 use Rattle.cell_base.specs.declared.cell.Cell.{Cell}
@@ -16,13 +16,13 @@ use Rattle.history_log.specs.declared.log_fault.LogFault.{LogFault}
 use Rattle.history_log.specs.declared.log_fault.LogFault.TheVariants as faults
 use Rattle.history_log.specs.declared.trace.Trace.{Trace}
 use Rattle.history_log.specs.declared.version.Version.{Version}
-use Rattle.history_log.specs.declared.version.Version.TheVariants.{One, Two, Three}
+use Rattle.history_log.specs.declared.version.Version.TheVariants.{Two}
 use Rattle.history_log.specs.Cut.{cut_at, Lacks}
 use Rattle.history_log.specs.Spelling.{head_line, event_line, initial_line, lines, whole_lines}
 use Rattle.history_log.specs.Log.{CanSay, IsLog, IsNotWide, HasNoWide, AreEventsIn, IsInitialCell}
 use Rattle.history_log.specs.Reading.{FitsValue, FitsEvent, IsEventIn}
 use Rattle.history_log.specs.Draft.{IsRight, IsInitialSoFar, said, ending}
-use Rattle.history_log.specs.Faults.{CanGoOn, IsBadLine, IsCutShort, IsShort, IsCutInto, HasFault, HasLineFault}
+use Rattle.history_log.specs.Faults.{CanGoOn, IsBadLine, IsCutShort, IsShort, HasFault, HasLineFault}
 use Rattle.history_log.proofs.Cuts.{cut_first, cut_last, joined_cut}
 use Rattle.history_log.proofs.Strip.{stand_fits}
 use Rattle.history_log.proofs.Going.{cells_so_far}

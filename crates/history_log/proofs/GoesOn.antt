@@ -1,5 +1,5 @@
 -- That what a draft has read may go on, and where it can't.
-use Rattle.std.proofs.Common.{◌≡◌, ◌≢◌, ◌⊎◌, inl, inr, ℕ, pos, List, [], ◌∷◌, ◌++◌, refl, sym, ap, ◌∙◌, map, subst, arith, append_assoc, true}
+use Rattle.std.proofs.Common.{◌≡◌, ◌≢◌, inl, inr, ℕ, pos, List, [], ◌∷◌, ◌++◌, refl, sym, ap, ◌∙◌, map, subst, arith, append_assoc, true}
 use Rattle.std.specs.List.{AllByRecursion}
 use Rattle.cell_base.specs.declared.cell.Cell.{Cell}
 use Rattle.cell_base.specs.declared.cell.Cell.TheVariants.{Presence}
@@ -19,7 +19,7 @@ use Rattle.history_log.specs.Reading.{IsU32}
 use Rattle.history_log.specs.Log.{IsInitialCell, IsInitialIn, AreEventsIn, CanSay}
 use Rattle.history_log.specs.Draft.{IsRight, IsInitialSoFar, HasInitial, said, ending}
 use Rattle.history_log.specs.Faults.{CanGoOn}
-use Rattle.history_log.proofs.Strip.{Goes, order_not_initial, event_not_order}
+use Rattle.history_log.proofs.Strip.{order_not_initial, event_not_order}
 use Rattle.history_log.proofs.Going.{goes}
 
 regroup : (a b c d : List (List ℕ)) → a ++ (b ++ (c ++ d)) ≡ (a ++ (b ++ c)) ++ d

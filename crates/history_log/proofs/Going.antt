@@ -1,33 +1,27 @@
 -- Which line may come next, and that no other may.
-use Rattle.std.proofs.Common.{◌≡◌, ◌≢◌, ◌⊎◌, inl, inr, ℕ, List, [], ◌∷◌, ◌++◌, refl, sym, ap, ◌∙◌, map, subst, arith, append_assoc}
+use Rattle.std.proofs.Common.{◌≡◌, ◌≢◌, ◌⊎◌, inl, inr, ℕ, List, [], ◌∷◌, ◌++◌, refl, sym, ap, ◌∙◌, map, subst, append_assoc}
 use Rattle.std.specs.Fmt.{decimal}
 use Rattle.std.specs.List.{AllByRecursion}
 use Rattle.cell_base.specs.declared.cell.Cell.{Cell}
-use Rattle.cell_base.specs.declared.cell.Cell.TheVariants.{Presence}
-use Rattle.cell_base.specs.declared.key.Key.TheVariants as keys
 use Rattle.cell_base.specs.declared.level.Level.{Level}
 use Rattle.cell_base.specs.declared.value.Value.{Value}
-use Rattle.cell_base.specs.declared.value.Value.TheVariants as values
 use Rattle.history_core.specs.declared.event.Event.{Event}
 use Rattle.history_log.specs.declared.draft.Draft.{Draft}
 use Rattle.history_log.specs.declared.draft.Place.{Place}
-use Rattle.history_log.specs.declared.draft.Place.TheVariants.{Body, End, Done}
+use Rattle.history_log.specs.declared.draft.Place.TheVariants.{Body}
 use Rattle.history_log.specs.declared.keyword.Keyword.{Keyword}
 use Rattle.history_log.specs.declared.keyword.Keyword.TheVariants as keywords
 use Rattle.history_log.specs.declared.version.Version.{Version}
 use Rattle.history_log.specs.declared.version.Version.TheVariants.{One, Two, Three}
-use Rattle.history_log.specs.declared.trace.Trace.{Trace}
 use Rattle.history_log.specs.Cut.{cut_at}
-use Rattle.history_log.specs.Spelling.{cell_word, value_word, keyword_word, keyword_of, fields, head_line, event_line, initial_line, order_line, end_line, lines, line}
-use Rattle.history_log.specs.Reading.{IsU32, FitsEvent, IsEventIn}
-use Rattle.history_log.specs.Log.{Ascends, IsInitialCell, IsInitialIn, AreInitialCells, AreEventsIn, CanSay}
+use Rattle.history_log.specs.Spelling.{cell_word, value_word, keyword_word, keyword_of, fields, event_line, initial_line, order_line, end_line}
+use Rattle.history_log.specs.Reading.{IsU32}
+use Rattle.history_log.specs.Log.{Ascends, IsInitialCell, IsInitialIn, AreEventsIn}
 use Rattle.history_log.specs.Draft.{IsRight, IsInitialSoFar, HasInitial, IsNextRow, IsNextEvent, IsNextOrder, said, ending}
 use Rattle.history_log.specs.Faults.{CanGoOn}
-use Rattle.history_log.proofs.Cuts.{joined_cut}
-use Rattle.history_log.proofs.Misreads.{all_push}
-use Rattle.history_log.proofs.EventForms.{known_as, Is}
-use Rattle.history_log.proofs.LineKinds.{event_cut, order_cut, end_cut, same_keyword}
-use Rattle.history_log.proofs.Strip.{Goes, goes_after, same_head, row_cut, order_not_initial, event_not_order}
+use Rattle.history_log.proofs.EventForms.{known_as}
+use Rattle.history_log.proofs.LineKinds.{event_cut, order_cut, same_keyword}
+use Rattle.history_log.proofs.Strip.{Goes, goes_after, same_head, row_cut}
 
 regroup : (a b c d e : List (List ℕ)) → ((a ++ (b ++ c)) ++ d) ++ e ≡ a ++ (b ++ (c ++ (d ++ e)))
 regroup a b c d e = simp append_assoc

@@ -1,20 +1,12 @@
 -- Which line is of which kind.
-use Rattle.std.proofs.Common.{◌≡◌, ◌≢◌, ◌⊎◌, inl, inr, ℕ, List, [], ◌∷◌, ◌++◌, Option, Some, None, ◌==◌, ◌&&◌, Bool, true, false, cond, refl, sym, ap, ◌∙◌, map, subst, arith, slice_index}
+use Rattle.std.proofs.Common.{◌≡◌, ℕ, List, [], ◌∷◌, Option, Some, None, ◌==◌, ◌&&◌, cond, refl, sym, ap, ◌∙◌, map, arith, slice_index}
 use Rattle.std.specs.Prelude.{codes}
 use Rattle.std.specs.Fmt.{decimal}
-use Rattle.std.specs.List.{AllByRecursion, join_with_byte}
-use Rattle.std.proofs.lemmas.Fmt.{decimal_injective, signed_decimal_injective}
-use Rattle.std.specs.Str.{IsUtf8}
-use Rattle.hex.specs.Hex.{encode_lower, decode_of}
-use Rattle.hex.proofs.HexLemmas.{decode_of-encode_lower}
+use Rattle.std.specs.List.{AllByRecursion}
 use Rattle.cell_base.specs.declared.cell.Cell.{Cell}
-use Rattle.cell_base.specs.declared.cell.Cell.TheVariants.{Presence, Field}
 use Rattle.cell_base.specs.declared.key.Key.{Key}
-use Rattle.cell_base.specs.declared.key.Key.TheVariants as keys
 use Rattle.cell_base.specs.declared.level.Level.{Level}
-use Rattle.cell_base.specs.declared.level.Level.TheVariants.{Rc, Ra, Cc}
 use Rattle.cell_base.specs.declared.value.Value.{Value}
-use Rattle.cell_base.specs.declared.value.Value.TheVariants as values
 use Rattle.history_core.specs.declared.event.Event.{Event}
 use Rattle.history_core.specs.declared.event.Event.TheVariants.{Open, Close, Define, Look, Begin, Scan, Read, Own, Write, Commit, Rollback, Show}
 use Rattle.history_log.specs.declared.keyword.Keyword.{Keyword}
@@ -23,10 +15,9 @@ use Rattle.history_log.specs.declared.version.Version.{Version}
 use Rattle.history_log.specs.declared.version.Version.TheVariants.{One, Two, Three}
 use Rattle.history_log.specs.Cut.{cut_at, Lacks}
 use Rattle.history_log.specs.Spelling.{text_word, key_word, cell_word, value_word, level_word, keyword_word, keyword_of, begin_words, fields, event_line, initial_line, order_line, end_line}
-use Rattle.history_log.specs.Reading.{IsU32, IsI64, FitsKey, FitsCell, FitsValue, FitsEvent, IsEventIn}
+use Rattle.history_log.specs.Reading.{IsU32, FitsKey, FitsCell, FitsValue, FitsEvent}
 use Rattle.history_log.proofs.Cuts.{cut_joined}
-use Rattle.history_log.proofs.Plain.{Ink, Plain, ink, ink_lacks_blank, decimal_plain, text_plain, key_plain, cell_ink, value_plain, level_plain, plain_by_test, test_plain}
-use Rattle.history_log.proofs.EventForms.{known_as, Is}
+use Rattle.history_log.proofs.Plain.{Plain, ink, ink_lacks_blank, decimal_plain, text_plain, key_plain, cell_ink, value_plain, level_plain, plain_by_test, test_plain}
 
 -- keywords are told apart by their letters
 

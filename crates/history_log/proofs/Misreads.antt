@@ -1,6 +1,6 @@
 -- Why a piece isn't of its form, where a part of it isn't.
-use Rattle.std.proofs.Common.{◌≡◌, ◌≢◌, ℕ, List, [], ◌∷◌, ◌++◌, Result, Ok, Err, refl, sym, ap, ◌∙◌, map, subst, arith, get_or, slice_index}
-use Rattle.std.specs.Prelude.{codes, OnOk}
+use Rattle.std.proofs.Common.{◌≡◌, ℕ, List, [], ◌∷◌, ◌++◌, Result, Ok, Err, refl, sym, ap, ◌∙◌, map, arith, slice_index}
+use Rattle.std.specs.Prelude.{OnOk}
 use Rattle.std.specs.Fmt.{decimal}
 use Rattle.std.specs.List.{AllByRecursion, join_with_byte}
 use Rattle.cell_base.specs.declared.cell.Cell.{Cell}
@@ -14,7 +14,7 @@ use Rattle.history_log.specs.Cut.{cut_at, Lacks}
 use Rattle.history_log.specs.Spelling.{kind_word, key_word, cell_parts, cell_word}
 use Rattle.history_log.specs.Reading.{Reads, Takes, IsEnd, IsU32, FitsKey, FitsCell, IsCell, IsCellAfter, IsKey, IsKeys, IsNumber, IsNumbers}
 use Rattle.history_log.proofs.Cuts.{cut_joined, joined_cut}
-use Rattle.history_log.proofs.Plain.{IsPlain, Plain, plain_lacks_point, parts_plain}
+use Rattle.history_log.proofs.Plain.{Plain, plain_lacks_point, parts_plain}
 
 pub from_reads : {X Y A B : Type 0} (P : X → A → Type 0) (m : Misread) (a : A) (Q : Y → B → Type 0) (b : B) → Reads P (Err m) a
     → ((y : Y) → Q y b → (x : X) × P x a) → Reads Q (Err m) b

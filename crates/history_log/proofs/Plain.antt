@@ -1,12 +1,12 @@
 -- Which bytes words are made of: neither a line feed nor a blank, and outside cells no point.
-use Rattle.std.proofs.Common.{◌≡◌, ◌≢◌, ◌⊎◌, inl, inr, ℕ, ℤ, zero, suc, pos, negsuc, ◌+◌, ◌/◌, ◌%◌, ◌<◌, ◌≤◌, ◌^◌, ◌==◌, ◌&&◌, ◌||◌, Bool, true, false, List, [], ◌∷◌, ◌++◌, length, get_or, refl, sym, ap, ◌∙◌, cond, nat_lt, nat_le, subst, arith, map}
+use Rattle.std.proofs.Common.{◌≡◌, ◌≢◌, ℕ, ℤ, zero, suc, pos, negsuc, ◌+◌, ◌/◌, ◌%◌, ◌<◌, ◌^◌, ◌==◌, ◌&&◌, ◌||◌, Bool, true, false, List, [], ◌∷◌, ◌++◌, length, get_or, refl, nat_lt, arith}
 use Rattle.std.proofs.lemmas.Fmt.{decimal_by_steps}
 use Rattle.std.proofs.lemmas.Bool.Decides.{nat_tests}
 use Rattle.std.specs.Prelude.{codes}
 use Rattle.std.specs.Fmt.{decimal, signed_decimal}
 use Rattle.std.specs.List.{AllByRecursion, join_with_byte}
 use Rattle.std.specs.Str.{IsUtf8}
-use Rattle.hex.specs.Hex.{encode_lower, encode_with, lower_digits, IsBytes}
+use Rattle.hex.specs.Hex.{encode_with, lower_digits, IsBytes}
 use Rattle.cell_base.specs.declared.cell.Cell.{Cell}
 use Rattle.cell_base.specs.declared.cell.Cell.TheVariants.{Presence, Field}
 use Rattle.cell_base.specs.declared.key.Key.{Key}
@@ -17,7 +17,7 @@ use Rattle.cell_base.specs.declared.level.Level.{Level}
 use Rattle.cell_base.specs.declared.level.Level.TheVariants.{Rc, Ra, Cc}
 use Rattle.history_log.specs.Cut.{Lacks}
 use Rattle.history_log.specs.Spelling.{text_word, key_word, cell_parts, cell_word, value_word, level_word}
-use Rattle.history_log.specs.Reading.{FitsKey, FitsCell, FitsValue, IsU32, IsI64}
+use Rattle.history_log.specs.Reading.{FitsKey, FitsCell, FitsValue, IsI64}
 use Rattle.history_log.proofs.Spelled.{mag_small, utf8_bytes}
 
 -- neither a line feed nor a blank

@@ -1,10 +1,9 @@
 -- One word is of one value.
-use Rattle.std.proofs.Common.{◌≡◌, ◌≢◌, ℕ, ℤ, zero, suc, pos, negsuc, ◌+◌, ◌%◌, ◌<◌, ◌^◌, List, [], ◌∷◌, ◌++◌, Result, Ok, Err, ◌==◌, nat_lt, Bool, true, false, cond, refl, sym, ap, ◌∙◌, map, subst, arith, slice_index}
+use Rattle.std.proofs.Common.{◌≡◌, ℕ, ℤ, pos, negsuc, ◌+◌, ◌%◌, ◌<◌, ◌^◌, List, [], ◌∷◌, Result, Ok, ◌==◌, nat_lt, true, false, cond, refl, sym, ap, ◌∙◌, subst, arith, slice_index}
 use Rattle.std.proofs.lemmas.Bool.Decides.{nat_tests}
-use Rattle.std.proofs.lemmas.Fmt.{decimal_by_steps, decimal_injective, signed_decimal_injective, decimal_nonempty}
-use Rattle.std.specs.Prelude.{codes}
+use Rattle.std.proofs.lemmas.Fmt.{decimal_by_steps, decimal_injective, signed_decimal_injective}
 use Rattle.std.specs.Fmt.{decimal, signed_decimal}
-use Rattle.std.specs.List.{AllByRecursion, join_with_byte}
+use Rattle.std.specs.List.{AllByRecursion}
 use Rattle.std.specs.Str.{IsUtf8}
 use Rattle.hex.specs.Hex.{encode_lower, decode_of}
 use Rattle.hex.specs.declared.error.FromHexError.{FromHexError}
@@ -18,10 +17,10 @@ use Rattle.cell_base.specs.declared.value.Value.TheVariants as values
 use Rattle.history_log.specs.declared.cells.CellKind.TheVariants as kinds
 use Rattle.history_log.specs.Cut.{cut_at}
 use Rattle.history_log.specs.Spelling.{text_word, kind_word, key_word, cell_parts, cell_word, value_word}
-use Rattle.history_log.specs.Reading.{IsU32, IsI64, FitsKey, FitsCell, FitsValue, IsCellAfter}
+use Rattle.history_log.specs.Reading.{IsU32, IsI64, FitsKey, FitsCell, FitsValue}
 use Rattle.history_log.proofs.Spelled.{mag_small, utf8_bytes}
 use Rattle.history_log.proofs.Plain.{all_append}
-use Rattle.history_log.proofs.Misreads.{cell_cut, presence_parts, field_parts}
+use Rattle.history_log.proofs.Misreads.{cell_cut}
 
 -- numbers begin below the letters
 

@@ -1,15 +1,13 @@
 -- What the words of numbers and of texts are made of.
-use Rattle.std.proofs.Common.{◌≡◌, ◌≢◌, ◌⊎◌, ℕ, zero, suc, ℤ, ◌+◌, ◌*◌, ◌/◌, ◌%◌, ◌<◌, ◌≤◌, ◌^◌, ◌==◌, ◌&&◌, Bool, true, false, List, [], ◌∷◌, ◌++◌, pos, negsuc, inl, inr, Result, Ok, Err, length, get_or, refl, sym, ap, ◌∙◌, cond, nat_lt, eqb, subst, arith, w64, IsTrue}
+use Rattle.std.proofs.Common.{◌≡◌, ◌≢◌, ◌⊎◌, ℕ, zero, suc, ℤ, ◌+◌, ◌/◌, ◌%◌, ◌<◌, ◌^◌, ◌&&◌, Bool, true, false, List, [], ◌∷◌, ◌++◌, inl, inr, Result, Ok, Err, refl, sym, ap, ◌∙◌, nat_lt, eqb, subst, arith, w64}
 use Rattle.std.proofs.lemmas.Bool.{cond_both, ltb-true}
 use Rattle.std.proofs.lemmas.Str.{IsUtf8-from_ascii}
-use Rattle.std.proofs.lemmas.Fmt.{IsAscii-decimal, IsAscii-signed, parse-decimal, parse-signed_decimal, decimal_injective, signed_decimal_injective}
-use Rattle.std.proofs.lemmas.Slice.Eq.{slice_eq-Decides}
-use Rattle.std.specs.Cmp.Lexicographic.{pointwise, same_text, other_text}
+use Rattle.std.proofs.lemmas.Fmt.{IsAscii-decimal, IsAscii-signed, parse-decimal, parse-signed_decimal}
+use Rattle.std.specs.Cmp.Lexicographic.{pointwise, other_text}
 use Rattle.std.specs.Str.{IsUtf8}
 use Rattle.std.specs.Str.Parse.{ParsesUnsigned, ParsesSigned}
 use Rattle.std.specs.Int.Signed.{mag}
 use Rattle.std.specs.Result.{IsErrAnd}
-use Rattle.std.specs.Fmt.{decimal, signed_decimal}
 use Rattle.std.specs.List.{AllByRecursion}
 use Rattle.cell_base.specs.declared.key.Key.{Key}
 use Rattle.cell_base.specs.declared.key.Key.TheVariants as keys

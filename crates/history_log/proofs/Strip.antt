@@ -1,5 +1,5 @@
 -- How the text of a history goes on after what a draft has read.
-use Rattle.std.proofs.Common.{◌≡◌, ◌≢◌, ◌⊎◌, inl, inr, ℕ, List, [], ◌∷◌, ◌++◌, ◌==◌, cond, refl, sym, ap, ◌∙◌, map, subst, arith, append_assoc, slice_index}
+use Rattle.std.proofs.Common.{◌≡◌, ◌⊎◌, inl, inr, ℕ, List, [], ◌∷◌, ◌++◌, ◌==◌, cond, refl, sym, ap, ◌∙◌, map, subst, slice_index}
 use Rattle.std.specs.Prelude.{codes}
 use Rattle.std.specs.Fmt.{decimal}
 use Rattle.std.specs.List.{AllByRecursion}
@@ -8,19 +8,17 @@ use Rattle.cell_base.specs.declared.cell.Cell.TheVariants.{Presence, Field}
 use Rattle.cell_base.specs.declared.level.Level.{Level}
 use Rattle.cell_base.specs.declared.level.Level.TheVariants.{Rc, Ra, Cc}
 use Rattle.cell_base.specs.declared.value.Value.{Value}
-use Rattle.cell_base.specs.declared.value.Value.TheVariants as values
 use Rattle.history_core.specs.declared.event.Event.{Event}
-use Rattle.history_log.specs.declared.keyword.Keyword.{Keyword}
 use Rattle.history_log.specs.declared.keyword.Keyword.TheVariants as keywords
 use Rattle.history_log.specs.declared.version.Version.{Version}
 use Rattle.history_log.specs.declared.version.Version.TheVariants.{One, Two, Three}
 use Rattle.history_log.specs.Cut.{cut_at, Lacks}
 use Rattle.history_log.specs.Spelling.{cell_word, value_word, level_word, version_word, keyword_word, keyword_of, fields, head_line, event_line, initial_line, order_line, end_line}
-use Rattle.history_log.specs.Reading.{IsU32, FitsCell, FitsValue, FitsEvent}
-use Rattle.history_log.specs.Log.{Ascends, CanStand, IsInitialCell, IsInitialIn, AreEventsIn}
+use Rattle.history_log.specs.Reading.{IsU32, FitsValue, FitsEvent}
+use Rattle.history_log.specs.Log.{CanStand, IsInitialCell, IsInitialIn, AreEventsIn}
 use Rattle.history_log.proofs.Cuts.{cut_joined}
 use Rattle.history_log.proofs.Plain.{ink, ink_lacks_blank, level_plain, plain_by_test, test_plain, Plain}
-use Rattle.history_log.proofs.EventForms.{known_as, Is}
+use Rattle.history_log.proofs.EventForms.{known_as}
 use Rattle.history_log.proofs.LineKinds.{event_cut, initial_cut, order_cut, same_start}
 use Rattle.history_log.proofs.Same.{same_cell, same_value}
 

@@ -7,7 +7,7 @@ use Rattle.history_log.specs.declared.misread.Misread.{Misread}
 use Rattle.history_log.specs.declared.misread.Misread.TheVariants.{Form, Memory}
 use Rattle.history_log.specs.declared.version.Version.{Version}
 use Rattle.history_log.specs.Cut.{cut_at}
-use Rattle.history_log.specs.Spelling.{keyword_word, keyword_of, fields, event_line, line}
+use Rattle.history_log.specs.Spelling.{keyword_word, keyword_of, line}
 use Rattle.history_log.specs.Reading.{IsEventAfter, IsEventLine, Reads}
 use Rattle.history_log.proofs.Cuts.{joined_cut}
 use Rattle.history_log.proofs.LineKinds.{event_cut, same_keyword}

@@ -1,5 +1,5 @@
 -- How lines are put together.
-use Rattle.std.proofs.Common.{◌≡◌, ◌≢◌, ◌==◌, ℕ, ◌+◌, ◌<◌, List, [], ◌∷◌, ◌++◌, Result, Ok, Err, length, get_or, take, refl, sym, ap, ◌∙◌, map, subst, arith, append_assoc}
+use Rattle.std.proofs.Common.{◌≡◌, ◌==◌, ℕ, ◌+◌, ◌<◌, List, [], ◌∷◌, ◌++◌, Result, Ok, Err, length, get_or, take, refl, sym, ap, ◌∙◌, map, append_assoc}
 use Rattle.std.proofs.lemmas.Bool.{cond_both}
 use Rattle.std.proofs.lemmas.List.{take_more}
 use Rattle.std.specs.Prelude.{codes, OnOk}
@@ -14,9 +14,8 @@ use Rattle.history_core.specs.declared.event.Event.{Event}
 use Rattle.history_core.specs.declared.event.Event.TheVariants.{Open, Close, Define, Look, Begin, Scan, Read, Own, Write, Commit, Rollback, Show}
 use Rattle.history_log.specs.declared.keyword.Keyword.TheVariants as keywords
 use Rattle.history_log.specs.declared.version.Version.{Version}
-use Rattle.history_log.specs.declared.version.Version.TheVariants.{One, Two, Three}
-use Rattle.history_log.specs.declared.trace.Trace.{Trace}
-use Rattle.history_log.specs.Spelling.{key_word, keyword_word, event_line, initial_line, head_line, order_line, end_line, lines, whole_lines, words_after, line, version_word, level_word}
+use Rattle.history_log.specs.declared.version.Version.TheVariants.{Two, Three}
+use Rattle.history_log.specs.Spelling.{key_word, keyword_word, event_line, head_line, order_line, end_line, whole_lines, words_after, version_word, level_word}
 use Rattle.history_log.specs.Log.{newest}
 
 append_nil : (xs : List ℕ) → xs ++ [] ≡ xs

@@ -1,5 +1,5 @@
 -- What the parts of a reader say: what was read is written so, and what isn't read is nothing's word.
-use Rattle.std.specs.Prelude.{◌≡◌, ◌≢◌, map, codes, ℕ, ℤ, ◌<◌, ◌^◌, List, [], ◌∷◌, Option, Some, None, Result, Ok, Err, decimal, FitsSigned}
+use Rattle.std.specs.Prelude.{◌≡◌, ◌≢◌, map, ℕ, ℤ, ◌<◌, ◌^◌, List, [], ◌∷◌, Option, Some, None, Result, Ok, Err, decimal, FitsSigned}
 use Rattle.std.specs.Fmt.{signed_decimal}
 use Rattle.std.specs.Int.{w64}
 use Rattle.std.specs.List.{AllByRecursion}

@@ -1,4 +1,4 @@
-use Rattle.std.proofs.Common.{ℕ, List, [], ◌∷◌}
+use Rattle.std.proofs.Common.{[]}
 use Rattle.std.specs.Fmt.{decimal}
 use Rattle.history_log.specs.Reading.{IsU32}
 use Rattle.history_log.proofs.Spelled.{residual}

@@ -1,4 +1,3 @@
-use Rattle.std.proofs.Common.{◌≡◌, subst}
 use Rattle.history_log.proofs.Written.{scan_line}
 use Rattle.history_log.proofs.event_lines.put_event.Goals as goal
 

@@ -1,4 +1,4 @@
-use Rattle.std.proofs.Common.{◌≡◌, ℕ, ◌++◌, take, map}
+use Rattle.std.proofs.Common.{◌≡◌, ◌++◌, take, map}
 use Rattle.history_log.specs.Spelling.{key_word, words_after}
 use Rattle.history_log.proofs.event_lines.put_keys.Given as goal
 

@@ -1,10 +1,8 @@
-use Rattle.std.proofs.Common.{◌≡◌, ◌∙◌, ℕ, List, ◌∷◌, sym, ap, subst, refl}
-use Rattle.history_log.specs.declared.draft.Draft.{Draft}
+use Rattle.std.proofs.Common.{◌≡◌, ◌∙◌, ℕ, List, ◌∷◌, sym, ap, refl}
 use Rattle.history_log.specs.declared.keyword.Keyword.{Keyword}
 use Rattle.history_log.specs.declared.keyword.Keyword.TheVariants as keywords
 use Rattle.history_log.specs.Cut.{cut_at}
 use Rattle.history_log.specs.Spelling.{keyword_word}
-use Rattle.history_log.specs.Draft.{IsRight, said}
 use Rattle.history_log.proofs.Added.{row_ok, event_ok, order_ok}
 use Rattle.history_log.proofs.Going.{next_line, no_words, no_keyword, no_row, no_order, no_event}
 use Rattle.history_log.proofs.lines.take_body_line.Goals as goal

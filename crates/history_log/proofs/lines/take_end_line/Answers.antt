@@ -1,4 +1,4 @@
-use Rattle.std.proofs.Common.{◌≡◌, Bool, true, false, sym, ◌∙◌}
+use Rattle.std.proofs.Common.{◌≡◌, Bool, true, false}
 use Rattle.history_log.proofs.Added.{end_added}
 use Rattle.history_log.proofs.GoesOn.{no_other_end}
 use Rattle.history_log.proofs.lines.take_end_line.Goals as goal

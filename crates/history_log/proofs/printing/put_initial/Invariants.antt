@@ -1,4 +1,4 @@
-use Rattle.std.proofs.Common.{◌≡◌, ℕ, ◌++◌, take, map}
+use Rattle.std.proofs.Common.{◌≡◌, ◌++◌, take, map}
 use Rattle.history_log.specs.Spelling.{initial_line, whole_lines}
 use Rattle.history_log.proofs.printing.put_initial.Given as goal
 

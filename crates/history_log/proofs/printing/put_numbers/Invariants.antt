@@ -1,4 +1,4 @@
-use Rattle.std.proofs.Common.{◌≡◌, ℕ, ◌++◌, take, map, decimal}
+use Rattle.std.proofs.Common.{◌≡◌, ◌++◌, take, map, decimal}
 use Rattle.history_log.specs.Spelling.{words_after}
 use Rattle.history_log.proofs.printing.put_numbers.Given as goal
 

@@ -1,4 +1,4 @@
-use Rattle.std.proofs.Common.{◌≡◌, ◌≢◌, ◌==◌, inl, inr, ℕ, List, [], Bool, true, false, length, sym, ◌∙◌, ap, refl}
+use Rattle.std.proofs.Common.{◌≡◌, ◌≢◌, ◌==◌, inl, inr, ℕ, List, [], Bool, true, false, length, ap, refl}
 use Rattle.history_log.proofs.ByLine.{cut_short}
 use Rattle.history_log.proofs.reading.finish.Goals as goal
 

@@ -1,4 +1,4 @@
-use Rattle.std.proofs.Common.{◌≡◌, ℕ, ◌+◌, ◌≤◌, ◌++◌, length}
+use Rattle.std.proofs.Common.{◌≡◌, ◌+◌, ◌≤◌, ◌++◌, length}
 use Rattle.history_log.specs.Cut.{cut_at}
 use Rattle.history_log.specs.Draft.{IsRight, said}
 use Rattle.history_log.proofs.reading.read_lines.Given as goal

@@ -1,6 +1,5 @@
-use Rattle.std.proofs.Common.{◌≡◌, ℕ, ◌++◌, length, map, decimal}
+use Rattle.std.proofs.Common.{◌≡◌, ◌++◌, length, map, decimal}
 use Rattle.std.specs.List.{AllByRecursion}
-use Rattle.history_log.specs.Spelling.{key_word}
 use Rattle.history_log.specs.Reading.{IsU32}
 use Rattle.history_log.proofs.shapes.numbers_of.Given as goal
 

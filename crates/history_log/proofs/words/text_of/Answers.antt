@@ -1,4 +1,4 @@
-use Rattle.std.proofs.Common.{◌≡◌, ℕ, List, sym, subst, ap}
+use Rattle.std.proofs.Common.{ℕ, List, sym, subst}
 use Rattle.std.specs.Str.{IsUtf8}
 use Rattle.history_log.proofs.Spelled.{residual, misread_text, not_utf8_text}
 use Rattle.history_log.proofs.words.text_of.Goals as goal

@@ -1,6 +1,3 @@
-use Rattle.std.proofs.Common.{◌≡◌, ℕ, List, Option, Some, None}
-use Rattle.cell_base.specs.declared.value.Value.{Value}
-use Rattle.history_log.specs.Reading.{Finds, IsNamedValue}
 use Rattle.history_log.proofs.Spelled.{residual, misread_value}
 use Rattle.history_log.proofs.words.value_of.Goals as goal
 
