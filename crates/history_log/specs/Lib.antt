@@ -1,0 +1,6 @@
+pub mod Cut
+pub mod Spelling
+pub mod Reading
+pub mod Log
+pub mod Draft
+pub mod Faults

@@ -1,6 +1,31 @@
 //! The text of a history: what is printed of it, and what is read back.
 #![tactic(auto)]
 
+mod cells;
+mod draft;
+mod event_lines;
+mod events;
+mod fields;
+mod keyword;
+mod laws;
+mod line_event;
+mod lines;
+mod log_fault;
+mod misread;
+mod parts;
+mod printing;
+mod puts;
+mod reading;
+mod shapes;
 mod trace;
+mod version;
+mod words;
 
+pub use laws::one_word;
+pub use line_event::read_event;
+pub use log_fault::LogFault;
+pub use misread::Misread;
+pub use printing::print;
+pub use reading::read;
 pub use trace::Trace;
+pub use version::Version;

@@ -1,0 +1,14 @@
+pub mod Added
+pub mod ByLine
+pub mod Cuts
+pub mod EventForms
+pub mod GoesOn
+pub mod Going
+pub mod LineKinds
+pub mod Misreads
+pub mod Plain
+pub mod Same
+pub mod Spelled
+pub mod Strip
+pub mod WholeEvents
+pub mod Written

@@ -1,0 +1,7 @@
+use Rattle.history_log.specs.Spelling.{key_word}
+use Rattle.history_log.proofs.Written.{words_step}
+use Rattle.history_log.proofs.event_lines.put_keys.Goals as goal
+
+pub loop-key-preserved : goal.loop-key-preserved
+loop-key-preserved c = words_step key_word c.args.keys.now c.loop-key.key-index c.key-item.result c.args.out.now.items c.loop-key.out.items c.put.new.out.items c.put_key.new.out.items
+    c.loop-key-test.true c.key-item.is c.loop-key.invariant c.in_ok-put.ensures c.in_ok-put_key.ensures

@@ -1,0 +1,150 @@
+// A history as far as its text has been read.
+ghost use Rattle.std.specs.Prelude.{◌≡◌, ◌≢◌, true, ◌∷◌, ◌++◌, [], ◌↔◌, IsTrue};
+ghost use Rattle.std.specs.declared.cmp.Ordering.TheVariants.{Less};
+ghost use Rattle.cell_base.specs.contracts.cell.CellOrd.TheImpl as cell_order;
+ghost use Rattle.history_log.specs.Reading.{FitsCell, FitsValue, Reads};
+ghost use Rattle.history_log.specs.Log.{Ascends, CanStand};
+ghost use Rattle.history_log.specs.Draft.{HasInitial, IsNextRow, IsNextEvent, IsNextOrder};
+
+use crate::Trace;
+use crate::events::event_of;
+use crate::fields::{take_cell, take_end, take_value};
+use crate::keyword::Keyword;
+use crate::misread::Misread;
+use crate::parts::Parts;
+use crate::shapes::numbers_of;
+use crate::version::Version;
+use cell_base::{Cell, Items, Value};
+use history_core::Event;
+use std::alloc::Global;
+use std::cmp::Ordering;
+
+/// What may stand next in a text.
+#[derive(Clone, Copy, Debug, PartialEq, Eq)]
+pub enum Place {
+    /// A cell of the initial state, an event or the order.
+    Body,
+    /// The end.
+    End,
+    /// Nothing.
+    Done,
+}
+
+/// A history as far as its text has been read.
+#[derive(Debug, Drop)]
+pub struct Draft {
+    pub version: Version,
+    pub place: Place,
+    pub trace: Trace,
+}
+
+/// Whether events and the order may come, so far as the initial state goes.
+fn has_initial(version: Version, initial: &[(Cell, Value)]) -> bool
+    ensures { IsTrue result ↔ HasInitial version initial.now }
+{
+    match version {
+        Version::One => true,
+        Version::Two => true,
+        Version::Three => !initial.is_empty(),
+    }
+}
+
+/// Whether the value may stand in the cell from the start.
+fn can_stand(cell: &Cell, value: &Value) -> bool
+    requires { FitsValue value.now }
+    ensures { IsTrue result ↔ CanStand cell.now value.now }
+{
+    match cell {
+        Cell::Presence(..) => is_true(value),
+        Cell::Field(..) => !is_unset(value),
+    }
+}
+
+fn is_true(value: &Value) -> bool
+    ensures { IsTrue result ↔ (value.now ≡ Value.Flag true) }
+{
+    matches!(value, Value::Flag(true))
+}
+
+fn is_unset(value: &Value) -> bool
+    ensures { IsTrue result ↔ (value.now ≡ Value.Unset) }
+{
+    matches!(value, Value::Unset)
+}
+
+/// Whether the one cell is below the other.
+fn is_below(first: &Cell, second: &Cell) -> bool
+    ensures { IsTrue result ↔ ((cell_order.ghosts).cmp first.now second.now ≡ Less) }
+{
+    first.cmp(second) == Ordering::Less
+}
+
+/// Whether the cell is above all that ascend.
+fn is_above(initial: &[(Cell, Value)], cell: &Cell, _value: &Value) -> bool
+    requires { Ascends initial.now }
+    ensures { IsTrue result ↔ Ascends (initial.now ++ (cell.now, _value.now) ∷ []) }
+{
+    match initial.last() {
+        Some(last) => is_below(&last.0, cell),
+        None => true,
+    }
+}
+
+/// The next cell of the initial state.
+pub fn next_row(alloc: Global, draft: &Draft, words: &mut Parts) -> Result<(Cell, Value), Misread>
+    requires { Ascends draft.now.trace.initial }
+    ensures { Reads (IsNextRow draft.now) result words.old }
+{
+    if draft.version != Version::Three {
+        return Err(Misread::Form);
+    }
+    if draft.trace.events.len() != 0 {
+        return Err(Misread::Form);
+    }
+    let cell = take_cell(alloc, words)?;
+    let value = take_value(alloc, words)?;
+    take_end(words)?;
+    if fits_next(draft.trace.initial.as_slice(), &cell, &value) {
+        Ok((cell, value))
+    } else {
+        Err(Misread::Form)
+    }
+}
+
+/// Whether the cell may come next in the initial state, with this value.
+fn fits_next(initial: &[(Cell, Value)], cell: &Cell, value: &Value) -> bool
+    requires ascends { Ascends initial.now }
+    requires fits { FitsValue value.now }
+    ensures { IsTrue result ↔ (CanStand cell.now value.now × Ascends (initial.now ++ (cell.now, value.now) ∷ [])) }
+{
+    if can_stand(cell, value) {
+        is_above(initial, cell, value)
+    } else {
+        false
+    }
+}
+
+/// The next event.
+pub fn next_event(
+    alloc: Global,
+    draft: &Draft,
+    keyword: Keyword,
+    words: &mut Parts,
+) -> Result<Event, Misread>
+    ensures { Reads (IsNextEvent draft.now keyword) result words.old }
+{
+    if !has_initial(draft.version, draft.trace.initial.as_slice()) {
+        return Err(Misread::Form);
+    }
+    event_of(alloc, draft.version, draft.trace.level, keyword, words)
+}
+
+/// The order.
+pub fn next_order(alloc: Global, draft: &Draft, words: &mut Parts) -> Result<Items<u32>, Misread>
+    ensures { Reads (IsNextOrder draft.now) result words.old }
+{
+    if !has_initial(draft.version, draft.trace.initial.as_slice()) {
+        return Err(Misread::Form);
+    }
+    numbers_of(alloc, words)
+}

@@ -1,0 +1,62 @@
+// A text cut at each place where one byte stands: lines at their line feeds, words at their blanks.
+ghost use Rattle.std.specs.Prelude.{◌≡◌, ◌∷◌, ◌++◌, [], IfSome, IfNone, IsNone};
+ghost use Rattle.history_log.specs.Cut.{Lacks, cut_at};
+
+use std::marker::Model;
+
+/// The parts of a text that are left. Contracts see the list of them; the last one ends where the text does.
+#[derive(Debug, Drop)]
+pub struct Parts<'a> {
+    rest: Option<&'a [u8]>,
+    separator: u8,
+}
+
+impl<'a> Model for Parts<'a> {
+    ghost use Rattle.std.specs.Prelude.{List, ℕ, []};
+    ghost use Rattle.std.specs.Option.{option_map_or};
+    ghost use Rattle.history_log.specs.Cut.{cut_at};
+
+    ghost Value = { List (List ℕ) };
+
+    ghost view = { λ p. option_map_or (λ rest. cut_at p.separator rest.now) p.rest [] };
+}
+
+impl<'a> Parts<'a> {
+    /// All parts of the text.
+    pub fn new(text: &'a [u8], separator: u8) -> Parts<'a>
+        ensures { result ≡ cut_at separator text.now }
+    {
+        Parts {
+            rest: Some(text),
+            separator,
+        }
+    }
+
+    /// Takes the next part.
+    pub fn next(&mut self) -> Option<&'a [u8]>
+        ensures some { IfSome result (λ part. self.old ≡ part.now ∷ self.new) }
+        ensures none { IfNone result (self.old ≡ []) }
+    {
+        let text = self.rest?;
+        match first_part(text, self.separator) {
+            Some((part, rest)) => {
+                self.rest = Some(rest);
+                Some(part)
+            }
+            None => {
+                self.rest = None;
+                Some(text)
+            }
+        }
+    }
+}
+
+/// What stands before the first place of the byte, and what after it.
+pub fn first_part(text: &[u8], separator: u8) -> Option<(&[u8], &[u8])>
+    ensures none { IsNone result → Lacks separator text.now }
+    ensures some { IfSome result (λ x. text.now ≡ x.0.now ++ separator ∷ x.1.now) }
+    ensures first { IfSome result (λ x. Lacks separator x.0.now) }
+{
+    let end = text.iter().position(|byte| *byte == separator)?;
+    Some((&text[..end], &text[end + 1..]))
+}

@@ -1,0 +1,10 @@
+//! Tests of the text of a history: the worked history in versions 1 and 2, each kind of event, an initial state, and each fault.
+//!
+//! The contracts of `history_log` say what is printed, what is read, and which fault comes. No clause says that a call with ample
+//! memory succeeds: these tests compare texts that were written by hand. The crate has nothing but tests.
+#![tactic(auto)]
+
+#[cfg(test)]
+mod faults;
+#[cfg(test)]
+mod texts;
