@@ -14,8 +14,8 @@ returns-in-Ok-Some-clause-does g c =
 
 pub returns-in-Ok-None-clause-does : goal.returns-in-Ok-None-clause-does
 returns-in-Ok-None-clause-does g c = inr (inl (
-    c.in-Ok-None.ensures.none (subst (λ x. IsNone x) (sym c.in-Ok-None.field-0-is) refl),
-    subst (λ (line : List ℕ). Printed line 2 (g.H.Host.hosted c.args.host.now) c.print.result.code (g.H.Host.hosted c.print.new.host)) c.as_bytes.ensures.value c.print.ensures.printed,
+  c.in-Ok-None.ensures.none (subst (λ x. IsNone x) (sym c.in-Ok-None.field-0-is) refl),
+  subst (λ (line : List ℕ). Printed line 2 (g.H.Host.hosted c.args.host.now) c.print.result.code (g.H.Host.hosted c.print.new.host)) c.as_bytes.ensures.value c.print.ensures.printed,
 ))
 
 pub returns-in-Err-clause-does : goal.returns-in-Err-clause-does
