@@ -43,15 +43,7 @@ fn host(alloc: Global, link: MemLink) -> Result<MemHost, Memory>
     let made = plan(alloc, 64);
     let nothing = Items::new(alloc);
     let fails = Items::new(alloc);
-    Ok(MemHost::new(
-        alloc,
-        Some(link),
-        nothing,
-        out,
-        fails,
-        opened,
-        made,
-    ))
+    Ok(MemHost::new(alloc, Some(link), nothing, out, fails, opened, made))
 }
 
 fn text(alloc: Global, bytes: &[u8]) -> Result<Text, Memory> {
