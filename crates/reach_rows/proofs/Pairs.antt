@@ -9,7 +9,7 @@ use Rattle.graph_base.specs.declared.Edge.{Edge}
 use Rattle.graph_base.specs.Walk.{IsInRange, IsWalk, HasCycle, Reaches}
 use Rattle.graph_base.proofs.Walks.{reaches_edge, reaches_from_cycle}
 use Rattle.bit_rows.proofs.Marks.{contains_cons, contains_first, contains_later}
-use Rattle.reach_rows.specs.Rows.{row_at, edge_of, pairs_from, pairs_of, IsClosed}
+use Rattle.reach_rows.specs.Rows.{row_at, edge_of, pairs_from, pairs_of, HasPair, IsClosed}
 
 pub from_map : {X Y : Type 0} (f : X → Y) (xs : List X) (y : Y) → Contains (map f xs) y → (x : X) × (Contains xs x × (f x ≡ y))
 from_map f [] y (k, small, is) = absurd (omega arith)
@@ -26,50 +26,51 @@ in_map f (x ∷ xs) y member = elim (contains_cons x xs y member) [
 ]
 
 pub in_pairs :
-    (rows : List (List ℕ)) (a k b : ℕ) → Contains (row_at rows k) b → Contains (pairs_from a rows) (edge_of (a + k) b)
-in_pairs [] a k b (j, small, is) = absurd (omega arith)
-in_pairs (row ∷ rows) a zero b member =
-    let at : a ≡ a + zero = omega arith in
-    subst (λ (n : ℕ). Contains (pairs_from a (row ∷ rows)) (edge_of n b)) at
-    (Contains-append_left (map (edge_of a) row) (pairs_from (suc a) rows) (edge_of a b) (in_map (edge_of a) row b member))
-in_pairs (row ∷ rows) a (suc k) b member =
-    let at : suc a + k ≡ a + suc k = omega arith in
-    subst (λ (n : ℕ). Contains (pairs_from a (row ∷ rows)) (edge_of n b)) at
-    (Contains-append_right (map (edge_of a) row) (pairs_from (suc a) rows) (edge_of (suc a + k) b) (in_pairs rows (suc a) k b member))
+    (rows : List (List ℕ)) (n k m : ℕ) → HasPair rows m k → Contains (pairs_from n rows) (edge_of m (n + k))
+in_pairs [] n k m (j, small, is) = absurd (omega arith)
+in_pairs (row ∷ rows) n zero m member =
+    let at : n ≡ n + zero = omega arith in
+    subst (λ (b : ℕ). Contains (pairs_from n (row ∷ rows)) (edge_of m b)) at
+    (Contains-append_left (map (λ a. edge_of a n) row) (pairs_from (suc n) rows) (edge_of m n) (in_map (λ a. edge_of a n) row m member))
+in_pairs (row ∷ rows) n (suc k) m member =
+    let at : suc n + k ≡ n + suc k = omega arith in
+    subst (λ (b : ℕ). Contains (pairs_from n (row ∷ rows)) (edge_of m b)) at
+    (Contains-append_right (map (λ a. edge_of a n) row) (pairs_from (suc n) rows) (edge_of m (suc n + k)) (in_pairs rows (suc n) k m member))
 
 pub from_pairs :
-    (rows : List (List ℕ)) (a : ℕ) (e : Edge) → Contains (pairs_from a rows) e →
-    (k : ℕ) × ((e.before ≡ a + k) × Contains (row_at rows k) e.after)
-from_pairs [] a e (k, small, is) = absurd (omega arith)
-from_pairs (row ∷ rows) a e member = elim (Contains-append_cases (map (edge_of a) row) (pairs_from (suc a) rows) e member) [
+    (rows : List (List ℕ)) (n : ℕ) (e : Edge) → Contains (pairs_from n rows) e →
+    (k : ℕ) × ((e.after ≡ n + k) × HasPair rows e.before k)
+from_pairs [] n e (k, small, is) = absurd (omega arith)
+from_pairs (row ∷ rows) n e member = elim (Contains-append_cases (map (λ a. edge_of a n) row) (pairs_from (suc n) rows) e member) [
   | inl here ↦
-      let at = from_map (edge_of a) row e here in
-      let start : a ≡ a + zero = omega arith in
-      (zero, (ap (λ (f : Edge). f.before) (sym at.1.1) ∙ start, subst (λ (b : ℕ). Contains row b) (ap (λ (f : Edge). f.after) at.1.1) at.1.0))
+      let at = from_map (λ a. edge_of a n) row e here in
+      let start : n ≡ n + zero = omega arith in
+      (zero, (ap (λ (f : Edge). f.after) (sym at.1.1) ∙ start, subst (λ (b : ℕ). Contains row b) (ap (λ (f : Edge). f.before) at.1.1) at.1.0))
   | inr later ↦
-      let at = from_pairs rows (suc a) e later in
+      let at = from_pairs rows (suc n) e later in
       let k : ℕ = at.0 in
-      let next : suc a + k ≡ a + suc k = omega arith in
+      let next : suc n + k ≡ n + suc k = omega arith in
       (suc k, (at.1.0 ∙ next, at.1.1))
 ]
 
-pub pair_from_member : (rows : List (List ℕ)) (a b : ℕ) → Contains (row_at rows a) b → Contains (pairs_of rows) (edge_of a b)
+pub pair_from_member : (rows : List (List ℕ)) (a b : ℕ) → HasPair rows a b → Contains (pairs_of rows) (edge_of a b)
 unfolding pairs_of
 pair_from_member rows a b member =
-    let at : 0 + a ≡ a = omega arith in
-    subst (λ (n : ℕ). Contains (pairs_from 0 rows) (edge_of n b)) at (in_pairs rows 0 a b member)
+    let at : 0 + b ≡ b = omega arith in
+    subst (λ (n : ℕ). Contains (pairs_from 0 rows) (edge_of a n)) at (in_pairs rows 0 b a member)
 
-pub member_from_pair : (rows : List (List ℕ)) (e : Edge) → Contains (pairs_of rows) e → Contains (row_at rows e.before) e.after
+pub member_from_pair : (rows : List (List ℕ)) (e : Edge) → Contains (pairs_of rows) e → HasPair rows e.before e.after
 unfolding pairs_of
 member_from_pair rows e member =
     let at = from_pairs rows 0 e member in
     let k : ℕ = at.0 in
     let start : 0 + k ≡ k = omega arith in
-    subst (λ (n : ℕ). Contains (row_at rows n) e.after) (sym (at.1.0 ∙ start)) at.1.1
+    subst (λ (n : ℕ). HasPair rows e.before n) (sym (at.1.0 ∙ start)) at.1.1
 
-pub pairs_from-push : (rows : List (List ℕ)) (a : ℕ) (row : List ℕ) → row ≡ [] → pairs_from a (rows ++ row ∷ []) ≡ pairs_from a rows
-pairs_from-push [] a row none = ap (λ (r : List ℕ). map (edge_of a) r ++ []) none
-pairs_from-push (first ∷ rows) a row none = ap (λ (ps : List Edge). map (edge_of a) first ++ ps) (pairs_from-push rows (suc a) row none)
+pub pairs_from-push : (rows : List (List ℕ)) (n : ℕ) (row : List ℕ) → row ≡ [] → pairs_from n (rows ++ row ∷ []) ≡ pairs_from n rows
+pairs_from-push [] n row none = ap (λ (r : List ℕ). map (λ a. edge_of a n) r ++ []) none
+pairs_from-push (first ∷ rows) n row none =
+    ap (λ (ps : List Edge). map (λ a. edge_of a n) first ++ ps) (pairs_from-push rows (suc n) row none)
 
 -- an empty row adds no pair
 pub pairs_of-push : (rows : List (List ℕ)) (row : List ℕ) → row ≡ [] → pairs_of (rows ++ row ∷ []) ≡ pairs_of rows
@@ -80,11 +81,11 @@ pub pairs_of-one : (row : List ℕ) → row ≡ [] → pairs_of (row ∷ []) ≡
 unfolding pairs_of
 pairs_of-one row none = pairs_from-push [] 0 row none
 
-pub owner_below : (rows : List (List ℕ)) (a b : ℕ) → Contains (row_at rows a) b → a < length rows
-owner_below rows a b member = elim (cases_lt a (length rows)) [
+pub owner_below : (rows : List (List ℕ)) (a b : ℕ) → HasPair rows a b → b < length rows
+owner_below rows a b member = elim (cases_lt b (length rows)) [
   | inl within ↦ within
   | inr past ↦
-      let none = subst (λ (row : List ℕ). Contains row b) (get_or_past rows a [] past) member in
+      let none = subst (λ (row : List ℕ). Contains row a) (get_or_past rows b [] past) member in
       let small = none.1 in
       absurd (omega arith)
 ]
@@ -98,21 +99,21 @@ row_push_same (first ∷ rows) row (suc a) none = row_push_same rows row a none
 -- ---- closed rows
 
 pub member_along :
-    (rows : List (List ℕ)) → IsClosed rows → (a m : ℕ) (walk : List Edge) (b : ℕ) → Contains (row_at rows a) m →
-    IsWalk (pairs_of rows) m walk b → Contains (row_at rows a) b
-member_along rows closed a m [] b so_far same = subst (λ (n : ℕ). Contains (row_at rows a) n) same so_far
+    (rows : List (List ℕ)) → IsClosed rows → (a m : ℕ) (walk : List Edge) (b : ℕ) → HasPair rows a m →
+    IsWalk (pairs_of rows) m walk b → HasPair rows a b
+member_along rows closed a m [] b so_far same = subst (λ (n : ℕ). HasPair rows a n) same so_far
 member_along rows closed a m (e ∷ walk) b so_far (begins, member, rest) =
-    let next : Contains (row_at rows m) e.after =
-    subst (λ (n : ℕ). Contains (row_at rows n) e.after) begins (member_from_pair rows e member) in
+    let next : HasPair rows m e.after =
+    subst (λ (n : ℕ). HasPair rows n e.after) begins (member_from_pair rows e member) in
     member_along rows closed a e.after walk b (closed.transitive a m e.after so_far next) rest
 
-pub member_from_reaches : (rows : List (List ℕ)) → IsClosed rows → (a b : ℕ) → Reaches (pairs_of rows) a b → Contains (row_at rows a) b
+pub member_from_reaches : (rows : List (List ℕ)) → IsClosed rows → (a b : ℕ) → Reaches (pairs_of rows) a b → HasPair rows a b
 member_from_reaches rows closed a b on =
     let is = on.is in
     member_along rows closed a on.first.after on.walk b
-    (subst (λ (n : ℕ). Contains (row_at rows n) on.first.after) is.0 (member_from_pair rows on.first is.1)) is.2
+    (subst (λ (n : ℕ). HasPair rows n on.first.after) is.0 (member_from_pair rows on.first is.1)) is.2
 
-pub reaches_from_member : (rows : List (List ℕ)) (a b : ℕ) → Contains (row_at rows a) b → Reaches (pairs_of rows) a b
+pub reaches_from_member : (rows : List (List ℕ)) (a b : ℕ) → HasPair rows a b → Reaches (pairs_of rows) a b
 reaches_from_member rows a b member = reaches_edge (pairs_of rows) (edge_of a b) (pair_from_member rows a b member)
 
 pub pairs_acyclic : (rows : List (List ℕ)) → IsClosed rows → HasCycle (pairs_of rows) → ⊥
@@ -123,5 +124,5 @@ pairs_acyclic rows closed cycle =
 pub pairs_in_range : (rows : List (List ℕ)) → IsClosed rows → IsInRange (length rows) (pairs_of rows)
 pairs_in_range rows closed k d within =
     let e : Edge = get_or (pairs_of rows) k d in
-    let member : Contains (row_at rows e.before) e.after = member_from_pair rows e (Contains-get_or (pairs_of rows) k d within) in
-    (owner_below rows e.before e.after member, closed.below e.before e.after member)
+    let member : HasPair rows e.before e.after = member_from_pair rows e (Contains-get_or (pairs_of rows) k d within) in
+    (closed.below e.before e.after member, owner_below rows e.before e.after member)

@@ -1,50 +1,95 @@
-//! Rows that take over what an edge adds: the step of `add_edge` and of `closes_cycle`.
+//! Rows that take over what new edges bring.
 
-ghost use Rattle.std.specs.Prelude.{◌≡◌, ◌<◌, ◌≤◌, ◌↔◌, ◌⊎◌, ℕ, Contains, IsTrue, length};
-ghost use Rattle.graph_base.specs.Walk.{IsInRange};
+ghost use Rattle.std.specs.Prelude.{◌≡◌, ◌<◌, ◌≤◌, ◌↔◌, ◌⊎◌, ℕ, All, Contains, length};
 ghost use Rattle.bit_rows.specs.declared.TheConstants.{ROW_BITS};
-ghost use Rattle.reach_rows.specs.Rows.{Carries, CarriesUpTo, end_at};
+ghost use Rattle.reach_rows.specs.Rows.{IsClosed, IsDown, IsUpTo, HasPair, GainsOne, GainsAll, Carries, CarriesUpTo, JoinsAt, Spreads};
 
 use bit_rows::Row;
-use graph_base::Edge;
 
-/// Whether `to` is the owner of the row or a member of it.
-pub(crate) fn row_leads(row: &Row, owner: u32, to: u32) -> bool
-    requires { to < ROW_BITS }
-    ensures { IsTrue result ↔ ((owner ≡ to) ⊎ Contains row.now to) }
+/// Adds what comes before a number to the row, which has it already where it has the number.
+pub(crate) fn add_ancestors(row: &mut Row, rows: &[Row], number: u32)
+    requires number { number < length rows.now }
+    requires closed { IsClosed rows.now }
+    requires down { IsDown rows.now row.old }
+    ensures { GainsOne (HasPair rows.now) number row.old row.new }
 {
-    owner == to || row.has(to)
+    if !row.has(number) {
+        row.or_into(&rows[number as usize]);
+    }
 }
 
-/// Adds `gained` to the row of `owner`, if `owner` is `before` or its row has it.
-fn carry(row: &mut Row, owner: u32, before: u32, gained: &Row)
-    requires { before < ROW_BITS }
-    ensures { Carries owner before gained.now row.old row.new }
+/// Adds a number and what comes before it to the row, unless it has the number.
+fn add_up_to(row: &mut Row, rows: &[Row], number: u32)
+    requires number { number < length rows.now }
+    requires closed { IsClosed rows.now }
+    requires down { IsDown rows.now row.old }
+    ensures { GainsOne (IsUpTo rows.now) number row.old row.new }
 {
-    if row_leads(row, owner, before) {
+    if !row.has(number) {
+        row.or_into(&rows[number as usize]);
+        row.set(number);
+    }
+}
+
+/// Adds what comes before the members to the row. A member that the row has brings nothing, so
+/// going down from the greatest costs the fewest unions.
+pub(crate) fn gather_ancestors(row: &mut Row, rows: &[Row], members: &[u32])
+    requires members { All (λ m. m < length rows.now) members.now }
+    requires closed { IsClosed rows.now }
+    requires down { IsDown rows.now row.old }
+    ensures { GainsAll (HasPair rows.now) members.now row.old row.new }
+{
+    for member in members {
+        add_ancestors(row, rows, *member);
+    }
+}
+
+/// Adds the members and what comes before them to the row.
+pub(crate) fn gather(row: &mut Row, rows: &[Row], members: &[u32])
+    requires members { All (λ m. m < length rows.now) members.now }
+    requires closed { IsClosed rows.now }
+    requires down { IsDown rows.now row.old }
+    ensures { GainsAll (IsUpTo rows.now) members.now row.old row.new }
+{
+    for member in members {
+        add_up_to(row, rows, *member);
+    }
+}
+
+/// Adds `gained` to the row, if it has the target.
+fn carry(row: &mut Row, target: u32, gained: &Row)
+    requires { target < ROW_BITS }
+    ensures { Carries target gained.now row.old row.new }
+{
+    if row.has(target) {
         row.or_into(gained);
     }
 }
 
-/// Carries `gained` over to each number that is `before` or reaches it: row `n` is that of
-/// number `n`.
-pub(crate) fn carry_to_numbers(rows: &mut [Row], before: u32, gained: &Row)
-    requires before { before < ROW_BITS }
-    requires few { length rows.old ≤ ROW_BITS }
-    ensures { CarriesUpTo (length rows.old) (λ n. n) before gained.now rows.old rows.new }
+/// Adds `gained` to each row that has the target.
+pub(crate) fn carry_all(rows: &mut [Row], target: u32, gained: &Row)
+    requires { target < ROW_BITS }
+    ensures { CarriesUpTo (length rows.old) target gained.now rows.old rows.new }
 {
     for number in 0..rows.len() {
-        carry(&mut rows[number], number as u32, before, gained);
+        carry(&mut rows[number], target, gained);
     }
 }
 
-/// The same, where row `k` is that of the end of edge `k` of the trial.
-pub(crate) fn carry_to_ends(rows: &mut [Row], trial: &[Edge], before: u32, gained: &Row)
-    requires before { before < ROW_BITS }
-    requires size { length rows.old ≡ length trial.now }
-    ensures { CarriesUpTo (length trial.now) (end_at trial.now) before gained.now rows.old rows.new }
+/// Adds `gained` to the row of the target alone.
+pub(crate) fn join_at(rows: &mut [Row], target: u32, gained: &Row)
+    requires { target < length rows.old }
+    ensures { JoinsAt target gained.now rows.old rows.new }
 {
-    for k in 0..trial.len() {
-        carry(&mut rows[k], trial[k].after, before, gained);
-    }
+    rows[target as usize].or_into(gained);
+}
+
+/// Adds `gained` to the row of the target and to each row that has it.
+pub(crate) fn spread(rows: &mut [Row], target: u32, gained: &Row)
+    requires target { target < length rows.old }
+    requires few { length rows.old ≤ ROW_BITS }
+    ensures { Spreads target gained.now rows.old rows.new }
+{
+    carry_all(rows, target, gained);
+    join_at(rows, target, gained);
 }

@@ -3,7 +3,7 @@
 ghost use Rattle.std.specs.Prelude.{◌≡◌, ◌<◌, ◌↔◌, ◌⊎◌, ◌++◌, ℕ, Any, Contains, IsTrue};
 ghost use Rattle.graph_base.specs.Walk.{IsInRange, HasCycle, Leads, Reaches};
 ghost use Rattle.graph_base.specs.Trial.{AllTouch, ComesBack, ClosesAt};
-ghost use Rattle.reach_rows.specs.Reached.{ShareNumber};
+ghost use Rattle.reach_rows.specs.Ancestry.{ShareNumber};
 
 use crate::Reach;
 use graph_base::Edge;
@@ -32,15 +32,6 @@ fn hub_of(first: Edge, trial: &[Edge]) -> u32
 }
 
 impl Reach {
-    /// Whether two numbers are one, or the first reaches the second.
-    fn is_or_reaches(&self, from: u32, to: u32) -> bool
-        requires from { from < self.now.size }
-        requires to { to < self.now.size }
-        ensures { IsTrue result ↔ ((from ≡ to) ⊎ Reaches self.now.pairs from to) }
-    {
-        from == to || self.reaches(from, to)
-    }
-
     /// Whether a walk, which may be empty, leads from one number to another.
     fn leads(&self, from: u32, to: u32) -> bool
         requires from { from < self.now.size }

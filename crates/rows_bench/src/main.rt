@@ -10,6 +10,7 @@ use std::env;
 use std::rt::Env;
 use std::time::CpuClock;
 
+mod grown;
 mod kernels;
 mod lanes;
 mod meter;

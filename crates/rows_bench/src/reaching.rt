@@ -1,121 +1,116 @@
-//! The calls of a `Reach` over a chain, where all numbers but the last lead to the last but one.
+//! The calls of a `Reach` in which each number comes after three earlier ones.
 
-ghost use Rattle.std.specs.Prelude.{◌≡◌, ◌<◌, ◌≤◌, ◌↔◌, IfOk, IsTrue};
-ghost use Rattle.graph_base.specs.Walk.{IsInRange};
-ghost use Rattle.graph_base.specs.Trial.{AllTouch};
+ghost use Rattle.std.specs.Prelude.{◌<◌, ◌≤◌};
+ghost use Rattle.bit_rows.specs.declared.TheConstants.{ROW_BITS};
 
+use crate::grown::{
+    FREE, close_stars, closes, closes_star, count_ancestors, grown, try_star, would,
+};
 use crate::meter;
 use anyhow::Result;
 use bit_rows::ROW_BITS;
 use graph_base::Edge;
-use reach_rows::Reach;
+use reach_rows::{Reach, Star};
 use std::alloc::{AllocError, Global};
 use std::time::CpuClock;
+
+/// How many stars are added.
+const STARS: u32 = 20;
+
+/// How many members a star has.
+const MEMBERS: u32 = 8;
 
 /// How many times a trial is tested.
 const TRIALS: u32 = 20_000;
 
-/// A Reach of so many numbers, without edges.
-fn grown(alloc: Global, size: u32) -> Result<Reach, AllocError>
-    requires some { 1 ≤ size }
-    requires few { size ≤ ROW_BITS }
-    ensures { IfOk result (λ reach. reach.size ≡ size) }
+/// As many numbers as a star has members, from one on.
+fn members_from(alloc: Global, first: u32) -> Result<Vec<u32>, AllocError>
+    requires { first < ROW_BITS }
 {
-    let mut reach = Reach::new(alloc)?;
-    for _number in 1..size {
-        reach.grow()?;
+    let mut members = Vec::new(alloc);
+    for more in 0..MEMBERS {
+        members.push(first + more)?;
     }
-    Ok(reach)
+    Ok(members)
 }
 
-/// Adds an edge where it is in range and closes no cycle. Whether it did.
-fn try_add(reach: &mut Reach, before: u32, after: u32) -> bool {
-    let size = reach.size();
-    if before >= size {
-        return false;
-    }
-    if after >= size {
-        return false;
-    }
-    if before == after {
-        return false;
-    }
-    if reach.reaches(after, before) {
-        return false;
-    }
-    reach.add_edge(Edge { before, after });
-    true
-}
-
-/// Each number leads to the next, but for the last: added from the end, so that each edge has one
-/// row to carry to.
-fn chain(alloc: Global, size: u32) -> Result<Reach, AllocError>
-    requires some { 2 ≤ size }
-    requires few { size ≤ ROW_BITS }
-{
-    let mut reach = grown(alloc, size)?;
-    for back in 0..size - 2 {
-        let number = size - 3 - back;
-        let _ = try_add(&mut reach, number, number + 1);
-    }
-    Ok(reach)
-}
-
-/// Times `add_edge` of one edge, again and again: it does the same work each time.
-fn measure_add(
-    rt: &(impl CpuClock + Print),
+/// Times stars of free numbers into one target: the first time each of them brings something, and
+/// the second time none does.
+fn measure_stars(
+    rt: &(impl CpuClock + Print + AllocGlobal),
     name: &str,
     reach: &mut Reach,
-    before: u32,
-    after: u32,
+    target: u32,
 ) -> Result<()> {
     let mut added = 0u32;
     let start = rt.thread_cpu_time()?;
-    for _ in 0..20u32 {
-        if try_add(reach, before, after) {
+    for number in 0..STARS {
+        let members = members_from(rt.alloc(), 1 + number * MEMBERS)?;
+        if try_star(reach, &members, target) {
             added = added.wrapping_add(1);
         }
     }
-    let nanos = meter::each(rt, start, 20)?;
-    println!(rt; "{name}: {nanos} ns, done {added} of 20 times")?;
+    let nanos = meter::each(rt, start, u64::from(STARS))?;
+    println!(rt; "{name}: {nanos} ns, added {added}")?;
     Ok(())
 }
 
-/// Whether all numbers of the trial are below the size.
-fn is_in_range(size: u32, trial: &[Edge]) -> bool
-    ensures { IsTrue result ↔ IsInRange size trial.now }
+/// Times the test of one star, whose members come late, and the union of their ancestors.
+fn measure_star_trial(
+    rt: &(impl CpuClock + Print + AllocGlobal),
+    reach: &Reach,
+    target: u32,
+) -> Result<()>
+    requires { target < ROW_BITS }
 {
-    trial
-        .iter()
-        .all(|edge| edge.before < size && edge.after < size)
+    let members = members_from(rt.alloc(), target)?;
+    let mut closed = 0u32;
+    let start = rt.thread_cpu_time()?;
+    for _ in 0..TRIALS {
+        if closes_star(reach, &members, 0) {
+            closed = closed.wrapping_add(1);
+        }
+    }
+    let nanos = meter::each(rt, start, u64::from(TRIALS))?;
+    println!(rt; "star_closes_cycle, {MEMBERS} members: {nanos} ns, {closed} cycles")?;
+    let mut ancestors = 0u32;
+    let start = rt.thread_cpu_time()?;
+    for _ in 0..TRIALS {
+        ancestors = count_ancestors(reach, &members)?;
+    }
+    let nanos = meter::each(rt, start, u64::from(TRIALS))?;
+    println!(rt; "union_of and count, {MEMBERS} members: {nanos} ns, {ancestors} ancestors")?;
+    Ok(())
 }
 
-/// Whether each edge of the trial begins or ends at the hub.
-fn is_star(hub: u32, trial: &[Edge]) -> bool
-    ensures { IsTrue result ↔ AllTouch hub trial.now }
+/// Times the test of a list of stars that close no cycle: free numbers into numbers from one on.
+fn measure_star_lists(
+    rt: &(impl CpuClock + Print + AllocGlobal),
+    reach: &Reach,
+    target: u32,
+    count: u32,
+) -> Result<()>
+    requires target { target < ROW_BITS }
+    requires count { count ≤ STARS }
 {
-    trial
-        .iter()
-        .all(|edge| edge.before == hub || edge.after == hub)
-}
-
-/// The answer of `would_cycle`; no for a trial that it isn't for.
-fn would(reach: &Reach, trial: &[Edge], hub: u32) -> bool {
-    if !is_in_range(reach.size(), trial) {
-        return false;
+    let mut stars = Vec::new(rt.alloc());
+    for number in 0..count {
+        let members = members_from(rt.alloc(), 1 + number * MEMBERS)?;
+        stars.push(Star {
+            members,
+            target: target + number,
+        })?;
     }
-    if is_star(hub, trial) {
-        return reach.would_cycle(trial);
+    let mut closed = 0u32;
+    let start = rt.thread_cpu_time()?;
+    for _ in 0..TRIALS / 10 {
+        if close_stars(reach, &stars)? {
+            closed = closed.wrapping_add(1);
+        }
     }
-    false
-}
-
-/// The answer of `closes_cycle`; no for a trial out of range.
-fn closes(reach: &Reach, trial: &[Edge]) -> Result<bool, AllocError> {
-    if !is_in_range(reach.size(), trial) {
-        return Ok(false);
-    }
-    reach.closes_cycle(trial)
+    let nanos = meter::each(rt, start, u64::from(TRIALS / 10))?;
+    println!(rt; "stars_close_cycle, {count} stars of {MEMBERS}: {nanos} ns, {closed} cycles")?;
+    Ok(())
 }
 
 /// Times both tests of a trial whose edges all touch one number: eight that end there, and one
@@ -124,7 +119,7 @@ fn measure_trials(rt: &(impl CpuClock + Print + AllocGlobal), reach: &Reach, hub
     requires { hub < ROW_BITS }
 {
     let mut trial = Vec::new(rt.alloc());
-    for before in 0..8u32 {
+    for before in 1..=MEMBERS {
         trial.push(Edge { before, after: hub })?;
     }
     let after = hub + 1;
@@ -140,37 +135,29 @@ fn measure_trials(rt: &(impl CpuClock + Print + AllocGlobal), reach: &Reach, hub
     println!(rt; "would_cycle, nine edges: {nanos} ns, {found} cycles")?;
     let mut found = 0u32;
     let start = rt.thread_cpu_time()?;
-    for _ in 0..TRIALS {
+    for _ in 0..TRIALS / 10 {
         if closes(reach, &trial)? {
             found = found.wrapping_add(1);
         }
     }
-    let nanos = meter::each(rt, start, u64::from(TRIALS))?;
+    let nanos = meter::each(rt, start, u64::from(TRIALS / 10))?;
     println!(rt; "closes_cycle, nine edges: {nanos} ns, {found} cycles")?;
     Ok(())
 }
 
 /// Times the calls at one size, which is cut to what a row holds.
 pub(crate) fn measure(rt: &(impl CpuClock + Print + AllocGlobal), size: u32) -> Result<()> {
-    let size = size.clamp(100, ROW_BITS);
+    let size = size.clamp(4 * FREE, ROW_BITS);
     let start = rt.thread_cpu_time()?;
-    let mut reach = chain(rt.alloc(), size)?;
+    let mut reach = grown(rt.alloc(), size)?;
     let nanos = meter::each(rt, start, u64::from(size))?;
+    let middle = size / 2;
     println!(rt; "size {size}")?;
-    println!(rt; "grow, and add_edge with one row to carry to: {nanos} ns")?;
-    measure_add(
-        rt,
-        "add_edge with one row to carry to",
-        &mut reach,
-        0,
-        size - 1,
-    )?;
-    measure_add(
-        rt,
-        "add_edge with all rows to carry to",
-        &mut reach,
-        size - 2,
-        size - 1,
-    )?;
-    measure_trials(rt, &reach, size / 2)
+    println!(rt; "grow and three add_into_last: {nanos} ns")?;
+    measure_trials(rt, &reach, middle)?;
+    measure_star_trial(rt, &reach, middle)?;
+    measure_star_lists(rt, &reach, middle, 1)?;
+    measure_star_lists(rt, &reach, middle, STARS)?;
+    measure_stars(rt, "add_star with its test, news", &mut reach, middle)?;
+    measure_stars(rt, "add_star with its test, no news", &mut reach, middle)
 }

@@ -10,5 +10,8 @@ returns-in-Cells-clause-ran g c = λ level before seen many ran.
 
 pub returns-in-Cells-clause-message : goal.returns-in-Cells-clause-message
 returns-in-Cells-clause-message g c =
-    omega (arith, c.make_call.ensures.message (c.in-Cells.ensures.running refl).0,
-    one_at_most c.args.session.now.stage c.args.session.now.runner)
+    omega (
+      arith,
+      c.make_call.ensures.message (c.in-Cells.ensures.running refl).0,
+      one_at_most c.args.session.now.stage c.args.session.now.runner,
+    )

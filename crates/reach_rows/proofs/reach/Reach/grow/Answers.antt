@@ -1,6 +1,8 @@
-use Rattle.std.proofs.Common.{◌≡◌, ℕ, List, [], ◌∷◌, ◌++◌, length, arith, sym, subst}
+use Rattle.std.proofs.Common.{◌≡◌, ℕ, List, [], ◌∷◌, ◌++◌, length, arith, ap, sym, subst}
+use Rattle.graph_base.specs.declared.Edge.{Edge}
+use Rattle.reach_rows.specs.Ancestry.{Ancestry, IsLast}
 use Rattle.reach_rows.specs.Rows.{IsClosed}
-use Rattle.reach_rows.proofs.Closing.{closed_push, size_of, grown}
+use Rattle.reach_rows.proofs.Closing.{closed_push, size_of, grown, last_past}
 use Rattle.reach_rows.proofs.reach.Reach.grow.Goals as goal
 
 pub invariant_of-self-2 : goal.invariant_of-self-2
@@ -16,3 +18,10 @@ pub returns-clause-ok : goal.returns-clause-ok
 returns-clause-ok c =
     grown c.self.inside.rows.items c.push.new.self.items c.in_ok-row.row c.args.self.now c.self.view_is
     c.in_ok-push.ensures.items c.in_ok-row.ensures
+
+pub returns-clause-last : goal.returns-clause-last
+returns-clause-last c =
+    let pairs = ap (λ (a : Ancestry). a.pairs) (grown c.self.inside.rows.items c.push.new.self.items c.in_ok-row.row c.args.self.now c.self.view_is
+    c.in_ok-push.ensures.items c.in_ok-row.ensures) in
+    subst (λ (ps : List Edge). IsLast ps c.args.self.now.size) (sym pairs)
+    (last_past c.self.inside.rows.items c.args.self.now c.self.view_is c.self.invariant)

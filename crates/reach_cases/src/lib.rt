@@ -1,0 +1,15 @@
+//! Tests of kept reachability: that calls succeed with ample memory, worked graphs and stars with answers found by hand, and
+//! pseudo-random ones beside a closure computed by lists.
+//!
+//! The contracts of `reach_rows` say what each call does. No clause says that memory is left, and a definition could say something
+//! else than its reader thinks. The crate has nothing but tests, so that `reach_rows` is proved once.
+#![tactic(auto)]
+
+#[cfg(test)]
+mod calls;
+#[cfg(test)]
+mod edges;
+#[cfg(test)]
+mod plain;
+#[cfg(test)]
+mod stars;
