@@ -29,7 +29,7 @@ use Rattle.session_core.specs.declared.phase.Phase.TheVariants as phases
 use Rattle.session_core.specs.declared.stage.SessionStage.{SessionStage}
 use Rattle.session_core.specs.declared.stage.SessionStage.TheVariants as stages
 use Rattle.session_core.specs.declared.turns.Shortage.{Shortage}
-use Rattle.session_core.specs.Wants.{Want, of_message}
+use Rattle.session_core.specs.Wants.{of_message}
 use Rattle.session_core.specs.Wants as wishes
 use Rattle.session_core.specs.Requests.{Requests, partial, unread, AreRequests}
 use Rattle.session_core.specs.Told.{ending, broken, owed_by, outside_of, stop_end, told}

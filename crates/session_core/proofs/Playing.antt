@@ -42,7 +42,7 @@ use Rattle.block_machine.specs.declared.stage.MessageStage.TheVariants as messag
 use Rattle.session_core.specs.declared.session.Session.{Session}
 use Rattle.session_core.specs.declared.stage.SessionStage.{SessionStage}
 use Rattle.session_core.specs.declared.stage.SessionStage.TheVariants as stages
-use Rattle.session_core.specs.Wants.{Want, of_message}
+use Rattle.session_core.specs.Wants.{of_message}
 use Rattle.session_core.specs.Wants as wishes
 use Rattle.session_core.specs.Record.{StateAfter, Draws, Happens, ReadsBack, ReadsFrom, may_be_refused, limit_for, HasNewName}
 use Rattle.session_core.specs.Plays.{Plays, MayAsk, owed_of}

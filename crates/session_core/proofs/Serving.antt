@@ -1,5 +1,5 @@
 -- A run over a link goes on.
-use Rattle.std.proofs.Common.{Contains, ◌≡◌, inl, inr, ◌↔◌, IfSome, Bool, true, false, ℕ, ◌+◌, ◌<◌, ◌≤◌, List, [], ◌∷◌, ◌++◌, length, take, refl, sym, ◌∙◌, ap, subst, arith, Option, Some, None, length-append, append_assoc}
+use Rattle.std.proofs.Common.{Contains, ◌≡◌, inl, inr, ◌↔◌, IfSome, true, false, ℕ, ◌+◌, ◌<◌, ◌≤◌, List, [], ◌∷◌, ◌++◌, length, take, refl, sym, ◌∙◌, ap, subst, arith, Option, Some, None, length-append, append_assoc}
 use Rattle.std.proofs.lemmas.List.{append-nil}
 use Rattle.std.proofs.lemmas.List.Elements.{Contains-append_left, Contains-push}
 use Rattle.std.proofs.lemmas.Grind.{common_steps}
@@ -7,7 +7,7 @@ use Rattle.cell_base.specs.declared.level.Level.{Level}
 use Rattle.link_traits.specs.Faults.{Rose}
 use Rattle.link_traits.specs.Traffic.{Traffic, Took, Wrote, Both, Sight}
 use Rattle.history_core.specs.declared.event.Event.{Event}
-use Rattle.history_core.specs.Book.{Past, SessionState, no_session, in_session, pending, GoesOn}
+use Rattle.history_core.specs.Book.{Past, SessionState, no_session, in_session, pending}
 use Rattle.block_machine.specs.Calls.{Call}
 use Rattle.block_machine.specs.Calls as calls
 use Rattle.block_machine.specs.Script.{Entry, ended, short, unsent, stop, more, has_short}

@@ -1,7 +1,7 @@
 use Rattle.std.proofs.Common.{ℕ}
 use Rattle.cell_base.specs.declared.level.Level.{Level}
 use Rattle.history_core.specs.Chronicle.{IsLegalChronicle}
-use Rattle.link_traits.specs.Traffic.{Sight, sight_of}
+use Rattle.link_traits.specs.Traffic.{sight_of}
 use Rattle.session_core.specs.Sessions.{work_of}
 use Rattle.session_core.specs.Stands.{IsLast}
 use Rattle.session_core.specs.Serve.{Scene, scene_of}
