@@ -22,8 +22,8 @@ use std::alloc::Global;
 /// The greatest number of bytes of a text.
 const MOST_BYTES: usize = 268_435_456;
 
-/// The history whose text the bytes are, in any version. Such bytes, where there are at most 268,435,456 of them, are of one
-/// history alone, and it is read unless the call is out of memory.
+/// The history whose text the bytes are, in any version. They are of no other history, and where there are at most 268,435,456
+/// of them, this one is read unless the call is out of memory.
 pub fn read(alloc: Global, bytes: &[u8]) -> Result<Trace, LogFault>
     ensures found { IfOk result (λ trace. (v : Version) × IsLog v trace bytes.now) }
     ensures no_wide { IfOk result (λ trace. All HasNoWide trace.events × All (λ x. IsNotWide x.1) trace.initial) }
