@@ -31,7 +31,7 @@ cells_so_far One rows is = subst (λ (ys : List (Cell × Value)). AllByRecursion
 cells_so_far Two rows is = subst (λ (ys : List (Cell × Value)). AllByRecursion IsInitialCell ys) (sym is) tt
 cells_so_far Three rows is = is.1
 
-same_events : (v w : Version) (l m : Level) (es : List Event) → v ≡ w → l ≡ m → AreEventsIn v l es → AreEventsIn w m es
+pub same_events : (v w : Version) (l m : Level) (es : List Event) → v ≡ w → l ≡ m → AreEventsIn v l es → AreEventsIn w m es
 same_events v w l m es e f is = subst (λ (x : Version). AreEventsIn x m es) e (subst (λ (x : Level). AreEventsIn v x es) f is)
 
 -- a text that begins as the draft goes on so

@@ -6,8 +6,10 @@ pub mod GoesOn
 pub mod Going
 pub mod LineKinds
 pub mod Misreads
+pub mod OneHistory
 pub mod Plain
 pub mod Same
+pub mod SameLine
 pub mod Spelled
 pub mod Strip
 pub mod WholeEvents

@@ -14,10 +14,10 @@ use Rattle.history_log.specs.declared.keyword.Keyword.TheVariants as keywords
 use Rattle.history_log.specs.declared.version.Version.{Version}
 use Rattle.history_log.specs.declared.version.Version.TheVariants.{One, Two, Three}
 use Rattle.history_log.specs.Cut.{cut_at, Lacks}
-use Rattle.history_log.specs.Spelling.{text_word, key_word, cell_word, value_word, level_word, keyword_word, keyword_of, begin_words, fields, event_line, initial_line, order_line, end_line}
+use Rattle.history_log.specs.Spelling.{text_word, key_word, cell_word, value_word, level_word, keyword_word, keyword_of, begin_words, fields, event_line, initial_line, order_line, end_line, line}
 use Rattle.history_log.specs.Reading.{IsU32, FitsKey, FitsCell, FitsValue, FitsEvent}
 use Rattle.history_log.proofs.Cuts.{cut_joined}
-use Rattle.history_log.proofs.Plain.{Plain, ink, ink_lacks_blank, decimal_plain, text_plain, key_plain, cell_ink, value_plain, level_plain, plain_by_test, test_plain}
+use Rattle.history_log.proofs.Plain.{Ink, Plain, ink, ink_lacks_blank, decimal_plain, text_plain, key_plain, cell_ink, value_plain, level_plain, plain_by_test, test_plain}
 
 -- keywords are told apart by their letters
 
@@ -69,64 +69,80 @@ keyword_plain keywords.Show = plain_by_test (codes "show") refl
 keyword_plain keywords.Order = plain_by_test (codes "order") refl
 keyword_plain keywords.End = plain_by_test (codes "end") refl
 
--- what a line is cut into
+-- what the words of a line are made of, and what it is cut into
 
-lacks : (word : List ℕ) → Plain word → Lacks 32 word
-lacks word plain = ink_lacks_blank word (ink word plain)
+number_ink : (n : ℕ) → IsU32 n → Ink (decimal n)
+number_ink n fits = ink (decimal n) (decimal_plain n (omega arith))
 
-number_lacks : (n : ℕ) → IsU32 n → Lacks 32 (decimal n)
-number_lacks n fits = lacks (decimal n) (decimal_plain n (omega arith))
+begin_ink : (v : Version) (level : Level) → AllByRecursion Ink (begin_words v level)
+begin_ink One level = tt
+begin_ink Two level = (ink (level_word level) (level_plain level), tt)
+begin_ink Three level = (ink (level_word level) (level_plain level), tt)
 
-begin_lacks : (v : Version) (level : Level) → AllByRecursion (Lacks 32) (begin_words v level)
-begin_lacks One level = tt
-begin_lacks Two level = (lacks (level_word level) (level_plain level), tt)
-begin_lacks Three level = (lacks (level_word level) (level_plain level), tt)
+keys_ink : (listed : List Key) → AllByRecursion FitsKey listed → AllByRecursion Ink (map key_word listed)
+keys_ink [] fits = tt
+keys_ink (key ∷ listed) fits = (ink (key_word key) (key_plain key fits.0), keys_ink listed fits.1)
 
-keys_lack : (listed : List Key) → AllByRecursion FitsKey listed → AllByRecursion (Lacks 32) (map key_word listed)
-keys_lack [] fits = tt
-keys_lack (key ∷ listed) fits = (lacks (key_word key) (key_plain key fits.0), keys_lack listed fits.1)
+numbers_ink : (numbers : List ℕ) → AllByRecursion IsU32 numbers → AllByRecursion Ink (map decimal numbers)
+numbers_ink [] fits = tt
+numbers_ink (n ∷ numbers) fits = (number_ink n fits.0, numbers_ink numbers fits.1)
 
-numbers_lack : (numbers : List ℕ) → AllByRecursion IsU32 numbers → AllByRecursion (Lacks 32) (map decimal numbers)
-numbers_lack [] fits = tt
-numbers_lack (n ∷ numbers) fits = (number_lacks n fits.0, numbers_lack numbers fits.1)
+value_ink : (value : Value) → FitsValue value → Ink (value_word value)
+value_ink value fits = ink (value_word value) (value_plain value fits)
 
-cell_lacks : (cell : Cell) → FitsCell cell → Lacks 32 (cell_word cell)
-cell_lacks cell fits = ink_lacks_blank (cell_word cell) (cell_ink cell fits)
+keyword_ink : (k : Keyword) → Ink (keyword_word k)
+keyword_ink k = ink (keyword_word k) (keyword_plain k)
 
-value_lacks : (value : Value) → FitsValue value → Lacks 32 (value_word value)
-value_lacks value fits = lacks (value_word value) (value_plain value fits)
+fields_ink : (v : Version) (event : Event) → FitsEvent event → AllByRecursion Ink (fields v event)
+fields_ink v (Open s) fits = (number_ink s fits, tt)
+fields_ink v (Close s) fits = (number_ink s fits, tt)
+fields_ink v (Define s name) fits = (number_ink s fits.0, (ink (text_word name) (text_plain name fits.1), tt))
+fields_ink v (Look s n) fits = (number_ink s fits.0, (number_ink n fits.1, tt))
+fields_ink v (Begin s level) fits = (number_ink s fits, begin_ink v level)
+fields_ink v (Scan s table listed) fits = (number_ink s fits.0, (number_ink table fits.1, keys_ink listed fits.2))
+fields_ink v (Read s cell source count word value) fits =
+    (number_ink s fits.0, (cell_ink cell fits.1, (number_ink source fits.2, (number_ink count fits.3, (number_ink word fits.4, (value_ink value fits.5, tt))))))
+fields_ink v (Own s cell value) fits = (number_ink s fits.0, (cell_ink cell fits.1, (value_ink value fits.2, tt)))
+fields_ink v (Write s cell value) fits = (number_ink s fits.0, (cell_ink cell fits.1, (value_ink value fits.2, tt)))
+fields_ink v (Commit s) fits = (number_ink s fits, tt)
+fields_ink v (Rollback s) fits = (number_ink s fits, tt)
+fields_ink v (Show s n) fits = (number_ink s fits.0, (number_ink n fits.1, tt))
 
-fields_lack : (v : Version) (event : Event) → FitsEvent event → AllByRecursion (Lacks 32) (fields v event)
-fields_lack v (Open s) fits = (number_lacks s fits, tt)
-fields_lack v (Close s) fits = (number_lacks s fits, tt)
-fields_lack v (Define s name) fits = (number_lacks s fits.0, (lacks (text_word name) (text_plain name fits.1), tt))
-fields_lack v (Look s n) fits = (number_lacks s fits.0, (number_lacks n fits.1, tt))
-fields_lack v (Begin s level) fits = (number_lacks s fits, begin_lacks v level)
-fields_lack v (Scan s table listed) fits = (number_lacks s fits.0, (number_lacks table fits.1, keys_lack listed fits.2))
-fields_lack v (Read s cell source count word value) fits =
-    (number_lacks s fits.0, (cell_lacks cell fits.1, (number_lacks source fits.2, (number_lacks count fits.3, (number_lacks word fits.4, (value_lacks value fits.5, tt))))))
-fields_lack v (Own s cell value) fits = (number_lacks s fits.0, (cell_lacks cell fits.1, (value_lacks value fits.2, tt)))
-fields_lack v (Write s cell value) fits = (number_lacks s fits.0, (cell_lacks cell fits.1, (value_lacks value fits.2, tt)))
-fields_lack v (Commit s) fits = (number_lacks s fits, tt)
-fields_lack v (Rollback s) fits = (number_lacks s fits, tt)
-fields_lack v (Show s n) fits = (number_lacks s fits.0, (number_lacks n fits.1, tt))
+-- the words of each line
+pub event_ink : (v : Version) (event : Event) → FitsEvent event → AllByRecursion Ink (keyword_word (keyword_of event) ∷ fields v event)
+event_ink v event fits = (keyword_ink (keyword_of event), fields_ink v event fits)
+
+pub initial_ink : (x : Cell × Value) → FitsCell x.0 → FitsValue x.1 → AllByRecursion Ink (keyword_word keywords.Initial ∷ cell_word x.0 ∷ value_word x.1 ∷ [])
+initial_ink x cell value = (keyword_ink keywords.Initial, (cell_ink x.0 cell, (value_ink x.1 value, tt)))
+
+pub order_ink : (order : List ℕ) → AllByRecursion IsU32 order → AllByRecursion Ink (keyword_word keywords.Order ∷ map decimal order)
+order_ink order fits = (keyword_ink keywords.Order, numbers_ink order fits)
+
+pub end_ink : AllByRecursion Ink (keyword_word keywords.End ∷ [])
+end_ink = (keyword_ink keywords.End, tt)
+
+blanks : (words : List (List ℕ)) → AllByRecursion Ink words → AllByRecursion (Lacks 32) words
+blanks [] all = tt
+blanks (word ∷ words) all = (ink_lacks_blank word all.0, blanks words all.1)
+
+-- words are a line's
+pub line_cut : (word : List ℕ) (words : List (List ℕ)) → AllByRecursion Ink (word ∷ words) → cut_at 32 (line (word ∷ words)) ≡ word ∷ words
+line_cut word words inked = cut_joined 32 word words (blanks (word ∷ words) inked)
 
 pub event_cut : (v : Version) (event : Event) → FitsEvent event → cut_at 32 (event_line v event) ≡ keyword_word (keyword_of event) ∷ fields v event
-event_cut v event fits = cut_joined 32 (keyword_word (keyword_of event)) (fields v event)
-    (lacks (keyword_word (keyword_of event)) (keyword_plain (keyword_of event)), fields_lack v event fits)
+event_cut v event fits = line_cut (keyword_word (keyword_of event)) (fields v event) (event_ink v event fits)
 
 pub initial_cut : (x : Cell × Value) → FitsCell x.0 → FitsValue x.1 → cut_at 32 (initial_line x) ≡ keyword_word keywords.Initial ∷ cell_word x.0 ∷ value_word x.1 ∷ []
-initial_cut x cell value = cut_joined 32 (keyword_word keywords.Initial) (cell_word x.0 ∷ value_word x.1 ∷ [])
-    (lacks (keyword_word keywords.Initial) (keyword_plain keywords.Initial), (cell_lacks x.0 cell, (value_lacks x.1 value, tt)))
+initial_cut x cell value = line_cut (keyword_word keywords.Initial) (cell_word x.0 ∷ value_word x.1 ∷ []) (initial_ink x cell value)
 
 pub order_cut : (order : List ℕ) → AllByRecursion IsU32 order → cut_at 32 (order_line order) ≡ keyword_word keywords.Order ∷ map decimal order
-order_cut order fits = cut_joined 32 (keyword_word keywords.Order) (map decimal order) (lacks (keyword_word keywords.Order) (keyword_plain keywords.Order), numbers_lack order fits)
+order_cut order fits = line_cut (keyword_word keywords.Order) (map decimal order) (order_ink order fits)
 
 pub end_cut : cut_at 32 end_line ≡ keyword_word keywords.End ∷ []
-end_cut = cut_joined 32 (keyword_word keywords.End) [] (lacks (keyword_word keywords.End) (keyword_plain keywords.End), tt)
+end_cut = line_cut (keyword_word keywords.End) [] end_ink
 
 -- two lines that are one have one keyword
-pub same_start : (line : List ℕ) (a b : Keyword) (ws xs : List (List ℕ)) → cut_at 32 line ≡ keyword_word a ∷ ws → cut_at 32 line ≡ keyword_word b ∷ xs → a ≡ b
-same_start line a b ws xs e f = same_keyword a b (heads (keyword_word a) (keyword_word b) ws xs (sym e ∙ f)) where
+pub same_start : (said : List ℕ) (a b : Keyword) (ws xs : List (List ℕ)) → cut_at 32 said ≡ keyword_word a ∷ ws → cut_at 32 said ≡ keyword_word b ∷ xs → a ≡ b
+same_start said a b ws xs e f = same_keyword a b (heads (keyword_word a) (keyword_word b) ws xs (sym e ∙ f)) where
   heads : (u v : List ℕ) (ws xs : List (List ℕ)) → u ∷ ws ≡ v ∷ xs → u ≡ v
   heads u v ws xs e = cc

@@ -12,14 +12,13 @@ use Rattle.history_core.specs.declared.event.Event.{Event}
 use Rattle.history_log.specs.declared.keyword.Keyword.TheVariants as keywords
 use Rattle.history_log.specs.declared.version.Version.{Version}
 use Rattle.history_log.specs.declared.version.Version.TheVariants.{One, Two, Three}
-use Rattle.history_log.specs.Cut.{cut_at, Lacks}
+use Rattle.history_log.specs.Cut.{cut_at}
 use Rattle.history_log.specs.Spelling.{cell_word, value_word, level_word, version_word, keyword_word, keyword_of, fields, head_line, event_line, initial_line, order_line, end_line}
 use Rattle.history_log.specs.Reading.{IsU32, FitsValue, FitsEvent}
 use Rattle.history_log.specs.Log.{CanStand, IsInitialCell, IsInitialIn, AreEventsIn}
-use Rattle.history_log.proofs.Cuts.{cut_joined}
-use Rattle.history_log.proofs.Plain.{ink, ink_lacks_blank, level_plain, plain_by_test, test_plain, Plain}
+use Rattle.history_log.proofs.Plain.{Ink, Plain, ink, level_plain, plain_by_test, test_plain}
 use Rattle.history_log.proofs.EventForms.{known_as}
-use Rattle.history_log.proofs.LineKinds.{event_cut, initial_cut, order_cut, same_start}
+use Rattle.history_log.proofs.LineKinds.{line_cut, event_cut, initial_cut, order_cut, same_start}
 use Rattle.history_log.proofs.Same.{same_cell, same_value}
 
 -- lines of two kinds differ
@@ -89,12 +88,12 @@ pub record Goes (v : Version) (head : Level) (rows : List (Cell × Value)) (even
   pub goes : map initial_line more_rows ++ (map (event_line v) more_events ++ (order_line order ∷ end_line ∷ [])) ≡ after
   pub either : (more_rows ≡ []) ⊎ (events ≡ [])
 
-no_rows : (v : Version) (xs : List (Cell × Value)) → IsInitialIn v xs → AllByRecursion IsInitialCell xs
+pub no_rows : (v : Version) (xs : List (Cell × Value)) → IsInitialIn v xs → AllByRecursion IsInitialCell xs
 no_rows One xs is = subst (λ (ys : List (Cell × Value)). AllByRecursion IsInitialCell ys) (sym is) tt
 no_rows Two xs is = subst (λ (ys : List (Cell × Value)). AllByRecursion IsInitialCell ys) (sym is) tt
 no_rows Three xs is = is.1.1
 
-body_first : (v : Version) (head : Level) (es : List Event) (o : List ℕ) → AreEventsIn v head es → AllByRecursion IsU32 o
+pub body_first : (v : Version) (head : Level) (es : List Event) (o : List ℕ) → AreEventsIn v head es → AllByRecursion IsU32 o
     → (y : Cell × Value) (more : List (List ℕ)) → IsInitialCell y → map (event_line v) es ++ (order_line o ∷ end_line ∷ []) ≡ initial_line y ∷ more → ⊥
 body_first v head [] o fe fo y more fy e = order_not_initial y o fy fo (cc)
 body_first v head (x ∷ es) o fe fo y more fy e = event_not_initial v x y fe.0.0 fy (cc)
@@ -145,12 +144,11 @@ head_plain : Plain (codes "monkey-log")
 unfolding test_plain
 head_plain = plain_by_test (codes "monkey-log") refl
 
-lacks : (word : List ℕ) → Plain word → Lacks 32 word
-lacks word plain = ink_lacks_blank word (ink word plain)
+pub head_ink : (v : Version) (l : Level) → AllByRecursion Ink (codes "monkey-log" ∷ version_word v ∷ level_word l ∷ [])
+head_ink v l = (ink (codes "monkey-log") head_plain, (ink (version_word v) (version_plain v), (ink (level_word l) (level_plain l), tt)))
 
 head_cut : (v : Version) (l : Level) → cut_at 32 (head_line v l) ≡ codes "monkey-log" ∷ version_word v ∷ level_word l ∷ []
-head_cut v l = cut_joined 32 (codes "monkey-log") (version_word v ∷ level_word l ∷ [])
-    (lacks (codes "monkey-log") head_plain, (lacks (version_word v) (version_plain v), (lacks (level_word l) (level_plain l), tt)))
+head_cut v l = line_cut (codes "monkey-log") (version_word v ∷ level_word l ∷ []) (head_ink v l)
 
 pub same_head : (v w : Version) (l m : Level) → head_line v l ≡ head_line w m → (v ≡ w) × (l ≡ m)
 same_head v w l m e =

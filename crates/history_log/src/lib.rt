@@ -21,7 +21,7 @@ mod trace;
 mod version;
 mod words;
 
-pub use laws::one_word;
+pub use laws::{one_trace, one_word};
 pub use line_event::read_event;
 pub use log_fault::LogFault;
 pub use misread::Misread;

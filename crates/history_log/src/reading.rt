@@ -1,5 +1,6 @@
 // Reads a text.
 ghost use Rattle.std.specs.Prelude.{◌≡◌, ◌≢◌, ◌≤◌, ◌<◌, ◌∷◌, ◌++◌, [], ℕ, All, length, IfOk, IfErr, OnOk};
+ghost use Rattle.history_log.specs.declared.trace.Trace.{Trace};
 ghost use Rattle.history_log.specs.declared.version.Version.{Version};
 ghost use Rattle.history_log.specs.Cut.{cut_at};
 ghost use Rattle.history_log.specs.Spelling.{head_line};
@@ -21,12 +22,15 @@ use std::alloc::Global;
 /// The greatest number of bytes of a text.
 const MOST_BYTES: usize = 268_435_456;
 
-/// The history whose text the bytes are, in any version.
+/// The history whose text the bytes are, in any version. They are of no other history, and where there are at most 268,435,456
+/// of them, this one is read unless the call is out of memory.
 pub fn read(alloc: Global, bytes: &[u8]) -> Result<Trace, LogFault>
     ensures found { IfOk result (λ trace. (v : Version) × IsLog v trace bytes.now) }
     ensures no_wide { IfOk result (λ trace. All HasNoWide trace.events × All (λ x. IsNotWide x.1) trace.initial) }
     ensures short { OnOk result (length bytes.now ≤ 268435456) }
     ensures fault { IfErr result (λ e. e ≢ LogFault.Memory → HasFault bytes.now e) }
+    ensures only { (v : Version) (t : Trace) → IsLog v t bytes.now → length bytes.now ≤ 268435456
+        → IfOk result (λ trace. trace ≡ t) × IfErr result (λ e. e ≡ LogFault.Memory) }
 {
     if bytes.len() > MOST_BYTES {
         return Err(LogFault::TooLong);

@@ -14,6 +14,7 @@ use Rattle.history_log.specs.Spelling.{head_line, initial_line, event_line}
 use Rattle.history_log.specs.Faults.{HasFault}
 use Rattle.history_log.proofs.Cuts.{cut_first}
 use Rattle.history_log.proofs.ByLine.{no_feed, bad_head, whole_fault, is_log, events_not_wide, rows_not_wide}
+use Rattle.history_log.proofs.OneHistory.{same_log, fault_only, error_only}
 use Rattle.history_log.proofs.reading.read.Goals as goal
 
 pub returns-in_default-clause-fault : goal.returns-in_default-clause-fault
@@ -56,3 +57,15 @@ returns-clause-no_wide c = (
   events_not_wide c.read_lines.new.draft.version c.read_lines.new.draft.trace.level c.read_lines.new.draft.trace.events c.in_ok-read_lines.ensures.right.events,
   rows_not_wide c.read_lines.new.draft.version c.read_lines.new.draft.trace.initial c.in_ok-read_lines.ensures.right.initial,
 )
+
+pub returns-in_default-clause-only : goal.returns-in_default-clause-only
+returns-in_default-clause-only c = λ v t log short. (tt, fault_only c.args.bytes.now faults.Cut (returns-in_default-clause-fault c) v t log short)
+
+pub returns-in_default-head_of-clause-only : goal.returns-in_default-head_of-clause-only
+returns-in_default-head_of-clause-only c = λ v t log short. (tt, fault_only c.args.bytes.now faults.Version (returns-in_default-head_of-clause-fault c) v t log short)
+
+pub returns-in_err-read_lines-clause-only : goal.returns-in_err-read_lines-clause-only
+returns-in_err-read_lines-clause-only c = error_only c.args.bytes.now _ _ c.from_residual.ensures.1 (returns-in_err-read_lines-clause-fault c)
+
+pub returns-clause-only : goal.returns-clause-only
+returns-clause-only c = λ v t log short. ((same_log (returns-clause-found c).0 v c.read_lines.new.draft.trace t c.args.bytes.now (returns-clause-found c).1 log).1, tt)
