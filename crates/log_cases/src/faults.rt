@@ -43,8 +43,14 @@ fn faults_are_found(rt: HostRuntime) -> Result<(), Memory> {
         (b"monkey-log 2 rc\ninitial p.0.1 true\n", LogFault::Line(2)),
         (b"monkey-log 3 rc\norder 0\n", LogFault::Line(2)),
         (b"monkey-log 3 rc\ninitial p.0.1 false\n", LogFault::Line(2)),
-        (b"monkey-log 3 rc\ninitial p.0.1 true\ninitial p.0.1 true\n", LogFault::Line(3)),
-        (b"monkey-log 3 rc\ninitial p.0.1 true\nopen 1\ninitial p.0.2 true\n", LogFault::Line(4)),
+        (
+            b"monkey-log 3 rc\ninitial p.0.1 true\ninitial p.0.1 true\n",
+            LogFault::Line(3),
+        ),
+        (
+            b"monkey-log 3 rc\ninitial p.0.1 true\nopen 1\ninitial p.0.2 true\n",
+            LogFault::Line(4),
+        ),
         (b"monkey-log 2 rc\nend\n", LogFault::Line(2)),
         (b"monkey-log 2 rc\norder 0\norder 0\n", LogFault::Line(3)),
         (b"monkey-log 2 rc\norder 0\nend\nend\n", LogFault::Line(4)),

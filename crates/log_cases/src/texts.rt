@@ -21,10 +21,12 @@ fn prints(alloc: Global, text: &[u8], wanted: &[u8]) -> bool {
 }
 
 // The worked history of one session, in version 2.
-const WORKED: &[u8] = b"monkey-log 2 rc\nopen 1\ndefine 1 x74\nlook 1 1\nbegin 1 rc\nread 1 p.0.1 0 1 0 false\nwrite 1 p.0.1 true\nwrite 1 f.0.1.1 10\ncommit 1\nlook 1 1\nbegin 1 rc\nread 1 p.0.1 1 2 1 true\nread 1 f.0.1.1 1 1 7 10\ncommit 1\nclose 1\norder 0 1 2\nend\n";
+const WORKED: &[u8] =
+    b"monkey-log 2 rc\nopen 1\ndefine 1 x74\nlook 1 1\nbegin 1 rc\nread 1 p.0.1 0 1 0 false\nwrite 1 p.0.1 true\nwrite 1 f.0.1.1 10\ncommit 1\nlook 1 1\nbegin 1 rc\nread 1 p.0.1 1 2 1 true\nread 1 f.0.1.1 1 1 7 10\ncommit 1\nclose 1\norder 0 1 2\nend\n";
 
 // The same, in version 1.
-const WORKED_1: &[u8] = b"monkey-log 1 rc\nopen 1\ndefine 1 x74\nlook 1 1\nbegin 1\nread 1 p.0.1 0 1 0 false\nwrite 1 p.0.1 true\nwrite 1 f.0.1.1 10\ncommit 1\nlook 1 1\nbegin 1\nread 1 p.0.1 1 2 1 true\nread 1 f.0.1.1 1 1 7 10\ncommit 1\nclose 1\norder 0 1 2\nend\n";
+const WORKED_1: &[u8] =
+    b"monkey-log 1 rc\nopen 1\ndefine 1 x74\nlook 1 1\nbegin 1\nread 1 p.0.1 0 1 0 false\nwrite 1 p.0.1 true\nwrite 1 f.0.1.1 10\ncommit 1\nlook 1 1\nbegin 1\nread 1 p.0.1 1 2 1 true\nread 1 f.0.1.1 1 1 7 10\ncommit 1\nclose 1\norder 0 1 2\nend\n";
 
 #[test]
 fn the_worked_history(rt: HostRuntime) -> Result<(), Memory> {
@@ -34,7 +36,8 @@ fn the_worked_history(rt: HostRuntime) -> Result<(), Memory> {
 }
 
 // Each kind of event, with keys and values of each kind.
-const KINDS: &[u8] = b"monkey-log 2 cc\nopen 1\ndefine 1 x\nlook 1 0\nbegin 1 ra\nscan 1 0\nscan 1 4294967295 -9223372036854775808 0 9223372036854775807 x00c3bf7f\nread 1 f.0.x61.2 0 3 4294967295 unset\nown 1 p.0.-5 true\nwrite 1 f.1.-5.0 null\nwrite 1 f.1.x.0 -1\nwrite 1 f.1.0.0 x\ncommit 1\nbegin 1 cc\nrollback 1\nshow 1 17\nclose 1\norder\nend\n";
+const KINDS: &[u8] =
+    b"monkey-log 2 cc\nopen 1\ndefine 1 x\nlook 1 0\nbegin 1 ra\nscan 1 0\nscan 1 4294967295 -9223372036854775808 0 9223372036854775807 x00c3bf7f\nread 1 f.0.x61.2 0 3 4294967295 unset\nown 1 p.0.-5 true\nwrite 1 f.1.-5.0 null\nwrite 1 f.1.x.0 -1\nwrite 1 f.1.0.0 x\ncommit 1\nbegin 1 cc\nrollback 1\nshow 1 17\nclose 1\norder\nend\n";
 
 #[test]
 fn each_kind_of_event(rt: HostRuntime) -> Result<(), Memory> {
@@ -43,7 +46,8 @@ fn each_kind_of_event(rt: HostRuntime) -> Result<(), Memory> {
 }
 
 // Two rows that are there from the start.
-const ROWS: &[u8] = b"monkey-log 3 ra\ninitial p.0.1 true\ninitial p.0.2 true\ninitial f.0.1.1 10\ninitial f.0.2.1 null\norder 0\nend\n";
+const ROWS: &[u8] =
+    b"monkey-log 3 ra\ninitial p.0.1 true\ninitial p.0.2 true\ninitial f.0.1.1 10\ninitial f.0.2.1 null\norder 0\nend\n";
 
 #[test]
 fn an_initial_state(rt: HostRuntime) -> Result<(), Memory> {
