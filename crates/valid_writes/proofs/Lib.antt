@@ -1,3 +1,4 @@
+pub mod Alone
 pub mod Keeping
 pub mod Legality
 pub mod Standing

@@ -61,7 +61,7 @@ state_same old new same =
     ∙ ap (λ (h : Chronicle). state_of old.stage old.session h.events) same.history
 
 -- the own events grow with the event
-own_goes :
+pub own_goes :
     (given : Option ℕ) (from : ℕ) (events : List Event) (e : Event) → from ≤ length events →
     own_since given from (events ++ e ∷ []) ≡ own_since given from events ++ e ∷ []
 own_goes given from events e within =
@@ -69,7 +69,7 @@ own_goes given from events e within =
     ∙ ap (λ (es : List Event). given_events given (take from events) ++ es) (drop-append-le from events (e ∷ []) within)
     ∙ sym (append_assoc (given_events given (take from events)) (drop from events) (e ∷ []))
 
-own_since_same :
+pub own_since_same :
     (old new : Desk) → new.given ≡ old.given → new.from ≡ old.from →
     own_since new.given new.from new.store.history.events ≡ own_since old.given old.from new.store.history.events
 own_since_same old new given from =

@@ -1,2 +1,3 @@
 pub mod Store
 pub mod Desk
+pub mod Owning

@@ -119,9 +119,11 @@ impl SeatBook {
 }
 
 impl Book for SeatBook {
+    ghost use Rattle.valid_writes.specs.Owning.{OwnsAllThatComes, owns_all_of_none, owns_all_of_both};
+
     ghost past = { λ book. book };
 
-    ghost stays = { λ _ _. Unit {0} };
+    ghost stays = { OwnsAllThatComes };
 
     fn open(&mut self) -> Result<u32, BookFault> {
         open_session(&mut self.desk)
@@ -175,7 +177,7 @@ impl Book for SeatBook {
         show_number(&mut self.desk)
     }
 
-    ghost stays_same = { λ _. tt };
+    ghost stays_same = { owns_all_of_none };
 
-    ghost stays_trans = { λ _ _ _ _ _. tt };
+    ghost stays_trans = { owns_all_of_both };
 }

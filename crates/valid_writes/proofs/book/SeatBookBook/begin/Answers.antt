@@ -2,6 +2,7 @@ use Rattle.std.proofs.Common.{sym, subst}
 use Rattle.history_core.specs.Book.{Past, IsIdle}
 use Rattle.history_core.specs.declared.event.Event.TheVariants.{Begin}
 use Rattle.valid_writes.specs.declared.desk.Stage.TheVariants.{Pending}
+use Rattle.valid_writes.proofs.Alone.{owns_goes, owns_on}
 use Rattle.valid_writes.proofs.Told.{on_ok, stage_idle, in_session_open, adds_in_session, begin_state, err_goes}
 use Rattle.valid_writes.proofs.book.SeatBookBook.begin.Goals as goal
 
@@ -21,3 +22,8 @@ returns-clause-state c =
 
 pub returns-clause-err : goal.returns-clause-err
 returns-clause-err c = rw (← c.self.view_is) (err_goes c.self.inside.desk c.begin_transaction.new.desk c.begin_transaction.result c.begin_transaction.ensures.err)
+
+pub returns-clause-stays : goal.returns-clause-stays
+returns-clause-stays c =
+    rw (← c.self.view_is) (owns_on c.self.inside.desk c.begin_transaction.new.desk _ c.begin_transaction.result
+    (owns_goes c.self.inside.desk c.begin_transaction.new.desk _ _ _ c.self.invariant) c.begin_transaction.ensures.ok c.begin_transaction.ensures.err)

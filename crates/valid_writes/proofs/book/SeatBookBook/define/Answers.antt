@@ -1,5 +1,6 @@
 use Rattle.std.proofs.Common.{sym, subst}
 use Rattle.history_core.specs.Book.{Past, HasSession}
+use Rattle.valid_writes.proofs.Alone.{owns_answers, owns_if}
 use Rattle.valid_writes.proofs.Told.{if_ok, stage_open, defines_answers, defines_state, err_goes}
 use Rattle.valid_writes.proofs.book.SeatBookBook.define.Goals as goal
 
@@ -16,3 +17,8 @@ returns-clause-state c =
 
 pub returns-clause-err : goal.returns-clause-err
 returns-clause-err c = rw (← c.self.view_is) (err_goes c.self.inside.desk c.define_table.new.desk c.define_table.result c.define_table.ensures.err)
+
+pub returns-clause-stays : goal.returns-clause-stays
+returns-clause-stays c =
+    rw (← c.self.view_is) (owns_if c.self.inside.desk c.define_table.new.desk _ c.define_table.result
+    (λ answer answers. owns_answers c.self.inside.desk c.define_table.new.desk c.args.table.now answer c.self.invariant answers) c.define_table.ensures.ok c.define_table.ensures.err)

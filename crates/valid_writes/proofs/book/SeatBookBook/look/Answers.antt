@@ -1,5 +1,6 @@
 use Rattle.std.proofs.Common.{sym, subst}
 use Rattle.history_core.specs.Book.{Past, HasSession}
+use Rattle.valid_writes.proofs.Alone.{owns_goes, owns_if}
 use Rattle.valid_writes.proofs.Told.{if_ok, stage_open, looks_answers, looks_state, err_goes}
 use Rattle.valid_writes.proofs.book.SeatBookBook.look.Goals as goal
 
@@ -16,3 +17,8 @@ returns-clause-state c =
 
 pub returns-clause-err : goal.returns-clause-err
 returns-clause-err c = rw (← c.self.view_is) (err_goes c.self.inside.desk c.look_at_tables.new.desk c.look_at_tables.result c.look_at_tables.ensures.err)
+
+pub returns-clause-stays : goal.returns-clause-stays
+returns-clause-stays c =
+    rw (← c.self.view_is) (owns_if c.self.inside.desk c.look_at_tables.new.desk _ c.look_at_tables.result
+    (λ tables looks. owns_goes c.self.inside.desk c.look_at_tables.new.desk _ _ _ c.self.invariant looks.goes) c.look_at_tables.ensures.ok c.look_at_tables.ensures.err)

@@ -5,6 +5,7 @@ use Rattle.cell_base.specs.declared.value.Value.{Value}
 use Rattle.history_core.specs.Book.{Past, IsInTransaction, HasWrite, WritesLast}
 use Rattle.history_core.specs.declared.event.Event.TheVariants.{Own}
 use Rattle.valid_writes.specs.declared.desk.Stage.TheVariants.{Pending}
+use Rattle.valid_writes.proofs.Alone.{owns_goes, owns_if}
 use Rattle.valid_writes.proofs.Standing.{at_stage}
 use Rattle.valid_writes.proofs.Told.{if_ok, stage_pending, pending_open, writes_pending, adds_in_session, call_state, err_goes}
 use Rattle.valid_writes.proofs.Writes.{noted_wrote, own_last}
@@ -46,3 +47,8 @@ returns-clause-state c =
 
 pub returns-clause-err : goal.returns-clause-err
 returns-clause-err c = rw (← c.self.view_is) (err_goes c.self.inside.desk c.own_cell.new.desk c.own_cell.result c.own_cell.ensures.err)
+
+pub returns-clause-stays : goal.returns-clause-stays
+returns-clause-stays c =
+    rw (← c.self.view_is) (owns_if c.self.inside.desk c.own_cell.new.desk _ c.own_cell.result
+    (λ a goes. owns_goes c.self.inside.desk c.own_cell.new.desk _ _ _ c.self.invariant goes) c.own_cell.ensures.ok c.own_cell.ensures.err)

@@ -1,6 +1,7 @@
 use Rattle.std.proofs.Common.{sym, subst}
 use Rattle.history_core.specs.Book.{Past, IsInTransaction}
 use Rattle.history_core.specs.Book.{IsUnwritten}
+use Rattle.valid_writes.proofs.Alone.{owns_goes, owns_if}
 use Rattle.valid_writes.proofs.Told.{if_ok, stage_pending, reads_adds, reads_state, err_goes, unwritten_kept}
 use Rattle.valid_writes.proofs.book.SeatBookBook.read.Goals as goal
 
@@ -25,3 +26,8 @@ returns-clause-state c =
 
 pub returns-clause-err : goal.returns-clause-err
 returns-clause-err c = rw (← c.self.view_is) (err_goes c.self.inside.desk c.read_cell.new.desk c.read_cell.result c.read_cell.ensures.err)
+
+pub returns-clause-stays : goal.returns-clause-stays
+returns-clause-stays c =
+    rw (← c.self.view_is) (owns_if c.self.inside.desk c.read_cell.new.desk _ c.read_cell.result
+    (λ value reads. owns_goes c.self.inside.desk c.read_cell.new.desk _ _ _ c.self.invariant reads.goes) c.read_cell.ensures.ok c.read_cell.ensures.err)

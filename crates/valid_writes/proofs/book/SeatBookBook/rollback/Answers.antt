@@ -2,6 +2,7 @@ use Rattle.std.proofs.Common.{sym, subst}
 use Rattle.history_core.specs.Book.{Past, IsInTransaction}
 use Rattle.history_core.specs.declared.event.Event.TheVariants.{Rollback}
 use Rattle.valid_writes.specs.declared.desk.Stage.TheVariants.{InSession}
+use Rattle.valid_writes.proofs.Alone.{owns_goes}
 use Rattle.valid_writes.proofs.Told.{stage_pending, pending_open, adds_in_session}
 use Rattle.valid_writes.proofs.book.SeatBookBook.rollback.Goals as goal
 
@@ -10,3 +11,7 @@ returns-clause-adds c =
     let is = stage_pending c.self.inside.desk.stage c.self.inside.desk.session c.self.inside.desk.store.history.events
     (subst (λ (p : Past). IsInTransaction p.state) (sym c.self.view_is) c.requires) in
     rw (← c.self.view_is) (adds_in_session c.self.inside.desk c.roll_back_transaction.new.desk (λ n. Rollback n) _ InSession c.self.invariant (pending_open c.self.inside.desk.stage is) c.roll_back_transaction.ensures.adds)
+
+pub returns-clause-stays : goal.returns-clause-stays
+returns-clause-stays c =
+    rw (← c.self.view_is) (owns_goes c.self.inside.desk c.roll_back_transaction.new.desk _ _ _ c.self.invariant c.roll_back_transaction.ensures.adds)

@@ -2,6 +2,7 @@ use Rattle.std.proofs.Common.{refl, sym, subst}
 use Rattle.history_core.specs.Book.{Past, IsInTransaction}
 use Rattle.history_core.specs.declared.event.Event.TheVariants.{Scan}
 use Rattle.valid_writes.specs.declared.desk.Stage.TheVariants.{Pending}
+use Rattle.valid_writes.proofs.Alone.{owns_goes, owns_if}
 use Rattle.valid_writes.proofs.Told.{if_ok, stage_pending, pending_open, adds_in_session, call_state, err_goes}
 use Rattle.valid_writes.proofs.book.SeatBookBook.scan.Goals as goal
 
@@ -22,3 +23,8 @@ returns-clause-state c =
 
 pub returns-clause-err : goal.returns-clause-err
 returns-clause-err c = rw (← c.self.view_is) (err_goes c.self.inside.desk c.scan_table.new.desk c.scan_table.result c.scan_table.ensures.err)
+
+pub returns-clause-stays : goal.returns-clause-stays
+returns-clause-stays c =
+    rw (← c.self.view_is) (owns_if c.self.inside.desk c.scan_table.new.desk _ c.scan_table.result
+    (λ a goes. owns_goes c.self.inside.desk c.scan_table.new.desk _ _ _ c.self.invariant goes) c.scan_table.ensures.ok c.scan_table.ensures.err)

@@ -1,6 +1,7 @@
 use Rattle.std.proofs.Common.{refl, sym, subst}
 use Rattle.history_core.specs.Book.{Past, HasSession}
 use Rattle.history_core.specs.declared.event.Event.TheVariants.{Show}
+use Rattle.valid_writes.proofs.Alone.{owns_goes, owns_if}
 use Rattle.valid_writes.proofs.Told.{if_ok, stage_open, adds_in_session, call_state, err_goes}
 use Rattle.valid_writes.proofs.book.SeatBookBook.show.Goals as goal
 
@@ -18,3 +19,8 @@ returns-clause-state c =
 
 pub returns-clause-err : goal.returns-clause-err
 returns-clause-err c = rw (← c.self.view_is) (err_goes c.self.inside.desk c.show_number.new.desk c.show_number.result c.show_number.ensures.err)
+
+pub returns-clause-stays : goal.returns-clause-stays
+returns-clause-stays c =
+    rw (← c.self.view_is) (owns_if c.self.inside.desk c.show_number.new.desk _ c.show_number.result
+    (λ a goes. owns_goes c.self.inside.desk c.show_number.new.desk _ _ _ c.self.invariant goes) c.show_number.ensures.ok c.show_number.ensures.err)

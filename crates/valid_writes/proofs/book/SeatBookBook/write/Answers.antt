@@ -2,6 +2,7 @@ use Rattle.std.proofs.Common.{sym, subst}
 use Rattle.history_core.specs.Book.{Past, IsInTransaction}
 use Rattle.history_core.specs.declared.event.Event.TheVariants.{Write}
 use Rattle.valid_writes.specs.declared.desk.Stage.TheVariants.{Pending}
+use Rattle.valid_writes.proofs.Alone.{owns_goes, owns_on}
 use Rattle.valid_writes.proofs.Told.{on_ok, stage_pending, pending_open, adds_in_session, write_state, err_goes}
 use Rattle.valid_writes.proofs.book.SeatBookBook.write.Goals as goal
 
@@ -21,3 +22,8 @@ returns-clause-state c =
 
 pub returns-clause-err : goal.returns-clause-err
 returns-clause-err c = rw (← c.self.view_is) (err_goes c.self.inside.desk c.write_cell.new.desk c.write_cell.result c.write_cell.ensures.err)
+
+pub returns-clause-stays : goal.returns-clause-stays
+returns-clause-stays c =
+    rw (← c.self.view_is) (owns_on c.self.inside.desk c.write_cell.new.desk _ c.write_cell.result
+    (owns_goes c.self.inside.desk c.write_cell.new.desk _ _ _ c.self.invariant) c.write_cell.ensures.ok c.write_cell.ensures.err)

@@ -5,6 +5,7 @@ use Rattle.std.proofs.lemmas.Bool.{false≢true}
 use Rattle.cell_base.specs.declared.value.Value.{Value}
 use Rattle.cell_base.specs.declared.cell.Cell.{Cell}
 use Rattle.history_core.specs.Book.{Past, IsInTransaction}
+use Rattle.valid_writes.specs.Owning.{owns_all_of_none}
 use Rattle.valid_writes.proofs.Told.{stage_pending, writes_pending, goes_same}
 use Rattle.valid_writes.proofs.Writes.{all_other}
 use Rattle.valid_writes.proofs.book.SeatBookBook.wrote.Goals as goal
@@ -26,3 +27,6 @@ returns-clause-unwritten c = λ no.
 
 pub returns-clause-goes_on : goal.returns-clause-goes_on
 returns-clause-goes_on c = rw (← c.self.view_is) (goes_same c.self.inside.desk c.self.inside.desk record { history = refl; given = refl; from = refl; session = refl; stands = refl })
+
+pub returns-clause-stays : goal.returns-clause-stays
+returns-clause-stays c = rw (← c.self.view_is) (owns_all_of_none _)
