@@ -11,8 +11,8 @@ use choice_stream::ListWords;
 use history_core::InitialState;
 use link_traits::{Host, HostFault, Link};
 use session_core::{End, Served, serve_link};
-use solo_book::SoloBook;
 use std::alloc::Global;
+use valid_writes::{SeatBook, Store};
 
 const USAGE: &str =
     "usage: monkeydb pipe LEVEL WORDS | serve [OPTIONS] | check PATH | sim LEVEL SEED SESSIONS QUERIES\n";
@@ -38,7 +38,7 @@ fn status_for(served: Served) -> Status
 fn serve_alone<L: Link>(
     alloc: Global,
     level: Level,
-    book: &mut SoloBook,
+    book: &mut SeatBook,
     link: &mut L,
     words: Items<u32>,
 ) -> Served
@@ -59,8 +59,8 @@ fn pipe<H: Host>(alloc: Global, host: &mut H, command: PipeCommand) -> Status
     ensures none_out { objects_out (H.hosted host.new) ≡ 0 }
 {
     let PipeCommand { level, words } = command;
-    let mut book = match SoloBook::new(alloc, level, InitialState::empty(alloc)) {
-        Ok(book) => book,
+    let mut book = match Store::new(alloc, level, InitialState::empty(alloc)) {
+        Ok(store) => store.seat(None),
         Err(Memory) => return Status { code: 5 },
     };
     let mut link = match host.standard_link() {

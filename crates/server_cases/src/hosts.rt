@@ -9,8 +9,8 @@ use history_core::InitialState;
 use link_traits::{MemHost, MemLink, MemPlan, MemReturned, MemSink};
 use monkey_server::monkey_main;
 use session_core::serve_link;
-use solo_book::SoloBook;
 use std::alloc::Global;
+use valid_writes::Store;
 
 fn plan(alloc: Global, piece: u32) -> MemPlan
     ensures { result.piece ≡ piece }
@@ -111,7 +111,7 @@ pub fn prints(alloc: Global, level: &[u8], list: &[u8], line: &[u8]) -> Result<b
 
 // The number of events of a session with these words at Read Committed.
 pub fn events(alloc: Global, words: &[u32], input: &[u8]) -> Result<usize, Memory> {
-    let mut book = SoloBook::new(alloc, Level::Rc, InitialState::empty(alloc))?;
+    let mut book = Store::new(alloc, Level::Rc, InitialState::empty(alloc))?.seat(None);
     let mut link = link(alloc, input, 64)?;
     let mut words = ListWords::new(Items::from_slice(alloc, words)?);
     serve_link(alloc, Level::Rc, &mut book, &mut link, &mut words);

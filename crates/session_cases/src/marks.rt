@@ -8,9 +8,9 @@ use cell_base::{Items, Level, Memory};
 use choice_stream::ListWords;
 use history_core::InitialState;
 use session_core::{End, serve_link};
-use solo_book::SoloBook;
 use std::alloc::Global;
 use std::test::Fail;
+use valid_writes::{SeatBook, Store};
 
 /// A query without a statement, of 8 bytes. It is told EmptyQueryResponse and ReadyForQuery: 5 and 6 bytes.
 const EMPTY: &[u8] = b"Q\0\0\0\x07  \0";
@@ -35,10 +35,10 @@ const MARKS: &[(usize, usize)] = &[
 ];
 
 // The book of a new history without a row.
-fn new_book(alloc: Global) -> Result<SoloBook, Memory>
+fn new_book(alloc: Global) -> Result<SeatBook, Memory>
     ensures { IfOk result (λ book. book.state ≡ no_session) }
 {
-    SoloBook::new(alloc, Level::Rc, InitialState::empty(alloc))
+    Ok(Store::new(alloc, Level::Rc, InitialState::empty(alloc))?.seat(None))
 }
 
 #[test]

@@ -19,9 +19,9 @@ use choice_stream::ListWords;
 use history_core::{Event, InitialState};
 use link_traits::MemLink;
 use session_core::{End, Served, serve_link};
-use solo_book::SoloBook;
 use std::alloc::{AllocError, Global};
 use std::test::Fail;
+use valid_writes::{SeatBook, Store};
 
 fn shown(alloc: Global, event: &Event) -> Result<String, AllocError> {
     let mut out = String::new(alloc);
@@ -39,10 +39,10 @@ fn are_shown(alloc: Global, events: &[Event], lines: &[&str]) -> Result<bool, Al
 }
 
 // The book of a new history without a row.
-fn new_book(alloc: Global, level: Level) -> Result<SoloBook, Memory>
+fn new_book(alloc: Global, level: Level) -> Result<SeatBook, Memory>
     ensures { IfOk result (λ book. book.state ≡ no_session) }
 {
-    SoloBook::new(alloc, level, InitialState::empty(alloc))
+    Ok(Store::new(alloc, level, InitialState::empty(alloc))?.seat(None))
 }
 
 // Serves the row's client at a level over a new history, and answers whether its events and its end are the row's.

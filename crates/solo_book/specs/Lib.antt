@@ -1,4 +1,0 @@
-pub mod Passed
-pub mod Index
-pub mod Keys
-pub mod Desk
