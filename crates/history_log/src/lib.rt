@@ -26,6 +26,7 @@ pub use line_event::read_event;
 pub use log_fault::LogFault;
 pub use misread::Misread;
 pub use printing::print;
+pub use puts::{put, put_cell, put_number};
 pub use reading::read;
 pub use trace::Trace;
 pub use version::Version;

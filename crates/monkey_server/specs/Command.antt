@@ -23,6 +23,10 @@ Lists text [] = ⊥
 Lists text (n ∷ []) = IsWord text n
 Lists text (n ∷ (m ∷ more)) = (front : List ℕ) × (rest : List ℕ) × (text ≡ front ++ 44 ∷ rest) × IsWord front n × Lists rest (m ∷ more)
 
+-- `check PATH`
+abbrev pub IsCheck : List (List ℕ) → List ℕ → Type 0
+IsCheck args path = args ≡ codes "check" ∷ path ∷ []
+
 -- `pipe LEVEL WORDS`
 abbrev pub IsPipe : List (List ℕ) → Level → List ℕ → Type 0
 IsPipe args level words = (list : List ℕ) × (args ≡ codes "pipe" ∷ level_word level ∷ list ∷ []) × Lists list words

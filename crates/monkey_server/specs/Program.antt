@@ -1,8 +1,7 @@
 -- What the program does in a host.
 use Rattle.std.specs.Prelude.{◌≡◌, ℕ, List, [], ◌∷◌, ◌++◌, codes, None, Some, IfSome, Bool, true, false, ◌⊎◌}
 use Rattle.cell_base.specs.declared.level.Level.{Level}
-use Rattle.link_traits.specs.Faults.{Rose}
-use Rattle.link_traits.specs.Traffic.{Both, Wrote, WrotePart, Sight}
+use Rattle.link_traits.specs.Traffic.{Sight}
 use Rattle.link_traits.specs.Host.{Hosted, standard_link_called, link_returned, call_failed, link_failed}
 use Rattle.history_core.specs.Chronicle.{IsLegalChronicle}
 use Rattle.history_core.specs.Book.{Past, no_session}
@@ -12,7 +11,9 @@ use Rattle.session_core.specs.declared.served.Served.{Served}
 use Rattle.session_core.specs.Record.{events_of}
 use Rattle.session_core.specs.Serve.{scene_of, Account, Serves}
 use Rattle.choice_stream.specs.Choices.{DrawsFirst}
-use Rattle.monkey_server.specs.Command.{IsPipe}
+use Rattle.host_calls.specs.Printing.{Printed}
+use Rattle.check_command.specs.Checks.{Checks}
+use Rattle.monkey_server.specs.Command.{IsPipe, IsCheck}
 
 abbrev pub usage_line : List ℕ
 usage_line = codes "usage: monkeydb pipe LEVEL WORDS | serve [OPTIONS] | check PATH | sim LEVEL SEED SESSIONS QUERIES" ++ 10 ∷ []
@@ -67,27 +68,19 @@ pub record Piped (level : Level) (words : List ℕ) (before : Hosted) (code : �
 abbrev pub Linkless : Hosted → ℕ → Hosted → Type 0
 Linkless before code after = (code ≡ 6) × (after ≡ call_failed (standard_link_called None) (link_failed before.faults) before)
 
--- what was written of a line, and the status: this one where the line was written whole
-abbrev pub Prints : List ℕ → ℕ → Sight → ℕ → Sight → Type 0
-Prints line whole o code p =
-    ((code ≡ whole) × Both (Wrote line) o.traffic p.traffic)
-    ⊎ ((code ≡ 4) × Both (WrotePart line) o.traffic p.traffic × Rose o.write_faults p.write_faults)
-
--- a line was printed to the output of the host
-pub record Printed (line : List ℕ) (whole : ℕ) (before : Hosted) (code : ℕ) (after : Hosted) : Type 0 where
-  pub old_out : Sight
-  pub new_out : Sight
-  pub old_out_is : before.out ≡ Some old_out
-  pub after_is : after ≡ record before { out = Some new_out }
-  pub prints : Prints line whole old_out code new_out
-
 -- `pipe LEVEL WORDS`
 abbrev pub Pipes : Level → List ℕ → Hosted → ℕ → Hosted → Type 0
 Pipes level words before code after = Piped level words before code after ⊎ (Linkless before code after ⊎ Untouched before code after)
+
+-- the words are no command
+pub record IsNoCommand (args : List (List ℕ)) : Type 0 where
+  pub no_pipe : (level : Level) (words : List ℕ) → ¬ (IsPipe args level words)
+  pub no_check : (path : List ℕ) → ¬ (IsCheck args path)
 
 -- what the program does with these words
 abbrev pub Does : List (List ℕ) → Hosted → ℕ → Hosted → Type 0
 Does args before code after =
     ((level : Level) × (words : List ℕ) × IsPipe args level words × Pipes level words before code after)
-    ⊎ ((((level : Level) (words : List ℕ) → ¬ (IsPipe args level words)) × Printed usage_line 2 before code after)
-    ⊎ Untouched before code after)
+    ⊎ (((path : List ℕ) × IsCheck args path × Checks path before code after)
+    ⊎ ((IsNoCommand args × Printed usage_line 2 before code after)
+    ⊎ Untouched before code after))

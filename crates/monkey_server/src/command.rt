@@ -1,8 +1,8 @@
-// The command `pipe LEVEL WORDS`, read from the words that the program is started with.
+// The commands `pipe LEVEL WORDS` and `check PATH`, read from the words that the program is started with.
 ghost use Rattle.std.specs.Prelude.{◌≡◌, ◌≢◌, ◌≤◌, ◌<◌, ◌+◌, ◌*◌, ◌-◌, ◌↔◌, ℕ, List, [], ◌∷◌, ◌++◌, codes, Contains, IfOk, IfSome, IsNone, IsTrue, Ok, None};
 ghost use Rattle.cell_base.specs.declared.level.Level.{Level as Served};
 ghost use Rattle.block_machine.specs.Settings.{level_word};
-ghost use Rattle.monkey_server.specs.Command.{IsDigit, IsWord, Lists, IsPipe};
+ghost use Rattle.monkey_server.specs.Command.{IsDigit, IsWord, Lists, IsPipe, IsCheck};
 
 use block_machine::level_named;
 use cell_base::{Items, Level, Memory, Text};
@@ -95,6 +95,20 @@ fn parts_of(args: &[Text]) -> Option<(Level, &[u8])>
     }
     let level = level_of(level)?;
     Some((level, list.bytes()))
+}
+
+/// The path of `check PATH`. `None` comes exactly where the words are no such command.
+pub fn check_path(args: &[Text]) -> Option<&Text>
+    ensures some { IfSome result (λ path. IsCheck args.now path.now) }
+    ensures none { IsNone result → (path : List ℕ) → ¬ (IsCheck args.now path) }
+{
+    let [check, path] = args else {
+        return None;
+    };
+    if !is_word(check, b"check") {
+        return None;
+    }
+    Some(path)
 }
 
 /// The command `pipe LEVEL WORDS`.

@@ -4,11 +4,12 @@ ghost use Rattle.link_traits.specs.Host.{objects_out};
 ghost use Rattle.monkey_server.specs.Program.{no_past, status_of, ServesAlone, Pipes, Does};
 ghost use Rattle.link_traits.specs.Traffic.{sight_of};
 
-use crate::command::{PipeCommand, command_of};
-use crate::printing::{Status, print};
+use crate::command::{PipeCommand, check_path, command_of};
 use cell_base::{Items, Level, Memory, Text};
+use check_command::check_file;
 use choice_stream::ListWords;
 use history_core::InitialState;
+use host_calls::{Status, print};
 use link_traits::{Host, HostFault, Link};
 use session_core::{End, Served, serve_link};
 use std::alloc::Global;
@@ -75,16 +76,20 @@ fn pipe<H: Host>(alloc: Global, host: &mut H, command: PipeCommand) -> Status
 
 /// Does all that the program does with the words of its command line, its own name left out. `pipe LEVEL WORDS` serves one
 /// session over the host's standard link, at Read Committed (`rc`), Read Atomic (`ra`) or Causal Consistency (`cc`), with the numbers of
-/// WORDS as the choice words and 0 after them; other words print the usage line.
+/// WORDS as the choice words and 0 after them; `check PATH` reads the log of a file and prints `ok`, the first breach of its history, or why
+/// it is no log; other words print the usage line.
 ///
-/// The status is 0 where the session ended well or was a cancel request; 1 where its input was cut short or was no messages, where its
-/// start was refused, or where more bytes were wanted than are read; 2 for the usage line; 3 where reading failed; 4 where writing failed;
-/// 5 where memory ran out; and 6 where the host counted that it gave no link.
+/// The status is 0 where the session ended well or was a cancel request, and for `ok`; 1 where its input was cut short or was no messages,
+/// where its start was refused, or where more bytes were wanted than are read, and for a breach or a fault of a log; 2 for the usage line;
+/// 3 where reading failed; 4 where writing failed; 5 where memory ran out; and 6 where the host counted that it gave no link or file.
 pub fn monkey_main<H: Host>(alloc: Global, host: &mut H, words: &[Text]) -> Status
     requires { objects_out (H.hosted host.old) ≡ 0 }
     ensures does { Does words.now (H.hosted host.old) result.code (H.hosted host.new) }
     ensures none_out { objects_out (H.hosted host.new) ≡ 0 }
 {
+    if let Some(path) = check_path(words) {
+        return check_file(alloc, host, path);
+    }
     match command_of(alloc, words) {
         Ok(Some(command)) => pipe(alloc, host, command),
         Ok(None) => print(host, USAGE.as_bytes(), Status { code: 2 }),

@@ -1,11 +1,11 @@
 -- Two runs of the program with the same words and the same input, which end well or by their client's fault, are alike.
-use Rattle.std.proofs.Common.{◌≡◌, inl, inr, ℕ, ◌<◌, ◌≤◌, List, Option, Some, arith, refl, sym, ◌∙◌, ap, subst}
+use Rattle.std.proofs.Common.{◌≡◌, inl, inr, ℕ, ◌<◌, ◌≤◌, List, length, Option, Some, arith, refl, sym, ◌∙◌, ap, subst}
 use Rattle.std.specs.Prelude.{IfSome}
 use Rattle.cell_base.specs.declared.level.Level.{Level}
 use Rattle.link_traits.specs.Traffic.{Sight}
 use Rattle.link_traits.specs.Host.{Hosted}
-use Rattle.monkey_server.specs.Command.{IsPipe}
-use Rattle.monkey_server.specs.Program.{Piped, Untouched, Prints, Pipes, Does, usage_line}
+use Rattle.monkey_server.specs.Command.{IsPipe, IsCheck}
+use Rattle.monkey_server.specs.Program.{Piped, Untouched, Pipes, Does}
 use Rattle.one_history.specs.Laws.{ProgramRunsAreAlike}
 use Rattle.one_history.proofs.Commands.{pipe_same}
 use Rattle.one_history.proofs.PipedRuns.{piped_runs}
@@ -18,21 +18,27 @@ not_small code n is large small = omega (arith, is, large, small)
 untouched_large : (before after : Hosted) (code : ℕ) → Untouched before code after → code < 2 → ⊥
 untouched_large before after code u small = not_small code 5 u.0 (omega arith) small
 
-prints_large : (line : List ℕ) (o p : Sight) (code : ℕ) → Prints line 2 o code p → code < 2 → ⊥
-prints_large line o p code (inl whole) small = not_small code 2 whole.0 (omega arith) small
-prints_large line o p code (inr part) small = not_small code 4 part.0 (omega arith) small
-
 piped_of : (level : Level) (words : List ℕ) (before after : Hosted) (code : ℕ) → Pipes level words before code after → code < 2 → Piped level words before code after
 piped_of level words before after code (inl piped) small = piped
 piped_of level words before after code (inr (inl linkless)) small = absurd (not_small code 6 linkless.0 (omega arith) small)
 piped_of level words before after code (inr (inr untouched)) small = absurd (untouched_large before after code untouched small)
 
-served_of : (args : List (List ℕ)) (before after : Hosted) (code : ℕ) → Does args before code after → code < 2 →
-    (level : Level) × (words : List ℕ) × IsPipe args level words × Piped level words before code after
-served_of args before after code (inl (level, words, is, pipes)) small = (level, words, is, piped_of level words before after code pipes small)
-served_of args before after code (inr (inl (never, printed))) small =
-    absurd (prints_large usage_line printed.old_out printed.new_out code printed.prints small)
-served_of args before after code (inr (inr untouched)) small = absurd (untouched_large before after code untouched small)
+-- no words are both commands
+no_check : (args : List (List ℕ)) (level : Level) (words path : List ℕ) → IsPipe args level words → IsCheck args path → ⊥
+no_check args level words path (list, is, lists) check =
+    let three : length args ≡ 3 = ap (λ (xs : List (List ℕ)). length xs) is in
+    let two : length args ≡ 2 = ap (λ (xs : List (List ℕ)). length xs) check in
+    omega (arith, three, two)
+
+served_of : (args : List (List ℕ)) (level : Level) (words : List ℕ) (before after : Hosted) (code : ℕ) → IsPipe args level words →
+    Does args before code after → code < 2 → Piped level words before code after
+served_of args level words before after code is (inl (other, others, also, pipes)) small =
+    let same = pipe_same args other level others words also is in
+    subst (λ (l : Level). Piped l words before code after) same.0
+    (subst (λ (ws : List ℕ). Piped other ws before code after) same.1 (piped_of other others before after code pipes small))
+served_of args level words before after code is (inr (inl (path, check, checks))) small = absurd (no_check args level words path is check)
+served_of args level words before after code is (inr (inr (inl (never, printed)))) small = absurd (never.no_pipe level words is)
+served_of args level words before after code is (inr (inr (inr untouched))) small = absurd (untouched_large before after code untouched small)
 
 -- ---- two runs
 
@@ -41,16 +47,11 @@ given_is : (told : Option Sight) (given next : Sight) → told ≡ Some next →
 given_is told given next is same = subst (λ (o : Option Sight). IfSome o (λ (s : Sight). given ≡ s)) is same
 
 pub program_runs : ProgramRunsAreAlike
-program_runs args before after then later code status input output does also offers offer small smaller =
-    let first = served_of args before after code does small in
-    let second = served_of args then later status also smaller in
-    let same = pipe_same args second.0 first.0 second.1 first.1 second.2 first.2 in
-    let a : Piped first.0 first.1 before code after = first.3 in
-    let b : Piped first.0 first.1 then status later =
-    subst (λ (level : Level). Piped level first.1 then status later) same.0
-    (subst (λ (words : List ℕ). Piped second.0 words then status later) same.1 second.3) in
+program_runs args level words before after then later code status input output pipe does also offers offer small smaller =
+    let a : Piped level words before code after = served_of args level words before after code pipe does small in
+    let b : Piped level words then status later = served_of args level words then later status pipe also smaller in
     let is =
-    piped_runs first.0 first.1 before after then later code status offers.traffic offer.traffic a b
+    piped_runs level words before after then later code status offers.traffic offer.traffic a b
     (ap (λ (s : Sight). s.traffic) (given_is before.next_link a.given offers.next offers.next_is a.told) ∙ offers.traffic_is)
     (ap (λ (s : Sight). s.traffic) (given_is then.next_link b.given offer.next offer.next_is b.told) ∙ offer.traffic_is)
     (offers.left_is ∙ sym offer.left_is) (offers.written_is ∙ sym offer.written_is) small smaller in (

@@ -8,5 +8,5 @@ returns g c =
     (sight_of g.L.Sides.traffic g.L.Sides.read_faults g.L.Sides.write_faults c.args.link.now) c.serve_link-served.result
     c.serve_link-served.new.book c.serve_link-served.new.words
     (sight_of g.L.Sides.traffic g.L.Sides.read_faults g.L.Sides.write_faults c.serve_link-served.new.link)
-    c.requires c.new-words.ensures c.serve_link-served.ensures.served c.history.ensures.own c.history.ensures.legal
+    c.requires c.new-words.ensures c.serve_link-served.ensures.served c.serve_link-served.ensures.stays c.history.ensures.legal
     c.serve_link-served.ensures.no_session
