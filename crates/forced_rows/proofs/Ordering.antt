@@ -1,18 +1,19 @@
 -- The least order by what reaches what.
-use Rattle.std.proofs.Common.{◌≡◌, ℕ, zero, suc, ◌+◌, ◌<◌, ◌≤◌, List, [], ◌∷◌, ◌↔◌, Bool, false, length, get_or, arith, sym, subst, inl, inr}
+use Rattle.std.proofs.Common.{◌≡◌, ℕ, zero, suc, ◌+◌, ◌<◌, ◌≤◌, List, [], ◌∷◌, ◌↔◌, ◌⊎◌, Bool, Some, false, length, get_or, arith, refl, sym, ◌∙◌, ap, subst, inl, inr}
 use Rattle.std.specs.List.{Contains}
 use Rattle.std.proofs.lemmas.List.Elements.{All-contains, Contains-get_or}
-use Rattle.std.proofs.lemmas.Bool.{cases_Bool}
+use Rattle.std.proofs.lemmas.Option.{slice_get-get_or}
+use Rattle.std.proofs.lemmas.Bool.{cases_Bool, cases_order}
 use Rattle.graph_base.specs.declared.Edge.{Edge}
 use Rattle.graph_base.specs.Walk.{IsInRange, IsWalk, Reaches}
 use Rattle.graph_base.specs.Chain.{Chained}
 use Rattle.graph_base.specs.Closure.{HasEdge, SameClosure}
-use Rattle.graph_base.specs.Order.{place_of, IsLeastOrder}
-use Rattle.graph_base.proofs.Chains.{chained_rises, chained_wider}
+use Rattle.graph_base.specs.Order.{place_of, HoldsEachOnce, IsLeastOrder, IsLower}
+use Rattle.graph_base.proofs.Chains.{chained_one, chained_rises, chained_wider}
 use Rattle.graph_base.proofs.Walks.{reaches_edge}
 use Rattle.graph_base.proofs.Closures.{reaches_is_chain, reaches_in_range}
-use Rattle.graph_base.proofs.Places.{Contains-from_place}
-use Rattle.graph_base.proofs.LeastOrders.{last_edge, least_kept}
+use Rattle.graph_base.proofs.Places.{Contains-from_place, place_of-first}
+use Rattle.graph_base.proofs.LeastOrders.{last_edge, reaches_rises, least_first, least_kept}
 use Rattle.order_witness.specs.Marks.{IsMarked, IsUnmarked, IsFree}
 use Rattle.order_witness.proofs.Placing.{IsPlacing, IsMarked-from_contained, HasLeastOrder-from_placing}
 use Rattle.cell_base.specs.declared.cell.Cell.{Cell}
@@ -22,8 +23,9 @@ use Rattle.history_core.specs.Events.{begun}
 use Rattle.history_core.specs.Relations.{Meets}
 use Rattle.history_core.specs.Legal.{IsLegal}
 use Rattle.history_core.specs.Forced.{IsForced}
-use Rattle.history_core.proofs.Prefixes.{legal_consistent}
+use Rattle.history_core.proofs.Prefixes.{legal_consistent, found_once}
 use Rattle.saturation.specs.Laws.{AreForced}
+use Rattle.saturation.proofs.Decides.{initial_ordered}
 use Rattle.forced_rows.specs.declared.rows.ForcedRows.{ForcedRows}
 use Rattle.forced_rows.specs.Rows.{AreRowsOf}
 use Rattle.forced_rows.specs.Marks.{MayBeMarked}
@@ -112,11 +114,12 @@ same_as_forced events pairs edges closes are a b = (
       ((reaches_is_chain edges a b).0 on)),
 )
 
-pub order_done :
+-- all that may be placed are: the order is the least one of the rows
+pub least_done :
     (initial : List (Cell × Value)) (events : List Event) (rows : ForcedRows) (marks : List Bool) (order : List ℕ) → IsLegal initial events →
     AreRowsOf events rows → IsInRange rows.reach.size rows.reach.pairs → IsPlacing rows.reach.size rows.reach.pairs marks order →
-    ((m : ℕ) → MayBeMarked rows.reach.pairs marks m → ⊥) → (edges : List Edge) → AreForced events edges → IsLeastOrder (begun events + 1) edges order
-order_done initial events rows marks order legal are in_range placing none edges forced =
+    ((m : ℕ) → MayBeMarked rows.reach.pairs marks m → ⊥) → IsLeastOrder rows.reach.size rows.reach.pairs order
+least_done initial events rows marks order legal are in_range placing none =
     let pairs = rows.reach.pairs in
     let consistent = legal_consistent initial events legal in
     let rank = place_of consistent.0 in
@@ -125,6 +128,60 @@ order_done initial events rows marks order legal are in_range placing none edges
     let long = placing.length_marks in
     let range : IsInRange (length marks) pairs = subst (λ (n : ℕ). IsInRange n pairs) (sym long) in_range in
     let all = λ (n : ℕ) (small : n < rows.reach.size). all_marked pairs marks rank range rises none n (omega arith) in
-    let least : IsLeastOrder rows.reach.size pairs order = (HasLeastOrder-from_placing rows.reach.size pairs marks order placing all in_range).is in
+    (HasLeastOrder-from_placing rows.reach.size pairs marks order placing all in_range).is
+
+-- it is the least one of each list of the forced pairs
+pub least_of_forced :
+    (events : List Event) (rows : ForcedRows) (order : List ℕ) → AreRowsOf events rows → IsLeastOrder rows.reach.size rows.reach.pairs order →
+    (edges : List Edge) → AreForced events edges → IsLeastOrder (begun events + 1) edges order
+least_of_forced events rows order are least edges forced =
     subst (λ (n : ℕ). IsLeastOrder n edges order) are.size
-    (least_kept rows.reach.size pairs edges (same_as_forced events pairs edges are.stand.forced forced) order least)
+    (least_kept rows.reach.size rows.reach.pairs edges (same_as_forced events rows.reach.pairs edges are.stand.forced forced) order least)
+
+-- ---- the orders that meet the history
+
+-- an order along which each forced pair rises meets the history
+meets_from_rises :
+    (events : List Event) (order : List ℕ) → HoldsEachOnce (begun events + 1) order →
+    ((a b : ℕ) → IsForced events a b → place_of order a < place_of order b) → Meets events order
+meets_from_rises events order holds rises =
+    let some : 0 < length order = let h = found_once (begun events + 1) order holds 0 (omega arith) in omega arith in
+    let small : get_or order 0 0 < begun events + 1 =
+    All-contains (λ n. n < begun events + 1) order (get_or order 0 0) holds.below (Contains-get_or order 0 0 some) in
+    let at_front : place_of order (get_or order 0 0) ≤ 0 = place_of-first order 0 (get_or order 0 0) 0 some refl in
+    record {
+      holds = holds;
+      first = elim (cases_order (get_or order 0 0) 0) [
+        | inl initial ↦ slice_get-get_or order 0 0 some ∙ ap (λ (n : ℕ). Some n) initial
+        | inr apart ↦ elim apart [
+          | inl less ↦ absurd (omega arith)
+          | inr more ↦
+              let up : place_of order 0 < place_of order (get_or order 0 0) =
+              rises 0 (get_or order 0 0) (inl (inl (initial_ordered events 0 (get_or order 0 0) refl more (omega arith)))) in
+              absurd (omega arith)
+        ]
+      ];
+      precedes = λ a b p. rises a b (inl p);
+      demands = λ a b d. rises a b (inr d);
+    }
+
+pub least_meets :
+    (events : List Event) (rows : ForcedRows) (order : List ℕ) → AreRowsOf events rows → IsLeastOrder rows.reach.size rows.reach.pairs order →
+    Meets events order
+least_meets events rows order are least =
+    meets_from_rises events order (subst (λ (n : ℕ). HoldsEachOnce n order) are.size least.extends.holds)
+    (λ a b forced. reaches_rises order rows.reach.pairs least.extends.extends a b ((are.stand.forced a b).1 (chained_one (IsForced events) a b forced)))
+
+-- no order that meets the history is lower
+pub least_is_first :
+    (events : List Event) (rows : ForcedRows) (order : List ℕ) → AreRowsOf events rows → IsLeastOrder rows.reach.size rows.reach.pairs order →
+    (other : List ℕ) → Meets events other → (order ≡ other) ⊎ IsLower order other
+least_is_first events rows order are least other meets =
+    let pairs = rows.reach.pairs in
+    least_first rows.reach.size pairs order other least record {
+      holds = subst (λ (n : ℕ). HoldsEachOnce n other) (sym are.size) meets.holds;
+      extends = λ k d small.
+          let e : Edge = get_or pairs k d in
+          chained_rises (IsForced events) (place_of other) (forced_rises events other meets) e.before e.after
+          ((are.stand.forced e.before e.after).0 (reaches_edge pairs e (Contains-get_or pairs k d small)));
+    }

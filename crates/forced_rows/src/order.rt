@@ -1,10 +1,11 @@
 // The least order of the forced pairs.
-ghost use Rattle.std.specs.Prelude.{◌≡◌, ◌≤◌, ◌<◌, ◌+◌, ◌↔◌, ℕ, List, length, IsTrue, IfSome, IfNone, IfOk};
+ghost use Rattle.std.specs.Prelude.{◌≡◌, ◌≤◌, ◌<◌, ◌+◌, ◌↔◌, ◌⊎◌, ℕ, List, length, IsTrue, IfSome, IfNone, IfOk};
 ghost use Rattle.graph_base.specs.declared.Edge.{Edge};
 ghost use Rattle.graph_base.specs.Walk.{Reaches};
-ghost use Rattle.graph_base.specs.Order.{IsLeastOrder};
+ghost use Rattle.graph_base.specs.Order.{IsLeastOrder, IsLower};
 ghost use Rattle.order_witness.specs.Marks.{IsUnmarked};
 ghost use Rattle.history_core.specs.Events.{begun};
+ghost use Rattle.history_core.specs.Relations.{Meets};
 ghost use Rattle.history_core.specs.Legal.{IsLegal};
 ghost use Rattle.saturation.specs.Laws.{AreForced};
 ghost use Rattle.forced_rows.specs.Rows.{AreRowsOf};
@@ -65,13 +66,15 @@ fn next_marked(reach: &Reach, marks: &[bool]) -> Option<u32>
 }
 
 impl ForcedRows {
-    /// The least order of the pairs that the history forces: at each place stands the least transaction of which all that are before it have been
-    /// placed. An error is out of memory.
+    /// The first of all orders that meet the history, compared number by number. It is the least order of the pairs that the history forces: at
+    /// each place stands the least transaction of which all that are before it have been placed. An error is out of memory.
     pub fn order(&self, alloc: Global, history: &IndexedHistory) -> Result<Vec<u32>, Memory>
         requires kept { AreRowsOf history.now.events self.now }
         requires legal { IsLegal history.now.initial history.now.events }
-        ensures { (edges : List Edge) → AreForced history.now.events edges →
-            IfOk result (λ order. IsLeastOrder (begun history.now.events + 1) edges order.items) }
+        ensures meets { IfOk result (λ order. Meets history.now.events order.items) }
+        ensures first { IfOk result (λ order. (other : List ℕ) → Meets history.now.events other → (order.items ≡ other) ⊎ IsLower order.items other) }
+        ensures least { IfOk result (λ order. (edges : List Edge) → AreForced history.now.events edges →
+            IsLeastOrder (begun history.now.events + 1) edges order.items) }
     {
         let size = self.reach.size();
         let mut marks = vec![in alloc; false; size as usize]?;

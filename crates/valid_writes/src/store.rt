@@ -1,12 +1,13 @@
 // The store, as its callers use it.
-ghost use Rattle.std.specs.Prelude.{◌≡◌, ◌≤◌, ◌<◌, ◌+◌, ◌↔◌, ℕ, List, [], length, Some, IfOk, IfSome, IfNone};
+ghost use Rattle.std.specs.Prelude.{◌≡◌, ◌≤◌, ◌<◌, ◌+◌, ◌↔◌, ◌⊎◌, ℕ, List, [], length, Some, IfOk, IfSome, IfNone};
 ghost use Rattle.graph_base.specs.declared.Edge.{Edge};
 ghost use Rattle.graph_base.specs.Walk.{Reaches};
-ghost use Rattle.graph_base.specs.Order.{IsLeastOrder};
+ghost use Rattle.graph_base.specs.Order.{IsLeastOrder, IsLower};
 ghost use Rattle.saturation.specs.Laws.{AreForced};
 ghost use Rattle.graph_base.specs.Chain.{Chained};
 ghost use Rattle.history_core.specs.Events.{begun};
 ghost use Rattle.history_core.specs.Transactions.{HasPending};
+ghost use Rattle.history_core.specs.Relations.{Meets};
 ghost use Rattle.history_core.specs.Legal.{IsOffer, IsOpen};
 ghost use Rattle.history_core.specs.Forced.{IsForced};
 ghost use Rattle.history_core.specs.Chronicle.{IsLegalChronicle};
@@ -92,9 +93,12 @@ impl Store {
         self.kept.rows.reach()
     }
 
-    /// The least order that keeps the forced pairs, compared number by number. An error is out of memory.
+    /// The first of all orders that meet the history, compared number by number, which is the least order of its forced pairs. An error is out
+    /// of memory.
     pub fn order(&self) -> Result<Vec<u32>, Memory>
-        ensures { (edges : List Edge) → AreForced self.now.events edges → IfOk result (λ order. IsLeastOrder (begun self.now.events + 1) edges order.items) }
+        ensures meets { IfOk result (λ order. Meets self.now.events order.items) }
+        ensures first { IfOk result (λ order. (other : List ℕ) → Meets self.now.events other → (order.items ≡ other) ⊎ IsLower order.items other) }
+        ensures least { IfOk result (λ order. (edges : List Edge) → AreForced self.now.events edges → IsLeastOrder (begun self.now.events + 1) edges order.items) }
     {
         self.kept.rows.order(self.kept.alloc, &self.kept.history)
     }

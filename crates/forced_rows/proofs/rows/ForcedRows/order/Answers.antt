@@ -1,5 +1,5 @@
 use Rattle.order_witness.proofs.Placing.{IsPlacing-push}
-use Rattle.forced_rows.proofs.Ordering.{free_of, least_free, order_done}
+use Rattle.forced_rows.proofs.Ordering.{free_of, least_free, least_done, least_of_forced, least_meets, least_is_first}
 use Rattle.forced_rows.proofs.rows.ForcedRows.order.Goals as goal
 
 pub loop-number-preserved : goal.loop-number-preserved
@@ -15,5 +15,14 @@ loop-number-preserved c =
 pub returns : goal.returns
 returns c =
     let none = rw c.deref.ensures.value at c.in_default.ensures.none in
-    order_done c.args.history.now.initial c.args.history.now.events c.args.self.now c.loop-number.marks.items c.loop-number.order.items c.requires.legal
-    c.requires.kept c.size-size.ensures.in_range c.loop-number.invariant none
+    let events = c.args.history.now.events in
+    let rows = c.args.self.now in
+    let order = c.loop-number.order.items in
+    let least =
+    least_done c.args.history.now.initial events rows c.loop-number.marks.items order c.requires.legal c.requires.kept c.size-size.ensures.in_range
+    c.loop-number.invariant none in
+    record {
+      meets = least_meets events rows order c.requires.kept least;
+      first = least_is_first events rows order c.requires.kept least;
+      least = least_of_forced events rows order c.requires.kept least;
+    }
