@@ -4,7 +4,7 @@ use Rattle.std.specs.Prelude.{All, Contains, fold}
 use Rattle.std.proofs.lemmas.List.{take_more, take_all, take-append-drop}
 use Rattle.std.proofs.lemmas.List.Sums.{fold-append}
 use Rattle.std.proofs.lemmas.List.Elements.{All-push, All-weaker, All-contains, Contains-append_right}
-use Rattle.monkey_server.specs.Command.{IsDigit, number_of, IsWord, Lists}
+use Rattle.monkey_server.specs.Command.{IsDigit, number_of, IsNumber, IsWord, Lists}
 use Rattle.monkey_server.proofs.Digits.{value_more}
 use Rattle.monkey_server.proofs.Commas.{no_comma_from, cut_same}
 
@@ -27,10 +27,10 @@ pub each_more : (digits : List ℕ) (i : ℕ) → i < length digits → All IsDi
 each_more digits i lt each digit = rw (take_more digits i 0 lt) (All-push IsDigit (take i digits) (get_or digits i 0) each digit)
 
 -- a byte that is no digit, or whose number is too great, stands in no word
-pub no_word : (digits : List ℕ) (i n : ℕ) → i < length digits → n ≡ number_of (take i digits)
-    → (IsDigit (get_or digits i 0) → 4294967296 ≤ 10 * n + (get_or digits i 0 - 48)) → (m : ℕ) → IsWord digits m → ⊥
-no_word digits i n lt e great m is =
-    let p : 4294967296 ≤ 10 * n + (get_or digits i 0 - 48) = great (is.each i 0 lt) in
+pub no_word : (bound : ℕ) (digits : List ℕ) (i n : ℕ) → i < length digits → n ≡ number_of (take i digits)
+    → (IsDigit (get_or digits i 0) → bound ≤ 10 * n + (get_or digits i 0 - 48)) → (m : ℕ) → IsNumber bound digits m → ⊥
+no_word bound digits i n lt e great m is =
+    let p : bound ≤ 10 * n + (get_or digits i 0 - 48) = great (is.each i 0 lt) in
     omega (arith, p, is.value, is.bounded, value_more digits i n lt e, front_small digits (i + 1))
 
 -- a word holds no comma
@@ -65,8 +65,8 @@ pub lists_more : (text words rest front after : List ℕ) (n : ℕ) → ((m : �
 lists_more text words rest front after n read e is m more lists = rw (append_assoc words (n ∷ []) (m ∷ more)) (read n (m ∷ more) (front, after, e, is, lists))
 
 -- all digits are read
-pub word_whole : (digits : List ℕ) (i n : ℕ) → 0 < length digits → length digits ≤ i → n ≡ number_of (take i digits) → All IsDigit (take i digits) → n < 4294967296 → IsWord digits n
-word_whole digits i n some end e each bounded =
+pub word_whole : (bound : ℕ) (digits : List ℕ) (i n : ℕ) → 0 < length digits → length digits ≤ i → n ≡ number_of (take i digits) → All IsDigit (take i digits) → n < bound → IsNumber bound digits n
+word_whole bound digits i n some end e each bounded =
     let whole : take i digits ≡ digits = take_all i digits end in
     record {
       some = some;

@@ -10,12 +10,26 @@ IsDigit c = (48 ≤ c) × (c ≤ 57)
 abbrev pub number_of : List ℕ → ℕ
 number_of digits = fold (λ n c. 10 * n + (c - 48)) 0 digits
 
--- digits, at least one, of a number that fits 32 bits
-pub record IsWord (digits : List ℕ) (n : ℕ) : Type 0 where
+-- digits, at least one, of a number below the bound
+pub record IsNumber (bound : ℕ) (digits : List ℕ) (n : ℕ) : Type 0 where
   pub some : 0 < length digits
   pub each : All IsDigit digits
   pub value : n ≡ number_of digits
-  pub bounded : n < 4294967296
+  pub bounded : n < bound
+
+-- of a number that fits 32 bits
+abbrev pub IsWord : List ℕ → ℕ → Type 0
+IsWord digits n = IsNumber 4294967296 digits n
+
+-- of one that fits 64 bits
+abbrev pub IsLongWord : List ℕ → ℕ → Type 0
+IsLongWord digits n = IsNumber 18446744073709551616 digits n
+
+-- of one from 1 to this one
+pub record IsUpTo (most : ℕ) (digits : List ℕ) (n : ℕ) : Type 0 where
+  pub word : IsWord digits n
+  pub some : 0 < n
+  pub within : n ≤ most
 
 -- numbers with a comma between two of them
 abbrev pub Lists : List ℕ → List ℕ → Type 0
@@ -26,6 +40,16 @@ Lists text (n ∷ (m ∷ more)) = (front : List ℕ) × (rest : List ℕ) × (te
 -- `check PATH`
 abbrev pub IsCheck : List (List ℕ) → List ℕ → Type 0
 IsCheck args path = args ≡ codes "check" ∷ path ∷ []
+
+-- `sim LEVEL SEED SESSIONS QUERIES`
+pub record IsSim (args : List (List ℕ)) (level : Level) (seed sessions queries : ℕ) : Type 0 where
+  pub seed_digits : List ℕ
+  pub session_digits : List ℕ
+  pub query_digits : List ℕ
+  pub args_are : args ≡ codes "sim" ∷ level_word level ∷ seed_digits ∷ session_digits ∷ query_digits ∷ []
+  pub seed_is : IsLongWord seed_digits seed
+  pub sessions_are : IsUpTo 64 session_digits sessions
+  pub queries_are : IsUpTo 200 query_digits queries
 
 -- `pipe LEVEL WORDS`
 abbrev pub IsPipe : List (List ℕ) → Level → List ℕ → Type 0

@@ -1,37 +1,59 @@
-// The commands `pipe LEVEL WORDS` and `check PATH`, read from the words that the program is started with.
+// The commands `pipe LEVEL WORDS`, `check PATH` and `sim LEVEL SEED SESSIONS QUERIES`, read from the words that the program is started with.
 ghost use Rattle.std.specs.Prelude.{◌≡◌, ◌≢◌, ◌≤◌, ◌<◌, ◌+◌, ◌*◌, ◌-◌, ◌↔◌, ℕ, List, [], ◌∷◌, ◌++◌, codes, Contains, IfOk, IfSome, IsNone, IsTrue, Ok, None};
 ghost use Rattle.cell_base.specs.declared.level.Level.{Level as Served};
 ghost use Rattle.block_machine.specs.Settings.{level_word};
-ghost use Rattle.monkey_server.specs.Command.{IsDigit, IsWord, Lists, IsPipe, IsCheck};
+ghost use Rattle.monkey_server.specs.Command.{IsDigit, IsWord, IsLongWord, IsUpTo, Lists, IsPipe, IsCheck, IsSim};
 
 use block_machine::level_named;
 use cell_base::{Items, Level, Memory, Text};
+use sim_command::Plan;
 use std::alloc::Global;
 
-// The number with one more digit, where that fits 32 bits.
-fn with_digit(number: u32, digit: u8) -> Option<u32>
+// The number with one more digit, where that fits 64 bits.
+fn with_digit(number: u64, digit: u8) -> Option<u64>
     ensures digit { IfSome result (λ more. IsDigit digit) }
     ensures some { IfSome result (λ more. more ≡ 10 * number + (digit - 48)) }
-    ensures bounded { IfSome result (λ more. more < 4294967296) }
-    ensures none { IsNone result → IsDigit digit → 4294967296 ≤ 10 * number + (digit - 48) }
+    ensures bounded { IfSome result (λ more. more < 18446744073709551616) }
+    ensures none { IsNone result → IsDigit digit → 18446744073709551616 ≤ 10 * number + (digit - 48) }
 {
     if !digit.is_ascii_digit() {
         return None;
     }
-    number.checked_mul(10)?.checked_add(u32::from(digit - b'0'))
+    number.checked_mul(10)?.checked_add(u64::from(digit - b'0'))
 }
 
-// The number that the digits spell, where it fits 32 bits.
-fn number(part: &[u8]) -> Option<u32>
-    ensures some { IfSome result (λ n. IsWord part.now n) }
-    ensures none { IsNone result → (n : ℕ) → ¬ (IsWord part.now n) }
+// The number that the digits spell, where it fits 64 bits.
+fn number(part: &[u8]) -> Option<u64>
+    ensures some { IfSome result (λ n. IsLongWord part.now n) }
+    ensures none { IsNone result → (n : ℕ) → ¬ (IsLongWord part.now n) }
 {
     if part.is_empty() {
         return None;
     }
-    let mut number: u32 = 0;
+    let mut number: u64 = 0;
     for digit in part {
         number = with_digit(number, *digit)?;
+    }
+    Some(number)
+}
+
+// The number that the digits spell, where it fits 32 bits.
+fn word(part: &[u8]) -> Option<u32>
+    ensures some { IfSome result (λ n. IsWord part.now n) }
+    ensures none { IsNone result → (n : ℕ) → ¬ (IsWord part.now n) }
+{
+    let number = number(part)?;
+    u32::try_from(number).ok()
+}
+
+// The number that the digits spell, where it is from 1 to this one.
+fn up_to(most: u32, part: &[u8]) -> Option<u32>
+    ensures some { IfSome result (λ n. IsUpTo most part.now n) }
+    ensures none { IsNone result → (n : ℕ) → ¬ (IsUpTo most part.now n) }
+{
+    let number = word(part)?;
+    if number == 0 || number > most {
+        return None;
     }
     Some(number)
 }
@@ -54,16 +76,16 @@ fn words_of(alloc: Global, text: &[u8]) -> Result<Option<Items<u32>>, Memory>
     let mut words = Items::new(alloc);
     let mut rest = text;
     while let Some((front, after)) = at_comma(rest) {
-        let Some(word) = number(front) else {
+        let Some(number) = word(front) else {
             return Ok(None);
         };
-        words.push(word)?;
+        words.push(number)?;
         rest = after;
     }
-    let Some(word) = number(rest) else {
+    let Some(number) = word(rest) else {
         return Ok(None);
     };
-    words.push(word)?;
+    words.push(number)?;
     Ok(Some(words))
 }
 
@@ -109,6 +131,25 @@ pub fn check_path(args: &[Text]) -> Option<&Text>
         return None;
     }
     Some(path)
+}
+
+/// What `sim LEVEL SEED SESSIONS QUERIES` simulates. `None` comes exactly where the words are no such command.
+pub fn sim_plan(args: &[Text]) -> Option<Plan>
+    ensures some { IfSome result (λ plan. IsSim args.now plan.level plan.seed plan.sessions plan.queries) }
+    ensures none { IsNone result → (level : Served) (seed sessions queries : ℕ) → ¬ (IsSim args.now level seed sessions queries) }
+{
+    let [sim, level, seed, sessions, queries] = args else {
+        return None;
+    };
+    if !is_word(sim, b"sim") {
+        return None;
+    }
+    Some(Plan {
+        level: level_of(level)?,
+        seed: number(seed.bytes())?,
+        sessions: up_to(64, sessions.bytes())?,
+        queries: up_to(200, queries.bytes())?,
+    })
 }
 
 /// The command `pipe LEVEL WORDS`.

@@ -11,7 +11,7 @@ is_some (x ∷ xs) h = omega arith
 pub returns-in_err-number-clause-none : goal.returns-in_err-number-clause-none
 returns-in_err-number-clause-none c = λ _ n is.
     let in_range : c.loop-digit.digit-index < length c.args.part.now = omega arith in
-    no_word c.args.part.now c.loop-digit.digit-index c.loop-digit.number in_range c.loop-digit.invariant.value (c.in_err-number.ensures.none refl) n is
+    no_word 18446744073709551616 c.args.part.now c.loop-digit.digit-index c.loop-digit.number in_range c.loop-digit.invariant.value (c.in_err-number.ensures.none refl) n is
 
 pub loop-digit-preserved : goal.loop-digit-preserved
 loop-digit-preserved c =
@@ -26,4 +26,4 @@ pub returns-clause-some : goal.returns-clause-some
 returns-clause-some c =
     let some : 0 < length c.args.part.now = is_some c.args.part.now c.if-is_empty.ensures in
     let end : length c.args.part.now ≤ c.loop-digit.digit-index = omega arith in
-    word_whole c.args.part.now c.loop-digit.digit-index c.loop-digit.number some end c.loop-digit.invariant.value c.loop-digit.invariant.each c.loop-digit.invariant.bounded
+    word_whole 18446744073709551616 c.args.part.now c.loop-digit.digit-index c.loop-digit.number some end c.loop-digit.invariant.value c.loop-digit.invariant.each c.loop-digit.invariant.bounded

@@ -8,5 +8,5 @@ abbrev pub invariant-loop-digit : goal.invariant-loop-digit
 invariant-loop-digit l = record {
   value : l.number ≡ number_of (take l.digit-index l.part);
   each : All IsDigit (take l.digit-index l.part);
-  bounded : l.number < 4294967296;
+  bounded : l.number < 18446744073709551616;
 }
