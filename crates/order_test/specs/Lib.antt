@@ -1,0 +1,4 @@
+pub mod Unkept
+pub mod Settled
+pub mod Places
+pub mod Pasts

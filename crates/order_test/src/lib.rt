@@ -1,0 +1,8 @@
+//! The test of a commit order against a history.
+#![tactic(auto)]
+
+mod pasts;
+mod places;
+mod unkept;
+
+pub use unkept::Unkept;
