@@ -1,2 +1,4 @@
 pub mod Closing
 pub mod PastSteps
+pub mod Readers
+pub mod PlaceLemmas

@@ -4,7 +4,7 @@ use Rattle.std.specs.List.{slice_get}
 use Rattle.std.proofs.lemmas.List.{length_push, length-set, get_or_past}
 use Rattle.std.proofs.lemmas.Option.{slice_get_within, slice_get_cases}
 use Rattle.std.proofs.lemmas.Bool.{cases_eq, cases_lt, false≢true}
-use Rattle.txn_buffer.proofs.Lists.{slice_get_push_cases}
+use Rattle.txn_buffer.proofs.Lists.{slice_get_push_cases, slice_get-set_cases}
 use Rattle.graph_base.proofs.Chains.{chained_one}
 use Rattle.cell_base.specs.declared.level.Level.{Level}
 use Rattle.cell_base.specs.declared.cell.Cell.{Cell}
@@ -19,7 +19,6 @@ use Rattle.history_core.proofs.Places.{start_session}
 use Rattle.history_core.proofs.Grown.{start_back, start_kept}
 use Rattle.history_core.proofs.Prefixes.{IsSound, start_positive, start_bounded, begun-push_start, begun-push_other, of_kept}
 use Rattle.history_core.proofs.Next.{pending_begin, pending_bounded, of_new}
-use Rattle.history_core.proofs.KeptLemmas.{slice_get-set_cases}
 use Rattle.saturation.specs.Laws.{with_read}
 use Rattle.further_reads.specs.Begun.{ForcesNothing, with_begin, IsLastBegun}
 use Rattle.further_reads.proofs.Sources.{begins_nothing}
@@ -63,7 +62,7 @@ other_rows events e width rows nothing are =
 -- ---- a begin
 
 -- what is at a place of a list in which one number was set
-at_set : (xs : List ℕ) (place value at : ℕ) → place < length xs →
+pub at_set : (xs : List ℕ) (place value at : ℕ) → place < length xs →
     ((at ≡ place) × (get_or (set xs place value) at 0 ≡ value)) ⊎ ((at ≡ place → ⊥) × (get_or (set xs place value) at 0 ≡ get_or xs at 0))
 at_set xs place value at within =
     elim (cases_eq at place) [
@@ -173,7 +172,7 @@ session_within events width rows are a s p start =
     let c = are.count in
     elim (slice_get_cases rows a).1 [
       | inl found ↦
-          let past = are.each a found.0 found.2.0 in
+          let past = are.each a found.0 found.2 in
           let own = past.started (start_positive events a s p start) in
           let same : s ≡ found.0.session = start_session events a s found.0.session p own.0 start own.1 in
           let w = past.within in

@@ -60,7 +60,7 @@ pub record IsFirstUnmet (events : List Event) (order : List ℕ) (place origin r
 -- the order keeps what the event at the place asks
 pub record IsKeptAt (events : List Event) (order : List ℕ) (place : ℕ) : Type 0 where
   pub reads : (origin reader : ℕ) → ¬ IsReadEarly events order place origin reader
-  pub axiom : (origin rival reader : ℕ) (cell : Cell) → ¬ IsUnmet events order place origin rival reader cell
+  pub sights : (origin rival reader : ℕ) (cell : Cell) → ¬ IsUnmet events order place origin rival reader cell
 
 abbrev pub IsKeptBelow : List Event → List ℕ → ℕ → Type 0
 IsKeptBelow events order place = (earlier : ℕ) → earlier < place → IsKeptAt events order earlier

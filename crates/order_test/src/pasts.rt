@@ -121,13 +121,20 @@ fn taken_in(alloc: Global, own: &Past, source: &Past, number: u32) -> Result<Pas
     })
 }
 
+/// A copy of the numbers.
+fn copy_of(alloc: Global, numbers: &[u32]) -> Result<Vec<u32>, Memory>
+    ensures { IfOk result (λ copy. copy.items ≡ numbers.now) }
+{
+    Ok(numbers.iter().copied().collect(alloc)?)
+}
+
 /// Adds the past of a transaction that begins in the session, after the last one there.
 fn begin_row(alloc: Global, rows: &mut Vec<Past>, last: u32, session: u32) -> Result<(), Memory>
     requires last { last < length rows.old.items }
     requires within { (past : PastOf) → slice_get rows.old.items last ≡ Some past → session < length past.tops.items }
     ensures { OnOk result (AddsBehind last session rows.old.items rows.new.items) }
 {
-    let mut tops = rows[last as usize].tops.clone()?;
+    let mut tops = copy_of(alloc, &rows[last as usize].tops)?;
     tops[session as usize] = last;
     rows.push(Past { session, tops })?;
     Ok(())
