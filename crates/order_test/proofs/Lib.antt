@@ -2,3 +2,4 @@ pub mod Closing
 pub mod PastSteps
 pub mod Readers
 pub mod PlaceLemmas
+pub mod SightLemmas

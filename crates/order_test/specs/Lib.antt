@@ -2,3 +2,4 @@ pub mod Unkept
 pub mod Settled
 pub mod Places
 pub mod Pasts
+pub mod Sights

@@ -3,6 +3,8 @@
 
 mod pasts;
 mod places;
+mod sessions;
+mod sight;
 mod unkept;
 
 pub use unkept::Unkept;
