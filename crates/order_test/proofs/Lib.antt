@@ -3,3 +3,4 @@ pub mod PastSteps
 pub mod Readers
 pub mod PlaceLemmas
 pub mod SightLemmas
+pub mod RivalLemmas

@@ -3,6 +3,7 @@
 
 mod pasts;
 mod places;
+mod rivals;
 mod sessions;
 mod sight;
 mod unkept;
