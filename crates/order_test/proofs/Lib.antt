@@ -4,3 +4,4 @@ pub mod Readers
 pub mod PlaceLemmas
 pub mod SightLemmas
 pub mod RivalLemmas
+pub mod SearchLemmas

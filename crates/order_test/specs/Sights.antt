@@ -9,6 +9,7 @@ use Rattle.history_core.specs.declared.event.Event.{Event}
 use Rattle.history_core.specs.declared.event.Event.TheVariants.{Read}
 use Rattle.history_core.specs.declared.txn.Txn.{Txn}
 use Rattle.history_core.specs.Events.{begun}
+use Rattle.history_core.specs.Transactions.{IsOf}
 use Rattle.history_core.specs.Relations.{Gives}
 use Rattle.history_core.specs.Kept.{StandsForTxns}
 use Rattle.saturation.specs.Views.{IsUnlisted}
@@ -16,7 +17,7 @@ use Rattle.order_test.specs.declared.places.Places.{Places}
 use Rattle.order_test.specs.declared.pasts.Pasts.{Pasts}
 use Rattle.order_test.specs.declared.unkept.Unkept.{Unkept}
 use Rattle.order_test.specs.declared.unkept.Unkept.TheVariants as unkept
-use Rattle.order_test.specs.Unkept.{HoldsTransactions, IsReadEarly, IsUnmet, IsFirstUnmet, IsKeptAt}
+use Rattle.order_test.specs.Unkept.{HoldsTransactions, IsReadEarly, IsUnmet, IsFirstUnmet, IsKeptAt, IsFirstReadEarly, IsFirstAxiom}
 use Rattle.order_test.specs.Places.{ArePlaces}
 use Rattle.order_test.specs.Pasts.{ArePasts}
 
@@ -85,3 +86,17 @@ pub record IsAxiomOf (events : List Event) (order : List ℕ) (place origin riva
   pub told : found ≡ unkept.Axiom (place + 1) origin rival reader cell
   pub is : IsUnmet events order place origin rival reader cell
   pub least : (other : Cell) → IsUnmet events order place origin rival reader other → (cell_order.ghosts).cmp cell other ≢ Greater
+
+-- the event at the place is one of the reader
+pub record IsReadAt (events : List Event) (place : ℕ) (event : Event) (reader : ℕ) : Type 0 where
+  pub of : IsOf events reader place event
+  pub from : origin_of event ≤ begun events
+
+-- what is found among all events
+abbrev pub IsFoundAmong : List Event → List ℕ → Option Unkept → Type 0
+IsFoundAmong events order None = (place : ℕ) → IsKeptAt events order place
+IsFoundAmong events order (Some (unkept.Read event origin reader)) = (place : ℕ) × (event ≡ place + 1) × IsFirstReadEarly events order place origin reader
+IsFoundAmong events order (Some (unkept.Axiom event origin rival reader cell)) =
+    (place : ℕ) × (event ≡ place + 1) × IsFirstAxiom events order place origin rival reader cell
+IsFoundAmong events order (Some unkept.Order) = ⊥
+IsFoundAmong events order (Some (unkept.Session earlier later)) = ⊥
