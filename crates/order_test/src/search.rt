@@ -196,9 +196,9 @@ fn found_among(
     ensures { IfOk result (IsFoundAmong events.now order.now) }
 {
     for place in 0..events.len() {
-        let found = found_at(alloc, events, order, txns, places, pasts, place)?;
-        if found.is_some() {
-            return Ok(found);
+        match found_at(alloc, events, order, txns, places, pasts, place)? {
+            Some(unkept) => return Ok(Some(unkept)),
+            None => {}
         }
     }
     Ok(None)
