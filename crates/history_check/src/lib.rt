@@ -17,8 +17,9 @@ mod seat;
 mod seats;
 mod shape;
 mod sources;
+mod spelled;
 
 pub use breach::{Breach, CheckFault};
-pub use order::check;
 pub use events::check_events;
 pub use laws::event_laws;
+pub use order::check;
