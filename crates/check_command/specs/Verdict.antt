@@ -6,7 +6,7 @@ use Rattle.history_log.specs.declared.version.Version.{Version}
 use Rattle.history_log.specs.Log.{IsLog}
 use Rattle.history_log.specs.Faults.{IsShort, HasFault}
 use Rattle.history_check.specs.declared.breach.Breach.{Breach}
-use Rattle.history_check.specs.Check.{IsRightTrace, IsFirstBreach}
+use Rattle.history_check.specs.Orders.{IsRightTrace, IsFirstBreach}
 use Rattle.check_command.specs.Lines.{breach_words, fault_words, line_of}
 
 -- the bytes are the log of a history that has no breach

@@ -8,3 +8,4 @@ pub mod WriteLemmas
 pub mod Verdicts
 pub mod KeyLemmas
 pub mod EventLemmas
+pub mod Orderly

@@ -11,12 +11,9 @@ use Rattle.history_core.specs.Transactions.{IsStart, IsRunning, IsPending, IsCom
 use Rattle.history_core.specs.Relations.{Gives, Reads, IsSessionOrdered}
 use Rattle.history_core.proofs.Places.{slice_get-append_left, start_unique, start_session}
 use Rattle.history_core.proofs.Grown.{start_back, reads_back}
-use Rattle.history_core.proofs.Prefixes.{IsSound, committed_kept, start_positive, start_bounded, begun-push_start}
+use Rattle.history_core.proofs.Prefixes.{committed_kept, start_positive, start_bounded, begun-push_start}
 use Rattle.history_check.specs.Rules.{IsInShape, HasSource}
-use Rattle.history_check.specs.Notes.{IsSettled}
-
-pub sound_from : (events : List Event) → IsSettled events → IsSound events
-sound_from events settled = record { sources = settled.sources; last = settled.last }
+use Rattle.order_test.specs.Settled.{IsSettled}
 
 new_source : (events : List Event) (e : Event) → HasSource events e → (cell : Cell) (source : ℕ) → Gives e cell source → (source ≡ 0) ⊎ IsCommitted events source
 new_source events (Read s seen from n u v) writes cell source gives =

@@ -2,3 +2,4 @@ pub mod Rules
 pub mod Breaches
 pub mod Notes
 pub mod Keys
+pub mod Orders

@@ -1,14 +1,13 @@
 -- How what the judge has noted stands for the events so far.
 use Rattle.std.specs.Prelude.{◌≡◌, ◌<◌, ◌≤◌, ◌+◌, ◌↔◌, ◌⊎◌, [], ℕ, Option, Some, false, List, length, slice_get}
-use Rattle.cell_base.specs.declared.cell.Cell.{Cell}
 use Rattle.history_core.specs.declared.event.Event.{Event}
 use Rattle.cell_base.specs.declared.level.Level.{Level}
 use Rattle.history_core.specs.declared.txn.Txn.{Txn}
 use Rattle.history_core.specs.declared.txn.TxnState.TheVariants.{Pending}
 use Rattle.history_core.specs.Events.{opened, defined, session_in}
-use Rattle.history_core.specs.Transactions.{IsCommitted, IsPending}
-use Rattle.history_core.specs.Relations.{Reads, IsSessionOrdered}
+use Rattle.history_core.specs.Transactions.{IsPending}
 use Rattle.history_core.specs.Kept.{IsSessionOf, StandsForTxns, ChangesOne}
+use Rattle.order_test.specs.Settled.{IsSettled}
 use Rattle.history_check.specs.declared.seat.Seat.{Seat}
 use Rattle.history_check.specs.declared.notes.Notes.{Notes}
 
@@ -38,11 +37,6 @@ IsClosed old session new = ChangesSeat old session (λ before after. after ≡ r
 -- each event is one of an opened session
 abbrev pub AreOfSessions : List Event → Type 0
 AreOfSessions events = (k : ℕ) (event : Event) → slice_get events k ≡ Some event → (0 < session_in event) × (session_in event ≤ opened events)
-
--- each source has committed, and a pending transaction is the last of its session
-pub record IsSettled (events : List Event) : Type 0 where
-  pub sources : (reader place : ℕ) (cell : Cell) (source : ℕ) → Reads events reader place cell source → (source ≡ 0) ⊎ IsCommitted events source
-  pub last : (txn session other : ℕ) → IsPending events txn session → IsSessionOrdered events txn other → ⊥
 
 -- the transaction is pending in the session of the event, or none is
 abbrev pub IsRunningOwner : List Event → Event → Option ℕ → Type 0

@@ -1,7 +1,7 @@
-//! The judge of a trace: whether its events are a history.
+//! The judge of a trace: whether its events are a history, and whether its order meets it.
 //!
 //! `check_events` goes through the events once, with notes of its own, and answers the first breach: of the first event that breaks a rule,
-//! and of the first rule that it breaks. `event_laws` says what that comes to. The order of a trace isn't judged.
+//! and of the first rule that it breaks. `event_laws` says what that comes to. `check` judges the order as well, by `order_test`.
 #![tactic(auto)]
 
 mod breach;
@@ -11,12 +11,15 @@ mod keys;
 mod laws;
 mod notes;
 mod noting;
+mod order;
 mod records;
 mod seat;
 mod seats;
 mod shape;
 mod sources;
+mod spelled;
 
 pub use breach::{Breach, CheckFault};
 pub use events::check_events;
 pub use laws::event_laws;
+pub use order::check;

@@ -8,7 +8,8 @@ ghost use Rattle.history_core.specs.Transactions.{IsPending, HasPending};
 ghost use Rattle.history_core.specs.Records.{seen_of};
 ghost use Rattle.history_core.specs.Kept.{StandsForTxns, ChangesOne, AddsSeen, AddsWrite, TakesState};
 ghost use Rattle.history_check.specs.Rules.{IsInShape};
-ghost use Rattle.history_check.specs.Notes.{IsSettled, IsRunningOwner, IsFreshRecord};
+ghost use Rattle.history_check.specs.Notes.{IsRunningOwner, IsFreshRecord};
+ghost use Rattle.order_test.specs.Settled.{IsSettled};
 
 use cell_base::{Cell, Items, Level, Memory, Value};
 use history_core::{Event, Seen, Txn, TxnState, copy_keys};

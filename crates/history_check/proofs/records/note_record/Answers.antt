@@ -5,7 +5,7 @@ use Rattle.history_core.specs.declared.txn.TxnState.TheVariants.{Committed, Roll
 use Rattle.history_core.specs.Kept.{StandsForTxns}
 use Rattle.std.proofs.lemmas.Result.{on_ok_weaker}
 use Rattle.history_core.proofs.TxnLemmas.{txns_begin}
-use Rattle.history_check.proofs.Settled.{sound_from}
+use Rattle.order_test.proofs.PastSteps.{sound_from}
 use Rattle.history_check.proofs.RecordLemmas.{txns_write, txns_end, txns_leave}
 use Rattle.history_check.proofs.records.note_record.Goals as goal
 

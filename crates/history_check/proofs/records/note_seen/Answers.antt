@@ -1,6 +1,6 @@
 use Rattle.std.proofs.Common.{sym, ◌∙◌}
 use Rattle.std.proofs.lemmas.Result.{on_ok_weaker}
-use Rattle.history_check.proofs.Settled.{sound_from}
+use Rattle.order_test.proofs.PastSteps.{sound_from}
 use Rattle.history_check.proofs.RecordLemmas.{txns_seen}
 use Rattle.history_check.proofs.records.note_seen.Goals as goal
 

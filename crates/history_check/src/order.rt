@@ -1,0 +1,79 @@
+// A trace, its events and its order.
+ghost use Rattle.std.specs.Prelude.{◌≡◌, ◌<◌, length, OnOk};
+ghost use Rattle.history_check.specs.Breaches.{AreRight, IfBreach};
+ghost use Rattle.history_check.specs.Notes.{AreNotes};
+ghost use Rattle.history_check.specs.Orders.{IsRightTrace, IsFirstBreach, IsFirstOrderBreach, breach_of};
+
+use crate::events::note_events;
+use crate::notes::Notes;
+use crate::{Breach, CheckFault};
+use history_log::Trace;
+use order_test::{Unkept, first_unkept};
+use std::alloc::Global;
+
+/// Judges a trace: that its events are a history of its initial state, as `check_events` does, and that its order meets the history. It holds
+/// each transaction once and the initial one first, keeps the order of each session, has each source before its reader, and before each source
+/// whatever other writer of the cell the read sees at the level of its transaction. The breach is the first of the events, and after them
+/// the first of the order.
+pub fn check(alloc: Global, trace: &Trace) -> Result<(), CheckFault>
+    requires few { length trace.now.events < 4294967296 }
+    ensures ok { OnOk result (IsRightTrace trace.now) }
+    ensures breach { IfBreach result (IsFirstBreach trace.now) }
+{
+    match note_events(alloc, trace.initial.as_slice(), trace.events.as_slice()) {
+        Ok(notes) => check_order(&notes, trace),
+        Err(fault) => Err(fault),
+    }
+}
+
+/// Judges the order, where the events are right.
+fn check_order(notes: &Notes, trace: &Trace) -> Result<(), CheckFault>
+    requires notes { AreNotes trace.now.events notes.now }
+    requires right { AreRight trace.now.initial trace.now.events }
+    requires few { length trace.now.events < 4294967296 }
+    ensures ok { OnOk result (IsRightTrace trace.now) }
+    ensures breach { IfBreach result (IsFirstBreach trace.now) }
+{
+    match first_unkept(
+        notes.alloc,
+        trace.events.as_slice(),
+        &notes.txns,
+        trace.order.as_slice(),
+    ) {
+        Ok(None) => Ok(()),
+        Ok(Some(unkept)) => Err(CheckFault::Breach(told_of(unkept))),
+        Err(_memory) => Err(CheckFault::Memory),
+    }
+}
+
+/// The breach that is told of what the order doesn't keep.
+fn told_of(unkept: Unkept) -> Breach
+    ensures { result ≡ breach_of unkept }
+{
+    match unkept {
+        Unkept::Order => Breach::Order,
+        Unkept::Session { earlier, later } => Breach::Session { earlier, later },
+        Unkept::Read {
+            event,
+            origin,
+            reader,
+        } => Breach::Read {
+            event,
+            origin,
+            reader,
+        },
+        Unkept::Axiom {
+            event,
+            origin,
+            rival,
+            reader,
+            cell,
+        } => Breach::Axiom {
+            event,
+            origin,
+            rival,
+            reader,
+            cell,
+        },
+    }
+}

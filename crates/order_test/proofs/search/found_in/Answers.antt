@@ -1,0 +1,10 @@
+use Rattle.std.proofs.Common.{refl}
+use Rattle.std.proofs.lemmas.Result.{IfOk-weaker}
+use Rattle.order_test.proofs.SearchLemmas.{found_is}
+use Rattle.order_test.proofs.search.found_in.Goals as goal
+
+pub returns : goal.returns
+returns c =
+    IfOk-weaker c.found_among.result _ _
+    (λ found among. found_is c.args.events.now c.args.order.now found c.requires.scene.holds c.in_default.ensures.none among)
+    c.found_among.ensures

@@ -1,0 +1,5 @@
+pub mod Unkept
+pub mod Settled
+pub mod Places
+pub mod Pasts
+pub mod Sights

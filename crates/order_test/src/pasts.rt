@@ -1,0 +1,259 @@
+// The causal past of each transaction. It is closed under session order, so of each session it has the transactions up to some one.
+ghost use Rattle.std.specs.Prelude.{◌≡◌, ◌≤◌, ◌<◌, ◌+◌, ◌↔◌, ◌⊎◌, ◌∷◌, ◌++◌, [], ℕ, Some, IfOk, OnOk, length, slice_get, slice_set, slice_index, take};
+ghost use Rattle.history_core.specs.Events.{begun, session_in};
+ghost use Rattle.further_reads.specs.Begun.{IsLastBegun};
+ghost use Rattle.order_test.specs.declared.pasts.Past.{Past as PastOf};
+ghost use Rattle.order_test.specs.Settled.{ComesSettled, IsOrderly};
+ghost use Rattle.order_test.specs.Pasts.{AreWithin, AreRows, AreLast, AreReaders, ArePasts, TakesIn, AddsBehind, TakesFrom};
+
+use cell_base::Memory;
+use history_core::Event;
+use std::alloc::Global;
+
+/// The causal past of a transaction.
+#[derive(Debug, Drop)]
+pub struct Past {
+    /// The session of the transaction.
+    pub session: u32,
+    /// For each session the last of its transactions that precedes the transaction causally, 0 where none does.
+    pub tops: Vec<u32>,
+}
+
+/// What the events so far come to.
+#[derive(Debug, Drop)]
+pub struct Pasts {
+    pub alloc: Global,
+    /// The causal past of each transaction, that of the initial one first.
+    pub rows: Vec<Past>,
+    /// For each session the last transaction that it has begun, 0 where it has begun none.
+    pub last: Vec<u32>,
+    /// For each event that last transaction of its session.
+    pub readers: Vec<u32>,
+}
+
+/// The session that made the event.
+pub fn session_of(event: &Event) -> u32
+    ensures { result ≡ session_in event.now }
+{
+    match event {
+        Event::Open { session } => *session,
+        Event::Close { session } => *session,
+        Event::Define { session, .. } => *session,
+        Event::Look { session, .. } => *session,
+        Event::Begin { session, .. } => *session,
+        Event::Scan { session, .. } => *session,
+        Event::Read { session, .. } => *session,
+        Event::Own { session, .. } => *session,
+        Event::Write { session, .. } => *session,
+        Event::Commit { session } => *session,
+        Event::Rollback { session } => *session,
+        Event::Show { session, .. } => *session,
+    }
+}
+
+/// A number above those of all sessions.
+fn width_of(events: &[Event]) -> usize
+    ensures some { 0 < result }
+    ensures within { AreWithin result events.now }
+{
+    let mut width = 1;
+    for event in events {
+        width = width.max(session_of(event) as usize + 1);
+    }
+    width
+}
+
+/// No event yet.
+fn no_pasts(alloc: Global, width: usize) -> Result<Pasts, Memory>
+    requires { 0 < width }
+    ensures pasts { IfOk result (ArePasts []) }
+    ensures width { IfOk result (λ pasts. length pasts.last.items ≡ width) }
+{
+    let tops = vec![in alloc; 0; width]?;
+    let last = vec![in alloc; 0; width]?;
+    let mut rows = Vec::new(alloc);
+    rows.push(Past { session: 0, tops })?;
+    Ok(Pasts {
+        alloc,
+        rows,
+        last,
+        readers: Vec::new(alloc),
+    })
+}
+
+/// The greater of two numbers at each place.
+fn greater_of(alloc: Global, first: &[u32], second: &[u32]) -> Result<Vec<u32>, Memory>
+    requires { length second.now ≡ length first.now }
+    ensures count { IfOk result (λ tops. length tops.items ≡ length first.now) }
+    ensures exact { IfOk result (λ tops. (at number : ℕ) → at < length first.now →
+        (number ≤ slice_index tops.items at) ↔ ((number ≤ slice_index first.now at) ⊎ (number ≤ slice_index second.now at))) }
+{
+    let mut tops = Vec::with_capacity(alloc, first.len())?;
+    for at in 0..first.len() {
+        tops.push(first[at].max(second[at]))?;
+    }
+    Ok(tops)
+}
+
+/// Raises one of the numbers to this one, where it is below.
+fn raise(tops: &mut Vec<u32>, place: u32, number: u32)
+    requires { place < length tops.old.items }
+    ensures count { length tops.new.items ≡ length tops.old.items }
+    ensures exact { (at other : ℕ) → at < length tops.old.items →
+        (other ≤ slice_index tops.new.items at) ↔ ((other ≤ slice_index tops.old.items at) ⊎ ((at ≡ place) × (other ≤ number))) }
+{
+    if tops[place as usize] < number {
+        tops[place as usize] = number;
+    }
+}
+
+/// The past of a transaction that reads from the source, which has this number.
+fn taken_in(alloc: Global, own: &Past, source: &Past, number: u32) -> Result<Past, Memory>
+    requires count { length source.now.tops.items ≡ length own.now.tops.items }
+    requires within { source.now.session < length own.now.tops.items }
+    ensures { IfOk result (TakesIn number source.now own.now) }
+{
+    let mut tops = greater_of(alloc, &own.tops, &source.tops)?;
+    raise(&mut tops, source.session, number);
+    Ok(Past {
+        session: own.session,
+        tops,
+    })
+}
+
+/// A copy of the numbers.
+fn copy_of(alloc: Global, numbers: &[u32]) -> Result<Vec<u32>, Memory>
+    ensures { IfOk result (λ copy. copy.items ≡ numbers.now) }
+{
+    Ok(numbers.iter().copied().collect(alloc)?)
+}
+
+/// Adds the past of a transaction that begins in the session, after the last one there.
+fn begin_row(alloc: Global, rows: &mut Vec<Past>, last: u32, session: u32) -> Result<(), Memory>
+    requires last { last < length rows.old.items }
+    requires within { (past : PastOf) → slice_get rows.old.items last ≡ Some past → session < length past.tops.items }
+    ensures { OnOk result (AddsBehind last session rows.old.items rows.new.items) }
+{
+    let mut tops = copy_of(alloc, &rows[last as usize].tops)?;
+    tops[session as usize] = last;
+    rows.push(Past { session, tops })?;
+    Ok(())
+}
+
+/// Adds to the past of the reader the source and its past.
+fn read_row(alloc: Global, rows: &mut Vec<Past>, reader: u32, source: u32) -> Result<(), Memory>
+    requires reader { reader < length rows.old.items }
+    requires source { source < length rows.old.items }
+    requires one { (own from : PastOf) → slice_get rows.old.items reader ≡ Some own → slice_get rows.old.items source ≡ Some from → length from.tops.items ≡ length own.tops.items }
+    requires within { (from : PastOf) → slice_get rows.old.items source ≡ Some from → from.session < length from.tops.items }
+    ensures { OnOk result (TakesFrom reader source rows.old.items rows.new.items) }
+{
+    let past = taken_in(alloc, &rows[reader as usize], &rows[source as usize], source)?;
+    rows[reader as usize] = past;
+    Ok(())
+}
+
+/// Notes of the event what it changes in the pasts. `last` is the last transaction of its session.
+fn note_row(
+    alloc: Global,
+    rows: &mut Vec<Past>,
+    before: &[Event],
+    event: &Event,
+    last: u32,
+    width: usize,
+) -> Result<(), Memory>
+    requires rows { AreRows before.now width rows.old.items }
+    requires comes { ComesSettled before.now event.now }
+    requires within { session_in event.now < width }
+    requires last { IsLastBegun before.now (session_in event.now) last }
+    ensures { OnOk result (AreRows (before.now ++ event.now ∷ []) width rows.new.items) }
+{
+    match event {
+        Event::Begin { session, .. } => begin_row(alloc, rows, last, *session),
+        Event::Read { source, .. } => read_row(alloc, rows, last, *source),
+        Event::Open { .. } => Ok(()),
+        Event::Close { .. } => Ok(()),
+        Event::Define { .. } => Ok(()),
+        Event::Look { .. } => Ok(()),
+        Event::Scan { .. } => Ok(()),
+        Event::Own { .. } => Ok(()),
+        Event::Write { .. } => Ok(()),
+        Event::Commit { .. } => Ok(()),
+        Event::Rollback { .. } => Ok(()),
+        Event::Show { .. } => Ok(()),
+    }
+}
+
+/// Notes the transaction that the event begins, if it begins one, as the last of its session.
+fn note_last(last: &mut Vec<u32>, before: &[Event], event: &Event, started: u32)
+    requires last { AreLast before.now (length last.old.items) last.old.items }
+    requires within { session_in event.now < length last.old.items }
+    requires started { started ≡ begun before.now }
+    requires few { started < 4294967295 }
+    ensures count { length last.new.items ≡ length last.old.items }
+    ensures last { AreLast (before.now ++ event.now ∷ []) (length last.new.items) last.new.items }
+{
+    match event {
+        Event::Begin { session, .. } => {
+            last[*session as usize] = started + 1;
+        }
+        Event::Open { .. } => {}
+        Event::Close { .. } => {}
+        Event::Define { .. } => {}
+        Event::Look { .. } => {}
+        Event::Scan { .. } => {}
+        Event::Read { .. } => {}
+        Event::Own { .. } => {}
+        Event::Write { .. } => {}
+        Event::Commit { .. } => {}
+        Event::Rollback { .. } => {}
+        Event::Show { .. } => {}
+    }
+}
+
+/// Notes the transaction of the event's session beside the event.
+fn note_reader(
+    readers: &mut Vec<u32>,
+    before: &[Event],
+    event: &Event,
+    last: u32,
+) -> Result<(), Memory>
+    requires readers { AreReaders before.now readers.old.items }
+    requires comes { ComesSettled before.now event.now }
+    requires last { IsLastBegun before.now (session_in event.now) last }
+    ensures { OnOk result (AreReaders (before.now ++ event.now ∷ []) readers.new.items) }
+{
+    readers.push(last)?;
+    Ok(())
+}
+
+/// Notes the event.
+fn note(pasts: &mut Pasts, before: &[Event], event: &Event) -> Result<(), Memory>
+    requires pasts { ArePasts before.now pasts.old }
+    requires comes { ComesSettled before.now event.now }
+    requires within { session_in event.now < length pasts.old.last.items }
+    requires few { length before.now < 4294967295 }
+    ensures width { length pasts.new.last.items ≡ length pasts.old.last.items }
+    ensures pasts { OnOk result (ArePasts (before.now ++ event.now ∷ []) pasts.new) }
+{
+    let width = pasts.last.len();
+    let last = pasts.last[session_of(event) as usize];
+    let started = (pasts.rows.len() - 1) as u32;
+    note_reader(&mut pasts.readers, before, event, last)?;
+    note_row(pasts.alloc, &mut pasts.rows, before, event, last, width)?;
+    note_last(&mut pasts.last, before, event, started);
+    Ok(())
+}
+
+/// What the events come to.
+pub fn pasts_of(alloc: Global, events: &[Event]) -> Result<Pasts, Memory>
+    requires orderly { IsOrderly events.now }
+    requires few { length events.now < 4294967296 }
+    ensures { IfOk result (ArePasts events.now) }
+{
+    let mut pasts = no_pasts(alloc, width_of(events))?;
+    for at in 0..events.len() {
+        note(&mut pasts, &events[..at], &events[at])?;
+    }
+    Ok(pasts)
+}

@@ -1,0 +1,83 @@
+// Where each transaction stands in an order.
+ghost use Rattle.std.specs.Prelude.{◌≡◌, ◌<◌, ◌↔◌, IsTrue, IfOk, Some, length, slice_get};
+ghost use Rattle.order_test.specs.Unkept.{HoldsAll};
+ghost use Rattle.order_test.specs.Places.{AreBelow, ArePlaces, StandOnce, IsPlaced};
+
+use cell_base::Memory;
+use std::alloc::Global;
+
+/// Where each transaction stands in an order: transaction k at the k-th place.
+#[derive(Debug, Drop)]
+pub struct Places {
+    pub at: Vec<usize>,
+}
+
+/// Whether each number is below the size.
+fn are_below(order: &[u32], size: usize) -> bool
+    ensures { IsTrue result ↔ AreBelow size order.now }
+{
+    order.iter().all(|number| (*number as usize) < size)
+}
+
+/// The first place of each number below the size; the length of the order, where it has no place.
+fn first_places(alloc: Global, order: &[u32], size: usize) -> Result<Vec<usize>, Memory>
+    requires { AreBelow size order.now }
+    ensures { IfOk result (λ places. ArePlaces size order.now places.items) }
+{
+    let mut places = vec![in alloc; order.len(); size]?;
+    let mut at = order.len();
+    while at > 0 {
+        at -= 1;
+        places[order[at] as usize] = at;
+    }
+    Ok(places)
+}
+
+/// Whether each number stands where it stands first.
+fn stand_once(order: &[u32], places: &[usize], size: usize) -> bool
+    requires below { AreBelow size order.now }
+    requires places { ArePlaces size order.now places.now }
+    ensures { IsTrue result ↔ StandOnce order.now }
+{
+    for at in 0..order.len() {
+        if places[order[at] as usize] != at {
+            return false;
+        }
+    }
+    true
+}
+
+/// Whether the order begins with 0.
+fn begins_with_first(order: &[u32]) -> bool
+    ensures { IsTrue result ↔ (slice_get order.now 0 ≡ Some 0) }
+{
+    match order.first() {
+        Some(first) => *first == 0,
+        None => false,
+    }
+}
+
+/// Whether the order has as many numbers as the size says, all below it, and 0 first.
+fn fits(order: &[u32], size: usize) -> bool
+    ensures { IsTrue result ↔ ((length order.now ≡ size) × AreBelow size order.now × (slice_get order.now 0 ≡ Some 0)) }
+{
+    order.len() == size && are_below(order, size) && begins_with_first(order)
+}
+
+/// The place of each number below the size, where the order holds each of them once, and 0 first.
+pub fn places_of(
+    alloc: Global,
+    order: &[u32],
+    size: usize,
+) -> Result<Option<Places>, Memory>
+    ensures { IfOk result (IsPlaced size order.now) }
+{
+    if !fits(order, size) {
+        return Ok(None);
+    }
+    let at = first_places(alloc, order, size)?;
+    if !stand_once(order, &at, size) {
+        return Ok(None);
+    }
+    Ok(Some(Places { at }))
+}

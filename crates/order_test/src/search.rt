@@ -1,0 +1,245 @@
+// The first that an order doesn't keep.
+ghost use Rattle.std.specs.Prelude.{◌≡◌, ◌≤◌, ◌<◌, ◌+◌, ◌↔◌, ℕ, Some, IsTrue, IfOk, IfSome, IfNone, length, slice_get};
+ghost use Rattle.history_core.specs.Events.{begun};
+ghost use Rattle.history_core.specs.Kept.{StandsForTxns};
+ghost use Rattle.order_test.specs.Settled.{IsOrderly};
+ghost use Rattle.order_test.specs.Unkept.{HoldsTransactions, KeepsSessions, IsFirstUnkept, IsFound};
+ghost use Rattle.order_test.specs.Pasts.{ArePasts, IsReading};
+ghost use Rattle.order_test.specs.Sights.{IsScene, IsNumber, IsReadAt, IsRival, IsAxiomOf, IsFoundAt, IsFoundAmong, origin_of};
+
+use crate::Unkept;
+use crate::pasts::{Pasts, pasts_of};
+use crate::places::{Places, places_of};
+use crate::rivals::{is_committed, is_reading, origin, rival_cell};
+use crate::sessions::{first_out_of_session, is_late, txn_of};
+use crate::sight::sees;
+use cell_base::Memory;
+use history_core::{Event, Txn};
+use std::alloc::Global;
+
+/// Whether the read of the reader at the place sees the rival, which writes a cell of it and doesn't stand before its origin.
+fn is_rival(
+    events: &[Event],
+    order: &[u32],
+    txns: &[Txn],
+    places: &Places,
+    pasts: &Pasts,
+    place: usize,
+    event: &Event,
+    reader: u32,
+    rival: u32,
+) -> bool
+    requires scene { IsScene events.now order.now txns.now places.now }
+    requires pasts { ArePasts events.now pasts.now }
+    requires read { IsReadAt events.now place event.now reader }
+    requires rival { IsNumber events.now rival }
+    ensures { IsTrue result ↔ IsRival events.now order.now place (origin_of event.now) reader rival }
+{
+    let from = origin(event);
+    if rival == from {
+        return false;
+    }
+    if !is_late(events, order, txns, places, rival, from) {
+        return false;
+    }
+    let writer = txn_of(events, order, txns, places, rival);
+    if !is_committed(writer) {
+        return false;
+    }
+    if rival_cell(event, writer).is_none() {
+        return false;
+    }
+    sees(events, order, txns, places, pasts, reader, place, rival)
+}
+
+/// The first such rival.
+fn first_rival(
+    events: &[Event],
+    order: &[u32],
+    txns: &[Txn],
+    places: &Places,
+    pasts: &Pasts,
+    place: usize,
+    event: &Event,
+    reader: u32,
+) -> Option<u32>
+    requires scene { IsScene events.now order.now txns.now places.now }
+    requires pasts { ArePasts events.now pasts.now }
+    requires read { IsReadAt events.now place event.now reader }
+    ensures number { IfSome result (IsNumber events.now) }
+    ensures is { IfSome result (IsRival events.now order.now place (origin_of event.now) reader) }
+    ensures least { IfSome result (λ rival. (other : ℕ) → IsRival events.now order.now place (origin_of event.now) reader other → rival ≤ other) }
+    ensures none { IfNone result ((other : ℕ) → ¬ IsRival events.now order.now place (origin_of event.now) reader other) }
+{
+    for at in 0..txns.len() {
+        let rival = at as u32 + 1;
+        if is_rival(
+            events, order, txns, places, pasts, place, event, reader, rival,
+        ) {
+            return Some(rival);
+        }
+    }
+    None
+}
+
+/// What is told of the rival: its least cell.
+fn axiom_of(
+    alloc: Global,
+    events: &[Event],
+    order: &[u32],
+    txns: &[Txn],
+    places: &Places,
+    place: usize,
+    event: &Event,
+    reader: u32,
+    rival: u32,
+) -> Result<Unkept, Memory>
+    requires scene { IsScene events.now order.now txns.now places.now }
+    requires read { IsReadAt events.now place event.now reader }
+    requires number { IsNumber events.now rival }
+    requires rival { IsRival events.now order.now place (origin_of event.now) reader rival }
+    requires few { length events.now < 4294967296 }
+    ensures { IfOk result (IsAxiomOf events.now order.now place (origin_of event.now) rival reader) }
+{
+    let writer = txn_of(events, order, txns, places, rival);
+    match rival_cell(event, writer) {
+        Some(cell) => Ok(Unkept::Axiom {
+            event: place as u32 + 1,
+            origin: origin(event),
+            rival,
+            reader,
+            cell: cell.copy(alloc)?,
+        }),
+        None => unreachable!(),
+    }
+}
+
+/// What is found of a read or a scan.
+fn found_of(
+    alloc: Global,
+    events: &[Event],
+    order: &[u32],
+    txns: &[Txn],
+    places: &Places,
+    pasts: &Pasts,
+    place: usize,
+    event: &Event,
+    reader: u32,
+) -> Result<Option<Unkept>, Memory>
+    requires scene { IsScene events.now order.now txns.now places.now }
+    requires pasts { ArePasts events.now pasts.now }
+    requires orderly { IsOrderly events.now }
+    requires read { IsReadAt events.now place event.now reader }
+    requires reading { IsReading event.now }
+    requires few { length events.now < 4294967296 }
+    ensures { IfOk result (IsFoundAt events.now order.now place) }
+{
+    let from = origin(event);
+    if is_late(events, order, txns, places, from, reader) {
+        return Ok(Some(Unkept::Read {
+            event: place as u32 + 1,
+            origin: from,
+            reader,
+        }));
+    }
+    match first_rival(events, order, txns, places, pasts, place, event, reader) {
+        Some(rival) => {
+            let axiom = axiom_of(
+                alloc, events, order, txns, places, place, event, reader, rival,
+            )?;
+            Ok(Some(axiom))
+        }
+        None => Ok(None),
+    }
+}
+
+/// What is found of the event at the place.
+fn found_at(
+    alloc: Global,
+    events: &[Event],
+    order: &[u32],
+    txns: &[Txn],
+    places: &Places,
+    pasts: &Pasts,
+    place: usize,
+) -> Result<Option<Unkept>, Memory>
+    requires scene { IsScene events.now order.now txns.now places.now }
+    requires pasts { ArePasts events.now pasts.now }
+    requires orderly { IsOrderly events.now }
+    requires within { place < length events.now }
+    requires few { length events.now < 4294967296 }
+    ensures { IfOk result (IsFoundAt events.now order.now place) }
+{
+    let event = &events[place];
+    if !is_reading(event) {
+        return Ok(None);
+    }
+    let reader = pasts.readers[place];
+    found_of(
+        alloc, events, order, txns, places, pasts, place, event, reader,
+    )
+}
+
+/// The first of the events of which the order doesn't keep what it asks.
+fn found_among(
+    alloc: Global,
+    events: &[Event],
+    order: &[u32],
+    txns: &[Txn],
+    places: &Places,
+    pasts: &Pasts,
+) -> Result<Option<Unkept>, Memory>
+    requires scene { IsScene events.now order.now txns.now places.now }
+    requires pasts { ArePasts events.now pasts.now }
+    requires orderly { IsOrderly events.now }
+    requires few { length events.now < 4294967296 }
+    ensures { IfOk result (IsFoundAmong events.now order.now) }
+{
+    for place in 0..events.len() {
+        match found_at(alloc, events, order, txns, places, pasts, place)? {
+            Some(unkept) => return Ok(Some(unkept)),
+            None => {}
+        }
+    }
+    Ok(None)
+}
+
+/// The first that the order doesn't keep, where it holds each transaction once and the initial one first.
+fn found_in(
+    alloc: Global,
+    events: &[Event],
+    order: &[u32],
+    txns: &[Txn],
+    places: &Places,
+) -> Result<Option<Unkept>, Memory>
+    requires scene { IsScene events.now order.now txns.now places.now }
+    requires orderly { IsOrderly events.now }
+    requires few { length events.now < 4294967296 }
+    ensures { IfOk result (IsFound events.now order.now) }
+{
+    if let Some((earlier, later)) = first_out_of_session(events, order, txns, places) {
+        return Ok(Some(Unkept::Session { earlier, later }));
+    }
+    let pasts = pasts_of(alloc, events)?;
+    found_among(alloc, events, order, txns, places, &pasts)
+}
+
+/// The first that the order doesn't keep of the history: that it holds each transaction once and the initial one first, the order of each
+/// session, and then what each read or scan asks, event by event. `None` where the order meets the history. `txns` are the records of its
+/// transactions, and each event has to come as the state of its session allows.
+pub fn first_unkept(
+    alloc: Global,
+    events: &[Event],
+    txns: &[Txn],
+    order: &[u32],
+) -> Result<Option<Unkept>, Memory>
+    requires records { StandsForTxns events.now txns.now }
+    requires orderly { IsOrderly events.now }
+    requires few { length events.now < 4294967296 }
+    ensures { IfOk result (IsFound events.now order.now) }
+{
+    match places_of(alloc, order, txns.len() + 1)? {
+        Some(places) => found_in(alloc, events, order, txns, &places),
+        None => Ok(Some(Unkept::Order)),
+    }
+}

@@ -1,0 +1,152 @@
+// What a read sees.
+ghost use Rattle.std.specs.Prelude.{◌≡◌, ◌≤◌, ◌<◌, ◌+◌, ◌↔◌, IsTrue, Any, length, slice_index};
+ghost use Rattle.history_core.specs.Events.{begun};
+ghost use Rattle.history_core.specs.Relations.{Precedes, PrecedesCausally, ReadsBefore, IsVisible};
+ghost use Rattle.saturation.specs.Views.{number_of, IsReadFrom};
+ghost use Rattle.order_test.specs.Pasts.{ArePasts, IsPastOf};
+ghost use Rattle.order_test.specs.Sights.{IsScene, IsNumber};
+
+use crate::pasts::{Past, Pasts};
+use crate::places::Places;
+use crate::sessions::{is_session_ordered, txn_of};
+use cell_base::Level;
+use history_core::{Event, Seen, Txn};
+
+/// Whether what was seen is a read from the source.
+fn is_read_from(seen: &Seen, source: u32) -> bool
+    ensures { IsTrue result ↔ IsReadFrom seen.now source }
+{
+    match seen {
+        Seen::Read { source: from, .. } => *from == source,
+        Seen::Scan { .. } => false,
+    }
+}
+
+/// The number of the event that showed it.
+fn number_in(seen: &Seen) -> u32
+    ensures { result ≡ number_of seen.now }
+{
+    match seen {
+        Seen::Read { number, .. } => *number,
+        Seen::Scan { number, .. } => *number,
+    }
+}
+
+/// Whether some read is from the source.
+fn has_read(all: &[Seen], source: u32) -> bool
+    ensures { IsTrue result ↔ Any (λ s. IsReadFrom s source) all.now }
+{
+    all.iter().any(|seen| is_read_from(seen, source))
+}
+
+/// Whether some read before the event at the place is from the source. Events are numbered from 1.
+fn has_read_before(all: &[Seen], place: usize, source: u32) -> bool
+    ensures { IsTrue result ↔ Any (λ s. (number_of s < place + 1) × IsReadFrom s source) all.now }
+{
+    all.iter()
+        .any(|seen| number_in(seen) as usize <= place && is_read_from(seen, source))
+}
+
+/// Whether the reader has read from the writer before the event at the place.
+fn reads_before(
+    events: &[Event],
+    order: &[u32],
+    txns: &[Txn],
+    places: &Places,
+    reader: u32,
+    place: usize,
+    writer: u32,
+) -> bool
+    requires scene { IsScene events.now order.now txns.now places.now }
+    requires reader { IsNumber events.now reader }
+    requires writer { IsNumber events.now writer }
+    ensures { IsTrue result ↔ ReadsBefore events.now reader place writer }
+{
+    let txn = txn_of(events, order, txns, places, reader);
+    has_read_before(txn.seen.as_slice(), place, writer)
+}
+
+/// Whether the writer precedes the reader, by session order or by the write-read relation.
+fn precedes(
+    events: &[Event],
+    order: &[u32],
+    txns: &[Txn],
+    places: &Places,
+    writer: u32,
+    reader: u32,
+) -> bool
+    requires scene { IsScene events.now order.now txns.now places.now }
+    requires writer { IsNumber events.now writer }
+    requires reader { IsNumber events.now reader }
+    ensures { IsTrue result ↔ Precedes events.now writer reader }
+{
+    if is_session_ordered(events, order, txns, places, writer, reader) {
+        return true;
+    }
+    let txn = txn_of(events, order, txns, places, reader);
+    has_read(txn.seen.as_slice(), writer)
+}
+
+/// The causal past of the transaction.
+fn past_of<'a>(pasts: &'a Pasts, events: &[Event], number: u32) -> &'a Past
+    requires pasts { ArePasts events.now pasts.now }
+    requires number { number ≤ begun events.now }
+    ensures { IsPastOf events.now (length pasts.now.last.items) number result.now }
+{
+    &pasts.rows[number as usize]
+}
+
+/// The last transaction of the session in the past.
+fn top_of(past: &Past, session: u32) -> u32
+    ensures { result ≡ slice_index past.now.tops.items session }
+{
+    if session as usize >= past.tops.len() {
+        return 0;
+    }
+    past.tops[session as usize]
+}
+
+/// Whether the writer is in the causal past of the reader.
+fn precedes_causally(
+    events: &[Event],
+    order: &[u32],
+    txns: &[Txn],
+    places: &Places,
+    pasts: &Pasts,
+    writer: u32,
+    reader: u32,
+) -> bool
+    requires scene { IsScene events.now order.now txns.now places.now }
+    requires pasts { ArePasts events.now pasts.now }
+    requires writer { IsNumber events.now writer }
+    requires reader { reader ≤ begun events.now }
+    ensures { IsTrue result ↔ PrecedesCausally events.now writer reader }
+{
+    let session = txn_of(events, order, txns, places, writer).session;
+    let past = past_of(pasts, events, reader);
+    top_of(past, session) >= writer
+}
+
+/// Whether the read of the reader at the place sees the writer, at the level of the reader.
+pub fn sees(
+    events: &[Event],
+    order: &[u32],
+    txns: &[Txn],
+    places: &Places,
+    pasts: &Pasts,
+    reader: u32,
+    place: usize,
+    writer: u32,
+) -> bool
+    requires scene { IsScene events.now order.now txns.now places.now }
+    requires pasts { ArePasts events.now pasts.now }
+    requires reader { IsNumber events.now reader }
+    requires writer { IsNumber events.now writer }
+    ensures { IsTrue result ↔ IsVisible events.now reader place writer }
+{
+    match txn_of(events, order, txns, places, reader).level {
+        Level::Rc => reads_before(events, order, txns, places, reader, place, writer),
+        Level::Ra => precedes(events, order, txns, places, writer, reader),
+        Level::Cc => precedes_causally(events, order, txns, places, pasts, writer, reader),
+    }
+}
