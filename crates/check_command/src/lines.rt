@@ -16,22 +16,24 @@ fn put_and_number(out: &mut Vec<u8>, n: u32) -> Result<(), Memory>
     put_number(out, n)
 }
 
+/// Writes which event breaks a rule.
+fn put_event_words(out: &mut Vec<u8>, event: u32) -> Result<(), Memory>
+    ensures { OnOk result (out.new.items ≡ out.old.items ++ event_words event) }
+{
+    put(out, b"breach event")?;
+    put_and_number(out, event)
+}
+
 /// Writes which event breaks a rule, and what follows.
 fn put_event(out: &mut Vec<u8>, event: u32, rule: &[u8]) -> Result<(), Memory>
     ensures { OnOk result (out.new.items ≡ out.old.items ++ (event_words event ++ rule.now)) }
 {
-    put(out, b"breach event")?;
-    put_and_number(out, event)?;
+    put_event_words(out, event)?;
     put(out, rule)
 }
 
 /// The same, and the number that is right.
-fn put_event_number(
-    out: &mut Vec<u8>,
-    event: u32,
-    rule: &[u8],
-    right: u32,
-) -> Result<(), Memory>
+fn put_event_number(out: &mut Vec<u8>, event: u32, rule: &[u8], right: u32) -> Result<(), Memory>
     ensures { OnOk result (out.new.items ≡ out.old.items ++ ((event_words event ++ rule.now) ++ and_number right)) }
 {
     put_event(out, event, rule)?;

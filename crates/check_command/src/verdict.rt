@@ -22,6 +22,7 @@ pub struct Verdict {
 }
 
 const RIGHT: Status = Status { code: 0 };
+
 const WRONG: Status = Status { code: 1 };
 
 /// Whether the bytes are the log of a history without a breach, and else what is wrong with them.
