@@ -58,7 +58,13 @@ fn host(alloc: Global, log: &[u8], fails: Fails) -> Result<MemHost, Memory>
 }
 
 // Whether `check PATH` ends with this status, and has printed this line.
-fn ends(host: &mut MemHost, alloc: Global, path: &[u8], code: u8, line: &[u8]) -> Result<bool, Memory>
+fn ends(
+    host: &mut MemHost,
+    alloc: Global,
+    path: &[u8],
+    code: u8,
+    line: &[u8],
+) -> Result<bool, Memory>
     requires { objects_out (mem_hosted host.old) ≡ 0 }
 {
     let path = text(alloc, path)?;

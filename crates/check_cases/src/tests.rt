@@ -31,11 +31,23 @@ fn says_that_a_log_is_right(rt: HostRuntime) -> Result<(), Fail> {
 const WRONG: &[(&str, &str)] = &[
     ("", "log fault: cut\n"),
     ("monkey-log 4 rc\norder 0\nend\n", "log fault: version\n"),
-    ("monkey-log 2 rc\nopen 1\nopen x\norder 0\nend\n", "log fault: line 3\n"),
+    (
+        "monkey-log 2 rc\nopen 1\nopen x\norder 0\nend\n",
+        "log fault: line 3\n",
+    ),
     ("monkey-log 2 rc\nopen 1\norder 0\n", "log fault: cut\n"),
-    ("monkey-log 2 rc\nopen 2\norder 0\nend\n", "breach event 1 shape\n"),
-    ("monkey-log 2 rc\nopen 1\nlook 1 1\norder 0\nend\n", "breach event 2 number 0\n"),
-    ("monkey-log 2 rc\nopen 1\norder 0 1\nend\n", "breach order\n"),
+    (
+        "monkey-log 2 rc\nopen 2\norder 0\nend\n",
+        "breach event 1 shape\n",
+    ),
+    (
+        "monkey-log 2 rc\nopen 1\nlook 1 1\norder 0\nend\n",
+        "breach event 2 number 0\n",
+    ),
+    (
+        "monkey-log 2 rc\nopen 1\norder 0 1\nend\n",
+        "breach order\n",
+    ),
     (
         "monkey-log 2 rc\nopen 1\ndefine 1 x74\nbegin 1 rc\nscan 1 0 7\norder 0 1\nend\n",
         "breach event 4 keys\n",
@@ -108,7 +120,14 @@ end
 fn judges_the_order(rt: HostRuntime) -> Result<(), Fail> {
     let alloc = rt.alloc();
     assert!(rt; prints(alloc, EARLY.as_bytes(), 1, b"breach event 8 read 1 2\n")?);
-    assert!(rt; prints(alloc, FRACTURED.as_bytes(), 1, b"breach event 10 axiom 0 1 2 p.0.2\n")?);
+    assert!(rt;
+        prints(
+            alloc,
+            FRACTURED.as_bytes(),
+            1,
+            b"breach event 10 axiom 0 1 2 p.0.2\n"
+        )?
+    );
     Ok(())
 }
 
