@@ -40,7 +40,8 @@ returns-else-n-eq0-clause-ran g c = λ level before many spent ran.
     (sight_of g.L.Sides.traffic g.L.Sides.read_faults g.L.Sides.write_faults c.read.new.self) many (take c.in-Ok.n c.read.new.room)
     c.in-Ok.n
     c.feed.ensures.grown c.requires.wanted c.feed.ensures.runner c.feed.ensures.outer c.feed.ensures.lacks c.in-Ok.ensures.took
-    c.read.ensures.cause.later c.read.ensures.write_faults (take-size c.in-Ok.n c.read.new.room c.in-Ok.ensures.within) ran
+    c.read.ensures.cause.later c.read.ensures.write_faults (take-size c.in-Ok.n c.read.new.room c.in-Ok.ensures.within)
+    (omega (arith, c.in-Ok.ensures.within, c.requires.at_once)) ran
 
 pub returns-in-Err-clause-ran : goal.returns-in-Err-clause-ran
 returns-in-Err-clause-ran g c = λ level before many spent ran.
