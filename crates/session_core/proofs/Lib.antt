@@ -12,6 +12,6 @@ pub mod Texts
 pub mod ValidRecords
 pub mod Carrying
 pub mod Playing
-mod Writing
+pub mod Writing
 pub mod Serving
 pub mod Nearing
