@@ -31,7 +31,7 @@ use crate::stage::MessageStage;
 use crate::step::fail;
 use crate::turns::{after_sent, answered};
 use crate::want::MessageWant;
-use crate::writes::{WriteStep, Written, written};
+use crate::writes::{WriteStep, Written, ask_write};
 use cell_base::{Level, Memory, SqlState};
 use history_core::Book;
 use outcome_replies::RowDescription;
@@ -365,7 +365,7 @@ impl Runner {
         ensures stays { B.stays book.old book.new }
     {
         let stage = std::mem::replace(&mut self.stage, MessageStage::Over(TransactionState::Idle));
-        let WriteStep { answer, step } = written(self.alloc, stage, book, &mut self.built);
+        let WriteStep { answer, step } = ask_write(self.alloc, stage, book, &mut self.built);
         self.stage = step.stage;
         Written {
             answer,

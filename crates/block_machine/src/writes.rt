@@ -56,7 +56,7 @@ fn take_write(plan: Kept<Plan>) -> (Cell, Value, Kept<Plan>)
 }
 
 // Asks the book for the write that a running statement asks for.
-fn write<B: Book>(
+fn make_write<B: Book>(
     alloc: Global,
     run: Run,
     pending: Pending,
@@ -102,7 +102,7 @@ fn write<B: Book>(
 }
 
 /// Asks the book for the write that a stage asks for. The book gets the cell and the value themselves, so the session needs no memory for it.
-pub fn written<B: Book>(
+pub fn ask_write<B: Book>(
     alloc: Global,
     stage: MessageStage,
     book: &mut B,
@@ -125,7 +125,7 @@ pub fn written<B: Book>(
     ensures stays { B.stays book.old book.new }
 {
     match stage {
-        MessageStage::Running(run, pending) => write(alloc, run, pending, book, built),
+        MessageStage::Running(run, pending) => make_write(alloc, run, pending, book, built),
         _ => unreachable!(),
     }
 }
