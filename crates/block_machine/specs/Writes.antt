@@ -1,5 +1,5 @@
 -- A write that a running statement asks of its book by itself.
-use Rattle.std.specs.Prelude.{◌≡◌, Some, List, [], ◌∷◌, ◌++◌}
+use Rattle.std.specs.Prelude.{◌≡◌, Some, [], ◌∷◌, ◌++◌}
 use Rattle.cell_base.specs.declared.cell.Cell.{Cell}
 use Rattle.cell_base.specs.declared.value.Value.{Value}
 use Rattle.history_core.specs.declared.event.Event.TheVariants.{Write}
