@@ -56,7 +56,7 @@ fn answer_of<B: Book, W: Words>(session: &Session, book: &mut B, words: &mut W) 
 /// meanwhile, as long as the session still sits by it. Whatever the session was fed, answered and sent before, its record has grown by
 /// just this call, as it was answered, and perhaps by a lack of memory of the session's own after it.
 pub fn make_call<B: Book, W: Words>(
-    alloc: Global,
+    _alloc: Global,
     session: &mut Session,
     book: &mut B,
     words: &mut W,

@@ -21,7 +21,9 @@ ghost use Rattle.session_core.specs.Wants.{IsWant};
 ghost use Rattle.session_core.specs.Told.{opened_in};
 ghost use Rattle.session_core.specs.Stands.{FitsWant, InPhase, IsFit, IsHolding, IsLast, IsStopped, IsUnder, Lacks, Shows, Tells, left_at, message_at, message_work, outer, owed_at, reply_of, served_of, statement_at, wants};
 
-use crate::answers::{SessionWrite, after_sent, answered, is_want, number_after, owed_holding, write_cell};
+use crate::answers::{
+    SessionWrite, after_sent, answered, is_want, number_after, owed_holding, write_cell,
+};
 use crate::messages::{feed_piece, take_message};
 use crate::phase::Phase;
 use crate::prepared::SessionReplies;
