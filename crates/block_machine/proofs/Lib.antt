@@ -14,4 +14,5 @@ mod Columns
 mod Carried
 mod Taking
 mod Pursuing
+mod Writing
 mod Zeros

@@ -6,5 +6,6 @@ pub mod Replies
 pub mod Statements
 pub mod Messages
 pub mod Stages
+pub mod Writes
 pub mod StatementRunners
 pub mod Runners

@@ -32,6 +32,7 @@ mod stage;
 mod step;
 mod turns;
 mod want;
+mod writes;
 
 pub use block::{Block, Owed};
 pub use blocks::owed_between;
@@ -47,3 +48,4 @@ pub use replies::error;
 pub use runner::Runner;
 pub use settings::level_named;
 pub use want::MessageWant;
+pub use writes::Written;

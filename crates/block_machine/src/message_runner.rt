@@ -1,14 +1,18 @@
 // The statements of a session's query messages as a machine: answers come in, calls and replies go out.
 ghost use Rattle.std.specs.Prelude.{◌≡◌, ℕ, ◌+◌, ◌*◌, ◌<◌, ◌≤◌, ◌^◌, List, [], ◌∷◌, length, All, true, IfOk, IfSome, IsNone};
+ghost use Rattle.cell_base.specs.declared.cell.Cell as cells;
+ghost use Rattle.cell_base.specs.declared.value.Value as values;
 ghost use Rattle.sql_tree.specs.declared.table.Table.{Table as Defined};
 ghost use Rattle.sound_table.specs.Sound.{IsSound};
 ghost use Rattle.history_core.specs.declared.event.Event.{Event};
+ghost use Rattle.history_core.specs.Chronicle.{IsLegalChronicle};
 ghost use Rattle.block_machine.specs.Calls as calls;
 ghost use Rattle.block_machine.specs.Calls.{Call as Asked, IsWant, asks_cells, call_for};
 ghost use Rattle.block_machine.specs.Knowledge.{at_start};
 ghost use Rattle.block_machine.specs.Script.{Said, Entry, call as asking, with_call, tell};
 ghost use Rattle.block_machine.specs.Messages.{Outside, message as told, owed_between};
 ghost use Rattle.block_machine.specs.Stages.{FitsWant, IsFrom, IsHolding, IsKnownAfter, IsSameButLevel, IsBusy, IsRunning, IsSoundMessage, IsSoundStage, IsSoundStatement, KnowsTables, HasReply, entry_for, is_driven, least, left_at, length_of, owed_after, owed_at, running_at, with_short};
+ghost use Rattle.block_machine.specs.Writes.{IsWrite, MayWrite};
 
 use crate::block::Owed;
 use crate::call::Answer;
@@ -17,7 +21,9 @@ use crate::message::Message;
 use crate::runner::Runner;
 use crate::stage::MessageStage;
 use crate::want::MessageWant;
+use crate::writes::Written;
 use cell_base::{Level, Memory, SqlState};
+use history_core::Book;
 use pg_framing::TransactionState;
 use sql_tree::{Statement, Table};
 use statement_course::Demand;
@@ -134,6 +140,36 @@ impl MessageRunner {
         ensures some { HasReply (stage_of self.new) self.new.runner.built.items }
     {
         self.runner.answer(answer)
+    }
+
+    /// Asks the book for the write that is wanted, in place of a call and its answer: the cell and the value themselves go to the book, so the
+    /// session needs no memory for them.
+    pub fn write<B: Book>(&mut self, book: &mut B) -> Written
+        requires wanted { (cell : cells.Cell) × (value : values.Value) × (wanted self.old ≡ calls.Book (calls.Write cell value)) }
+        requires may { (cell : cells.Cell) (value : values.Value) → wanted self.old ≡ calls.Book (calls.Write cell value) →
+            MayWrite cell value (B.past book.old) }
+        requires tables { All IsSound (tables_of self.old) }
+        requires sound { IsSoundStage (stage_of self.old) }
+        ensures made { (cell : cells.Cell) × (value : values.Value) × (wanted self.old ≡ calls.Book (calls.Write cell value)) ×
+            IsWrite (B.past book.old) cell value result.answer (B.past book.new) }
+        ensures goes { (c : Asked) (outside : Outside) (said : Said) (es : List Entry) (e : Event) →
+            wanted self.old ≡ calls.Book c → IsFrom 1 (length said.bytes) es →
+            follows self.old outside said (entry_for result.answer e ∷ with_short result.out_of_memory said.bytes es)
+            ≡ follows self.new outside (with_call said c) es }
+        ensures known { knowledge_of self.new ≡ knowledge_of self.old }
+        ensures rest { statements_of self.new ≡ statements_of self.old }
+        ensures owed { owed_at (stage_of self.new) ≡ owed_at (stage_of self.old) }
+        ensures work { work_of self.new < work_of self.old + running_at (stage_of self.new) }
+        ensures left { left_at (stage_of self.new) < left_at (stage_of self.old) }
+        ensures knows { KnowsTables (stage_of self.old) (tables_of self.old) → KnowsTables (stage_of self.new) (tables_of self.new) }
+        ensures sound { IsSoundStage (stage_of self.new) }
+        ensures tables { All IsSound (tables_of self.new) }
+        ensures busy { IsBusy (stage_of self.new) }
+        ensures some { HasReply (stage_of self.new) self.new.runner.built.items }
+        ensures legal { IsLegalChronicle (B.past book.new).seen }
+        ensures stays { B.stays book.old book.new }
+    {
+        self.runner.write(book)
     }
 
     /// The reply was sent. Answers whether the session was out of memory for what follows it.

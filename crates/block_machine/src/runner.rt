@@ -1,9 +1,12 @@
 // The single statements of a session as a machine: answers come in, calls and replies go out. It keeps what the session knows, and what its
 // running statement needs.
 ghost use Rattle.std.specs.Prelude.{◌≡◌, ℕ, ◌+◌, ◌<◌, ◌≤◌, ◌^◌, List, [], ◌∷◌, length, All, true, IfOk, IfSome, IsNone};
+ghost use Rattle.cell_base.specs.declared.cell.Cell as cells;
+ghost use Rattle.cell_base.specs.declared.value.Value as values;
 ghost use Rattle.sql_tree.specs.declared.table.Table.{Table as Defined};
 ghost use Rattle.sound_table.specs.Sound.{IsSound};
 ghost use Rattle.history_core.specs.declared.event.Event.{Event};
+ghost use Rattle.history_core.specs.Chronicle.{IsLegalChronicle};
 ghost use Rattle.block_machine.specs.Calls as calls;
 ghost use Rattle.block_machine.specs.Calls.{Call as Asked, IsWant, asks_cells, call_for};
 ghost use Rattle.block_machine.specs.Knowledge.{at_start};
@@ -13,6 +16,7 @@ ghost use Rattle.block_machine.specs.Messages.{Outside, finishes};
 ghost use Rattle.block_machine.specs.Statements.{Around, fails, owed_in, refreshes, succeeds, told_of};
 ghost use Rattle.block_machine.specs.Stages.{FitsWant, IsFrom, IsAtRest, IsBetween, IsHolding, IsKnownAfter, IsReady, IsSameButLevel, IsBusy, IsRunning, IsSoundStage, IsSoundStatement, KnowsTables, HasReply, breaks, entry_for, is_driven, is_skipping, left_at, owed_after, owed_at, running_at, with_short, work_at};
 ghost use Rattle.block_machine.specs.Stages as stages_spec;
+ghost use Rattle.block_machine.specs.Writes.{IsWrite, MayWrite};
 
 use crate::actions::take;
 use crate::advance::want_of;
@@ -27,7 +31,9 @@ use crate::stage::MessageStage;
 use crate::step::fail;
 use crate::turns::{after_sent, answered};
 use crate::want::MessageWant;
+use crate::writes::{WriteStep, Written, ask_write};
 use cell_base::{Level, Memory, SqlState};
+use history_core::Book;
 use outcome_replies::RowDescription;
 use pg_framing::TransactionState;
 use sql_tree::{Statement, Table};
@@ -329,6 +335,42 @@ impl Runner {
         let step = answered(self.alloc, stage, &mut self.known, &mut self.built, answer);
         self.stage = step.stage;
         step.out_of_memory
+    }
+
+    /// Asks the book for the write that is wanted, in place of a call and its answer: the cell and the value themselves go to the book, so the
+    /// session needs no memory for them.
+    pub fn write<B: Book>(&mut self, book: &mut B) -> Written
+        requires wanted { (cell : cells.Cell) × (value : values.Value) × (wanted self.old ≡ calls.Book (calls.Write cell value)) }
+        requires may { (cell : cells.Cell) (value : values.Value) → wanted self.old ≡ calls.Book (calls.Write cell value) →
+            MayWrite cell value (B.past book.old) }
+        requires tables { All IsSound (tables_of self.old) }
+        requires sound { IsSoundStage self.old.stage }
+        ensures made { (cell : cells.Cell) × (value : values.Value) × (wanted self.old ≡ calls.Book (calls.Write cell value)) ×
+            IsWrite (B.past book.old) cell value result.answer (B.past book.new) }
+        ensures goes { (c : Asked) (around : Around) (outside : Outside) (said : Said) (es : List Entry) (e : Event) →
+            wanted self.old ≡ calls.Book c → IsFrom 1 (length said.bytes) es →
+            follows self.old around outside said (entry_for result.answer e ∷ with_short result.out_of_memory said.bytes es)
+            ≡ follows self.new around outside (with_call said c) es }
+        ensures known { knowledge_of self.new ≡ knowledge_of self.old }
+        ensures owed { owed_at self.new.stage ≡ owed_at self.old.stage }
+        ensures work { work_at self.new.stage < work_at self.old.stage + running_at self.new.stage }
+        ensures left { left_at self.new.stage < left_at self.old.stage }
+        ensures knows { KnowsTables self.old.stage (tables_of self.old) → KnowsTables self.new.stage (tables_of self.new) }
+        ensures sound { IsSoundStage self.new.stage }
+        ensures tables { All IsSound (tables_of self.new) }
+        ensures busy { IsBusy self.new.stage }
+        ensures driven { is_driven self.new.stage ≡ true }
+        ensures some { HasReply self.new.stage self.new.built.items }
+        ensures legal { IsLegalChronicle (B.past book.new).seen }
+        ensures stays { B.stays book.old book.new }
+    {
+        let stage = std::mem::replace(&mut self.stage, MessageStage::Over(TransactionState::Idle));
+        let WriteStep { answer, step } = ask_write(self.alloc, stage, book, &mut self.built);
+        self.stage = step.stage;
+        Written {
+            answer,
+            out_of_memory: step.out_of_memory,
+        }
     }
 
     /// The reply was sent.

@@ -1,5 +1,7 @@
 // What follows an answer.
 ghost use Rattle.std.specs.Prelude.{◌≡◌, ◌<◌, true, IfOk};
+ghost use Rattle.cell_base.specs.declared.cell.Cell as cells;
+ghost use Rattle.cell_base.specs.declared.value.Value as values;
 ghost use Rattle.statement_course.specs.declared.demand.Demand.TheVariants as demands;
 ghost use Rattle.statement_course.specs.declared.demand.Outcome as outcomes;
 ghost use Rattle.statement_course.specs.declared.demand.PlanAnswer.TheVariants as answers;
@@ -101,6 +103,22 @@ pub fn with_written(alloc: Global, demand: Demand, next: Next) -> Result<Plan, M
     match (demand, next) {
         (Demand::Write(_, _), Next::Writes(writes, outcome)) => {
             Ok(writes_left(alloc, writes, outcome))
+        }
+        _ => unreachable!(),
+    }
+}
+
+/// Takes the write out that is demanded, and goes on as when it is made.
+pub fn take_write(alloc: Global, demand: Demand, next: Next) -> (Cell, Value, Plan)
+    requires together { go_together demand next ≡ true }
+    requires writes { (cell : cells.Cell) × (value : values.Value) × (demand ≡ demands.Write cell value) }
+    ensures write { demand ≡ demands.Write result.0 result.1 }
+    ensures course { rest_of result.2 ≡ behind (next_course demand next) answers.Written }
+    ensures less { left_of result.2 < next_answers demand next }
+{
+    match (demand, next) {
+        (Demand::Write(cell, value), Next::Writes(writes, outcome)) => {
+            (cell, value, writes_left(alloc, writes, outcome))
         }
         _ => unreachable!(),
     }

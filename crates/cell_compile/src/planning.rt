@@ -1,9 +1,9 @@
 // The calls of a plan.
 use crate::Plan;
-use crate::answers::{replied, with_keys, with_value, with_written};
+use crate::answers::{replied, take_write, with_keys, with_value, with_written};
 use crate::beginning::{change_plan, insert_plan, select_plan};
 use crate::next::Next;
-use cell_base::{Memory, SqlState};
+use cell_base::{Cell, Memory, SqlState, Value};
 use sql_tree::{Table, Typed};
 use statement_course::{Demand, Outcome, PlanAnswer};
 use std::alloc::Global;
@@ -11,7 +11,11 @@ use std::mem;
 
 impl Plan {
     ghost use Rattle.std.specs.Prelude.{◌≡◌, ◌<◌, true, IfOk, OnOk};
+    ghost use Rattle.cell_base.specs.declared.cell.Cell as cells;
+    ghost use Rattle.cell_base.specs.declared.value.Value as values;
+    ghost use Rattle.statement_course.specs.declared.demand.Demand.TheVariants as demands;
     ghost use Rattle.statement_course.specs.declared.demand.Outcome as outcomes;
+    ghost use Rattle.statement_course.specs.declared.demand.PlanAnswer.TheVariants as answers;
     ghost use Rattle.statement_course.specs.Course.{FitsDemand, behind, done, first_demand};
     ghost use Rattle.statement_course.specs.Statements.{course_of};
     ghost use Rattle.cell_compile.specs.Narrow.{AreNarrow};
@@ -57,6 +61,27 @@ impl Plan {
         Ok(())
     }
 
+    /// Takes the cell and the value out that are to be written. The plan goes on as when they are.
+    pub fn take_write(&mut self) -> (Cell, Value)
+        requires { (cell : cells.Cell) × (value : values.Value) × (first_demand (rest_of self.old) ≡ demands.Write cell value) }
+        ensures write { first_demand (rest_of self.old) ≡ demands.Write result.0 result.1 }
+        ensures course { rest_of self.new ≡ behind (rest_of self.old) answers.Written }
+        ensures less { left_of self.new < left_of self.old }
+    {
+        let alloc = self.alloc;
+        let plan = mem::replace(
+            self,
+            Plan::of(
+                alloc,
+                Demand::Reply(Outcome::Failed(SqlState::S53200)),
+                Next::Nothing,
+            ),
+        );
+        let (cell, value, plan) = plan.without_write();
+        *self = plan;
+        (cell, value)
+    }
+
     /// What the statement comes to, where it demands nothing more.
     pub fn into_outcome(self) -> Outcome
         requires { (outcome : outcomes.Outcome) × (rest_of self ≡ done outcome) }
@@ -81,6 +106,21 @@ impl Plan {
             demand,
             next,
         }
+    }
+
+    #[tactic(auto, unfolding(crate::specs::Plans::rest_of, crate::specs::Plans::left_of))]
+    fn without_write(self) -> (Cell, Value, Plan)
+        requires { (cell : cells.Cell) × (value : values.Value) × (first_demand (rest_of self) ≡ demands.Write cell value) }
+        ensures write { first_demand (rest_of self) ≡ demands.Write result.0 result.1 }
+        ensures course { rest_of result.2 ≡ behind (rest_of self) answers.Written }
+        ensures less { left_of result.2 < left_of self }
+    {
+        let Plan {
+            alloc,
+            demand,
+            next,
+        } = self;
+        take_write(alloc, demand, next)
     }
 
     #[tactic(auto, unfolding(crate::specs::Plans::rest_of, crate::specs::Plans::left_of))]

@@ -1,4 +1,4 @@
-// What had been read and written before each read of a link: no reply is held back over a read, and none is read again.
+// What had been read and written before each read of a link: no reply is held back over a read, and no read takes more than 8,192 bytes.
 ghost use Rattle.std.specs.Prelude.{◌≡◌, IfOk};
 ghost use Rattle.history_core.specs.Book.{no_session};
 
@@ -8,7 +8,7 @@ use cell_base::{Items, Level, Memory};
 use choice_stream::ListWords;
 use history_core::InitialState;
 use session_core::{End, serve_link};
-use std::alloc::Global;
+use std::alloc::{AllocError, Global};
 use std::test::Fail;
 use valid_writes::{SeatBook, Store};
 
@@ -52,5 +52,27 @@ fn holds_no_reply_back(rt: HostRuntime) -> Result<(), Fail> {
     assert_eq!(rt; served.end, End::Terminated);
     assert_eq!(rt; link.marks(), MARKS);
     assert_eq!(rt; link.written().len(), 285);
+    Ok(())
+}
+
+// A query without a statement, of 9,000 bytes.
+fn long_query(alloc: Global) -> Result<Vec<u8>, AllocError> {
+    let spaces = vec![in alloc; b' '; 8994]?;
+    joined(alloc, &[b"Q\0\0\x23\x27", spaces.as_slice(), b"\0"])
+}
+
+#[test]
+fn reads_8192_bytes_at_once(rt: HostRuntime) -> Result<(), Fail> {
+    let alloc = rt.alloc();
+    let query = long_query(alloc)?;
+    let input = joined(alloc, &[STARTUP, query.as_slice(), TERMINATE])?;
+    let mut link = link(alloc, input.as_slice(), 10_000)?;
+    let mut book = new_book(alloc)?;
+    let mut words = ListWords::new(Items::from_slice(alloc, &[])?);
+    let served = serve_link(alloc, Level::Rc, &mut book, &mut link, &mut words);
+    assert_eq!(rt; served.end, End::Terminated);
+    // The first read takes the startup message and a part of the query.
+    assert_eq!(rt; link.marks(), [(0, 0), (8192, 191)].as_slice());
+    assert_eq!(rt; link.written().len(), 202);
     Ok(())
 }

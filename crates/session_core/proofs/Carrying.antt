@@ -8,7 +8,7 @@ use Rattle.block_machine.specs.declared.end.End.TheVariants as ends
 use Rattle.session_core.specs.Requests.{Requests, AreRequests}
 use Rattle.block_machine.specs.Script.{Entry, more}
 use Rattle.session_core.specs.Told.{told}
-use Rattle.session_core.specs.Serve.{Account, IsMark, AreMarks, Carries, IsAtEnd, Blames}
+use Rattle.session_core.specs.Serve.{Account, IsMark, AreMarks, TakeAtMost, Carries, IsAtEnd, Blames, most_at_once}
 
 -- an account that has gone on by these lists
 pub record Extends (old new : Account) : Type 0 where
@@ -47,6 +47,13 @@ AreMarks-one : (level : Level) (account : Account) (t : Traffic) (ms : List (ℕ
 AreMarks-one level account t [] m k h = (h, tt)
 AreMarks-one level account t (x ∷ ms) m k h = (k.0, AreMarks-one level account t ms m k.1 h)
 
+-- one read more
+TakeAtMost-one : (most : ℕ) (ms : List (ℕ × ℕ)) (m : ℕ × ℕ) (all : ℕ) → TakeAtMost most ms m.0 → all ≤ m.0 + most →
+    TakeAtMost most (ms ++ m ∷ []) all
+TakeAtMost-one most [] m all k h = (h, tt)
+TakeAtMost-one most (x ∷ []) m all k h = (k.0, TakeAtMost-one most [] m all tt h)
+TakeAtMost-one most (x ∷ y ∷ ms) m all k h = (k.0, TakeAtMost-one most (y ∷ ms) m all k.1 h)
+
 -- a longer record alone
 pub Carries-record : (level : Level) (old new : Account) (b : List Entry) (t u : Traffic) → new.taken ≡ old.taken → new.sent ≡ old.sent →
     new.lost ≡ old.lost → new.entries ≡ old.entries ++ b → Carries level old t u → Carries level new t u
@@ -65,6 +72,7 @@ Carries-record level old new b t u taken sent lost entries k = record {
       entries = entries;
       sent = sent ∙ sym (append-nil old.sent);
     }) k.marks.2,
+    k.marks.3,
   );
 }
 
@@ -89,6 +97,7 @@ Carries-wrote level old new b reply part t u r taken entries sent none_lost e k 
       entries = entries;
       sent = sent;
     }) k.marks.2,
+    subst (λ (x : List ℕ). TakeAtMost most_at_once k.marks.0 (length x)) (sym w.read) k.marks.3,
   );
 }
 
@@ -96,9 +105,9 @@ Carries-wrote level old new b reply part t u r taken entries sent none_lost e k 
 pub Carries-took : (level : Level) (old new : Account) (piece : List ℕ) (b : List Entry) (t u r : Traffic) (requests : Requests) →
     new.taken ≡ old.taken ++ piece → new.entries ≡ old.entries ++ b → new.sent ≡ old.sent → old.lost ≡ [] → new.lost ≡ [] →
     AreRequests false old.taken requests →
-    told level requests old.entries ≡ (record { bytes = old.sent; calls = old.calls }, more) → Carries level old t u → Took piece u r →
-    Carries level new t r
-Carries-took level old new piece b t u r requests taken entries sent none_lost none is shows k w =
+    told level requests old.entries ≡ (record { bytes = old.sent; calls = old.calls }, more) → length piece ≤ most_at_once →
+    Carries level old t u → Took piece u r → Carries level new t r
+Carries-took level old new piece b t u r requests taken entries sent none_lost none is shows few k w =
     let all_written : u.written ≡ t.written ++ old.sent =
     sym (append-nil u.written) ∙ ap (λ (x : List ℕ). u.written ++ x) (sym none_lost) ∙ k.written_is in
     let all_read : u.read ≡ t.read ++ old.taken = k.read_is in
@@ -137,6 +146,8 @@ Carries-took level old new piece b t u r requests taken entries sent none_lost n
           requests_are = is;
           told_is = shows;
         })),
+        TakeAtMost-one most_at_once k.marks.0 (length u.read, length u.written) (length r.read) k.marks.3
+            (omega (arith, ap length w.read, length-append u.read piece, few)),
       );
     }
 

@@ -12,5 +12,6 @@ pub mod Texts
 pub mod ValidRecords
 pub mod Carrying
 pub mod Playing
+pub mod Writing
 pub mod Serving
 pub mod Nearing

@@ -1,7 +1,6 @@
 -- The calls of a book, and where they leave its session.
 use Rattle.std.proofs.Common.{◌≡◌, ◌≤◌, ◌+◌, ℕ, List, [], ◌∷◌, length, refl, sym, ◌∙◌, ap, subst, arith, Some, length-append, ◌++◌, inl, inr, append_assoc}
-use Rattle.std.proofs.lemmas.List.{append-nil}
-use Rattle.std.proofs.lemmas.List.Elements.{All-nil, All-tail, All-append}
+use Rattle.std.proofs.lemmas.List.Elements.{All-tail, All-append}
 use Rattle.std.specs.Prelude.{◌≢◌, ◌⊎◌, All, true, false}
 use Rattle.cell_base.specs.declared.cell.Cell.{Cell}
 use Rattle.cell_base.specs.declared.cell.Cell.TheVariants.{Presence, Field}
@@ -70,26 +69,6 @@ declined gives p v c d (faults.Full limit) q w is may goes full fresh draws = (
 )
 declined gives p v c d faults.Memory q w is may goes full fresh draws =
     (Open 0, subst (λ (x : Call). Plays gives p v x (answers.Refused faults.Memory) (Open 0) q w) (sym is) ((may, goes), draws))
-
--- nothing has gone on
-goes_same : (p : Past) → GoesOn p p
-goes_same p = record {
-  level = refl;
-  initial = refl;
-  others = [];
-  seen = sym (append-nil p.seen.events);
-  foreign = All-nil (λ (e : Event). session_in e ≢ session_of p.state);
-  more = [];
-  tables = sym (append-nil p.seen.tables);
-  own = refl;
-  state = refl;
-}
-
--- a call that the session itself had no memory for
-pub out_of_memory : {W : Type 0} (gives : W → ℕ → W → Type 0) (p : Past) (v : W) (c : Call) → may_be_refused c →
-    Draws gives p v c (refused faults.Memory) v → (x : Event) × Plays gives p v c (answers.Refused faults.Memory) x p v
-out_of_memory gives p v c may draws = declined gives p v c c faults.Memory p v refl may (goes_same p) (λ limit is. absurd (cc is))
-    (λ limit is. absurd (cc is)) draws
 
 pub defined_plays : {W : Type 0} (gives : W → ℕ → W → Type 0) (p : Past) (v : W) (table : Table) (answer : DefineAnswer) (q : Past) →
     AnswersDefine p table answer q →

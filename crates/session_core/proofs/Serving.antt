@@ -37,7 +37,7 @@ use Rattle.session_core.specs.Plays.{owed_of}
 use Rattle.session_core.specs.Ends.{LacksBy, outer_end}
 use Rattle.session_core.specs.Stands.{IsFit, Lacks, served_of, owed_at, IsStopped, outer, end_of, wants, IsHolding, Shows, IsLast, statement_at}
 use Rattle.session_core.specs.declared.served.Served.{Served}
-use Rattle.session_core.specs.Serve.{Scene, scene_of, Account, IsOfLast, Carries, IsAtEnd, Blames, Serves, most_read}
+use Rattle.session_core.specs.Serve.{Scene, scene_of, Account, IsOfLast, Carries, IsAtEnd, Blames, Serves, most_read, most_at_once}
 use Rattle.session_core.specs.Running.{IsAnswered, MakesCall, Ran, Sits, SitsWhileOthersGoOn}
 use Rattle.session_core.proofs.Grows.{IsAsked, Shows-stands}
 use Rattle.session_core.proofs.ValidRecords.{IsValidRecord-append, IsValidRecord-plays, IsValidRecord-short, IsValidRecord-quiet, own_events}
@@ -294,7 +294,7 @@ Ran-stopped gives level before s r q w g h many cause grown bytes same outer_is 
         valid = IsValidRecord-quiet gives before.past before.words old.calls old.entries q w (stop cause) tt run.valid;
         carries = Both-then before.link.traffic g.traffic h.traffic
             (λ x y z k l. Carries-took level old new [] (stop cause ∷ []) x y z requests (sym (append-nil old.taken)) refl refl none_lost refl
-            is shows k l) run.carries took;
+            is shows (omega arith) k l) run.carries took;
         lacks = lacks;
         last = inl refl;
         blames = Blames-stopped cause (outer r.stage) before.link h old.taken outer_is (why old.taken many_is run.reads);
@@ -340,8 +340,8 @@ pub Ran-fed : {W : Type 0} (gives : W → ℕ → W → Type 0) (level : Level) 
     StandsShort r (taken ++ piece) es asked sent) →
     wants s.stage s.runner ≡ wishes.Bytes → r.runner ≡ s.runner → outer r.stage ≡ None → Lacks r.stage [] →
     Both (Took piece) g.traffic h.traffic → g.read_faults ≤ h.read_faults → h.write_faults ≡ g.write_faults → length piece ≡ n →
-    Ran gives level before s (scene_of q w g) many → Ran gives level before r (scene_of q w h) (many + n)
-Ran-fed gives level before s r q w g h many piece n grown bytes same outer_is lacks took more_reads same_writes size ran =
+    n ≤ most_at_once → Ran gives level before s (scene_of q w g) many → Ran gives level before r (scene_of q w h) (many + n)
+Ran-fed gives level before s r q w g h many piece n grown bytes same outer_is lacks took more_reads same_writes size few ran =
     let (old, many_is, run) = ran in
     let none_lost : old.lost ≡ [] = Lacks-bytes s.stage s.runner old.lost bytes run.lacks in
     let (requests, is, shows) = shows_more s level old.taken old.entries old.calls old.sent run.served_level bytes run.stands in
@@ -354,7 +354,8 @@ Ran-fed gives level before s r q w g h many piece n grown bytes same outer_is la
         served_level = ap served_of same ∙ run.served_level;
         valid = IsValidRecord-short gives before.past before.words old.calls old.entries q w old.sent added is_short run.valid;
         carries = Both-then before.link.traffic g.traffic h.traffic
-            (λ x y z k l. Carries-took level old new piece added x y z requests refl refl refl none_lost refl is shows k l) run.carries took;
+            (λ x y z k l. Carries-took level old new piece added x y z requests refl refl refl none_lost refl is shows
+            (omega (arith, size, few)) k l) run.carries took;
         lacks = lacks;
         last = inl refl;
         blames = Blames-none (outer r.stage) before.link h (old.taken ++ piece) outer_is;
@@ -423,7 +424,7 @@ carries_nothing level es (Some t) = record {
   read_is = sym (append-nil t.read);
   written_is = refl;
   marks =
-      ([], sym (append-nil t.marks), tt);
+      ([], sym (append-nil t.marks), tt, tt);
 }
 
 -- at the start

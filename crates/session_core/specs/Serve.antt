@@ -18,6 +18,10 @@ use Rattle.session_core.specs.Ends.{LacksBy, outer_end}
 abbrev pub most_read : ℕ
 most_read = 1073741824
 
+-- the greatest number of bytes that one read takes
+abbrev pub most_at_once : ℕ
+most_at_once = 8192
+
 -- What stands round a session at a moment: the past of its book, the choice words that are left, and what its link tells.
 pub record Scene (W : Type 0) : Type 0 where
   pub past : Past
@@ -62,12 +66,24 @@ abbrev pub AreMarks : Level → Account → Traffic → List (ℕ × ℕ) → Ty
 AreMarks level account t [] = Unit {0}
 AreMarks level account t (m ∷ ms) = IsMark level account t m × AreMarks level account t ms
 
+-- how many bytes had been read before the first of these reads; with none of them, how many were read in all
+abbrev pub read_before : List (ℕ × ℕ) → ℕ → ℕ
+read_before [] all = all
+read_before (m ∷ ms) all = m.0
+
+-- each of these reads took at most so many bytes: no more had been read before the next one, or after the last one, given how many bytes
+-- were read in all
+abbrev pub TakeAtMost : ℕ → List (ℕ × ℕ) → ℕ → Type 0
+TakeAtMost most [] all = Unit {0}
+TakeAtMost most (m ∷ ms) all = (read_before ms all ≤ m.0 + most) × TakeAtMost most ms all
+
 -- what went over the link
 pub record Carries (level : Level) (account : Account) (before after : Traffic) : Type 0 where
   pub left : before.left ≡ account.taken ++ after.left
   pub read_is : after.read ≡ before.read ++ account.taken
   pub written_is : after.written ++ account.lost ≡ before.written ++ account.sent
-  pub marks : (ms : List (ℕ × ℕ)) × (after.marks ≡ before.marks ++ ms) × AreMarks level account before ms
+  pub marks : (ms : List (ℕ × ℕ)) × (after.marks ≡ before.marks ++ ms) × AreMarks level account before ms ×
+      TakeAtMost most_at_once ms (length after.read)
 
 abbrev pub IsAtEnd : Option Traffic → Type 0
 IsAtEnd None = Unit {0}
@@ -89,10 +105,10 @@ IsOfLast account =
 
 -- A session was served at a level. No more bytes were taken from its client than the most that is read. They say these requests. What was
 -- to be sent, the calls that were asked and the end are told of the requests and of the record. The calls were made of the book in order,
--- their events are those that the book made its own, and its reads drew the words. Over the link went what was taken and what was sent,
--- and no reply was held back over a read; where a write failed, what is lost stands at the end of what was to be sent, and is a part of
--- the last reply. An end that is laid to the link has its cause there. The outcome names the session that the record opened, and says
--- whether memory ran out.
+-- their events are those that the book made its own, and its reads drew the words. Over the link went what was taken and what was sent.
+-- No reply was held back over a read, and no read took more than one takes at most. Where a write failed, what is lost stands at the end of
+-- what was to be sent, and is a part of the last reply. An end that is laid to the link has its cause there. The outcome names the session
+-- that the record opened, and says whether memory ran out.
 pub record Serves {W : Type 0} (gives : W → ℕ → W → Type 0) (level : Level) (before : Scene W) (outcome : Served) (after : Scene W)
     (account : Account) : Type 0 where
   pub within : length account.taken ≤ most_read

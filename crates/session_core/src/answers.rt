@@ -1,8 +1,13 @@
 // What stands after the answers that a session gets, and after the replies that it has sent.
 ghost use Rattle.std.specs.Prelude.{◌≡◌, ℕ, ◌+◌, ◌<◌, List, [], Bool, true, None, Option};
+ghost use Rattle.cell_base.specs.declared.cell.Cell as cells;
+ghost use Rattle.cell_base.specs.declared.value.Value as values;
+ghost use Rattle.history_core.specs.Chronicle.{IsLegalChronicle};
+ghost use Rattle.block_machine.specs.Calls as calls;
 ghost use Rattle.block_machine.specs.Calls.{Call as Asked};
 ghost use Rattle.block_machine.specs.Stages.{IsKnownAfter, IsSameButLevel, owed_after, wants_memory};
 ghost use Rattle.block_machine.specs.Runners.{Runs, knowledge_of};
+ghost use Rattle.block_machine.specs.Writes.{IsWrite, MayWrite};
 ghost use Rattle.block_machine.specs.declared.message_runner.MessageRunner.{MessageRunner as Machine};
 ghost use Rattle.session_core.specs.Told.{opened_after};
 ghost use Rattle.session_core.specs.Wants as wishes;
@@ -14,9 +19,9 @@ use crate::phase::Phase;
 use crate::replies;
 use crate::stage::{Finish, SessionReply, SessionStage};
 use crate::turns::{SessionStep, Shortage, advance, at_rest, owed_by, phase_after_reply};
-use block_machine::{Answer, MessageRunner, Owed};
+use block_machine::{Answer, MessageRunner, Owed, Written};
 use cell_base::Memory;
-use history_core::BookFault;
+use history_core::{Book, BookFault};
 use std::alloc::Global;
 
 // The step after a reply of a message that runs.
@@ -155,6 +160,48 @@ fn answer_message(runner: &mut MessageRunner, answer: Answer) -> SessionStep
     let out_of_memory = runner.answer(answer);
     SessionStep {
         stage: SessionStage::Running,
+        out_of_memory: passing(out_of_memory),
+    }
+}
+
+/// A write that was asked of a book.
+#[derive(Debug, Drop)]
+pub struct SessionWrite {
+    /// What the book answered.
+    pub answer: Answer,
+    /// The session's own lack of memory after it, where there was one.
+    pub out_of_memory: Option<Shortage>,
+}
+
+/// Asks the book for the write that a message wants which runs.
+pub fn write_cell<B: Book>(runner: &mut MessageRunner, book: &mut B) -> SessionWrite
+    requires wanted { (cell : cells.Cell) × (value : values.Value) ×
+        (wants SessionStage.Running runner.old ≡ wishes.Book (calls.Write cell value)) }
+    requires may { (cell : cells.Cell) (value : values.Value) → wants SessionStage.Running runner.old ≡ wishes.Book (calls.Write cell value) →
+        MayWrite cell value (B.past book.old) }
+    requires fit { IsFit runner.old }
+    ensures made { (cell : cells.Cell) × (value : values.Value) ×
+        (wants SessionStage.Running runner.old ≡ wishes.Book (calls.Write cell value)) ×
+        IsWrite (B.past book.old) cell value result.answer (B.past book.new) }
+    ensures goes { (startup : List ℕ) →
+        Advances SessionStage.Running runner.old result.answer SessionStage.Running runner.new result.out_of_memory startup }
+    ensures owed { owed_at SessionStage.Running runner.new ≡ owed_at SessionStage.Running runner.old }
+    ensures message { message_work SessionStage.Running runner.new <
+        message_work SessionStage.Running runner.old + statement_at SessionStage.Running runner.new }
+    ensures left { left_at SessionStage.Running runner.new < left_at SessionStage.Running runner.old }
+    ensures known { knowledge_of runner.new ≡ knowledge_of runner.old }
+    ensures fit { IsFit runner.new }
+    ensures under { IsUnder SessionStage.Running runner.new }
+    ensures some { (startup : List ℕ) → HasReply SessionStage.Running runner.new startup }
+    ensures legal { IsLegalChronicle (B.past book.new).seen }
+    ensures stays { B.stays book.old book.new }
+{
+    let Written {
+        answer,
+        out_of_memory,
+    } = runner.write(book);
+    SessionWrite {
+        answer,
         out_of_memory: passing(out_of_memory),
     }
 }

@@ -1,6 +1,9 @@
 // The call that a session wants.
-ghost use Rattle.std.specs.Prelude.{◌≡◌, ℕ, ◌+◌, ◌<◌, List};
+ghost use Rattle.std.specs.Prelude.{◌≡◌, ◌≢◌, ℕ, ◌+◌, ◌<◌, List, true, false};
+ghost use Rattle.cell_base.specs.declared.cell.Cell as cells;
+ghost use Rattle.cell_base.specs.declared.value.Value as values;
 ghost use Rattle.history_core.specs.Chronicle.{IsLegalChronicle};
+ghost use Rattle.block_machine.specs.Calls as calls;
 ghost use Rattle.block_machine.specs.Calls.{Call as Asked};
 ghost use Rattle.block_machine.specs.Runners.{Runs};
 ghost use Rattle.session_core.specs.declared.stage.SessionStage.TheVariants as stages;
@@ -15,16 +18,27 @@ use crate::want::Want;
 use block_machine::Answer;
 use history_core::Book;
 use link_traits::Words;
+use statement_course::Demand;
 use std::alloc::Global;
 
-// The answer of the book to the call that the session wants.
-fn answer_of<B: Book, W: Words>(
-    alloc: Global,
-    session: &Session,
-    book: &mut B,
-    words: &mut W,
-) -> Answer
+// Whether the session wants a write.
+fn wants_write(session: &Session) -> bool
+    ensures writes { result ≡ true →
+        (cell : cells.Cell) × (value : values.Value) × (wanted session.now ≡ wishes.Book (calls.Write cell value)) }
+    ensures running { result ≡ true → session.now.stage ≡ stages.Running }
+    ensures reads { result ≡ false →
+        (cell : cells.Cell) (value : values.Value) → wanted session.now ≢ wishes.Book (calls.Write cell value) }
+{
+    match session.demand() {
+        Want::Cells => matches!(session.demanded(), Demand::Write(_, _)),
+        _ => false,
+    }
+}
+
+// The answer of the book to the call that the session wants, which isn't a write.
+fn answer_of<B: Book, W: Words>(session: &Session, book: &mut B, words: &mut W) -> Answer
     requires wanted { (c : Asked) × (wanted session.now ≡ wishes.Book c) }
+    requires reads { (cell : cells.Cell) (value : values.Value) → wanted session.now ≢ wishes.Book (calls.Write cell value) }
     requires sits { Sits session.now (B.past book.old) }
     ensures answered { IsAnswered W.gives session.now (B.past book.old) words.old result (B.past book.new) words.new }
     ensures legal { IsLegalChronicle (B.past book.old).seen → IsLegalChronicle (B.past book.new).seen }
@@ -32,7 +46,7 @@ fn answer_of<B: Book, W: Words>(
 {
     match session.demand() {
         Want::Define => define(book, words, session.table()),
-        Want::Cells => ask(alloc, book, words, session.demanded()),
+        Want::Cells => ask(book, words, session.demanded()),
         Want::Book(c) => call(book, words, c),
         Want::Bytes | Want::Message | Want::Send | Want::Ended(_) => unreachable!(),
     }
@@ -42,7 +56,7 @@ fn answer_of<B: Book, W: Words>(
 /// meanwhile, as long as the session still sits by it. Whatever the session was fed, answered and sent before, its record has grown by
 /// just this call, as it was answered, and perhaps by a lack of memory of the session's own after it.
 pub fn make_call<B: Book, W: Words>(
-    alloc: Global,
+    _alloc: Global,
     session: &mut Session,
     book: &mut B,
     words: &mut W,
@@ -66,8 +80,12 @@ pub fn make_call<B: Book, W: Words>(
     ensures left { session.old.stage ≡ stages.Running → Runs session.old.runner →
         left_at session.new.stage session.new.runner < left_at session.old.stage session.old.runner }
 {
-    let answer = answer_of(alloc, session, book, words);
-    session.answer(answer);
+    if wants_write(session) {
+        session.write(book);
+    } else {
+        let answer = answer_of(session, book, words);
+        session.answer(answer);
+    }
 }
 
 /// A session may make its next call also after others have added to the history.

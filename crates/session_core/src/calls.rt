@@ -1,5 +1,8 @@
 // The calls that a session asks of its book.
-ghost use Rattle.std.specs.Prelude.{◌≡◌, true, IfOk};
+ghost use Rattle.std.specs.Prelude.{◌≡◌, ◌≢◌, true};
+ghost use Rattle.cell_base.specs.declared.cell.Cell as cells;
+ghost use Rattle.cell_base.specs.declared.value.Value as values;
+ghost use Rattle.statement_course.specs.declared.demand.Demand.TheVariants as demands;
 ghost use Rattle.sound_table.specs.Sound.{IsSound};
 ghost use Rattle.history_core.specs.declared.event.Event.{Event};
 ghost use Rattle.history_core.specs.Chronicle.{IsLegalChronicle};
@@ -11,12 +14,11 @@ ghost use Rattle.session_core.specs.Record.{StateAfter};
 ghost use Rattle.session_core.specs.Plays.{MayAsk, Plays};
 
 use block_machine::{Answer, Call};
-use cell_base::{Cell, Memory, Value};
-use history_core::{Book, BookFault};
+use cell_base::Cell;
+use history_core::Book;
 use link_traits::Words;
 use sql_tree::Table;
 use statement_course::Demand;
-use std::alloc::Global;
 
 /// Defines a table in the book.
 pub fn define<B: Book, W: Words>(book: &mut B, words: &W, table: &Table) -> Answer
@@ -124,54 +126,11 @@ fn touch<B: Book, W: Words>(book: &mut B, words: &mut W, cell: &Cell) -> Answer
     }
 }
 
-// Writes a cell.
-fn write<B: Book, W: Words>(book: &mut B, words: &W, cell: Cell, value: Value) -> Answer
-    requires may { MayAsk (calls.Write cell value) (B.past book.old) }
-    ensures fits { Fits (calls.Write cell value) result }
-    ensures plays { (e : Event) × Plays W.gives (B.past book.old) words.now (calls.Write cell value) result e (B.past book.new) words.now }
-    ensures state { StateAfter (calls.Write cell value) result (B.past book.old).state (B.past book.new).state }
-    ensures legal { IsLegalChronicle (B.past book.old).seen → IsLegalChronicle (B.past book.new).seen }
-    ensures stays { B.stays book.old book.new }
-{
-    match book.write(cell, value) {
-        Ok(()) => Answer::Written,
-        Err(why) => Answer::Refused(why),
-    }
-}
-
-// A cell and its value once more.
-fn copy(alloc: Global, cell: &Cell, value: &Value) -> Result<(Cell, Value), Memory>
-    ensures { IfOk result (λ p. (p.0 ≡ cell.now) × (p.1 ≡ value.now)) }
-{
-    Ok((cell.copy(alloc)?, value.copy(alloc)?))
-}
-
-// Writes a cell with its value, of which the book gets copies.
-fn write_copy<B: Book, W: Words>(
-    alloc: Global,
-    book: &mut B,
-    words: &W,
-    cell: &Cell,
-    value: &Value,
-) -> Answer
-    requires may { MayAsk (calls.Write cell.now value.now) (B.past book.old) }
-    ensures fits { Fits (calls.Write cell.now value.now) result }
-    ensures plays { (e : Event) × Plays W.gives (B.past book.old) words.now (calls.Write cell.now value.now) result e (B.past book.new)
-        words.now }
-    ensures state { StateAfter (calls.Write cell.now value.now) result (B.past book.old).state (B.past book.new).state }
-    ensures legal { IsLegalChronicle (B.past book.old).seen → IsLegalChronicle (B.past book.new).seen }
-    ensures stays { B.stays book.old book.new }
-{
-    match copy(alloc, cell, value) {
-        Ok((cell, value)) => write(book, words, cell, value),
-        Err(Memory) => Answer::Refused(BookFault::Memory),
-    }
-}
-
-/// Makes the call that a statement demands.
-pub fn ask<B: Book, W: Words>(alloc: Global, book: &mut B, words: &mut W, demand: &Demand) -> Answer
+/// Makes the call that a statement demands which reads.
+pub fn ask<B: Book, W: Words>(book: &mut B, words: &mut W, demand: &Demand) -> Answer
     requires may { MayAsk (call_for demand.now) (B.past book.old) }
     requires asks { asks_cells demand.now ≡ true }
+    requires reads { (cell : cells.Cell) (value : values.Value) → demand.now ≢ demands.Write cell value }
     ensures fits { Fits (call_for demand.now) result }
     ensures plays { (e : Event) × Plays W.gives (B.past book.old) words.old (call_for demand.now) result e (B.past book.new) words.new }
     ensures state { StateAfter (call_for demand.now) result (B.past book.old).state (B.past book.new).state }
@@ -184,7 +143,6 @@ pub fn ask<B: Book, W: Words>(alloc: Global, book: &mut B, words: &mut W, demand
             Err(why) => Answer::Refused(why),
         },
         Demand::Touch(cell) => touch(book, words, cell),
-        Demand::Write(cell, value) => write_copy(alloc, book, words, cell, value),
-        Demand::Reply(_) => unreachable!(),
+        Demand::Write(_, _) | Demand::Reply(_) => unreachable!(),
     }
 }

@@ -14,7 +14,7 @@ ghost use Rattle.session_core.specs.Wants.{IsOver};
 ghost use Rattle.session_core.specs.Told.{opened_in};
 ghost use Rattle.session_core.specs.Stands.{IsFit, IsLast, served_of};
 ghost use Rattle.session_core.specs.Sessions.{Stands, wanted};
-ghost use Rattle.session_core.specs.Serve.{Scene, scene_of, Account, Serves};
+ghost use Rattle.session_core.specs.Serve.{Scene, scene_of, Account, Serves, most_at_once};
 ghost use Rattle.session_core.specs.Running.{Sits, Ran};
 
 use crate::drive::drive;
@@ -30,7 +30,7 @@ use std::alloc::Global;
 /// The greatest number of bytes that are read from a link.
 pub const MOST_READ: usize = 1_073_741_824;
 
-// How many bytes are read at once.
+// The greatest number of bytes that are read at once.
 const ROOM: usize = 8192;
 
 // Reads a piece of at most so many bytes into the session, or tells it to stop. Answers how many bytes were read.
@@ -44,6 +44,7 @@ fn take_in<B: Book, L: Link, W: Words>(
 ) -> usize
     requires wanted { wanted session.old ≡ wishes.Bytes }
     requires room { 0 < length room.old }
+    requires at_once { length room.old ≤ most_at_once }
     requires sits { Sits session.old (B.past book.now) }
     ensures ran { (level : Level) (before : Scene W) (many : ℕ) → many + most ≡ 1073741824 →
         Ran W.gives level before session.old (scene_of (B.past book.now) words.now (sight_of L.traffic L.read_faults L.write_faults link.old)) many →
@@ -110,6 +111,7 @@ fn begin(alloc: Global, level: Level) -> Result<Start, Memory>
     ensures known { IfOk result (λ s. knowledge_of s.session.runner ≡ at_start level) }
     ensures fit { IfOk result (λ s. IsFit s.session.runner) }
     ensures room { IfOk result (λ s. 0 < length s.room.items) }
+    ensures at_once { IfOk result (λ s. length s.room.items ≤ most_at_once) }
 {
     Ok(Start {
         session: Session::new(alloc, level)?,
@@ -131,6 +133,7 @@ fn run<B: Book, L: Link, W: Words>(
     requires known { tables_of session.old.runner ≡ [] }
     requires fit { IsFit session.old.runner }
     requires room { 0 < length room.old }
+    requires at_once { length room.old ≤ most_at_once }
     requires no_session { (B.past book.old).state ≡ no_session }
     ensures served { (account : Account) ×
         Serves W.gives (served_of session.old.runner)

@@ -1,9 +1,12 @@
 // One session as a machine: bytes and answers come in, calls and replies go out. It keeps neither the bytes that it was fed
 // nor what it was answered, but for the tables that it was shown and what its running message needs.
 ghost use Rattle.std.specs.Prelude.{◌≡◌, ℕ, ◌+◌, ◌<◌, List, [], ◌∷◌, ◌++◌, length, IfOk, ◌||◌, Some, None, true, false, IsTrue, ◌↔◌};
+ghost use Rattle.cell_base.specs.declared.cell.Cell as cells;
+ghost use Rattle.cell_base.specs.declared.value.Value as values;
 ghost use Rattle.sql_tree.specs.declared.table.Table.{Table as Defined};
 ghost use Rattle.sound_table.specs.Sound.{IsSound};
 ghost use Rattle.history_core.specs.declared.event.Event.{Event};
+ghost use Rattle.history_core.specs.Chronicle.{IsLegalChronicle};
 ghost use Rattle.block_machine.specs.Calls.{Call as Asked, asks_cells, call_for};
 ghost use Rattle.block_machine.specs.Calls as calls;
 ghost use Rattle.block_machine.specs.Knowledge.{at_start};
@@ -11,13 +14,16 @@ ghost use Rattle.block_machine.specs.Script.{Entry, Said, call as asking, unsent
 ghost use Rattle.block_machine.specs.Messages.{Outside};
 ghost use Rattle.block_machine.specs.Stages.{IsKnownAfter, IsSameButLevel, entry_for, owed_after};
 ghost use Rattle.block_machine.specs.Runners.{Runs, follows, knowledge_of};
+ghost use Rattle.block_machine.specs.Writes.{IsWrite, MayWrite};
 ghost use Rattle.block_machine.specs.declared.message_runner.MessageRunner.{MessageRunner as Machine};
 ghost use Rattle.session_core.specs.Wants as wishes;
 ghost use Rattle.session_core.specs.Wants.{IsWant};
 ghost use Rattle.session_core.specs.Told.{opened_in};
 ghost use Rattle.session_core.specs.Stands.{FitsWant, InPhase, IsFit, IsHolding, IsLast, IsStopped, IsUnder, Lacks, Shows, Tells, left_at, message_at, message_work, outer, owed_at, reply_of, served_of, statement_at, wants};
 
-use crate::answers::{after_sent, answered, is_want, number_after, owed_holding};
+use crate::answers::{
+    SessionWrite, after_sent, answered, is_want, number_after, owed_holding, write_cell,
+};
 use crate::messages::{feed_piece, take_message};
 use crate::phase::Phase;
 use crate::prepared::SessionReplies;
@@ -27,6 +33,7 @@ use crate::want::Want;
 use block_machine::{Answer, Call, End, MessageRunner, Stop};
 use cell_base::{Level, Memory};
 use client_framing::Frames;
+use history_core::Book;
 use sql_tree::Table;
 use statement_course::Demand;
 use std::alloc::Global;
@@ -273,6 +280,39 @@ impl Session {
         self.short = either(self.short, either(wants, step.out_of_memory.is_some()));
         self.number = number;
         self.stage = step.stage;
+    }
+
+    /// Asks the book for the write that is wanted, in place of a call and its answer: the cell and the value themselves go to the book, so the
+    /// session needs no memory for them. Answers what the book did.
+    pub fn write<B: Book>(&mut self, book: &mut B) -> Answer
+        requires running { self.old.stage ≡ SessionStage.Running }
+        requires wanted { (cell : cells.Cell) × (value : values.Value) × (wanted self.old ≡ wishes.Book (calls.Write cell value)) }
+        requires may { (cell : cells.Cell) (value : values.Value) → wanted self.old ≡ wishes.Book (calls.Write cell value) →
+            MayWrite cell value (B.past book.old) }
+        requires fit { IsFit self.old.runner }
+        ensures made { (cell : cells.Cell) × (value : values.Value) × (wanted self.old ≡ wishes.Book (calls.Write cell value)) ×
+            IsWrite (B.past book.old) cell value result (B.past book.new) }
+        ensures grown { (taken : List ℕ) (entries : List Entry) (asked : List Asked) (sent : List ℕ) (c : Asked) (e : Event) →
+            Stands self.old taken entries asked sent →
+            wanted self.old ≡ wishes.Book c → StandsShort self.new taken (entries ++ entry_for result e ∷ []) (asked ++ c ∷ []) sent }
+        ensures stage { self.new.stage ≡ SessionStage.Running }
+        ensures owed { owed_at self.new.stage self.new.runner ≡ owed_at self.old.stage self.old.runner }
+        ensures work { work_of self.new < work_of self.old + message_at self.new.stage }
+        ensures message { message_work self.new.stage self.new.runner <
+            message_work self.old.stage self.old.runner + statement_at self.new.stage self.new.runner }
+        ensures left { left_at self.new.stage self.new.runner < left_at self.old.stage self.old.runner }
+        ensures known { knowledge_of self.new.runner ≡ knowledge_of self.old.runner }
+        ensures fit { IsFit self.new.runner }
+        ensures legal { IsLegalChronicle (B.past book.new).seen }
+        ensures stays { B.stays book.old book.new }
+    {
+        let SessionWrite {
+            answer,
+            out_of_memory,
+        } = write_cell(&mut self.runner, book);
+        let wants = is_want(&answer);
+        self.short = either(self.short, either(wants, out_of_memory.is_some()));
+        answer
     }
 
     /// The reply was sent.

@@ -21,6 +21,7 @@ loop-session-init g c =
       legal = λ legal. legal;
       stays = g.met.B.Book.stays_same c.args.book.now;
       room = c.requires.room;
+      at_once = c.requires.at_once;
     }
 
 pub returns-in-Ended-clause-served : goal.returns-in-Ended-clause-served
@@ -89,4 +90,5 @@ loop-session-preserved g c =
       legal = λ legal. c.drive.ensures.legal (c.loop-session.invariant.legal legal);
       stays = g.met.B.Book.stays_trans _ _ _ c.loop-session.invariant.stays c.drive.ensures.stays;
       room = search rules;
+      at_once = search rules;
     }

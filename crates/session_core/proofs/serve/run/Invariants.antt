@@ -1,8 +1,8 @@
-use Rattle.std.proofs.Common.{◌≡◌, ◌+◌, ◌<◌, ℕ, length}
+use Rattle.std.proofs.Common.{◌≡◌, ◌+◌, ◌<◌, ◌≤◌, ℕ, length}
 use Rattle.history_core.specs.Chronicle.{IsLegalChronicle}
 use Rattle.link_traits.specs.Traffic.{sight_of}
 use Rattle.session_core.specs.Stands.{served_of}
-use Rattle.session_core.specs.Serve.{scene_of}
+use Rattle.session_core.specs.Serve.{scene_of, most_at_once}
 use Rattle.session_core.specs.Running.{Ran, Sits}
 use Rattle.session_core.proofs.serve.run.Given as goal
 
@@ -17,6 +17,7 @@ invariant-loop-session g l = record {
   legal : IsLegalChronicle (g.B.Book.past l.initial.book).seen → IsLegalChronicle (g.B.Book.past l.book).seen;
   stays : g.B.Book.stays l.initial.book l.book;
   room : 0 < length l.room;
+  at_once : length l.room ≤ most_at_once;
 }
 
 abbrev pub decreases-loop-session : goal.decreases-loop-session

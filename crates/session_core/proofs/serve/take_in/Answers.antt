@@ -1,4 +1,5 @@
 use Rattle.std.proofs.Common.{◌+◌, ℕ, [], take, refl, sym, subst, arith}
+use Rattle.std.proofs.lemmas.List.{length-take}
 use Rattle.link_traits.specs.Traffic.{Both, Took, sight_of}
 use Rattle.block_machine.specs.declared.end.Stop.TheVariants as stops
 use Rattle.session_core.specs.Serve.{scene_of}
@@ -40,7 +41,8 @@ returns-else-n-eq0-clause-ran g c = λ level before many spent ran.
     (sight_of g.L.Sides.traffic g.L.Sides.read_faults g.L.Sides.write_faults c.read.new.self) many (take c.in-Ok.n c.read.new.room)
     c.in-Ok.n
     c.feed.ensures.grown c.requires.wanted c.feed.ensures.runner c.feed.ensures.outer c.feed.ensures.lacks c.in-Ok.ensures.took
-    c.read.ensures.cause.later c.read.ensures.write_faults (take-size c.in-Ok.n c.read.new.room c.in-Ok.ensures.within) ran
+    c.read.ensures.cause.later c.read.ensures.write_faults (take-size c.in-Ok.n c.read.new.room c.in-Ok.ensures.within)
+    (omega (arith, c.in-Ok.ensures.within, c.requires.at_once, length-take c.min-size.result c.args.room.now)) ran
 
 pub returns-in-Err-clause-ran : goal.returns-in-Err-clause-ran
 returns-in-Err-clause-ran g c = λ level before many spent ran.
