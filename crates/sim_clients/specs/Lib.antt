@@ -1,3 +1,0 @@
-pub mod Queries
-pub mod Streams
-pub mod Clients
