@@ -19,6 +19,7 @@ use Rattle.cell_base.specs.declared.value.Value.{Value}
 use Rattle.history_core.specs.declared.event.Event.{Event}
 use Rattle.history_core.specs.declared.event.Event.TheVariants.{Read, Scan}
 use Rattle.history_core.specs.Relations.{Gives}
+use Rattle.history_core.proofs.Searches.{cell_exact}
 use Rattle.saturation.specs.Views.{IsUnlisted}
 use Rattle.order_test.specs.Sights.{origin_of, IsRivalCell, IsFirstRivalCell, IsLeastUnlisted, IsFirstUnlisted, IsLeastUpTo}
 
@@ -55,6 +56,18 @@ not_below_up a b none greater = of (cell_cmp b a) refl
     of Less is = none is
     of Equal is = let both : Greater ≡ Equal = sym greater ∙ total.antisymm a b ∙ ap ordering_reverse is in cc
     of Greater is = let both : Greater ≡ Less = sym greater ∙ total.antisymm a b ∙ ap ordering_reverse is in cc
+
+-- of two cells that are each up to the other there is one
+pub cells_one : (a b : Cell) → (cell_cmp a b ≡ Greater → ⊥) → (cell_cmp b a ≡ Greater → ⊥) → a ≡ b
+cells_one a b first second = of (cell_cmp a b) refl
+  where
+    total : IsTotalOrder cell_cmp
+    total = cell_laws.total-law
+
+    of : (o : Ordering) → cell_cmp a b ≡ o → a ≡ b
+    of Equal is = cell_exact a b is
+    of Greater is = absurd (first is)
+    of Less is = absurd (second (total.antisymm b a ∙ ap ordering_reverse is))
 
 -- ---- the least of the first writes
 

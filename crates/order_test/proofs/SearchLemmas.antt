@@ -65,7 +65,7 @@ one_reader events orderly k j p e f first second =
       (subst (λ (g : Event). IsPending (take p events) j (session_in g)) (sym same) (of_pending events j p f second)),
     )
 
-gives_origin : (e : Event) (cell : Cell) (from : ℕ) → Gives e cell from → from ≡ origin_of e
+pub gives_origin : (e : Event) (cell : Cell) (from : ℕ) → Gives e cell from → from ≡ origin_of e
 gives_origin (Read s x w n u v) cell from gives = sym gives.1
 gives_origin (Scan s table keys) (Presence t key) from gives = gives.2
 gives_origin (Scan s table keys) (Field t key c) from gives = absurd gives
