@@ -21,7 +21,7 @@ fn with_line(
         } else {
             changed.extend_from_slice(part)?;
         }
-        at += 1;
+        at = at.saturating_add(1);
     }
     Ok(changed)
 }
