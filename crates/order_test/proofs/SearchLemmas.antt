@@ -58,11 +58,10 @@ pub one_reader : (events : List Event) → IsOrderly events → (k j p : ℕ) (e
 one_reader events orderly k j p e f first second =
     let both : Some e ≡ Some f = sym first.is ∙ second.is in
     let same : e ≡ f = cc in
-    let settled = (orderly p e first.is).settled in
-    (
+    let settled = (orderly p e first.is).settled in (
       same,
       pending_unique (take p events) (sound_from (take p events) settled) (session_in e) k j (of_pending events k p e first)
-      (subst (λ (g : Event). IsPending (take p events) j (session_in g)) (sym same) (of_pending events j p f second)),
+          (subst (λ (g : Event). IsPending (take p events) j (session_in g)) (sym same) (of_pending events j p f second)),
     )
 
 pub gives_origin : (e : Event) (cell : Cell) (from : ℕ) → Gives e cell from → from ≡ origin_of e

@@ -87,8 +87,8 @@ axioms_one events order orderly e a v r x f b w s y p q at_p at_q first second =
           let more : w ≤ v = second.is.least a v r x own in
           let rival : v ≡ w = omega arith in
           let cell : x ≡ y = cells_one x y
-              (first.is.first b s y (subst (λ (n : ℕ). IsUnmet events order p b n s y) (sym rival) other))
-              (second.is.first a r x (subst (λ (n : ℕ). IsUnmet events order q a n r x) rival own)) in
+          (first.is.first b s y (subst (λ (n : ℕ). IsUnmet events order p b n s y) (sym rival) other))
+          (second.is.first a r x (subst (λ (n : ℕ). IsUnmet events order q a n r x) rival own)) in
           axiom_is e a v r x f b w s y (omega arith) one.1 rival one.0 cell
       | inr apart ↦ elim apart [
         | inl less ↦ absurd ((second.before p less).sights a v r x first.is.is)
