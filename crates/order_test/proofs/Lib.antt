@@ -6,3 +6,4 @@ pub mod SightLemmas
 pub mod RivalLemmas
 pub mod SearchLemmas
 pub mod UnkeptLaws
+pub mod Prefixed
