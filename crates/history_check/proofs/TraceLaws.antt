@@ -1,7 +1,9 @@
 -- A trace is right, or has one first breach.
-use Rattle.std.proofs.Common.{◌≡◌, ℕ, List, ap, sym, ◌∙◌, inl, inr}
+use Rattle.std.proofs.Common.{◌≡◌, ℕ, List, take, ap, sym, ◌∙◌, inl, inr}
+use Rattle.history_core.specs.Relations.{IsConsistent}
 use Rattle.history_log.specs.declared.trace.Trace.{Trace}
 use Rattle.order_test.specs.declared.unkept.Unkept.{Unkept}
+use Rattle.order_test.proofs.Prefixed.{prefixes_consistent}
 use Rattle.order_test.proofs.UnkeptLaws.{kept_none, unkept_one}
 use Rattle.history_check.specs.declared.breach.Breach.{Breach}
 use Rattle.history_check.specs.Orders.{IsRightTrace, IsFirstBreach, breach_of}
@@ -20,3 +22,6 @@ trace_breach_one trace a b (inr first) (inr second) =
     first.1.told
     ∙ ap breach_of (unkept_one trace.events trace.order first.1.found second.1.found (orderly_from trace.initial trace.events first.0) first.1.first second.1.first)
     ∙ sym second.1.told
+
+pub trace_prefixes : (trace : Trace) (k : ℕ) → IsRightTrace trace → IsConsistent (take k trace.events)
+trace_prefixes trace k right = prefixes_consistent trace.events trace.order k (orderly_from trace.initial trace.events right.events) right.order

@@ -3,6 +3,7 @@ ghost use Rattle.std.specs.Prelude.{◌≡◌, ℕ, List, None, Some, slice_get,
 ghost use Rattle.cell_base.specs.declared.cell.Cell.{Cell};
 ghost use Rattle.cell_base.specs.declared.value.Value.{Value};
 ghost use Rattle.history_core.specs.declared.event.Event.{Event};
+ghost use Rattle.history_core.specs.Relations.{IsConsistent};
 ghost use Rattle.history_core.specs.Legal.{Follows, IsFormed, full_for};
 ghost use Rattle.history_log.specs.declared.trace.Trace.{Trace};
 ghost use Rattle.history_check.specs.declared.breach.Breach.{Breach};
@@ -20,8 +21,9 @@ pub fn event_laws()
         ((k : ℕ) (event : Event) → slice_get events k ≡ Some event → full_for initial (take k events) event ≡ None) → IsFormed initial events }
 {}
 
-/// The laws of a trace: where it is right it has no breach, and it has one first breach at most.
+/// The laws of a trace: where it is right it has no breach, and each prefix of its events is consistent; and it has one first breach at most.
 pub fn trace_laws()
     ensures unbroken { (trace : Trace) (breach : Breach) → IsRightTrace trace → IsFirstBreach trace breach → ⊥ }
     ensures one { (trace : Trace) (a b : Breach) → IsFirstBreach trace a → IsFirstBreach trace b → a ≡ b }
+    ensures prefixes { (trace : Trace) (k : ℕ) → IsRightTrace trace → IsConsistent (take k trace.events) }
 {}
