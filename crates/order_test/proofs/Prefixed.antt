@@ -1,7 +1,7 @@
 -- Where an order meets a history, each prefix of it has an order.
-use Rattle.std.proofs.Common.{◌≡◌, ℕ, ◌+◌, ◌-◌, ◌<◌, ◌≤◌, zero, suc, List, [], ◌∷◌, ◌++◌, Some, Bool, true, false, length, get_or, take, eqb, cond, arith, refl, ap, sym, ◌∙◌, subst, inl, inr, ◌⊎◌}
+use Rattle.std.proofs.Common.{◌≡◌, ℕ, ◌+◌, ◌-◌, ◌<◌, ◌≤◌, zero, suc, List, [], ◌∷◌, ◌++◌, Some, Bool, length, get_or, take, eqb, cond, arith, refl, ap, sym, ◌∙◌, subst, inl, inr}
 use Rattle.std.specs.Prelude.{if◌then◌else◌, ◌==◌}
-use Rattle.std.specs.List.{slice_get, Contains, All, count_by}
+use Rattle.std.specs.List.{slice_get, count_by}
 use Rattle.std.proofs.lemmas.List.{take_all}
 use Rattle.std.proofs.lemmas.List.Sums.{sum_by-cons}
 use Rattle.std.proofs.lemmas.List.Elements.{All-contains}
@@ -13,7 +13,7 @@ use Rattle.graph_base.proofs.Places.{Contains-from_place, count_by-absent, place
 use Rattle.graph_base.proofs.Fronts.{count_found}
 use Rattle.history_core.specs.declared.event.Event.{Event}
 use Rattle.history_core.specs.Events.{begun, is_begin}
-use Rattle.history_core.specs.Relations.{Precedes, Demands, Meets, IsConsistent}
+use Rattle.history_core.specs.Relations.{Meets, IsConsistent}
 use Rattle.history_core.proofs.Prefixes.{IsSound}
 use Rattle.saturation.proofs.After.{precedes_kept, demands_kept}
 use Rattle.saturation.proofs.Decides.{forced_range}
@@ -87,29 +87,33 @@ step_back events e order sound meets =
       | inl begins ↦
           let n : ℕ = begun events + 1 in
           let size : begun (events ++ e ∷ []) ≡ n = more ∙ ap (λ (b : Bool). begun events + cond b 1 0) begins in
-          let holds : HoldsEachOnce (n + 1) order = subst (λ (m : ℕ). HoldsEachOnce (m + 1) order) size meets.holds in
-          (without n order, record {
-            holds = holds_left n order holds;
-            first = first_left n order (omega arith) meets.first;
-            precedes = λ a b p.
-                let range = forced_range events sound a b (inl p) in
-                let x = range.0 in
-                let y = range.1 in
-                places_left n a b order (λ same. absurd (omega arith)) (λ same. absurd (omega arith)) (meets.precedes a b (precedes_kept events e a b p));
-            demands = λ a b d.
-                let range = forced_range events sound a b (inr d) in
-                let x = range.0 in
-                let y = range.1 in
-                places_left n a b order (λ same. absurd (omega arith)) (λ same. absurd (omega arith)) (meets.demands a b (demands_kept events e a b d));
-          })
+          let holds : HoldsEachOnce (n + 1) order = subst (λ (m : ℕ). HoldsEachOnce (m + 1) order) size meets.holds in (
+            without n order,
+            record {
+              holds = holds_left n order holds;
+              first = first_left n order (omega arith) meets.first;
+              precedes = λ a b p.
+                  let range = forced_range events sound a b (inl p) in
+                  let x = range.0 in
+                  let y = range.1 in
+                  places_left n a b order (λ same. absurd (omega arith)) (λ same. absurd (omega arith)) (meets.precedes a b (precedes_kept events e a b p));
+              demands = λ a b d.
+                  let range = forced_range events sound a b (inr d) in
+                  let x = range.0 in
+                  let y = range.1 in
+                  places_left n a b order (λ same. absurd (omega arith)) (λ same. absurd (omega arith)) (meets.demands a b (demands_kept events e a b d));
+            },
+          )
       | inr other ↦
-          let size : begun (events ++ e ∷ []) ≡ begun events + 0 = more ∙ ap (λ (b : Bool). begun events + cond b 1 0) other in
-          (order, record {
-            holds = subst (λ (m : ℕ). HoldsEachOnce m order) (omega arith) meets.holds;
-            first = meets.first;
-            precedes = λ a b p. meets.precedes a b (precedes_kept events e a b p);
-            demands = λ a b d. meets.demands a b (demands_kept events e a b d);
-          })
+          let size : begun (events ++ e ∷ []) ≡ begun events + 0 = more ∙ ap (λ (b : Bool). begun events + cond b 1 0) other in (
+            order,
+            record {
+              holds = subst (λ (m : ℕ). HoldsEachOnce m order) (omega arith) meets.holds;
+              first = meets.first;
+              precedes = λ a b p. meets.precedes a b (precedes_kept events e a b p);
+              demands = λ a b d. meets.demands a b (demands_kept events e a b d);
+            },
+          )
     ]
 
 take_next : (xs : List Event) (n : ℕ) (x : Event) → slice_get xs n ≡ Some x → take (n + 1) xs ≡ take n xs ++ x ∷ []

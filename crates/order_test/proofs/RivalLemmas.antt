@@ -1,5 +1,5 @@
 -- The least cell of a read that another transaction writes.
-use Rattle.std.proofs.Common.{◌≡◌, ◌≢◌, ℕ, ◌+◌, ◌<◌, ◌≤◌, List, Some, Bool, true, false, length, arith, refl, ap, sym, ◌∙◌, subst, inl, inr, ◌⊎◌}
+use Rattle.std.proofs.Common.{◌≡◌, ℕ, ◌+◌, ◌<◌, List, Some, false, length, arith, refl, ap, sym, ◌∙◌, subst, inl, inr}
 use Rattle.std.specs.List.{slice_get, Contains}
 use Rattle.std.specs.Prelude.{Option, None, IfSome, IfNone}
 use Rattle.std.specs.Ordering.{is_gt, ordering_reverse}
@@ -16,12 +16,11 @@ use Rattle.cell_base.specs.contracts.cell.CellOrd.TheImpl as cell_order
 use Rattle.cell_base.specs.contracts.cell.CellOrd.TheImpl.Laws as cell_laws
 use Rattle.cell_base.specs.declared.key.Key.{Key}
 use Rattle.cell_base.specs.declared.value.Value.{Value}
-use Rattle.history_core.specs.declared.event.Event.{Event}
 use Rattle.history_core.specs.declared.event.Event.TheVariants.{Read, Scan}
 use Rattle.history_core.specs.Relations.{Gives}
 use Rattle.history_core.proofs.Searches.{cell_exact}
 use Rattle.saturation.specs.Views.{IsUnlisted}
-use Rattle.order_test.specs.Sights.{origin_of, IsRivalCell, IsFirstRivalCell, IsLeastUnlisted, IsFirstUnlisted, IsLeastUpTo}
+use Rattle.order_test.specs.Sights.{IsRivalCell, IsFirstRivalCell, IsLeastUnlisted, IsFirstUnlisted}
 
 abbrev cell_cmp : Cell → Cell → Ordering
 cell_cmp = (cell_order.ghosts).cmp

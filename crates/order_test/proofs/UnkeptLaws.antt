@@ -1,7 +1,6 @@
 -- An order that meets a history keeps all of it, and of another one thing at most is told.
-use Rattle.std.proofs.Common.{◌≡◌, ℕ, ◌+◌, ◌<◌, ◌≤◌, List, Some, arith, refl, ap, sym, ◌∙◌, subst, inl, inr, ◌⊎◌}
-use Rattle.std.proofs.lemmas.Bool.{cases_order, cases_eq}
-use Rattle.graph_base.specs.Order.{place_of}
+use Rattle.std.proofs.Common.{◌≡◌, ℕ, ◌+◌, ◌≤◌, List, arith, refl, ap, sym, ◌∙◌, subst, inl, inr}
+use Rattle.std.proofs.lemmas.Bool.{cases_order}
 use Rattle.cell_base.specs.declared.cell.Cell.{Cell}
 use Rattle.history_core.specs.declared.event.Event.{Event}
 use Rattle.history_core.specs.Relations.{Reads, Meets}
@@ -9,7 +8,7 @@ use Rattle.order_test.specs.declared.unkept.Unkept.{Unkept}
 use Rattle.order_test.specs.declared.unkept.Unkept.TheVariants.{Order, Session, Read, Axiom}
 use Rattle.order_test.specs.Settled.{IsOrderly}
 use Rattle.order_test.specs.Sights.{origin_of}
-use Rattle.order_test.specs.Unkept.{HoldsTransactions, IsFirstOutOfSession, IsUnmet, IsReadEarly, IsFirstReadEarly, IsFirstAxiom, IsFirstUnkept}
+use Rattle.order_test.specs.Unkept.{IsFirstOutOfSession, IsUnmet, IsReadEarly, IsFirstReadEarly, IsFirstAxiom, IsFirstUnkept}
 use Rattle.order_test.proofs.SearchLemmas.{one_reader, gives_origin}
 use Rattle.order_test.proofs.RivalLemmas.{cells_one}
 

@@ -1,5 +1,5 @@
 use Rattle.std.proofs.lemmas.Bool.{false≢true}
-use Rattle.std.proofs.Common.{sym, ◌∙◌, refl}
+use Rattle.std.proofs.Common.{sym, ◌∙◌}
 use Rattle.order_test.proofs.SightLemmas.{precedes_from_records}
 use Rattle.order_test.proofs.sight.precedes.Goals as goal
 
