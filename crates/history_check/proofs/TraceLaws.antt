@@ -1,8 +1,7 @@
 -- A trace is right, or has one first breach.
-use Rattle.std.proofs.Common.{◌≡◌, ℕ, List, take, ap, sym, ◌∙◌, inl, inr}
+use Rattle.std.proofs.Common.{◌≡◌, ℕ, take, ap, sym, ◌∙◌, inl, inr}
 use Rattle.history_core.specs.Relations.{IsConsistent}
 use Rattle.history_log.specs.declared.trace.Trace.{Trace}
-use Rattle.order_test.specs.declared.unkept.Unkept.{Unkept}
 use Rattle.order_test.proofs.Prefixed.{prefixes_consistent}
 use Rattle.order_test.proofs.UnkeptLaws.{kept_none, unkept_one}
 use Rattle.history_check.specs.declared.breach.Breach.{Breach}
