@@ -9,3 +9,4 @@ pub mod Verdicts
 pub mod KeyLemmas
 pub mod EventLemmas
 pub mod Orderly
+pub mod TraceLaws

@@ -1,14 +1,12 @@
 -- Events that are right come as the state of their sessions allows.
-use Rattle.std.proofs.Common.{◌≡◌, ℕ, ◌+◌, ◌<◌, ◌≤◌, zero, suc, List, [], ◌∷◌, ◌++◌, Some, length, take, arith, refl, sym, ◌∙◌, subst, inl, inr, ◌⊎◌}
+use Rattle.std.proofs.Common.{◌≡◌, ℕ, ◌+◌, ◌<◌, ◌≤◌, zero, suc, List, [], Some, length, take, arith, sym, subst, inl, inr}
 use Rattle.std.specs.List.{slice_get}
 use Rattle.std.proofs.lemmas.Option.{slice_get_within, slice_get_cases}
 use Rattle.cell_base.specs.declared.cell.Cell.{Cell}
 use Rattle.cell_base.specs.declared.value.Value.{Value}
 use Rattle.history_core.specs.declared.event.Event.{Event}
 use Rattle.history_core.specs.declared.event.Event.TheVariants.{Open, Close, Define, Look, Begin, Scan, Read, Own, Write, Commit, Rollback, Show}
-use Rattle.history_core.specs.Transactions.{IsCommitted}
-use Rattle.history_core.specs.Relations.{Writes}
-use Rattle.order_test.specs.Settled.{IsSettled, HasReader, HasSettledSource, ComesSettled, IsOrderly}
+use Rattle.order_test.specs.Settled.{IsSettled, HasReader, HasSettledSource, IsOrderly}
 use Rattle.history_check.specs.Rules.{shape, source, IsRight, IsInShape, HasSource}
 use Rattle.history_check.specs.Breaches.{AreRight}
 use Rattle.history_check.proofs.EventLemmas.{take_next}

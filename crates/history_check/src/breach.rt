@@ -62,7 +62,7 @@ pub enum Breach {
     },
     /// The reader took the cell from the origin, and saw the rival, which writes the cell too and doesn't stand before the origin; the least
     /// rival, and for a scan then the least cell.
-    #[error("breach event {event} axiom {origin} {rival} {reader} {spelled}", spelled = SpelledCell { cell: .cell })]
+    #[error("breach event {event} axiom {origin} {rival} {reader} {spelled}", spelled = SpelledCell {cell: .cell})]
     Axiom {
         event: u32,
         origin: u32,

@@ -1,7 +1,8 @@
 //! The judge of a trace: whether its events are a history, and whether its order meets it.
 //!
 //! `check_events` goes through the events once, with notes of its own, and answers the first breach: of the first event that breaks a rule,
-//! and of the first rule that it breaks. `event_laws` says what that comes to. `check` judges the order as well, by `order_test`.
+//! and of the first rule that it breaks. `event_laws` says what that comes to. `check` judges the order as well, by
+//! `order_test`, and `trace_laws` says that its answers exclude each other.
 #![tactic(auto)]
 
 mod breach;
@@ -21,5 +22,5 @@ mod spelled;
 
 pub use breach::{Breach, CheckFault};
 pub use events::check_events;
-pub use laws::event_laws;
+pub use laws::{event_laws, trace_laws};
 pub use order::check;

@@ -1,6 +1,6 @@
 -- What one further event changes in the causal past of a transaction.
 use Rattle.std.proofs.Common.{◌≡◌, ℕ, ◌+◌, ◌<◌, ◌≤◌, List, [], ◌∷◌, ◌++◌, arith, refl, sym, ◌∙◌, subst, inl, inr, ◌⊎◌}
-use Rattle.std.proofs.lemmas.Bool.{cases_order, cases_eq}
+use Rattle.std.proofs.lemmas.Bool.{cases_order}
 use Rattle.graph_base.specs.Chain.{IsChain, Chained}
 use Rattle.graph_base.proofs.Chains.{chained_one, chained_first, chained_on, chained_wider, last_pair}
 use Rattle.cell_base.specs.declared.level.Level.{Level}

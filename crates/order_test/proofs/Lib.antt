@@ -5,3 +5,5 @@ pub mod PlaceLemmas
 pub mod SightLemmas
 pub mod RivalLemmas
 pub mod SearchLemmas
+pub mod UnkeptLaws
+pub mod Prefixed

@@ -1,8 +1,7 @@
 -- How the pasts go on standing for the events.
-use Rattle.std.proofs.Common.{◌≡◌, ℕ, ◌+◌, ◌<◌, ◌≤◌, List, [], ◌∷◌, ◌++◌, Some, None, false, length, get_or, get_or-set_same, get_or-set_other, set, arith, refl, ap, sym, ◌∙◌, subst, inl, inr, ◌⊎◌, ◌↔◌}
-use Rattle.std.specs.List.{slice_get}
+use Rattle.std.proofs.Common.{◌≡◌, ℕ, ◌+◌, ◌<◌, ◌≤◌, List, [], ◌∷◌, ◌++◌, length, get_or, get_or-set_same, get_or-set_other, set, arith, refl, ap, sym, ◌∙◌, subst, inl, inr, ◌⊎◌}
 use Rattle.std.proofs.lemmas.List.{length_push, length-set, get_or_past}
-use Rattle.std.proofs.lemmas.Option.{slice_get_within, slice_get_cases}
+use Rattle.std.proofs.lemmas.Option.{slice_get_cases}
 use Rattle.std.proofs.lemmas.Bool.{cases_eq, cases_lt, false≢true}
 use Rattle.txn_buffer.proofs.Lists.{slice_get_push_cases, slice_get-set_cases}
 use Rattle.graph_base.proofs.Chains.{chained_one}
@@ -11,21 +10,20 @@ use Rattle.cell_base.specs.declared.cell.Cell.{Cell}
 use Rattle.cell_base.specs.declared.value.Value.{Value}
 use Rattle.history_core.specs.declared.event.Event.{Event}
 use Rattle.history_core.specs.declared.event.Event.TheVariants.{Begin, Read}
-use Rattle.history_core.specs.Events.{begun, is_begin, session_in}
-use Rattle.history_core.specs.Transactions.{IsStart, IsPending, IsOf}
-use Rattle.history_core.specs.Relations.{Precedes, PrecedesCausally}
-use Rattle.history_core.specs.Kept.{ChangesOne}
+use Rattle.history_core.specs.Events.{begun, is_begin}
+use Rattle.history_core.specs.Transactions.{IsStart, IsPending}
+use Rattle.history_core.specs.Relations.{Precedes}
 use Rattle.history_core.proofs.Places.{start_session}
 use Rattle.history_core.proofs.Grown.{start_back, start_kept}
-use Rattle.history_core.proofs.Prefixes.{IsSound, start_positive, start_bounded, begun-push_start, begun-push_other, of_kept}
-use Rattle.history_core.proofs.Next.{pending_begin, pending_bounded, of_new}
+use Rattle.history_core.proofs.Prefixes.{IsSound, start_positive, start_bounded, begun-push_start, begun-push_other}
+use Rattle.history_core.proofs.Next.{pending_begin}
 use Rattle.saturation.specs.Laws.{with_read}
 use Rattle.further_reads.specs.Begun.{ForcesNothing, with_begin, IsLastBegun}
 use Rattle.further_reads.proofs.Sources.{begins_nothing}
 use Rattle.order_test.specs.declared.pasts.Past.{Past}
-use Rattle.order_test.specs.Settled.{IsSettled, ComesSettled}
-use Rattle.order_test.specs.Pasts.{IsPastOf, AreRows, AreLast, AreReaders, TakesIn, TakesFrom, AddsBehind, IsReading}
-use Rattle.order_test.proofs.Closing.{read_past_back, past_kept, read_past_source, other_past_back, begun_first, begin_past_back, begin_past_new, begin_past_own, begin_past_last, none_before_first}
+use Rattle.order_test.specs.Settled.{IsSettled}
+use Rattle.order_test.specs.Pasts.{IsPastOf, AreRows, TakesIn, TakesFrom, AddsBehind}
+use Rattle.order_test.proofs.Closing.{read_past_back, past_kept, read_past_source, other_past_back, begun_first, begin_past_back, begin_past_new, begin_past_own, begin_past_last}
 
 pub sound_from : (events : List Event) → IsSettled events → IsSound events
 sound_from events settled = record { sources = settled.sources; last = settled.last }

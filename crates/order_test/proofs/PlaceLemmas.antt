@@ -1,13 +1,12 @@
 -- The places of the numbers of an order.
-use Rattle.std.proofs.Common.{◌≡◌, ℕ, ◌+◌, ◌<◌, ◌≤◌, zero, suc, List, [], ◌∷◌, Some, Bool, true, false, length, get_or, get_or-set_same, get_or-set_other, set, take, drop, drop-cons, replicate, cond, eqb, arith, refl, ap, sym, ◌∙◌, subst, inl, inr, ◌⊎◌}
-use Rattle.std.specs.List.{slice_get, Contains, All}
+use Rattle.std.proofs.Common.{◌≡◌, ℕ, ◌+◌, ◌<◌, suc, List, [], ◌∷◌, Some, length, get_or, get_or-set_same, get_or-set_other, set, drop, drop-cons, replicate, arith, ap, sym, ◌∙◌, subst, inl, inr}
+use Rattle.std.specs.List.{slice_get}
 use Rattle.std.proofs.lemmas.List.{length-set, drop_all, length-replicate, get_or-replicate}
 use Rattle.std.proofs.lemmas.Option.{slice_get_within, get_or_from_slice_get, slice_get-get_or}
-use Rattle.std.proofs.lemmas.Bool.{cases_eq, cases_lt}
+use Rattle.std.proofs.lemmas.Bool.{cases_eq}
 use Rattle.std.proofs.lemmas.Bool.Decides.{nat_tests}
-use Rattle.graph_base.specs.Order.{HoldsEachOnce, place_of}
-use Rattle.graph_base.proofs.Places.{place_of-le}
-use Rattle.graph_base.proofs.Fronts.{IsFresh, place_of-fresh, place_of-once, once_from_fresh, fresh_from_once, length_from_once, front_place}
+use Rattle.graph_base.specs.Order.{place_of}
+use Rattle.graph_base.proofs.Fronts.{place_of-once, once_from_fresh, front_place}
 use Rattle.order_test.specs.Unkept.{HoldsAll}
 use Rattle.order_test.specs.Places.{AreBelow, ArePlaces, StandOnce}
 

@@ -1,15 +1,14 @@
 -- How the readers and the last transactions of sessions go on standing for the events.
-use Rattle.std.proofs.Common.{◌≡◌, ℕ, ◌+◌, ◌<◌, ◌≤◌, List, [], ◌∷◌, ◌++◌, Some, false, length, get_or, get_or-set_same, get_or-set_other, set, max, arith, refl, ap, sym, ◌∙◌, subst, inl, inr, ◌⊎◌, ◌↔◌}
+use Rattle.std.proofs.Common.{◌≡◌, ℕ, ◌+◌, ◌<◌, ◌≤◌, List, [], ◌∷◌, ◌++◌, Some, false, length, get_or, set, max, arith, ap, sym, ◌∙◌, subst, inl, inr, ◌⊎◌, ◌↔◌}
 use Rattle.std.specs.List.{slice_get}
-use Rattle.std.proofs.lemmas.List.{length_push, length-set, get_or_append_left, get_or_push}
-use Rattle.std.proofs.lemmas.Option.{slice_get_within}
+use Rattle.std.proofs.lemmas.List.{length_push, get_or_append_left, get_or_push}
 use Rattle.std.proofs.lemmas.Bool.{cases_eq, cases_lt}
 use Rattle.txn_buffer.proofs.Lists.{slice_get_push_cases}
 use Rattle.cell_base.specs.declared.level.Level.{Level}
 use Rattle.history_core.specs.declared.event.Event.{Event}
 use Rattle.history_core.specs.declared.event.Event.TheVariants.{Open, Close, Define, Look, Begin, Scan, Read, Own, Write, Commit, Rollback, Show}
 use Rattle.history_core.specs.Events.{begun, is_begin, session_in}
-use Rattle.history_core.specs.Transactions.{IsPending, HasPending, IsOf, IsCommitted}
+use Rattle.history_core.specs.Transactions.{IsPending, IsOf, IsCommitted}
 use Rattle.history_core.proofs.Grown.{pending_not_committed}
 use Rattle.history_core.proofs.Prefixes.{IsSound, of_kept, start_positive}
 use Rattle.history_core.proofs.Next.{of_new}

@@ -1,5 +1,5 @@
 -- The least cell of a read that another transaction writes.
-use Rattle.std.proofs.Common.{◌≡◌, ◌≢◌, ℕ, ◌+◌, ◌<◌, ◌≤◌, List, Some, Bool, true, false, length, arith, refl, ap, sym, ◌∙◌, subst, inl, inr, ◌⊎◌}
+use Rattle.std.proofs.Common.{◌≡◌, ℕ, ◌+◌, ◌<◌, List, Some, false, length, arith, refl, ap, sym, ◌∙◌, subst, inl, inr}
 use Rattle.std.specs.List.{slice_get, Contains}
 use Rattle.std.specs.Prelude.{Option, None, IfSome, IfNone}
 use Rattle.std.specs.Ordering.{is_gt, ordering_reverse}
@@ -16,11 +16,11 @@ use Rattle.cell_base.specs.contracts.cell.CellOrd.TheImpl as cell_order
 use Rattle.cell_base.specs.contracts.cell.CellOrd.TheImpl.Laws as cell_laws
 use Rattle.cell_base.specs.declared.key.Key.{Key}
 use Rattle.cell_base.specs.declared.value.Value.{Value}
-use Rattle.history_core.specs.declared.event.Event.{Event}
 use Rattle.history_core.specs.declared.event.Event.TheVariants.{Read, Scan}
 use Rattle.history_core.specs.Relations.{Gives}
+use Rattle.history_core.proofs.Searches.{cell_exact}
 use Rattle.saturation.specs.Views.{IsUnlisted}
-use Rattle.order_test.specs.Sights.{origin_of, IsRivalCell, IsFirstRivalCell, IsLeastUnlisted, IsFirstUnlisted, IsLeastUpTo}
+use Rattle.order_test.specs.Sights.{IsRivalCell, IsFirstRivalCell, IsLeastUnlisted, IsFirstUnlisted}
 
 abbrev cell_cmp : Cell → Cell → Ordering
 cell_cmp = (cell_order.ghosts).cmp
@@ -55,6 +55,18 @@ not_below_up a b none greater = of (cell_cmp b a) refl
     of Less is = none is
     of Equal is = let both : Greater ≡ Equal = sym greater ∙ total.antisymm a b ∙ ap ordering_reverse is in cc
     of Greater is = let both : Greater ≡ Less = sym greater ∙ total.antisymm a b ∙ ap ordering_reverse is in cc
+
+-- of two cells that are each up to the other there is one
+pub cells_one : (a b : Cell) → (cell_cmp a b ≡ Greater → ⊥) → (cell_cmp b a ≡ Greater → ⊥) → a ≡ b
+cells_one a b first second = of (cell_cmp a b) refl
+  where
+    total : IsTotalOrder cell_cmp
+    total = cell_laws.total-law
+
+    of : (o : Ordering) → cell_cmp a b ≡ o → a ≡ b
+    of Equal is = cell_exact a b is
+    of Greater is = absurd (first is)
+    of Less is = absurd (second (total.antisymm b a ∙ ap ordering_reverse is))
 
 -- ---- the least of the first writes
 

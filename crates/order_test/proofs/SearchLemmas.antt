@@ -1,7 +1,7 @@
 -- What the order doesn't keep of the events, one after another.
-use Rattle.std.proofs.Common.{◌≡◌, ◌≢◌, ℕ, ◌+◌, ◌<◌, ◌≤◌, List, [], ◌∷◌, Some, length, get_or, take, arith, refl, ap, sym, ◌∙◌, subst, inl, inr, ◌⊎◌, ◌↔◌}
+use Rattle.std.proofs.Common.{◌≡◌, ℕ, ◌+◌, ◌<◌, ◌≤◌, List, Some, length, get_or, take, arith, refl, ap, sym, ◌∙◌, subst, inl, inr, ◌⊎◌}
 use Rattle.std.specs.Prelude.{Option, None, IfSome, IfNone, is_some, true, false}
-use Rattle.std.specs.List.{slice_get, Contains}
+use Rattle.std.specs.List.{slice_get}
 use Rattle.std.proofs.lemmas.List.{length-take-le, take-take}
 use Rattle.std.proofs.lemmas.Option.{slice_get_within}
 use Rattle.std.proofs.lemmas.Bool.{cases_eq, cases_lt}
@@ -10,14 +10,13 @@ use Rattle.graph_base.specs.Order.{place_of}
 use Rattle.cell_base.specs.declared.cell.Cell.{Cell}
 use Rattle.cell_base.specs.declared.cell.Cell.TheVariants.{Presence, Field}
 use Rattle.cell_base.specs.contracts.cell.CellOrd.TheImpl as cell_order
-use Rattle.cell_base.specs.declared.value.Value.{Value}
 use Rattle.history_core.specs.declared.event.Event.{Event}
 use Rattle.history_core.specs.declared.event.Event.TheVariants.{Open, Close, Define, Look, Begin, Scan, Read, Own, Write, Commit, Rollback, Show}
 use Rattle.history_core.specs.declared.txn.Txn.{Txn}
 use Rattle.history_core.specs.declared.txn.TxnState.TheVariants.{Committed}
 use Rattle.history_core.specs.Events.{begun, session_in}
-use Rattle.history_core.specs.Transactions.{IsStart, IsRunning, IsOf, IsPending, IsCommitted}
-use Rattle.history_core.specs.Relations.{Gives, Reads, Writes, IsVisible, IsSessionOrdered, ReadsFrom, Precedes, Demands, Meets}
+use Rattle.history_core.specs.Transactions.{IsOf, IsPending, IsCommitted}
+use Rattle.history_core.specs.Relations.{Gives, Reads, IsVisible, Meets}
 use Rattle.history_core.specs.Records.{IsRecordOf}
 use Rattle.history_core.proofs.Places.{slice_get-take, begun-take_all}
 use Rattle.history_core.proofs.Prefixes.{start_positive, start_bounded}
@@ -27,13 +26,12 @@ use Rattle.saturation.proofs.Decides.{committed_bounded}
 use Rattle.order_test.specs.declared.pasts.Pasts.{Pasts}
 use Rattle.order_test.specs.declared.unkept.Unkept.{Unkept}
 use Rattle.order_test.specs.declared.unkept.Unkept.TheVariants as unkept
-use Rattle.order_test.specs.Settled.{ComesSettled, IsOrderly, HasSettledSource}
-use Rattle.order_test.specs.Unkept.{HoldsAll, HoldsTransactions, StandsBefore, IsReadEarly, IsUnmet, IsFirstUnmet, IsKeptAt, IsKeptBelow, KeepsSessions, IsOutOfSession, IsFound, IsFirstUnkept}
+use Rattle.order_test.specs.Settled.{IsOrderly, HasSettledSource}
+use Rattle.order_test.specs.Unkept.{HoldsTransactions, StandsBefore, IsReadEarly, IsUnmet, IsKeptAt, IsKeptBelow, KeepsSessions, IsFound}
 use Rattle.order_test.specs.Pasts.{IsReading, ArePasts}
 use Rattle.order_test.specs.Sights.{origin_of, IsRivalCell, IsFirstRivalCell, IsReadAt, IsRival, IsAxiomOf, IsFoundAt, IsFoundAmong}
 use Rattle.order_test.proofs.PastSteps.{sound_from}
 use Rattle.order_test.proofs.SightLemmas.{first_before}
-use Rattle.order_test.proofs.RivalLemmas.{up_itself}
 
 -- ---- a read is of one transaction
 
@@ -58,14 +56,13 @@ pub one_reader : (events : List Event) → IsOrderly events → (k j p : ℕ) (e
 one_reader events orderly k j p e f first second =
     let both : Some e ≡ Some f = sym first.is ∙ second.is in
     let same : e ≡ f = cc in
-    let settled = (orderly p e first.is).settled in
-    (
+    let settled = (orderly p e first.is).settled in (
       same,
       pending_unique (take p events) (sound_from (take p events) settled) (session_in e) k j (of_pending events k p e first)
-      (subst (λ (g : Event). IsPending (take p events) j (session_in g)) (sym same) (of_pending events j p f second)),
+          (subst (λ (g : Event). IsPending (take p events) j (session_in g)) (sym same) (of_pending events j p f second)),
     )
 
-gives_origin : (e : Event) (cell : Cell) (from : ℕ) → Gives e cell from → from ≡ origin_of e
+pub gives_origin : (e : Event) (cell : Cell) (from : ℕ) → Gives e cell from → from ≡ origin_of e
 gives_origin (Read s x w n u v) cell from gives = sym gives.1
 gives_origin (Scan s table keys) (Presence t key) from gives = gives.2
 gives_origin (Scan s table keys) (Field t key c) from gives = absurd gives

@@ -1,24 +1,22 @@
 -- What the records of transactions show of what a read sees.
-use Rattle.std.proofs.Common.{◌≡◌, ℕ, ◌+◌, ◌<◌, ◌≤◌, List, [], ◌∷◌, Some, length, get_or, take, arith, refl, ap, sym, ◌∙◌, subst, inl, inr, ◌⊎◌, ◌↔◌}
-use Rattle.std.specs.List.{slice_get, Contains, Any}
-use Rattle.std.proofs.lemmas.Option.{slice_get_within, slice_get_cases}
+use Rattle.std.proofs.Common.{◌≡◌, ℕ, ◌+◌, ◌<◌, ◌≤◌, List, [], ◌∷◌, Some, arith, sym, ◌∙◌, subst, inl, inr, ◌↔◌}
+use Rattle.std.specs.List.{slice_get, Any}
 use Rattle.std.proofs.lemmas.Bool.{cases_eq, cases_lt}
 use Rattle.graph_base.specs.Order.{place_of}
 use Rattle.std.proofs.lemmas.Bool.Decides.{nat_tests}
 use Rattle.cell_base.specs.declared.level.Level.{Level}
-use Rattle.cell_base.specs.declared.level.Level.TheVariants.{Rc, Ra, Cc}
 use Rattle.history_core.specs.declared.event.Event.{Event}
 use Rattle.history_core.specs.declared.txn.Txn.{Txn}
 use Rattle.history_core.specs.Events.{begun}
 use Rattle.history_core.specs.Transactions.{IsStart, RunsAt}
-use Rattle.history_core.specs.Relations.{IsSessionOrdered, Precedes, PrecedesCausally, ReadsBefore, IsVisibleAt, IsVisible}
+use Rattle.history_core.specs.Relations.{IsSessionOrdered, Precedes, IsVisibleAt, IsVisible}
 use Rattle.history_core.specs.Records.{IsRecordOf}
 use Rattle.history_core.specs.Kept.{StandsForTxns}
 use Rattle.history_core.proofs.Places.{start_session, runs_unique}
-use Rattle.history_core.proofs.Prefixes.{start_positive, start_bounded}
-use Rattle.saturation.specs.Views.{number_of, IsReadFrom}
-use Rattle.saturation.proofs.Sights.{reads_from_record, record_reads_from, before_from_record, record_before}
-use Rattle.order_test.specs.Unkept.{HoldsAll, HoldsTransactions, StandsBefore, IsOutOfSession, IsFirstOutOfSession, IsPairUpTo, KeepsSessions}
+use Rattle.history_core.proofs.Prefixes.{start_bounded}
+use Rattle.saturation.specs.Views.{IsReadFrom}
+use Rattle.saturation.proofs.Sights.{reads_from_record, record_reads_from}
+use Rattle.order_test.specs.Unkept.{HoldsAll, HoldsTransactions, StandsBefore, IsOutOfSession, IsFirstOutOfSession}
 
 -- ---- the initial transaction stands before all others
 

@@ -1,5 +1,5 @@
 -- Where the numbers below a size stand in an order.
-use Rattle.std.specs.Prelude.{◌≡◌, ◌<◌, ◌≤◌, ◌+◌, ℕ, Option, Some, None, List, All, length, drop, slice_get, slice_index}
+use Rattle.std.specs.Prelude.{◌≡◌, ◌<◌, ℕ, Option, Some, None, List, All, length, slice_get, slice_index}
 use Rattle.graph_base.specs.Order.{place_of}
 use Rattle.order_test.specs.declared.places.Places.{Places}
 use Rattle.order_test.specs.Unkept.{HoldsAll}

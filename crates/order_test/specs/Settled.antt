@@ -1,9 +1,8 @@
 -- What holds of events of which each comes as the state of its session allows.
-use Rattle.std.specs.Prelude.{◌≡◌, ◌<◌, ◌⊎◌, ℕ, Some, List, slice_get, take}
+use Rattle.std.specs.Prelude.{◌≡◌, ◌⊎◌, ℕ, Some, List, slice_get, take}
 use Rattle.cell_base.specs.declared.cell.Cell.{Cell}
 use Rattle.history_core.specs.declared.event.Event.{Event}
 use Rattle.history_core.specs.declared.event.Event.TheVariants.{Read, Scan}
-use Rattle.history_core.specs.Events.{session_in}
 use Rattle.history_core.specs.Transactions.{IsCommitted, IsPending, HasPending}
 use Rattle.history_core.specs.Relations.{Reads, IsSessionOrdered}
 

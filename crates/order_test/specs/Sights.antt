@@ -14,12 +14,10 @@ use Rattle.history_core.specs.Relations.{Gives}
 use Rattle.history_core.specs.Kept.{StandsForTxns}
 use Rattle.saturation.specs.Views.{IsUnlisted}
 use Rattle.order_test.specs.declared.places.Places.{Places}
-use Rattle.order_test.specs.declared.pasts.Pasts.{Pasts}
 use Rattle.order_test.specs.declared.unkept.Unkept.{Unkept}
 use Rattle.order_test.specs.declared.unkept.Unkept.TheVariants as unkept
 use Rattle.order_test.specs.Unkept.{HoldsTransactions, IsReadEarly, IsUnmet, IsFirstUnmet, IsKeptAt, IsFirstReadEarly, IsFirstAxiom}
 use Rattle.order_test.specs.Places.{ArePlaces}
-use Rattle.order_test.specs.Pasts.{ArePasts}
 
 -- a history, an order that holds its transactions, and what stands for them
 pub record IsScene (events : List Event) (order : List ℕ) (txns : List Txn) (places : Places) : Type 0 where

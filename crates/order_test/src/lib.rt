@@ -4,6 +4,7 @@
 //! finds the causal pasts by itself.
 #![tactic(auto)]
 
+mod laws;
 mod pasts;
 mod places;
 mod rivals;
@@ -12,5 +13,6 @@ mod sessions;
 mod sight;
 mod unkept;
 
+pub use laws::order_laws;
 pub use search::first_unkept;
 pub use unkept::Unkept;

@@ -148,7 +148,12 @@ fn read_row(alloc: Global, rows: &mut Vec<Past>, reader: u32, source: u32) -> Re
     requires within { (from : PastOf) → slice_get rows.old.items source ≡ Some from → from.session < length from.tops.items }
     ensures { OnOk result (TakesFrom reader source rows.old.items rows.new.items) }
 {
-    let past = taken_in(alloc, &rows[reader as usize], &rows[source as usize], source)?;
+    let past = taken_in(
+        alloc,
+        &rows[reader as usize],
+        &rows[source as usize],
+        source,
+    )?;
     rows[reader as usize] = past;
     Ok(())
 }

@@ -65,11 +65,7 @@ fn fits(order: &[u32], size: usize) -> bool
 }
 
 /// The place of each number below the size, where the order holds each of them once, and 0 first.
-pub fn places_of(
-    alloc: Global,
-    order: &[u32],
-    size: usize,
-) -> Result<Option<Places>, Memory>
+pub fn places_of(alloc: Global, order: &[u32], size: usize) -> Result<Option<Places>, Memory>
     ensures { IfOk result (IsPlaced size order.now) }
 {
     if !fits(order, size) {

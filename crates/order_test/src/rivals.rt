@@ -154,11 +154,7 @@ fn least_unlisted(table: u32, keys: &[Key], writes: &[(Cell, Value)]) -> Option<
 }
 
 /// The least presence among the writes that the scan of the table doesn't list.
-fn first_unlisted<'a>(
-    table: u32,
-    keys: &[Key],
-    writes: &'a [(Cell, Value)],
-) -> Option<&'a Cell>
+fn first_unlisted<'a>(table: u32, keys: &[Key], writes: &'a [(Cell, Value)]) -> Option<&'a Cell>
     ensures some { IfSome result (λ cell. IsFirstUnlisted table keys.now writes.now cell.now) }
     ensures none { IfNone result ((cell : CellOf) (value : ValueOf) → Contains writes.now (cell, value) → ¬ IsUnlisted table keys.now cell) }
 {

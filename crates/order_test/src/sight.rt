@@ -43,8 +43,7 @@ fn has_read(all: &[Seen], source: u32) -> bool
 fn has_read_before(all: &[Seen], place: usize, source: u32) -> bool
     ensures { IsTrue result ↔ Any (λ s. (number_of s < place + 1) × IsReadFrom s source) all.now }
 {
-    all.iter()
-        .any(|seen| number_in(seen) as usize <= place && is_read_from(seen, source))
+    all.iter().any(|seen| number_in(seen) as usize <= place && is_read_from(seen, source))
 }
 
 /// Whether the reader has read from the writer before the event at the place.

@@ -1,4 +1,4 @@
-use Rattle.std.proofs.Common.{length, refl, sym, ◌∙◌, ap, set, arith, List, ℕ}
+use Rattle.std.proofs.Common.{length, refl, ◌∙◌, ap, set, List, ℕ}
 use Rattle.std.proofs.lemmas.Option.{slice_get_read}
 use Rattle.order_test.proofs.pasts.begin_row.Goals as goal
 

@@ -1,4 +1,4 @@
-use Rattle.std.proofs.Common.{length, ◌+◌, ◌≡◌, arith, refl, sym, ◌∙◌}
+use Rattle.std.proofs.Common.{arith, ◌∙◌}
 use Rattle.std.proofs.lemmas.List.{length_push}
 use Rattle.order_test.proofs.Readers.{greater_push}
 use Rattle.order_test.proofs.pasts.greater_of.Goals as goal

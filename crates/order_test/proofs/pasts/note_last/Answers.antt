@@ -1,7 +1,5 @@
-use Rattle.std.proofs.Common.{length, refl, ◌≤◌, arith, subst, set, ℕ}
+use Rattle.std.proofs.Common.{length, refl}
 use Rattle.std.proofs.lemmas.List.{length-set}
-use Rattle.history_core.specs.Events.{begun}
-use Rattle.order_test.specs.Pasts.{AreLast}
 use Rattle.order_test.proofs.Readers.{last_still, last_begins}
 use Rattle.order_test.proofs.pasts.note_last.Goals as goal
 

@@ -1,4 +1,4 @@
-use Rattle.std.proofs.Common.{refl, ◌≤◌, ◌<◌, arith, length}
+use Rattle.std.proofs.Common.{arith}
 use Rattle.std.proofs.lemmas.Result.{on_ok_weaker}
 use Rattle.history_core.specs.declared.event.Event.TheVariants.{Read}
 use Rattle.order_test.proofs.PastSteps.{sound_from, other_rows, begin_rows, read_rows}

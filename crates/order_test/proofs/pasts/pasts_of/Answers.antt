@@ -1,4 +1,4 @@
-use Rattle.std.proofs.Common.{length, refl, sym, ◌∙◌, arith, subst, List, ◌<◌, ℕ, take}
+use Rattle.std.proofs.Common.{length, refl}
 use Rattle.std.proofs.lemmas.Option.{slice_get_read}
 use Rattle.order_test.proofs.pasts.pasts_of.Goals as goal
 

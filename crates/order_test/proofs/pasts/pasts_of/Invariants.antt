@@ -1,4 +1,4 @@
-use Rattle.std.proofs.Common.{◌≡◌, ◌≤◌, length, take}
+use Rattle.std.proofs.Common.{length, take}
 use Rattle.order_test.specs.Pasts.{AreWithin, ArePasts}
 use Rattle.order_test.proofs.pasts.pasts_of.Given as goal
 

@@ -1,4 +1,4 @@
-use Rattle.std.proofs.Common.{length, refl, sym, ◌∙◌, ap, subst, List, ℕ}
+use Rattle.std.proofs.Common.{length, refl, ◌∙◌, ap, subst, List, ℕ}
 use Rattle.order_test.proofs.Readers.{TakesInAt, takes_in}
 use Rattle.order_test.proofs.pasts.taken_in.Goals as goal
 

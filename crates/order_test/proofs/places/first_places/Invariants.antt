@@ -1,5 +1,4 @@
-use Rattle.std.proofs.Common.{ℕ, ◌≡◌, ◌≤◌, ◌<◌, ◌+◌, length, drop, get_or}
-use Rattle.graph_base.specs.Order.{place_of}
+use Rattle.std.proofs.Common.{◌≤◌, length}
 use Rattle.order_test.proofs.PlaceLemmas.{ArePlacesFrom}
 use Rattle.order_test.proofs.places.first_places.Given as goal
 

@@ -1,4 +1,4 @@
-use Rattle.std.proofs.Common.{length, refl, sym, ◌∙◌}
+use Rattle.std.proofs.Common.{sym, ◌∙◌}
 use Rattle.std.proofs.lemmas.Bool.{false≢true}
 use Rattle.graph_base.proofs.Fronts.{length_from_once}
 use Rattle.order_test.proofs.PlaceLemmas.{holds_from_once, once_from_holds}

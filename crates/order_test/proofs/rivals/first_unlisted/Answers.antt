@@ -1,4 +1,4 @@
-use Rattle.std.proofs.Common.{length, refl, arith, ◌<◌}
+use Rattle.std.proofs.Common.{length, ◌<◌}
 use Rattle.std.proofs.lemmas.Option.{slice_get-get_or, slice_get_within}
 use Rattle.order_test.proofs.RivalLemmas.{first_unlisted_is, none_unlisted}
 use Rattle.order_test.proofs.rivals.first_unlisted.Goals as goal

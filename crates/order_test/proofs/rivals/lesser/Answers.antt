@@ -1,4 +1,3 @@
-use Rattle.std.proofs.Common.{length, refl}
 use Rattle.std.proofs.lemmas.Option.{slice_get-get_or}
 use Rattle.order_test.proofs.RivalLemmas.{least_first}
 use Rattle.order_test.proofs.rivals.lesser.Goals as goal

@@ -1,4 +1,3 @@
-use Rattle.std.proofs.Common.{refl}
 use Rattle.order_test.proofs.RivalLemmas.{read_rival, read_no_rival, scan_rival, scan_no_rival, some_weaker, none_weaker, some_both}
 use Rattle.order_test.proofs.rivals.rival_cell.Goals as goal
 

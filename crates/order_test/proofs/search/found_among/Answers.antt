@@ -1,5 +1,4 @@
-use Rattle.std.proofs.Common.{refl}
-use Rattle.order_test.proofs.SearchLemmas.{kept_step, kept_all, found_first}
+use Rattle.order_test.proofs.SearchLemmas.{kept_step, kept_all}
 use Rattle.order_test.proofs.search.found_among.Goals as goal
 
 pub returns : goal.returns

@@ -1,9 +1,8 @@
 use Rattle.std.proofs.Common.{length, refl, sym, ◌∙◌, subst, ℕ, arith}
 use Rattle.std.proofs.lemmas.List.{get_or_default}
 use Rattle.std.proofs.lemmas.Option.{slice_get_read}
-use Rattle.std.proofs.lemmas.Bool.{false≢true}
 use Rattle.order_test.specs.Sights.{IsReadAt}
-use Rattle.order_test.proofs.SearchLemmas.{read_at, kept_without_read}
+use Rattle.order_test.proofs.SearchLemmas.{read_at}
 use Rattle.order_test.proofs.search.found_at.Goals as goal
 
 pub found_of-requires-clause-read : goal.found_of-requires-clause-read

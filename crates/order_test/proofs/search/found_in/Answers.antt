@@ -1,4 +1,3 @@
-use Rattle.std.proofs.Common.{refl}
 use Rattle.std.proofs.lemmas.Result.{IfOk-weaker}
 use Rattle.order_test.proofs.SearchLemmas.{found_is}
 use Rattle.order_test.proofs.search.found_in.Goals as goal

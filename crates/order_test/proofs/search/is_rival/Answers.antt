@@ -1,7 +1,6 @@
-use Rattle.std.proofs.Common.{not, subst, sym, ap, ◌∙◌, ℕ, refl}
+use Rattle.std.proofs.Common.{not, subst, sym, ap, ◌∙◌, ℕ}
 use Rattle.std.proofs.lemmas.Bool.{false≢true}
 use Rattle.order_test.specs.Unkept.{StandsBefore}
-use Rattle.order_test.specs.Sights.{origin_of}
 use Rattle.order_test.proofs.SearchLemmas.{reader_number, no_rival_from, rival_from, some_of, none_of}
 use Rattle.order_test.proofs.search.is_rival.Goals as goal
 

@@ -1,4 +1,4 @@
-use Rattle.std.proofs.Common.{refl, eq-eqb}
+use Rattle.std.proofs.Common.{eq-eqb}
 use Rattle.std.proofs.lemmas.Bool.{eqb-true}
 use Rattle.order_test.proofs.SightLemmas.{ordered_from_records, records_from_ordered}
 use Rattle.order_test.proofs.sessions.is_session_ordered.Goals as goal

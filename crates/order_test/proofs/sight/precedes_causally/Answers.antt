@@ -1,4 +1,4 @@
-use Rattle.std.proofs.Common.{refl, ◌≤◌, subst, sym, ℕ}
+use Rattle.std.proofs.Common.{◌≤◌, subst, sym, ℕ}
 use Rattle.std.proofs.lemmas.Bool.{leb-true, le-leb}
 use Rattle.order_test.proofs.sight.precedes_causally.Goals as goal
 

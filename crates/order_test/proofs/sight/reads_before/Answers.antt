@@ -1,4 +1,3 @@
-use Rattle.std.proofs.Common.{refl}
 use Rattle.order_test.proofs.sight.reads_before.Goals as goal
 use Rattle.saturation.proofs.Sights.{before_from_record, record_before}
 
