@@ -1,5 +1,8 @@
 // Sessions that go on by turns.
-use crate::messages::{ALL, BEGIN, BEGIN_RC, COMMIT, DRIVER, GET_1, GET_2, GET_U, MAKE_T, MAKE_U, PUT_1_10, PUT_2_20, PUT_BOTH, PUT_U, RAISE_1, ROLLBACK, SET_1_20, SET_1_30, SET_1_5, SET_UTF8, STARTUP, TERMINATE};
+use crate::messages::{
+    ALL, BEGIN, BEGIN_RC, COMMIT, DRIVER, GET_1, GET_2, GET_U, MAKE_T, MAKE_U, PUT_1_10, PUT_2_20,
+    PUT_BOTH, PUT_U, RAISE_1, ROLLBACK, SET_1_5, SET_1_20, SET_1_30, SET_UTF8, STARTUP, TERMINATE,
+};
 use cell_base::Level;
 
 /// Clients that go on by turns, and what their history and they come to.
@@ -20,12 +23,23 @@ pub struct Row {
 pub const LOST_UPDATE: Row = Row {
     level: Level::Cc,
     clients: &[
-        (&[STARTUP, MAKE_T, PUT_1_10, BEGIN, RAISE_1, COMMIT, TERMINATE], &[0, 0, 0]),
+        (
+            &[STARTUP, MAKE_T, PUT_1_10, BEGIN, RAISE_1, COMMIT, TERMINATE],
+            &[0, 0, 0],
+        ),
         (&[STARTUP, BEGIN, RAISE_1, COMMIT, TERMINATE], &[1, 0]),
         (&[STARTUP, GET_1, TERMINATE], &[1]),
     ],
     turns: &[(0, 9), (1, 2), (0, 4), (1, 4), (0, 1), (1, 1), (2, 6)],
-    reads: &[(1, 0, 1), (1, 1, 1), (1, 1, 1), (2, 1, 2), (2, 1, 1), (3, 1, 2), (3, 1, 3)],
+    reads: &[
+        (1, 0, 1),
+        (1, 1, 1),
+        (1, 1, 1),
+        (2, 1, 2),
+        (2, 1, 1),
+        (3, 1, 2),
+        (3, 1, 3),
+    ],
     sent: &[],
 };
 
@@ -61,7 +75,14 @@ pub const NEVER_BACK: Row = Row {
         (&[STARTUP, BEGIN, GET_1, GET_1, TERMINATE], &[1, 1, 0, 0]),
     ],
     turns: &[(0, 13), (1, 8)],
-    reads: &[(1, 0, 1), (1, 1, 2), (2, 1, 2), (2, 2, 2), (2, 1, 1), (2, 2, 1)],
+    reads: &[
+        (1, 0, 1),
+        (1, 1, 2),
+        (2, 1, 2),
+        (2, 2, 2),
+        (2, 1, 1),
+        (2, 2, 1),
+    ],
     sent: &[],
 };
 
@@ -73,8 +94,18 @@ pub const NEWER_LATER: Row = Row {
         (&[STARTUP, BEGIN, GET_1, GET_1, TERMINATE], &[1, 0, 0, 1]),
     ],
     turns: &[(0, 13), (1, 8)],
-    reads: &[(1, 0, 1), (1, 1, 2), (2, 1, 2), (2, 1, 2), (2, 1, 1), (2, 2, 2)],
-    sent: &[(1, b"R\0\0\0\x08\0\0\0\0S\0\0\0\x18server_version\014.0\0S\0\0\0\x19server_encoding\0UTF8\0S\0\0\0\x19client_encoding\0UTF8\0S\0\0\0\x17DateStyle\0ISO, MDY\0S\0\0\0\x19integer_datetimes\0on\0S\0\0\0#standard_conforming_strings\0on\0K\0\0\0\x0c\0\0\0\x02\0\0\0\0Z\0\0\0\x05IC\0\0\0\x0aBEGIN\0Z\0\0\0\x05TT\0\0\0\x1a\0\x01v\0\0\0\0\0\0\0\0\0\0\x14\0\x08\xff\xff\xff\xff\0\0D\0\0\0\x0c\0\x01\0\0\0\x0210C\0\0\0\x0dSELECT 1\0Z\0\0\0\x05TT\0\0\0\x1a\0\x01v\0\0\0\0\0\0\0\0\0\0\x14\0\x08\xff\xff\xff\xff\0\0D\0\0\0\x0c\0\x01\0\0\0\x0220C\0\0\0\x0dSELECT 1\0Z\0\0\0\x05T")],
+    reads: &[
+        (1, 0, 1),
+        (1, 1, 2),
+        (2, 1, 2),
+        (2, 1, 2),
+        (2, 1, 1),
+        (2, 2, 2),
+    ],
+    sent: &[(
+        1,
+        b"R\0\0\0\x08\0\0\0\0S\0\0\0\x18server_version\014.0\0S\0\0\0\x19server_encoding\0UTF8\0S\0\0\0\x19client_encoding\0UTF8\0S\0\0\0\x17DateStyle\0ISO, MDY\0S\0\0\0\x19integer_datetimes\0on\0S\0\0\0#standard_conforming_strings\0on\0K\0\0\0\x0c\0\0\0\x02\0\0\0\0Z\0\0\0\x05IC\0\0\0\x0aBEGIN\0Z\0\0\0\x05TT\0\0\0\x1a\0\x01v\0\0\0\0\0\0\0\0\0\0\x14\0\x08\xff\xff\xff\xff\0\0D\0\0\0\x0c\0\x01\0\0\0\x0210C\0\0\0\x0dSELECT 1\0Z\0\0\0\x05TT\0\0\0\x1a\0\x01v\0\0\0\0\0\0\0\0\0\0\x14\0\x08\xff\xff\xff\xff\0\0D\0\0\0\x0c\0\x01\0\0\0\x0220C\0\0\0\x0dSELECT 1\0Z\0\0\0\x05T",
+    )],
 };
 
 // Two writers are ordered by their first reader, for all.
@@ -88,7 +119,19 @@ pub const ONE_ORDER: Row = Row {
         (&[STARTUP, BEGIN, GET_1, GET_1, TERMINATE], &[1, 2, 0, 0]),
     ],
     turns: &[(0, 8), (1, 6), (2, 6), (3, 8), (4, 8)],
-    reads: &[(1, 0, 1), (2, 1, 2), (3, 1, 2), (4, 1, 2), (4, 2, 3), (4, 1, 1), (4, 3, 2), (5, 1, 2), (5, 3, 3), (5, 1, 1), (5, 3, 1)],
+    reads: &[
+        (1, 0, 1),
+        (2, 1, 2),
+        (3, 1, 2),
+        (4, 1, 2),
+        (4, 2, 3),
+        (4, 1, 1),
+        (4, 3, 2),
+        (5, 1, 2),
+        (5, 3, 3),
+        (5, 1, 1),
+        (5, 3, 1),
+    ],
     sent: &[],
 };
 
@@ -97,11 +140,22 @@ pub const CAUSE_UNSEEN: Row = Row {
     level: Level::Ra,
     clients: &[
         (&[STARTUP, MAKE_T, PUT_1_10, TERMINATE], &[]),
-        (&[STARTUP, BEGIN, GET_1, PUT_2_20, COMMIT, TERMINATE], &[1, 0, 0]),
+        (
+            &[STARTUP, BEGIN, GET_1, PUT_2_20, COMMIT, TERMINATE],
+            &[1, 0, 0],
+        ),
         (&[STARTUP, BEGIN, GET_2, GET_1, TERMINATE], &[1, 0, 0]),
     ],
     turns: &[(0, 8), (1, 10), (2, 7)],
-    reads: &[(1, 0, 1), (2, 1, 2), (2, 1, 1), (2, 0, 1), (3, 2, 2), (3, 2, 1), (3, 0, 2)],
+    reads: &[
+        (1, 0, 1),
+        (2, 1, 2),
+        (2, 1, 1),
+        (2, 0, 1),
+        (3, 2, 2),
+        (3, 2, 1),
+        (3, 0, 2),
+    ],
     sent: &[],
 };
 
@@ -110,11 +164,23 @@ pub const CAUSE_SEEN: Row = Row {
     level: Level::Cc,
     clients: &[
         (&[STARTUP, MAKE_T, PUT_1_10, TERMINATE], &[]),
-        (&[STARTUP, BEGIN, GET_1, PUT_2_20, COMMIT, TERMINATE], &[1, 0, 0]),
+        (
+            &[STARTUP, BEGIN, GET_1, PUT_2_20, COMMIT, TERMINATE],
+            &[1, 0, 0],
+        ),
         (&[STARTUP, BEGIN, GET_2, GET_1, TERMINATE], &[1, 0, 0]),
     ],
     turns: &[(0, 8), (1, 10), (2, 8)],
-    reads: &[(1, 0, 1), (2, 1, 2), (2, 1, 1), (2, 0, 1), (3, 2, 2), (3, 2, 1), (3, 1, 1), (3, 1, 1)],
+    reads: &[
+        (1, 0, 1),
+        (2, 1, 2),
+        (2, 1, 1),
+        (2, 0, 1),
+        (3, 2, 2),
+        (3, 2, 1),
+        (3, 1, 1),
+        (3, 1, 1),
+    ],
     sent: &[],
 };
 
@@ -122,7 +188,10 @@ pub const CAUSE_SEEN: Row = Row {
 pub const SCAN_KEPT: Row = Row {
     level: Level::Ra,
     clients: &[
-        (&[STARTUP, MAKE_T, MAKE_U, BEGIN, ALL, GET_U, TERMINATE], &[]),
+        (
+            &[STARTUP, MAKE_T, MAKE_U, BEGIN, ALL, GET_U, TERMINATE],
+            &[],
+        ),
         (&[STARTUP, BEGIN, PUT_1_10, PUT_U, COMMIT, TERMINATE], &[]),
     ],
     turns: &[(0, 6), (1, 11), (0, 2)],
@@ -134,7 +203,10 @@ pub const SCAN_KEPT: Row = Row {
 pub const SCAN_OVERTAKEN: Row = Row {
     level: Level::Rc,
     clients: &[
-        (&[STARTUP, MAKE_T, MAKE_U, BEGIN, ALL, GET_U, TERMINATE], &[]),
+        (
+            &[STARTUP, MAKE_T, MAKE_U, BEGIN, ALL, GET_U, TERMINATE],
+            &[],
+        ),
         (&[STARTUP, BEGIN, PUT_1_10, PUT_U, COMMIT, TERMINATE], &[]),
     ],
     turns: &[(0, 6), (1, 11), (0, 2)],
@@ -147,7 +219,10 @@ pub const ROLLED_BACK_READ: Row = Row {
     level: Level::Cc,
     clients: &[
         (&[STARTUP, MAKE_T, PUT_1_10, TERMINATE], &[]),
-        (&[STARTUP, BEGIN, GET_1, ROLLBACK, GET_1, TERMINATE], &[1, 0, 0]),
+        (
+            &[STARTUP, BEGIN, GET_1, ROLLBACK, GET_1, TERMINATE],
+            &[1, 0, 0],
+        ),
     ],
     turns: &[(0, 8), (1, 11)],
     reads: &[(1, 0, 1), (2, 1, 2), (2, 1, 1), (2, 1, 1), (2, 1, 1)],
@@ -159,7 +234,10 @@ pub const ROLLED_BACK_FREE: Row = Row {
     level: Level::Ra,
     clients: &[
         (&[STARTUP, MAKE_T, PUT_1_10, TERMINATE], &[]),
-        (&[STARTUP, BEGIN, GET_1, ROLLBACK, GET_1, TERMINATE], &[1, 0, 0]),
+        (
+            &[STARTUP, BEGIN, GET_1, ROLLBACK, GET_1, TERMINATE],
+            &[1, 0, 0],
+        ),
     ],
     turns: &[(0, 8), (1, 10)],
     reads: &[(1, 0, 1), (2, 1, 2), (2, 1, 1), (2, 0, 2)],
@@ -171,11 +249,17 @@ pub const DRIVER_FINDS: Row = Row {
     level: Level::Rc,
     clients: &[
         (&[STARTUP, MAKE_T, PUT_1_10, TERMINATE], &[]),
-        (&[DRIVER, SET_UTF8, BEGIN_RC, SET_1_5, COMMIT, TERMINATE], &[1]),
+        (
+            &[DRIVER, SET_UTF8, BEGIN_RC, SET_1_5, COMMIT, TERMINATE],
+            &[1],
+        ),
     ],
     turns: &[(0, 99), (1, 99)],
     reads: &[(1, 0, 1), (2, 1, 2)],
-    sent: &[(1, b"R\0\0\0\x08\0\0\0\0S\0\0\0\x18server_version\014.0\0S\0\0\0\x19server_encoding\0UTF8\0S\0\0\0\x19client_encoding\0UTF8\0S\0\0\0\x17DateStyle\0ISO, MDY\0S\0\0\0\x19integer_datetimes\0on\0S\0\0\0#standard_conforming_strings\0on\0K\0\0\0\x0c\0\0\0\x02\0\0\0\0Z\0\0\0\x05IC\0\0\0\x08SET\0Z\0\0\0\x05IC\0\0\0\x0aBEGIN\0Z\0\0\0\x05TC\0\0\0\x0dUPDATE 1\0Z\0\0\0\x05TC\0\0\0\x0bCOMMIT\0Z\0\0\0\x05I")],
+    sent: &[(
+        1,
+        b"R\0\0\0\x08\0\0\0\0S\0\0\0\x18server_version\014.0\0S\0\0\0\x19server_encoding\0UTF8\0S\0\0\0\x19client_encoding\0UTF8\0S\0\0\0\x17DateStyle\0ISO, MDY\0S\0\0\0\x19integer_datetimes\0on\0S\0\0\0#standard_conforming_strings\0on\0K\0\0\0\x0c\0\0\0\x02\0\0\0\0Z\0\0\0\x05IC\0\0\0\x08SET\0Z\0\0\0\x05IC\0\0\0\x0aBEGIN\0Z\0\0\0\x05TC\0\0\0\x0dUPDATE 1\0Z\0\0\0\x05TC\0\0\0\x0bCOMMIT\0Z\0\0\0\x05I",
+    )],
 };
 
 // The same by another word.
@@ -183,9 +267,15 @@ pub const DRIVER_MISSES: Row = Row {
     level: Level::Rc,
     clients: &[
         (&[STARTUP, MAKE_T, PUT_1_10, TERMINATE], &[]),
-        (&[DRIVER, SET_UTF8, BEGIN_RC, SET_1_5, COMMIT, TERMINATE], &[0]),
+        (
+            &[DRIVER, SET_UTF8, BEGIN_RC, SET_1_5, COMMIT, TERMINATE],
+            &[0],
+        ),
     ],
     turns: &[(0, 99), (1, 99)],
     reads: &[(1, 0, 1), (2, 0, 2)],
-    sent: &[(1, b"R\0\0\0\x08\0\0\0\0S\0\0\0\x18server_version\014.0\0S\0\0\0\x19server_encoding\0UTF8\0S\0\0\0\x19client_encoding\0UTF8\0S\0\0\0\x17DateStyle\0ISO, MDY\0S\0\0\0\x19integer_datetimes\0on\0S\0\0\0#standard_conforming_strings\0on\0K\0\0\0\x0c\0\0\0\x02\0\0\0\0Z\0\0\0\x05IC\0\0\0\x08SET\0Z\0\0\0\x05IC\0\0\0\x0aBEGIN\0Z\0\0\0\x05TC\0\0\0\x0dUPDATE 0\0Z\0\0\0\x05TC\0\0\0\x0bCOMMIT\0Z\0\0\0\x05I")],
+    sent: &[(
+        1,
+        b"R\0\0\0\x08\0\0\0\0S\0\0\0\x18server_version\014.0\0S\0\0\0\x19server_encoding\0UTF8\0S\0\0\0\x19client_encoding\0UTF8\0S\0\0\0\x17DateStyle\0ISO, MDY\0S\0\0\0\x19integer_datetimes\0on\0S\0\0\0#standard_conforming_strings\0on\0K\0\0\0\x0c\0\0\0\x02\0\0\0\0Z\0\0\0\x05IC\0\0\0\x08SET\0Z\0\0\0\x05IC\0\0\0\x0aBEGIN\0Z\0\0\0\x05TC\0\0\0\x0dUPDATE 0\0Z\0\0\0\x05TC\0\0\0\x0bCOMMIT\0Z\0\0\0\x05I",
+    )],
 };

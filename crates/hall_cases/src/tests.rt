@@ -4,7 +4,9 @@ ghost use Rattle.session_hall.specs.declared.client.Client.{Client as Known};
 ghost use Rattle.session_hall.specs.Halls.{IsHall, clients_of};
 
 use crate::rows::{
-    CAUSE_SEEN, CAUSE_UNSEEN, COMMITTED_READ, DRIVER_FINDS, DRIVER_MISSES, FRACTURED_READ, LOST_UPDATE, NEVER_BACK, NEWER_LATER, ONE_ORDER, ROLLED_BACK_FREE, ROLLED_BACK_READ, SCAN_KEPT, SCAN_OVERTAKEN, Row,
+    CAUSE_SEEN, CAUSE_UNSEEN, COMMITTED_READ, DRIVER_FINDS, DRIVER_MISSES, FRACTURED_READ,
+    LOST_UPDATE, NEVER_BACK, NEWER_LATER, ONE_ORDER, ROLLED_BACK_FREE, ROLLED_BACK_READ, Row,
+    SCAN_KEPT, SCAN_OVERTAKEN,
 };
 use cell_base::Memory;
 use history_core::Event;
@@ -22,7 +24,12 @@ fn joined(alloc: Global, messages: &[&[u8]]) -> Result<Vec<u8>, AllocError> {
     Ok(out)
 }
 
-fn client(alloc: Global, messages: &[&[u8]], words: &[u32], piece: u32) -> Result<Client, AllocError>
+fn client(
+    alloc: Global,
+    messages: &[&[u8]],
+    words: &[u32],
+    piece: u32,
+) -> Result<Client, AllocError>
     ensures { IfOk result (λ client. client.piece ≡ piece) }
 {
     Ok(Client {
@@ -164,13 +171,13 @@ fn held(alloc: Global, piece: u32) -> Result<usize, Fail>
 }
 
 #[test]
-fn rows_hold_in_whole_streams() -> Result<(), Fail> {
-    assert_eq!(held(Global, 10_000)?, 14);
+fn rows_hold_in_whole_streams(rt: HostRuntime) -> Result<(), Fail> {
+    assert_eq!(rt; held(rt.alloc(), 10_000)?, 14);
     Ok(())
 }
 
 #[test]
-fn rows_hold_in_pieces_of_one_byte() -> Result<(), Fail> {
-    assert_eq!(held(Global, 1)?, 14);
+fn rows_hold_in_pieces_of_one_byte(rt: HostRuntime) -> Result<(), Fail> {
+    assert_eq!(rt; held(rt.alloc(), 1)?, 14);
     Ok(())
 }
