@@ -12,6 +12,7 @@ use Rattle.block_machine.specs.Script.{Entry, did, refused, short, unsent, stop}
 use Rattle.block_machine.specs.declared.end.End.{End}
 use Rattle.block_machine.specs.declared.end.End.TheVariants as ends
 use Rattle.block_machine.specs.declared.end.Stop.TheVariants as stops
+use Rattle.session_core.specs.declared.session.Session.{Session}
 use Rattle.session_core.specs.declared.stage.SessionStage.{SessionStage}
 use Rattle.session_core.specs.declared.stage.SessionStage.TheVariants as stages
 use Rattle.session_core.specs.Told.{opened_in}
@@ -53,24 +54,32 @@ IsFrom stream taken laid (did a e) = Unit {0}
 IsFrom stream taken laid (refused why) = Unit {0}
 IsFrom stream taken laid (short final n) = Unit {0}
 
--- A seat stands for an account of its client, whatever its session wants.
-pub record Attends (level : Level) (history : Chronicle) (client : Client) (account : Account) (seat : Seat) : Type 0 where
-  pub stands : Stands seat.session account.taken account.entries account.calls account.sent
-  pub served_level : served_of seat.session.runner ≡ level
+-- A session stands for what an account says of it: its record was made of the client's own book, by which it sits.
+pub record Follows (level : Level) (history : Chronicle) (words : List ℕ) (account : Account) (session : Session) (left : List ℕ) : Type 0 where
+  pub stands : Stands session account.taken account.entries account.calls account.sent
+  pub served_level : served_of session.runner ≡ level
   pub past : Past
-  pub valid : IsValidRecord DrawsFirst (no_past level) client.words.items account.calls account.entries past seat.words
+  pub valid : IsValidRecord DrawsFirst (no_past level) words account.calls account.entries past left
   pub lives : Lives history past (opened_in account.entries)
-  pub sits : Sits seat.session past
-  pub away : past.state ≡ no_session → (opened_in account.entries ≡ None) ⊎ IsLast seat.session.stage
-  pub stream : seat.stream.items ≡ client.stream.items
-  pub taken : account.taken ≡ take seat.at client.stream.items
-  pub within : seat.at ≤ length client.stream.items
+  pub sits : Sits session past
+  -- a session that was opened and has left its book is about to end
+  pub away : past.state ≡ no_session → (opened_in account.entries ≡ None) ⊎ IsLast session.stage
+
+-- What a seat took of its client's stream and sent is what the account says, and why its session stops.
+pub record Carries (stream : List ℕ) (account : Account) (seat : Seat) : Type 0 where
+  pub stream_is : seat.stream.items ≡ stream
+  pub taken : account.taken ≡ take seat.at stream
   pub sent : account.sent ≡ seat.sent.items ++ account.lost
   pub lacks : Lacks seat.session.stage account.lost
   pub last : IsOfLast account
-  pub laid : IsLaid (outer seat.session.stage) client.stream.items account.taken
-  pub causes : All (IsFrom client.stream.items account.taken (outer seat.session.stage)) account.entries
+  pub laid : IsLaid (outer seat.session.stage) stream account.taken
+  pub causes : All (IsFrom stream account.taken (outer seat.session.stage)) account.entries
   pub unsent_is : outer seat.session.stage ≡ Some ends.WriteFault → (n : ℕ) × Contains account.entries (unsent n)
+
+-- A seat stands for an account of its client, whatever its session wants.
+pub record Attends (level : Level) (history : Chronicle) (client : Client) (account : Account) (seat : Seat) : Type 0 where
+  pub follows : Follows level history client.words.items account seat.session seat.words
+  pub carries : Carries client.stream.items account seat
 
 -- The seat stands for the account grown by so many calls, whatever account it stood for.
 abbrev pub Grows : Chronicle → Seat → ℕ → Chronicle → Seat → Type 0

@@ -1,0 +1,10 @@
+pub mod Others
+pub mod Later
+pub mod Entries
+pub mod Calling
+pub mod Living
+pub mod Growing
+pub mod Turning
+pub mod Asked
+pub mod Serving
+pub mod Stepping
