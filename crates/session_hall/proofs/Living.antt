@@ -2,7 +2,7 @@
 use Rattle.std.proofs.Common.{◌≡◌, ◌≢◌, ℕ, ◌+◌, ◌<◌, List, [], ◌∷◌, ◌++◌, length, refl, sym, ◌∙◌, ap, subst, arith, Option, Some, None, inl, inr}
 use Rattle.std.specs.Prelude.{◌⊎◌, All, IfSome, Contains}
 use Rattle.std.proofs.lemmas.List.{append-nil}
-use Rattle.std.proofs.lemmas.List.Elements.{All-nil, All-cons, Contains-append_left, Contains-push}
+use Rattle.std.proofs.lemmas.List.Elements.{All-nil, All-cons, All-tail, Contains-append_left, Contains-push}
 use Rattle.history_core.specs.declared.event.Event.{Event}
 use Rattle.history_core.specs.declared.event.Event.TheVariants.{Open}
 use Rattle.history_core.specs.Events.{session_in, opened}
@@ -16,8 +16,10 @@ use Rattle.valid_writes.specs.Owning.{OwnsAllThatComes}
 use Rattle.valid_writes.specs.Seats.{StandsIn}
 use Rattle.valid_writes.proofs.Writes.{own_push}
 use Rattle.block_machine.specs.Calls.{Call}
+use Rattle.block_machine.specs.Calls as calls
 use Rattle.block_machine.specs.Script.{Entry, did, refused, short, unsent, stop}
 use Rattle.block_machine.specs.declared.call.Answer.{Answer}
+use Rattle.block_machine.specs.declared.call.Answer.TheVariants as answers
 use Rattle.session_core.specs.Told.{opened_after, opened_from}
 use Rattle.session_core.specs.Record.{events_of}
 use Rattle.session_core.specs.Plays.{MayAsk}
@@ -27,7 +29,7 @@ use Rattle.session_hall.specs.Clients.{come_to}
 use Rattle.session_hall.specs.Seats.{Lives}
 use Rattle.session_hall.proofs.Others.{stands_others, given_others, own_none, each_opened, fresh}
 use Rattle.session_hall.proofs.Later.{goes_same, goes_later}
-use Rattle.session_hall.proofs.Calling.{Came, Numbers, came_comes, came_numbers, came_owns}
+use Rattle.session_hall.proofs.Calling.{Came, IsForeignTo, Numbers, came_comes, came_numbers, came_owns}
 
 comes_goes : (past : Past) (old new : Chronicle) (es : List Event) → Comes old es new → All (λ (e : Event). session_in e ≢ session_of past.state) es →
     GoesOn (come_to past old) (come_to past new)
@@ -170,3 +172,25 @@ own_called history past number c (refused why) q lives may away came = All-nil (
 own_called history past number c (short final n) q lives may away came = absurd came
 own_called history past number c (unsent n) q lives may away came = absurd came
 own_called history past number c (stop cause) q lives may away came = absurd came
+
+-- what others added before isn't of the session that is then opened
+not_of : (s : ℕ) (xs ys zs : List Event) → zs ≡ xs ++ ys → All (λ (e : Event). session_in e ≢ s) zs → All (λ (e : Event). session_in e ≢ s) ys
+not_of s [] ys zs is all = subst (λ (es : List Event). All (λ (e : Event). session_in e ≢ s) es) is all
+not_of s (x ∷ xs) ys zs is all =
+    not_of s xs ys (xs ++ ys) refl
+    (All-tail (λ (e : Event). session_in e ≢ s) x (xs ++ ys) (subst (λ (es : List Event). All (λ (e : Event). session_in e ≢ s) es) is all))
+
+pub opened_apart : (history : Chronicle) (past : Past) (number : Option ℕ) (c : Call) (x : Entry) (q : Past) (lives : Lives history past number) →
+    MayAsk c (come_to past history) → (past.state ≡ no_session → number ≡ None) → Came (come_to past history) c x q →
+    OwnsAllThatComes (come_to past history) q → IsLegalChronicle q.seen → IsForeignTo c x lives.goes_on.others
+opened_apart history past number calls.Open (did (answers.Opened s) e) q lives may away came owns legal =
+    let comes : Comes history (e ∷ []) q.seen = came_comes (come_to past history) calls.Open (did (answers.Opened s) e) q came owns in
+    let same : session_in e ≡ s = ap session_in came.0.0 in
+    let next : session_in e ≡ opened history.events + 1 = opens_next history q.seen e comes legal (came.0.0 ∙ ap Open (sym same)) in
+    not_of s past.seen.events lives.goes_on.others history.events lives.goes_on.seen
+    (fresh q.seen.initial history.events s (last_comes history q.seen e comes legal).0 (sym same ∙ next))
+opened_apart history past number c (refused why) q lives may away came owns legal = tt
+opened_apart history past number c (short final n) q lives may away came owns legal = tt
+opened_apart history past number c (unsent n) q lives may away came owns legal = tt
+opened_apart history past number c (stop cause) q lives may away came owns legal = tt
+opened_apart history past number _ (did _ e) q lives may away came owns legal = tt

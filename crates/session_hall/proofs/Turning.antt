@@ -86,9 +86,6 @@ all_from_more stream taken more laid after es whole fault all k d within =
 none_fault : (o : Option End) → o ≡ None → o ≡ Some ends.WriteFault → ⊥
 none_fault o none fault = cc (sym none ∙ fault)
 
-outer_taking : (stage : SessionStage) (phase : _) → stage ≡ stages.Taking phase → outer stage ≡ None
-outer_taking stage phase is = ap outer is
-
 laid_same : (stream taken : List ℕ) (a b : Option End) → b ≡ a → IsLaid a stream taken → IsLaid b stream taken
 laid_same stream taken a b same laid = subst (λ (o : Option End). IsLaid o stream taken) (sym same) laid
 

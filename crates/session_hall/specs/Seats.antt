@@ -1,6 +1,6 @@
 -- When a seat of a hall stands for what went to and fro with its client.
 use Rattle.std.specs.Prelude.{◌≡◌, ◌≢◌, ◌≤◌, ◌⊎◌, ◌+◌, ◌-◌, ℕ, List, [], ◌++◌, length, take, All, Option, Some, None, IfSome, IsSome, Contains, Result, Ok, Err}
-use Rattle.cell_base.specs.declared.Memory.{Memory}
+use Rattle.cell_base.specs.declared.memory.Memory.{Memory}
 use Rattle.cell_base.specs.declared.level.Level.{Level}
 use Rattle.choice_stream.specs.Choices.{DrawsFirst}
 use Rattle.history_core.specs.declared.event.Event.TheVariants.{Open}
@@ -8,6 +8,7 @@ use Rattle.history_core.specs.Chronicle.{Chronicle, IsLegalChronicle}
 use Rattle.history_core.specs.Book.{Past, SessionState, HasSession, GoesOn, no_session, session_of}
 use Rattle.valid_writes.specs.Desk.{given_events}
 use Rattle.valid_writes.specs.Seats.{StandsIn}
+use Rattle.block_machine.specs.Calls.{Call}
 use Rattle.block_machine.specs.Script.{Entry, did, refused, short, unsent, stop}
 use Rattle.block_machine.specs.declared.end.End.{End}
 use Rattle.block_machine.specs.declared.end.End.TheVariants as ends
@@ -19,7 +20,7 @@ use Rattle.session_core.specs.Told.{opened_in}
 use Rattle.session_core.specs.Record.{IsValidRecord}
 use Rattle.session_core.specs.Wants.{Want}
 use Rattle.session_core.specs.Wants as wishes
-use Rattle.session_core.specs.Stands.{IsLast, Lacks, outer, served_of}
+use Rattle.session_core.specs.Stands.{IsLast, Lacks, Shows, outer, served_of}
 use Rattle.session_core.specs.Sessions.{Stands, wanted}
 use Rattle.session_core.specs.Serve.{Account, IsOfLast}
 use Rattle.session_core.specs.Running.{Sits}
@@ -107,6 +108,11 @@ pub record Keeps (old new : Seat) : Type 0 where
   pub at : new.at ≡ old.at
   pub stream : new.stream.items ≡ old.stream.items
   pub end : new.end ≡ old.end
+
+-- whatever the session stands for, what it was to be sent and what it wants is told of that
+abbrev pub TellsAll : Session → Type 0
+TellsAll session = (taken : List ℕ) (entries : List Entry) (calls : List Call) (sent : List ℕ) → Stands session taken entries calls sent →
+    Shows (served_of session.runner) (wanted session) taken entries calls sent
 
 -- 1 where more bytes may be wanted
 abbrev pub hears_at : SessionStage → ℕ

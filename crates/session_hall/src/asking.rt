@@ -4,7 +4,7 @@ ghost use Rattle.history_core.specs.Chronicle.{Chronicle, IsLegalChronicle};
 ghost use Rattle.session_core.specs.Stands.{IsFit, IsLast, message_at, outer};
 ghost use Rattle.session_core.specs.Sessions.{wanted, work_of};
 ghost use Rattle.session_core.specs.Wants.{IsOver};
-ghost use Rattle.session_hall.specs.Seats.{Grows, Goes, IsAttending, IsCall, IsCalm, IsSettled, LeftUnsent, IsCount, ShowsEnd, ShowsBy, shown_for};
+ghost use Rattle.session_hall.specs.Seats.{Grows, Goes, IsAttending, IsCall, IsCalm, IsSettled, LeftUnsent, IsCount, ShowsEnd, ShowsBy, TellsAll, shown_for};
 
 use crate::client::Stepped;
 use crate::seat::Seat;
@@ -97,6 +97,7 @@ fn note_end(seat: &mut Seat) -> Stepped
     ensures same { seat.new ≡ record seat.old { end = seat.new.end } }
     ensures shows { ShowsEnd seat.new.end (wanted seat.new.session) }
     ensures by { ShowsBy (Ok result) seat.new.end }
+    ensures told { TellsAll seat.new.session }
 {
     match seat.session.demand() {
         Want::Ended(end) => {
@@ -117,6 +118,7 @@ fn go_on(alloc: Global, store: &mut Option<Store>, seat: &mut Seat) -> Result<St
     ensures goes { (history : Chronicle) → store.old ≡ Some history → (many : ℕ) × IsCount result many × Goes history seat.old many store.new seat.new }
     ensures shows { OnOk result (ShowsEnd seat.new.end (wanted seat.new.session)) }
     ensures by { OnOk result (ShowsBy result seat.new.end) }
+    ensures told { OnOk result (TellsAll seat.new.session) }
     ensures calm { OnOk result (IsCalm seat.new) }
     ensures unsent { OnErr result (LeftUnsent seat.new) }
     ensures end { OnErr result (seat.new.end ≡ None) }
@@ -143,6 +145,7 @@ pub(crate) fn step(
     ensures goes { (history : Chronicle) → store.old ≡ Some history → (many : ℕ) × IsCount result many × Goes history seat.old many store.new seat.new }
     ensures shows { ShowsEnd seat.new.end (wanted seat.new.session) }
     ensures by { ShowsBy result seat.new.end }
+    ensures told { TellsAll seat.new.session }
     ensures calm { OnOk result (IsCalm seat.new) }
     ensures unsent { OnErr result (LeftUnsent seat.new) }
 {
