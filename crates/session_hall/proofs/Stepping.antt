@@ -77,6 +77,7 @@ not_shared level history clients accounts hall client many after now stands with
     go (opened_in (accounts client).entries) refl
   where
     seated = seat_at level history clients accounts hall stands k inside
+
     go : (o : Option ℕ) → opened_in (accounts client).entries ≡ o → ⊥
     go (Some t) is =
         let same : opened_in after.entries ≡ Some t = keeps_some (opened_in (accounts client).entries) (opened_in after.entries) history t is grew.number in

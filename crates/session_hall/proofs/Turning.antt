@@ -210,8 +210,15 @@ turn_fed s r at n wanted some within at_is grown runner sits outer_is lacks t t_
     let b : Account = record a { taken = a.taken ++ piece; entries = a.entries ++ added } in
     let size : length client.stream.items ≡ length s.stream.items = ap length (sym attends.carries.stream_is) in
     let short_of : a.taken ≡ client.stream.items → ⊥ = λ whole.
-    absurd (omega (arith, some, within, size, ap length whole, ap length attends.carries.taken,
-    length-take-le s.at client.stream.items (omega (arith, within, size)))) in (
+    absurd (omega (
+      arith,
+      some,
+      within,
+      size,
+      ap length whole,
+      ap length attends.carries.taken,
+      length-take-le s.at client.stream.items (omega (arith, within, size)),
+    )) in (
       b,
       grew_alone a b history piece added [] refl refl refl (sym (append-nil a.sent)) alone,
       subst (λ (x : Seat). Attends level history client b x) (sym t_is) (record {
