@@ -1,5 +1,5 @@
 -- A seat goes on by a call of its book.
-use Rattle.std.proofs.Common.{◌≡◌, ◌≢◌, ℕ, ◌+◌, ◌<◌, ◌≤◌, List, [], ◌∷◌, ◌++◌, length, get_or, refl, sym, ◌∙◌, ap, subst, arith, append_assoc, length-append, Option, Some, None, inl, inr}
+use Rattle.std.proofs.Common.{◌≡◌, ◌≢◌, ℕ, ◌+◌, ◌<◌, ◌≤◌, List, [], ◌∷◌, ◌++◌, length, take, refl, sym, ◌∙◌, ap, subst, arith, append_assoc, length-append, Option, Some, None, inl, inr}
 use Rattle.std.specs.Prelude.{◌⊎◌, All, Contains, IfSome, IfNone}
 use Rattle.std.proofs.lemmas.List.{append-nil}
 use Rattle.std.proofs.lemmas.List.Elements.{All-nil, All-cons, All-append, All-contains, Contains-append_left, Contains-append_right, Contains-get_or}
@@ -55,7 +55,7 @@ use Rattle.session_hall.specs.Accounts.{Comes, Grew, KeepsNumber}
 use Rattle.session_hall.specs.Clients.{no_past, come_to}
 use Rattle.session_hall.specs.Seats.{Lives, IsFrom, Follows, Carries, Attends, Grows}
 use Rattle.session_hall.proofs.Entries.{opened-append, events-append, IsAlone, alone_short, short_from}
-use Rattle.session_hall.proofs.Calling.{Came, IsInner, IsForeignTo, asks_open, came_comes, came_of, one_later}
+use Rattle.session_hall.proofs.Coming.{Came, IsInner, IsForeignTo, asks_open, came_comes, came_of, one_later}
 use Rattle.session_hall.proofs.Living.{lives_called, keeps_called, own_called, opened_apart}
 use Rattle.session_hall.proofs.Turning.{all_from_more, laid_same}
 
@@ -185,13 +185,16 @@ last_more old new b entries sent lost (inr (n, has, le)) = inr (
 )
 
 -- the seat makes the call that its session wants
-pub asked_grows : (s : Seat) (history now : Chronicle) (number : Option ℕ) (p : Past) (r : Session) (q : Past) (w : List ℕ) →
+pub asked_grows : (s t : Seat) (history now : Chronicle) (number : Option ℕ) (p q : Past) →
     ((taken : List ℕ) (es : List Entry) (asked : List Call) (sent : List ℕ) → Stands s.session taken es asked sent → number ≡ opened_in es) →
-    IsSeatAt history number p → MakesCall DrawsFirst s.session p s.words r q w → Sits r q → OwnsAllThatComes p q → IsLegalChronicle q.seen →
-    StandsIn q.state q.seen.events → served_of r.runner ≡ served_of s.session.runner → outer r.stage ≡ outer s.session.stage →
-    ((lost : List ℕ) → Lacks s.session.stage lost → Lacks r.stage lost) → (IsLast s.session.stage → IsLast r.stage) → now ≡ q.seen →
-    Grows history s 1 now (record s { session = r; words = w })
-asked_grows s history now number p r q w number_is seat makes sits owns legal stands served outer_is lacks last now_is level client a attends =
+    IsSeatAt history number p → MakesCall DrawsFirst s.session p s.words t.session q t.words → Sits t.session q → OwnsAllThatComes p q →
+    IsLegalChronicle q.seen → StandsIn q.state q.seen.events → served_of t.session.runner ≡ served_of s.session.runner →
+    outer t.session.stage ≡ outer s.session.stage → ((lost : List ℕ) → Lacks s.session.stage lost → Lacks t.session.stage lost) →
+    (IsLast s.session.stage → IsLast t.session.stage) → now ≡ q.seen → t.stream.items ≡ s.stream.items → t.at ≡ s.at → t.sent.items ≡ s.sent.items →
+    Grows history s 1 now t
+asked_grows s t history now number p q number_is seat makes sits owns legal stands served outer_is lacks last now_is stream_is at_is sent_is level client a attends =
+    let r : Session = t.session in
+    let w : List ℕ = t.words in
     let f = attends.follows in
     let past : Past = f.past in
     let here : Past = come_to past history in
@@ -235,12 +238,12 @@ asked_grows s history now number p r q w number_is seat makes sits owns legal st
         number = subst (λ (o : Option ℕ). KeepsNumber (opened_in a.entries) history o) (sym number_b)
             (keeps_called history past (opened_in a.entries) c x q f.lives may never came own legal);
       }),
-      subst (λ (n : Chronicle). Attends level n client b (record s { session = r; words = w })) (sym now_is) (record {
+      subst (λ (n : Chronicle). Attends level n client b t) (sym now_is) (record {
         follows = record {
           stands = st;
           served_level = served ∙ f.served_level;
           past = q;
-          valid = alone.stays_valid DrawsFirst (no_past level) client.words.items b.calls (a.entries ++ x ∷ []) q w
+          valid = alone.stays_valid (no_past level) client.words.items b.calls (a.entries ++ x ∷ []) q w
               (IsValidRecord-append DrawsFirst (no_past level) client.words.items a.calls a.entries past s.words (c ∷ []) (x ∷ []) q w f.valid
               (one_later DrawsFirst past here s.words c x q w f.lives.goes_on foreign made.valid));
           lives = subst (λ (o : Option ℕ). Lives q.seen q o) (sym number_b)
@@ -252,9 +255,9 @@ asked_grows s history now number p r q w number_is seat makes sits owns legal st
           ];
         };
         carries = record {
-          stream_is = attends.carries.stream_is;
-          taken = attends.carries.taken;
-          sent = attends.carries.sent;
+          stream_is = stream_is ∙ attends.carries.stream_is;
+          taken = attends.carries.taken ∙ ap (λ (k : ℕ). take k client.stream.items) (sym at_is);
+          sent = attends.carries.sent ∙ ap (λ (v : List ℕ). v ++ a.lost) (sym sent_is);
           lacks = lacks a.lost attends.carries.lacks;
           last = last_more a b (x ∷ added) more refl refl attends.carries.last;
           laid = laid_same client.stream.items a.taken (outer s.session.stage) (outer r.stage) outer_is attends.carries.laid;
@@ -287,3 +290,14 @@ seat_open s history number c level client a attends is w =
     go no_session o stands mine never = subst (λ (x : Option ℕ). IfSome x (λ n. IsOpen history.events n)) (sym (never refl)) tt
     go (in_session n) o stands mine never = subst (λ (x : Option ℕ). IfSome x (λ k. IsOpen history.events k)) (sym (mine tt)) stands.0
     go (pending n writes) o stands mine never = subst (λ (x : Option ℕ). IfSome x (λ k. IsOpen history.events k)) (sym (mine tt)) stands.0
+
+-- the session sits by its seat
+pub asked_sits : (s : Seat) (history : Chronicle) (number : Option ℕ) (p : Past) (c : Call) (level : Level) (client : Client) (a : Account) →
+    Attends level history client a s → number ≡ opened_in a.entries → wants s.session.stage s.session.runner ≡ wishes.Book c →
+    IsSeatAt history number p → Sits s.session p
+asked_sits s history number p c level client a attends mine w seat =
+    let f = attends.follows in
+    let is : p ≡ come_to f.past history =
+    seat_past history f.past (opened_in a.entries) p f.lives (never_opened s.session f.past c (opened_in a.entries) f.sits w f.away)
+    (subst (λ (o : Option ℕ). IsSeatAt history o p) mine seat) in
+    subst (λ (x : Past). Sits s.session x) (sym is) (sits_on s.session f.past (come_to f.past history) f.sits f.lives.goes_on)

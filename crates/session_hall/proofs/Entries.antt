@@ -3,6 +3,7 @@ use Rattle.std.proofs.Common.{◌≡◌, ℕ, List, [], ◌∷◌, ◌++◌, len
 use Rattle.std.specs.Prelude.{All}
 use Rattle.std.proofs.lemmas.List.{append-nil}
 use Rattle.std.proofs.lemmas.List.Elements.{All-nil, All-cons}
+use Rattle.choice_stream.specs.Choices.{DrawsFirst}
 use Rattle.history_core.specs.declared.event.Event.{Event}
 use Rattle.block_machine.specs.declared.end.End.{End}
 use Rattle.block_machine.specs.declared.end.Stop.TheVariants as stops
@@ -35,19 +36,19 @@ events-append (stop cause ∷ xs) ys = events-append xs ys
 pub record IsAlone (added : List Entry) : Type 0 where
   pub no_events : events_of added ≡ []
   pub same_number : (n : Option ℕ) → opened_from n added ≡ n
-  pub stays_valid : {W : Type 0} (gives : W → ℕ → W → Type 0) (p : Past) (v : W) (cs : List Call) (es : List Entry) (q : Past) (w : W) →
-      IsValidRecord gives p v cs es q w → IsValidRecord gives p v cs (es ++ added) q w
+  pub stays_valid : (p : Past) (v : List ℕ) (cs : List Call) (es : List Entry) (q : Past) (w : List ℕ) →
+      IsValidRecord DrawsFirst p v cs es q w → IsValidRecord DrawsFirst p v cs (es ++ added) q w
 
 pub alone_short : (sent : List ℕ) (added : List Entry) → IsShort sent added → IsAlone added
 alone_short sent [] i = record {
   no_events = refl;
   same_number = λ n. refl;
-  stays_valid = λ gives p v cs es q w. IsValidRecord-short gives p v cs es q w sent [] i;
+  stays_valid = λ p v cs es q w. IsValidRecord-short DrawsFirst p v cs es q w sent [] i;
 }
 alone_short sent (short final n ∷ []) i = record {
   no_events = refl;
   same_number = λ k. refl;
-  stays_valid = λ gives p v cs es q w. IsValidRecord-short gives p v cs es q w sent (short final n ∷ []) i;
+  stays_valid = λ p v cs es q w. IsValidRecord-short DrawsFirst p v cs es q w sent (short final n ∷ []) i;
 }
 alone_short sent (short final n ∷ x ∷ xs) i = absurd i
 alone_short sent (did a x ∷ xs) i = absurd i
@@ -59,14 +60,14 @@ pub alone_unsent : (n : ℕ) → IsAlone (unsent n ∷ [])
 alone_unsent n = record {
   no_events = refl;
   same_number = λ k. refl;
-  stays_valid = λ gives p v cs es q w. IsValidRecord-quiet gives p v cs es q w (unsent n) tt;
+  stays_valid = λ p v cs es q w. IsValidRecord-quiet DrawsFirst p v cs es q w (unsent n) tt;
 }
 
 pub alone_stop : IsAlone (stop stops.EndOfInput ∷ [])
 alone_stop = record {
   no_events = refl;
   same_number = λ k. refl;
-  stays_valid = λ gives p v cs es q w. IsValidRecord-quiet gives p v cs es q w (stop stops.EndOfInput) tt;
+  stays_valid = λ p v cs es q w. IsValidRecord-quiet DrawsFirst p v cs es q w (stop stops.EndOfInput) tt;
 }
 
 -- a lack of memory needs no cause

@@ -40,11 +40,11 @@ opened_rises events es =
     along (λ (x : List Event). opened events ≤ opened x) (λ x e le. let more = count_by-push is_open_event x e in omega (arith, le, more)) events es
     (omega arith)
 
-keeps_some : (n m : Option ℕ) (history : Chronicle) (s : ℕ) → n ≡ Some s → KeepsNumber n history m → m ≡ Some s
+pub keeps_some : (n m : Option ℕ) (history : Chronicle) (s : ℕ) → n ≡ Some s → KeepsNumber n history m → m ≡ Some s
 keeps_some (Some t) m history s is keeps = keeps ∙ is
 keeps_some None m history s is keeps = absurd (cc is)
 
-keeps_same : (n m : Option ℕ) (history : Chronicle) → m ≡ n → KeepsNumber n history m
+pub keeps_same : (n m : Option ℕ) (history : Chronicle) → m ≡ n → KeepsNumber n history m
 keeps_same (Some s) m history same = same
 keeps_same None m history same = subst (λ (o : Option ℕ). IfSome o (λ s. opened history.events < s)) (sym same) tt
 

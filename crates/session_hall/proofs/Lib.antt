@@ -1,10 +1,11 @@
 pub mod Others
 pub mod Later
 pub mod Entries
-pub mod Calling
+pub mod Coming
 pub mod Living
 pub mod Growing
 pub mod Turning
 pub mod Asked
 pub mod Serving
+pub mod Going
 pub mod Stepping

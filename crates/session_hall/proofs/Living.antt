@@ -29,7 +29,7 @@ use Rattle.session_hall.specs.Clients.{come_to}
 use Rattle.session_hall.specs.Seats.{Lives}
 use Rattle.session_hall.proofs.Others.{stands_others, given_others, own_none, each_opened, fresh}
 use Rattle.session_hall.proofs.Later.{goes_same, goes_later}
-use Rattle.session_hall.proofs.Calling.{Came, IsForeignTo, Numbers, came_comes, came_numbers, came_owns}
+use Rattle.session_hall.proofs.Coming.{Came, IsForeignTo, Numbers, came_comes, came_numbers, came_owns}
 
 comes_goes : (past : Past) (old new : Chronicle) (es : List Event) → Comes old es new → All (λ (e : Event). session_in e ≢ session_of past.state) es →
     GoesOn (come_to past old) (come_to past new)
@@ -136,18 +136,15 @@ lives_called history past number c (stop cause) q lives may away came owns legal
 -- the number and the events of a call
 keeps_did : (old new : Chronicle) (number : Option ℕ) (p : Past) (a : Answer) (e : Event) (q : Past) → Comes old (e ∷ []) new → IsLegalChronicle new →
     Numbers number p a e q → KeepsNumber number old (opened_after number a)
-keeps_did old new (Some s) p a e q comes legal numbers = go numbers.either
-  where
-    go : ((Some s ≡ None) × (e ≡ Open (session_in e))) ⊎ (Some s ≡ Some (session_in e)) → opened_after (Some s) a ≡ Some s
-    go (inl (none, is)) = absurd (cc none)
-    go (inr is) = numbers.after ∙ sym is
-keeps_did old new None p a e q comes legal numbers = go numbers.either
-  where
-    go : ((None ≡ None) × (e ≡ Open (session_in e))) ⊎ (None ≡ Some (session_in e)) → IfSome (opened_after None a) (λ s. opened old.events < s)
-    go (inl (none, is)) =
-        let next = opens_next old new e comes legal is in
-        subst (λ (o : Option ℕ). IfSome o (λ s. opened old.events < s)) (sym numbers.after) (omega (arith, next))
-    go (inr is) = absurd (cc is)
+keeps_did old new (Some s) p a e q comes legal numbers =
+    elim numbers.either [ inl both ↦ absurd (cc both.0) | inr is ↦ numbers.after ∙ sym is ]
+keeps_did old new None p a e q comes legal numbers =
+    elim numbers.either [
+      | inl both ↦
+          let next = opens_next old new e comes legal both.1 in
+          subst (λ (o : Option ℕ). IfSome o (λ s. opened old.events < s)) (sym numbers.after) (omega (arith, next))
+      | inr is ↦ absurd (cc is)
+    ]
 
 pub keeps_called : (history : Chronicle) (past : Past) (number : Option ℕ) (c : Call) (x : Entry) (q : Past) → Lives history past number →
     MayAsk c (come_to past history) → (past.state ≡ no_session → number ≡ None) → Came (come_to past history) c x q →

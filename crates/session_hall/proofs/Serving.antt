@@ -1,5 +1,5 @@
 -- What a seat shows of its client.
-use Rattle.std.proofs.Common.{◌≡◌, ◌≢◌, ℕ, ◌+◌, ◌<◌, List, [], ◌∷◌, ◌++◌, length, take, get_or, refl, sym, ◌∙◌, ap, subst, arith, Option, Some, None, inl, inr}
+use Rattle.std.proofs.Common.{◌≡◌, ◌≢◌, ℕ, ◌+◌, ◌<◌, List, [], ◌∷◌, ◌++◌, length, take, get_or, refl, sym, ◌∙◌, ap, subst, arith, Option, Some, None, inl, inr, false}
 use Rattle.std.specs.Prelude.{◌⊎◌, All, Contains, IsSome, drop}
 use Rattle.std.proofs.lemmas.List.{append-nil, take-append-drop}
 use Rattle.cell_base.specs.declared.level.Level.{Level}
@@ -96,7 +96,7 @@ fault_end ends.WriteFault is = refl
 fault_end _ is = absurd (cc is)
 
 -- a failed write is shown as a lack of memory
-fault_shown : (end : Option End) (s : Session) → ShowsEnd end (wants s.stage s.runner) → (end ≡ None → outer s.stage ≢ Some ends.WriteFault) →
+pub fault_shown : (end : Option End) (s : Session) → ShowsEnd end (wants s.stage s.runner) → (end ≡ None → outer s.stage ≢ Some ends.WriteFault) →
     outer s.stage ≡ Some ends.WriteFault → end ≡ Some ends.Memory
 fault_shown None s shows calm fault = absurd (calm refl fault)
 fault_shown (Some x) s (e, w, is) calm fault =
@@ -123,7 +123,7 @@ cause_shown stream taken laid end (refused why) fault is = tt
 cause_shown stream taken laid end (short final n) fault is = tt
 
 over_of : (end : Option End) (want : Want) → ShowsEnd end want → IsSome end → IsOver want
-over_of None want shows some = absurd some
+over_of None want shows some = absurd (cc some.1)
 over_of (Some x) want (e, w, is) some = subst IsOver (sym w) tt
 
 -- an ended session has left its book

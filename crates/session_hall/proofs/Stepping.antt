@@ -6,7 +6,7 @@ use Rattle.std.proofs.lemmas.Bool.{eqb-true}
 use Rattle.std.proofs.lemmas.Bool.Decides.{nat_tests}
 use Rattle.std.proofs.lemmas.List.{append-nil, length-set}
 use Rattle.std.proofs.lemmas.List.Elements.{All-contains, All-nil, All-tail, Contains-append_cases, Contains-append_right, Contains-get_or}
-use Rattle.std.proofs.lemmas.Option.{slice_get_within}
+use Rattle.std.proofs.lemmas.Option.{slice_get_read, slice_get_within}
 use Rattle.txn_buffer.proofs.Lists.{slice_get-set_same, slice_get-set_cases}
 use Rattle.cell_base.specs.declared.memory.Memory.{Memory}
 use Rattle.cell_base.specs.declared.level.Level.{Level}
@@ -31,8 +31,7 @@ use Rattle.session_hall.specs.declared.seat.Seat.{Seat}
 use Rattle.session_hall.specs.Accounts.{Comes, KeepsNumber, Grew}
 use Rattle.session_hall.specs.Seats.{Attends, Goes, IsCalm, IsCount, IsFrom, LeftUnsent, ShowsBy, ShowsEnd, TellsAll}
 use Rattle.session_hall.specs.Halls.{with_account, IsAnswer, IsSeated, IsSent, IsStep, StandsFor}
-use Rattle.session_hall.proofs.Entries.{alone_short}
-use Rattle.session_hall.proofs.Growing.{grew_alone, keeps_some}
+use Rattle.session_hall.proofs.Growing.{comes_none, keeps_same, keeps_some}
 use Rattle.session_hall.proofs.Living.{lives_others}
 use Rattle.session_hall.proofs.Others.{each_opened}
 use Rattle.session_hall.proofs.Serving.{serves_of, serves_on}
@@ -74,18 +73,17 @@ not_shared : (level : Level) (history : Chronicle) (clients : List Client) (acco
     (now : Chronicle) → StandsFor level history clients accounts hall → client < length clients → Grew (accounts client) history many after now →
     (k s : ℕ) → k ≢ client → k < length clients → opened_in (accounts k).entries ≡ Some s → opened_in after.entries ≡ Some s → ⊥
 not_shared level history clients accounts hall client many after now stands within grew k s apart inside there here =
-    go (opened_in (accounts client).entries) refl
+    shared_by (opened_in (accounts client).entries) refl
   where
-    seated = seat_at level history clients accounts hall stands k inside
-
-    go : (o : Option ℕ) → opened_in (accounts client).entries ≡ o → ⊥
-    go (Some t) is =
+    shared_by : (o : Option ℕ) → opened_in (accounts client).entries ≡ o → ⊥
+    shared_by (Some t) is =
         let same : opened_in after.entries ≡ Some t = keeps_some (opened_in (accounts client).entries) (opened_in after.entries) history t is grew.number in
         apart (stands.apart k client s inside within there (is ∙ sym same ∙ here))
-    go None is =
+    shared_by None is =
         let above : opened history.events < s =
-        subst (λ (o : Option ℕ). IfSome o (λ n. opened history.events < n)) here (subst (λ (o : Option ℕ). KeepsNumber o history (opened_in after.entries)) is grew.number) in
-        let was = seated.2.attends.follows.lives.was_opened in
+        subst (λ (o : Option ℕ). IfSome o (λ n. opened history.events < n)) here
+        (subst (λ (o : Option ℕ). KeepsNumber o history (opened_in after.entries)) is grew.number) in
+        let was = (seat_at level history clients accounts hall stands k inside).2.attends.follows.lives.was_opened in
         let bounds = opened_bounds history.initial history.events stands.legal.legal.formed s
         (subst (λ (o : Option ℕ). IfSome o (λ n. Contains history.events (Open n))) there was) in
         absurd (omega (arith, above, bounds.1))
@@ -94,7 +92,7 @@ not_shared level history clients accounts hall client many after now stands with
 not_of_other : (number : Option ℕ) (after : Option ℕ) (es : List Event) → ((s : ℕ) → number ≡ Some s → after ≡ Some s → ⊥) →
     All (λ (e : Event). after ≡ Some (session_in e)) es → IfSome number (λ s. All (λ (e : Event). session_in e ≢ s) es)
 not_of_other None after es apart own = tt
-not_of_other (Some s) after es apart own k d within = λ same. apart s refl (own k d within ∙ ap (λ (n : ℕ). Some n) same)
+not_of_other (Some s) after es apart own = λ k d within same. apart s refl (own k d within ∙ ap (λ (n : ℕ). Some n) same)
 
 -- each event that came has a session
 has_session : (history now : Chronicle) (es : List Event) (k : ℕ) (d : Event) → Comes history es now → k < length es →
@@ -151,7 +149,13 @@ hall_moves level history clients accounts old new client s t many stands within 
                   let before : IsSeated level history x (accounts k) seat = stands.each k x seat x_is other.1 in
                   let inside : k < length clients = slice_get_within clients k x x_is in
                   let more : Attends level goes.now x (accounts k) seat = record {
-                    follows = record before.attends.follows {
+                    follows = record {
+                      stands = before.attends.follows.stands;
+                      served_level = before.attends.follows.served_level;
+                      past = before.attends.follows.past;
+                      valid = before.attends.follows.valid;
+                      sits = before.attends.follows.sits;
+                      away = before.attends.follows.away;
                       lives = lives_others history goes.now before.attends.follows.past (opened_in (accounts k).entries) es grew.comes
                           (λ i d of. has_session history goes.now es i d grew.comes of is_session)
                           (not_of_other (opened_in (accounts k).entries) (opened_in after.entries) es (λ n. apart k n other.0 inside) grew.own)
@@ -221,7 +225,7 @@ pub record Stepped (level : Level) (history : Chronicle) (client : Client) (a : 
 
 all_sent : (level : Level) (history : Chronicle) (client : Client) (a : Account) (s : Seat) (now : Chronicle) (added : List Entry) (b : Account) (t : Seat) →
     Stepped level history client a s now added b t → IsCalm t → All IsSent added
-all_sent level history client a s now added b t stepped calm k d within =
+all_sent level history client a s now added b t stepped calm = λ k d within.
     sent_of client.stream.items b.taken (outer t.session.stage) (get_or added k d) calm
     (append_all_right (IsFrom client.stream.items b.taken (outer t.session.stage)) a.entries added
     (subst (λ (es : List Entry). All (IsFrom client.stream.items b.taken (outer t.session.stage)) es) stepped.entries stepped.after.carries.causes)
@@ -310,10 +314,32 @@ hall_rests level history clients accounts hall client s stands at over = record 
   many = 0;
   after = accounts client;
   now = history;
-  grew = grew_alone (accounts client) (accounts client) history [] [] [] (sym (append-nil (accounts client).taken)) refl
-      (sym (append-nil (accounts client).entries)) (sym (append-nil (accounts client).sent)) (alone_short [] [] tt);
+  grew = record {
+    heard = [];
+    asked = [];
+    added = [];
+    said = [];
+    taken = sym (append-nil (accounts client).taken);
+    calls = sym (append-nil (accounts client).calls);
+    count = refl;
+    entries = sym (append-nil (accounts client).entries);
+    sent = sym (append-nil (accounts client).sent);
+    comes = comes_none history;
+    few = omega arith;
+    own = All-nil (λ (e : Event). opened_in (accounts client).entries ≡ Some (session_in e));
+    number = keeps_same (opened_in (accounts client).entries) (opened_in (accounts client).entries) history refl;
+  };
   stands = stands_same level history clients accounts hall client stands;
   seat = s;
   seated = at;
   answer = (omega arith, All-nil IsSent, over);
 }
+
+-- the seat of a client
+pub seat_known : (level : Level) (history : Chronicle) (clients : List Client) (accounts : ℕ → Account) (hall : Hall) (k : ℕ) (seat : Seat) →
+    StandsFor level history clients accounts hall → k < length hall.seats.items → seat ≡ get_or hall.seats.items k seat →
+    (client : Client) × (slice_get hall.seats.items k ≡ Some seat) × IsSeated level history client (accounts k) seat
+seat_known level history clients accounts hall k seat stands within is =
+    let (client, client_is) = item_at clients k (omega (arith, within, stands.count)) in
+    let at : slice_get hall.seats.items k ≡ Some seat = slice_get_read hall.seats.items (length hall.seats.items) k seat refl within is in
+    (client, at, stands.each k client seat client_is at)

@@ -1,6 +1,6 @@
 -- A seat goes on without a call: what it then stands for.
 use Rattle.std.proofs.Common.{◌≡◌, ◌≢◌, ℕ, ◌+◌, ◌-◌, ◌<◌, ◌≤◌, List, [], ◌∷◌, ◌++◌, length, take, drop, get_or, refl, sym, ◌∙◌, ap, subst, arith, length-append, Option, Some, None, inl, inr}
-use Rattle.std.specs.Prelude.{◌⊎◌, All, Contains, Vec, drop}
+use Rattle.std.specs.Prelude.{◌⊎◌, All, Contains, drop}
 use Rattle.std.proofs.Math.Seq.{take-add}
 use Rattle.std.proofs.lemmas.List.{append-nil, take_all, length-take-le}
 use Rattle.std.proofs.lemmas.List.Elements.{All-nil, All-cons, All-append, Contains-append_left, Contains-push}
@@ -28,7 +28,7 @@ use Rattle.session_hall.specs.declared.client.Client.{Client}
 use Rattle.session_hall.specs.declared.seat.Seat.{Seat}
 use Rattle.session_hall.specs.Accounts.{Grew}
 use Rattle.session_hall.specs.Clients.{no_past}
-use Rattle.session_hall.specs.Seats.{Lives, IsLaid, IsFrom, Follows, Carries, Attends, Grows, GrowsAlone}
+use Rattle.session_hall.specs.Seats.{Lives, IsLaid, IsFrom, Follows, Carries, Attends, Grows, GrowsAlone, Keeps}
 use Rattle.session_hall.proofs.Entries.{opened-append, IsAlone, alone_short, alone_unsent, alone_stop, short_from}
 use Rattle.session_hall.proofs.Growing.{grew_alone, grew_then}
 
@@ -49,6 +49,10 @@ alone_same a history level client account attends = (
   attends,
 )
 
+pub keeps_then : (a b c : Seat) → Keeps a b → Keeps b c → Keeps a c
+keeps_then a b c first second =
+    record { at = second.at ∙ first.at; stream = second.stream ∙ first.stream; end = second.end ∙ first.end }
+
 -- the session's part
 follows_on : (level : Level) (history : Chronicle) (words : List ℕ) (a b : Account) (s r : Session) (left : List ℕ) (added : List Entry) →
     Follows level history words a s left → Stands r b.taken b.entries b.calls b.sent → b.calls ≡ a.calls → b.entries ≡ a.entries ++ added →
@@ -63,7 +67,7 @@ follows_on level history words a b s r left added follows stands calls entries a
       past = follows.past;
       valid = subst (λ (cs : List Call). IsValidRecord DrawsFirst (no_past level) words cs b.entries follows.past left) (sym calls)
           (subst (λ (es : List Entry). IsValidRecord DrawsFirst (no_past level) words a.calls es follows.past left) (sym entries)
-          (alone.stays_valid DrawsFirst (no_past level) words a.calls a.entries follows.past left follows.valid));
+          (alone.stays_valid (no_past level) words a.calls a.entries follows.past left follows.valid));
       lives = subst (λ (o : Option ℕ). Lives history follows.past o) (sym number) follows.lives;
       sits = sits follows.past follows.sits;
       away = λ none. elim (follows.away none) [ inl never ↦ inl (number ∙ never) | inr over ↦ inr (last over) ];
@@ -86,19 +90,31 @@ all_from_more stream taken more laid after es whole fault all k d within =
 none_fault : (o : Option End) → o ≡ None → o ≡ Some ends.WriteFault → ⊥
 none_fault o none fault = cc (sym none ∙ fault)
 
-laid_same : (stream taken : List ℕ) (a b : Option End) → b ≡ a → IsLaid a stream taken → IsLaid b stream taken
+pub laid_same : (stream taken : List ℕ) (a b : Option End) → b ≡ a → IsLaid a stream taken → IsLaid b stream taken
 laid_same stream taken a b same laid = subst (λ (o : Option End). IsLaid o stream taken) (sym same) laid
 
 laid_none : (stream taken : List ℕ) (o : Option End) → o ≡ None → IsLaid o stream taken
 laid_none stream taken o none = subst (λ (x : Option End). IsLaid x stream taken) (sym none) tt
 
+-- the words and the stream stay
+pub record IsBeside (s t : Seat) : Type 0 where
+  pub words : t.words ≡ s.words
+  pub stream : t.stream.items ≡ s.stream.items
+
+attends_by : (level : Level) (history : Chronicle) (client : Client) (b : Account) (s t : Seat) → IsBeside s t →
+    Follows level history client.words.items b t.session s.words → Carries client.stream.items b t → Attends level history client b t
+attends_by level history client b s t beside follows carries = record {
+  follows = subst (λ (w : List ℕ). Follows level history client.words.items b t.session w) (sym beside.words) follows;
+  carries = carries;
+}
+
 -- ---- a message is looked at
 
-pub turn_taken : (s : Seat) (r : Session) → wants s.session.stage s.session.runner ≡ wishes.Message →
+pub turn_taken : (s t : Seat) → IsBeside s t → t.at ≡ s.at → t.sent.items ≡ s.sent.items → wants s.session.stage s.session.runner ≡ wishes.Message →
     ((taken : List ℕ) (es : List Entry) (asked : List Call) (sent : List ℕ) → Stands s.session taken es asked sent →
-    StandsShort r taken es asked sent) → served_of r.runner ≡ served_of s.session.runner → ((p : Past) → Sits s.session p → Sits r p) →
-    outer r.stage ≡ None → Lacks r.stage [] → GrowsAlone s (record s { session = r })
-turn_taken s r wanted grown served sits outer_is lacks history level client a attends =
+    StandsShort t.session taken es asked sent) → served_of t.session.runner ≡ served_of s.session.runner →
+    ((p : Past) → Sits s.session p → Sits t.session p) → outer t.session.stage ≡ None → Lacks t.session.stage [] → GrowsAlone s t
+turn_taken s t beside at_is sent_is wanted grown served sits outer_is lacks history level client a attends =
     let (phase, taking) = stage_taking s.session.stage s.session.runner wanted in
     let none_lost : a.lost ≡ [] = subst (λ (x : SessionStage). Lacks x a.lost) taking attends.carries.lacks in
     let (added, is_short, stands) = grown a.taken a.entries a.calls a.sent attends.follows.stands in
@@ -106,140 +122,132 @@ turn_taken s r wanted grown served sits outer_is lacks history level client a at
     let b : Account = record a { entries = a.entries ++ added } in (
       b,
       grew_alone a b history [] added [] (sym (append-nil a.taken)) refl refl (sym (append-nil a.sent)) alone,
-      record {
-        follows = follows_on level history client.words.items a b s.session r s.words added attends.follows stands refl refl alone served sits
-            (λ last. absurd (subst IsLast taking last));
-        carries = record {
-          stream_is = attends.carries.stream_is;
-          taken = attends.carries.taken;
-          sent = attends.carries.sent;
-          lacks = subst (λ (x : List ℕ). Lacks r.stage x) (sym none_lost) lacks;
-          last = inl none_lost;
-          laid = laid_none client.stream.items a.taken (outer r.stage) outer_is;
-          causes = All-append (IsFrom client.stream.items a.taken (outer r.stage)) a.entries added
-              (all_from_more client.stream.items a.taken a.taken (outer s.session.stage) (outer r.stage) a.entries (λ whole. whole)
-              (λ fault. absurd (none_fault (outer s.session.stage) (ap outer taking) fault)) attends.carries.causes)
-              (short_from client.stream.items a.taken a.sent (outer r.stage) added is_short);
-          unsent_is = λ fault. absurd (none_fault (outer r.stage) outer_is fault);
-        };
-      },
+      attends_by level history client b s t beside
+          (follows_on level history client.words.items a b s.session t.session s.words added attends.follows stands refl refl alone served sits
+          (λ last. absurd (subst IsLast taking last)))
+          (record {
+            stream_is = beside.stream ∙ attends.carries.stream_is;
+            taken = attends.carries.taken ∙ ap (λ (k : ℕ). take k client.stream.items) (sym at_is);
+            sent = attends.carries.sent ∙ ap (λ (x : List ℕ). x ++ a.lost) (sym sent_is);
+            lacks = subst (λ (x : List ℕ). Lacks t.session.stage x) (sym none_lost) lacks;
+            last = inl none_lost;
+            laid = laid_none client.stream.items a.taken (outer t.session.stage) outer_is;
+            causes = All-append (IsFrom client.stream.items a.taken (outer t.session.stage)) a.entries added
+                (all_from_more client.stream.items a.taken a.taken (outer s.session.stage) (outer t.session.stage) a.entries (λ whole. whole)
+                (λ fault. absurd (none_fault (outer s.session.stage) (ap outer taking) fault)) attends.carries.causes)
+                (short_from client.stream.items a.taken a.sent (outer t.session.stage) added is_short);
+            unsent_is = λ fault. absurd (none_fault (outer t.session.stage) outer_is fault);
+          }),
     )
 
 -- ---- a reply is sent, or isn't
 
-pub turn_sent : (s : Seat) (r : Session) (v : Vec ℕ) (reply : List ℕ) → IsHolding s.session.stage s.session.runner →
+pub turn_sent : (s t : Seat) (reply : List ℕ) → IsBeside s t → t.at ≡ s.at → t.sent.items ≡ s.sent.items ++ reply →
+    IsHolding s.session.stage s.session.runner →
     ((taken : List ℕ) (es : List Entry) (asked : List Call) (sent : List ℕ) → Stands s.session taken es asked sent →
-    StandsShort r taken es asked (sent ++ reply)) → v.items ≡ s.sent.items ++ reply → served_of r.runner ≡ served_of s.session.runner →
-    ((p : Past) → Sits s.session p → Sits r p) → outer r.stage ≡ outer s.session.stage → Lacks r.stage [] →
-    (IsLast s.session.stage → IsLast r.stage) → GrowsAlone s (record s { session = r; sent = v })
-turn_sent s r v reply holds grown sent_is served sits outer_is lacks last history level client a attends =
+    StandsShort t.session taken es asked (sent ++ reply)) → served_of t.session.runner ≡ served_of s.session.runner →
+    ((p : Past) → Sits s.session p → Sits t.session p) → outer t.session.stage ≡ outer s.session.stage → Lacks t.session.stage [] →
+    (IsLast s.session.stage → IsLast t.session.stage) → GrowsAlone s t
+turn_sent s t reply beside at_is sent_is holds grown served sits outer_is lacks last history level client a attends =
     let none_lost : a.lost ≡ [] = Lacks-holding s.session.stage s.session.runner a.lost holds attends.carries.lacks in
     let (added, is_short, stands) = grown a.taken a.entries a.calls a.sent attends.follows.stands in
     let alone : IsAlone added = alone_short (a.sent ++ reply) added is_short in
     let b : Account = record a { entries = a.entries ++ added; sent = a.sent ++ reply; lost = [] } in (
       b,
       grew_alone a b history [] added reply (sym (append-nil a.taken)) refl refl refl alone,
-      record {
-        follows = follows_on level history client.words.items a b s.session r s.words added attends.follows stands refl refl alone served sits last;
-        carries = record {
-          stream_is = attends.carries.stream_is;
-          taken = attends.carries.taken;
-          sent = ap (λ (x : List ℕ). x ++ reply)
-              (attends.carries.sent ∙ ap (λ (x : List ℕ). s.sent.items ++ x) none_lost ∙ append-nil s.sent.items)
-              ∙ sym sent_is ∙ sym (append-nil v.items);
-          lacks = lacks;
-          last = inl refl;
-          laid = laid_same client.stream.items a.taken (outer s.session.stage) (outer r.stage) outer_is attends.carries.laid;
-          causes = All-append (IsFrom client.stream.items a.taken (outer r.stage)) a.entries added
-              (all_from_more client.stream.items a.taken a.taken (outer s.session.stage) (outer r.stage) a.entries (λ whole. whole)
-              (λ fault. outer_is ∙ fault) attends.carries.causes)
-              (short_from client.stream.items a.taken (a.sent ++ reply) (outer r.stage) added is_short);
-          unsent_is = λ fault.
-              let (n, has) = attends.carries.unsent_is (sym outer_is ∙ fault) in
-              (n, Contains-append_left a.entries added (unsent n) has);
-        };
-      },
+      attends_by level history client b s t beside
+          (follows_on level history client.words.items a b s.session t.session s.words added attends.follows stands refl refl alone served sits last)
+          (record {
+            stream_is = beside.stream ∙ attends.carries.stream_is;
+            taken = attends.carries.taken ∙ ap (λ (k : ℕ). take k client.stream.items) (sym at_is);
+            sent = ap (λ (x : List ℕ). x ++ reply)
+                (attends.carries.sent ∙ ap (λ (x : List ℕ). s.sent.items ++ x) none_lost ∙ append-nil s.sent.items)
+                ∙ sym sent_is ∙ sym (append-nil t.sent.items);
+            lacks = lacks;
+            last = inl refl;
+            laid = laid_same client.stream.items a.taken (outer s.session.stage) (outer t.session.stage) outer_is attends.carries.laid;
+            causes = All-append (IsFrom client.stream.items a.taken (outer t.session.stage)) a.entries added
+                (all_from_more client.stream.items a.taken a.taken (outer s.session.stage) (outer t.session.stage) a.entries (λ whole. whole)
+                (λ fault. outer_is ∙ fault) attends.carries.causes)
+                (short_from client.stream.items a.taken (a.sent ++ reply) (outer t.session.stage) added is_short);
+            unsent_is = λ fault.
+                let (n, has) = attends.carries.unsent_is (sym outer_is ∙ fault) in
+                (n, Contains-append_left a.entries added (unsent n) has);
+          }),
     )
 
-pub turn_unsent : (s : Seat) (r : Session) (v : Vec ℕ) (reply : List ℕ) → IsHolding s.session.stage s.session.runner →
+pub turn_unsent : (s t : Seat) (reply : List ℕ) → IsBeside s t → t.at ≡ s.at → t.sent.items ≡ s.sent.items →
+    IsHolding s.session.stage s.session.runner →
     ((taken : List ℕ) (es : List Entry) (asked : List Call) (sent : List ℕ) → Stands s.session taken es asked sent →
-    Stands r taken (es ++ unsent (length sent) ∷ []) asked (sent ++ reply)) → v.items ≡ s.sent.items → served_of r.runner ≡ served_of s.session.runner →
-    ((p : Past) → Sits s.session p → Sits r p) → outer r.stage ≡ Some ends.WriteFault → ((lost : List ℕ) → Lacks r.stage lost) → IsLast r.stage →
-    GrowsAlone s (record s { session = r; sent = v })
-turn_unsent s r v reply holds grown sent_is served sits outer_is lacks last history level client a attends =
+    Stands t.session taken (es ++ unsent (length sent) ∷ []) asked (sent ++ reply)) → served_of t.session.runner ≡ served_of s.session.runner →
+    ((p : Past) → Sits s.session p → Sits t.session p) → outer t.session.stage ≡ Some ends.WriteFault →
+    ((lost : List ℕ) → Lacks t.session.stage lost) → IsLast t.session.stage → GrowsAlone s t
+turn_unsent s t reply beside at_is sent_is holds grown served sits outer_is lacks last history level client a attends =
     let none_lost : a.lost ≡ [] = Lacks-holding s.session.stage s.session.runner a.lost holds attends.carries.lacks in
     let added : List Entry = unsent (length a.sent) ∷ [] in
     let alone : IsAlone added = alone_unsent (length a.sent) in
     let b : Account = record a { entries = a.entries ++ added; sent = a.sent ++ reply; lost = reply } in (
       b,
       grew_alone a b history [] added reply (sym (append-nil a.taken)) refl refl refl alone,
-      record {
-        follows = follows_on level history client.words.items a b s.session r s.words added attends.follows
-            (grown a.taken a.entries a.calls a.sent attends.follows.stands) refl refl alone served sits (λ _. last);
-        carries = record {
-          stream_is = attends.carries.stream_is;
-          taken = attends.carries.taken;
-          sent = ap (λ (x : List ℕ). x ++ reply)
-              (attends.carries.sent ∙ ap (λ (x : List ℕ). s.sent.items ++ x) none_lost ∙ append-nil s.sent.items ∙ sym sent_is);
-          lacks = lacks reply;
-          last = inr (length a.sent, Contains-push a.entries (unsent (length a.sent)), omega (arith, length-append a.sent reply));
-          laid = laid_same client.stream.items a.taken (Some ends.WriteFault) (outer r.stage) outer_is tt;
-          causes = All-append (IsFrom client.stream.items a.taken (outer r.stage)) a.entries added
-              (all_from_more client.stream.items a.taken a.taken (outer s.session.stage) (outer r.stage) a.entries (λ whole. whole)
-              (λ fault. outer_is) attends.carries.causes)
-              (All-cons (IsFrom client.stream.items a.taken (outer r.stage)) (unsent (length a.sent)) [] outer_is
-              (All-nil (IsFrom client.stream.items a.taken (outer r.stage))));
-          unsent_is = λ fault. (length a.sent, Contains-push a.entries (unsent (length a.sent)));
-        };
-      },
+      attends_by level history client b s t beside
+          (follows_on level history client.words.items a b s.session t.session s.words added attends.follows
+          (grown a.taken a.entries a.calls a.sent attends.follows.stands) refl refl alone served sits (λ _. last))
+          (record {
+            stream_is = beside.stream ∙ attends.carries.stream_is;
+            taken = attends.carries.taken ∙ ap (λ (k : ℕ). take k client.stream.items) (sym at_is);
+            sent = ap (λ (x : List ℕ). x ++ reply)
+                (attends.carries.sent ∙ ap (λ (x : List ℕ). s.sent.items ++ x) none_lost ∙ append-nil s.sent.items ∙ sym sent_is);
+            lacks = lacks reply;
+            last = inr (length a.sent, Contains-push a.entries (unsent (length a.sent)), omega (arith, length-append a.sent reply));
+            laid = laid_same client.stream.items a.taken (Some ends.WriteFault) (outer t.session.stage) outer_is tt;
+            causes = All-append (IsFrom client.stream.items a.taken (outer t.session.stage)) a.entries added
+                (all_from_more client.stream.items a.taken a.taken (outer s.session.stage) (outer t.session.stage) a.entries (λ whole. whole)
+                (λ fault. outer_is) attends.carries.causes)
+                (All-cons (IsFrom client.stream.items a.taken (outer t.session.stage)) (unsent (length a.sent)) [] outer_is
+                (All-nil (IsFrom client.stream.items a.taken (outer t.session.stage))));
+            unsent_is = λ fault. (length a.sent, Contains-push a.entries (unsent (length a.sent)));
+          }),
     )
 
 -- ---- a piece is taken, or the stream is at its end
 
-pub turn_fed : (s : Seat) (r : Session) (at n : ℕ) → wants s.session.stage s.session.runner ≡ wishes.Bytes → 0 < n → s.at + n ≤ length s.stream.items →
-    at ≡ s.at + n →
+pub turn_fed : (s t : Seat) (n : ℕ) (piece : List ℕ) → piece ≡ take n (drop s.at s.stream.items) → IsBeside s t → t.at ≡ s.at + n → t.sent.items ≡ s.sent.items → 0 < n → s.at + n ≤ length s.stream.items →
+    wants s.session.stage s.session.runner ≡ wishes.Bytes →
     ((taken : List ℕ) (es : List Entry) (asked : List Call) (sent : List ℕ) → Stands s.session taken es asked sent →
-    StandsShort r (taken ++ take n (drop s.at s.stream.items)) es asked sent) → r.runner ≡ s.session.runner →
-    ((p : Past) → Sits s.session p → Sits r p) → outer r.stage ≡ None → Lacks r.stage [] → (t : Seat) → t ≡ record s { session = r; at = at } → GrowsAlone s t
-turn_fed s r at n wanted some within at_is grown runner sits outer_is lacks t t_is history level client a attends =
+    StandsShort t.session (taken ++ piece) es asked sent) → t.session.runner ≡ s.session.runner →
+    ((p : Past) → Sits s.session p → Sits t.session p) → outer t.session.stage ≡ None → Lacks t.session.stage [] → GrowsAlone s t
+turn_fed s t n piece piece_is beside at_is sent_is some within wanted grown runner sits outer_is lacks history level client a attends =
     let (phase, waiting) = stage_waiting s.session.stage s.session.runner wanted in
     let none_lost : a.lost ≡ [] = subst (λ (x : SessionStage). Lacks x a.lost) waiting attends.carries.lacks in
-    let piece : List ℕ = take n (drop s.at s.stream.items) in
     let (added, is_short, stands) = grown a.taken a.entries a.calls a.sent attends.follows.stands in
     let alone : IsAlone added = alone_short a.sent added is_short in
     let b : Account = record a { taken = a.taken ++ piece; entries = a.entries ++ added } in
     let size : length client.stream.items ≡ length s.stream.items = ap length (sym attends.carries.stream_is) in
     let short_of : a.taken ≡ client.stream.items → ⊥ = λ whole.
-    absurd (omega (
-      arith,
-      some,
-      within,
-      size,
-      ap length whole,
-      ap length attends.carries.taken,
-      length-take-le s.at client.stream.items (omega (arith, within, size)),
-    )) in (
+    absurd (omega (arith, some, within, size, ap length whole, ap length attends.carries.taken,
+    length-take-le s.at client.stream.items (omega (arith, within, size)))) in (
       b,
       grew_alone a b history piece added [] refl refl refl (sym (append-nil a.sent)) alone,
-      subst (λ (x : Seat). Attends level history client b x) (sym t_is) (record {
-        follows = follows_on level history client.words.items a b s.session r s.words added attends.follows stands refl refl alone (ap served_of runner) sits
-            (λ last. absurd (subst IsLast waiting last));
-        carries = record {
-          stream_is = attends.carries.stream_is;
-          taken = ap (λ (x : List ℕ). x ++ piece) attends.carries.taken
-              ∙ ap (λ (x : List ℕ). take s.at client.stream.items ++ take n (drop s.at x)) attends.carries.stream_is
-              ∙ sym (take-add s.at n client.stream.items) ∙ ap (λ (k : ℕ). take k client.stream.items) (sym at_is);
-          sent = attends.carries.sent;
-          lacks = subst (λ (x : List ℕ). Lacks r.stage x) (sym none_lost) lacks;
-          last = inl none_lost;
-          laid = laid_none client.stream.items (a.taken ++ piece) (outer r.stage) outer_is;
-          causes = All-append (IsFrom client.stream.items (a.taken ++ piece) (outer r.stage)) a.entries added
-              (all_from_more client.stream.items a.taken (a.taken ++ piece) (outer s.session.stage) (outer r.stage) a.entries (λ whole. absurd (short_of whole))
-              (λ fault. absurd (none_fault (outer s.session.stage) (ap outer waiting) fault)) attends.carries.causes)
-              (short_from client.stream.items (a.taken ++ piece) a.sent (outer r.stage) added is_short);
-          unsent_is = λ fault. absurd (none_fault (outer r.stage) outer_is fault);
-        };
-      }),
+      attends_by level history client b s t beside
+          (follows_on level history client.words.items a b s.session t.session s.words added attends.follows stands refl refl alone (ap served_of runner)
+          sits (λ last. absurd (subst IsLast waiting last)))
+          (record {
+            stream_is = beside.stream ∙ attends.carries.stream_is;
+            taken = ap (λ (x : List ℕ). x ++ piece) attends.carries.taken
+                ∙ ap (λ (x : List ℕ). take s.at client.stream.items ++ x) piece_is
+                ∙ ap (λ (x : List ℕ). take s.at client.stream.items ++ take n (drop s.at x)) attends.carries.stream_is
+                ∙ sym (take-add s.at n client.stream.items) ∙ ap (λ (k : ℕ). take k client.stream.items) (sym at_is);
+            sent = attends.carries.sent ∙ ap (λ (x : List ℕ). x ++ a.lost) (sym sent_is);
+            lacks = subst (λ (x : List ℕ). Lacks t.session.stage x) (sym none_lost) lacks;
+            last = inl none_lost;
+            laid = laid_none client.stream.items (a.taken ++ piece) (outer t.session.stage) outer_is;
+            causes = All-append (IsFrom client.stream.items (a.taken ++ piece) (outer t.session.stage)) a.entries added
+                (all_from_more client.stream.items a.taken (a.taken ++ piece) (outer s.session.stage) (outer t.session.stage) a.entries
+                (λ whole. absurd (short_of whole))
+                (λ fault. absurd (none_fault (outer s.session.stage) (ap outer waiting) fault)) attends.carries.causes)
+                (short_from client.stream.items (a.taken ++ piece) a.sent (outer t.session.stage) added is_short);
+            unsent_is = λ fault. absurd (none_fault (outer t.session.stage) outer_is fault);
+          }),
     )
 
 stopped_laid : (o : Option End) (stream taken : List ℕ) → IsStopped stops.EndOfInput o → taken ≡ stream → IsLaid o stream taken
@@ -252,11 +260,13 @@ stopped_calm (Some ends.Closed) is = λ same. cc same
 stopped_calm (Some ends.Cut) is = λ same. cc same
 stopped_calm _ is = absurd is
 
-pub turn_stopped : (s : Seat) (r : Session) → wants s.session.stage s.session.runner ≡ wishes.Bytes → length s.stream.items ≤ s.at →
+pub turn_stopped : (s t : Seat) → IsBeside s t → t.at ≡ s.at → t.sent.items ≡ s.sent.items → length s.stream.items ≤ s.at →
+    wants s.session.stage s.session.runner ≡ wishes.Bytes →
     ((taken : List ℕ) (es : List Entry) (asked : List Call) (sent : List ℕ) → Stands s.session taken es asked sent →
-    Stands r taken (es ++ stop stops.EndOfInput ∷ []) asked sent) → r.runner ≡ s.session.runner → ((p : Past) → Sits s.session p → Sits r p) →
-    IsStopped stops.EndOfInput (outer r.stage) → Lacks r.stage [] → IsLast r.stage → GrowsAlone s (record s { session = r })
-turn_stopped s r wanted at_end grown runner sits outer_is lacks last history level client a attends =
+    Stands t.session taken (es ++ stop stops.EndOfInput ∷ []) asked sent) → t.session.runner ≡ s.session.runner →
+    ((p : Past) → Sits s.session p → Sits t.session p) → IsStopped stops.EndOfInput (outer t.session.stage) → Lacks t.session.stage [] →
+    IsLast t.session.stage → GrowsAlone s t
+turn_stopped s t beside at_is sent_is at_end wanted grown runner sits outer_is lacks last history level client a attends =
     let (phase, waiting) = stage_waiting s.session.stage s.session.runner wanted in
     let none_lost : a.lost ≡ [] = subst (λ (x : SessionStage). Lacks x a.lost) waiting attends.carries.lacks in
     let added : List Entry = stop stops.EndOfInput ∷ [] in
@@ -265,22 +275,40 @@ turn_stopped s r wanted at_end grown runner sits outer_is lacks last history lev
     attends.carries.taken ∙ take_all s.at client.stream.items (omega (arith, at_end, ap length attends.carries.stream_is)) in (
       b,
       grew_alone a b history [] added [] (sym (append-nil a.taken)) refl refl (sym (append-nil a.sent)) alone_stop,
-      record {
-        follows = follows_on level history client.words.items a b s.session r s.words added attends.follows
-            (grown a.taken a.entries a.calls a.sent attends.follows.stands) refl refl alone_stop (ap served_of runner) sits (λ _. last);
-        carries = record {
-          stream_is = attends.carries.stream_is;
-          taken = attends.carries.taken;
-          sent = attends.carries.sent;
-          lacks = subst (λ (x : List ℕ). Lacks r.stage x) (sym none_lost) lacks;
-          last = inl none_lost;
-          laid = stopped_laid (outer r.stage) client.stream.items a.taken outer_is whole;
-          causes = All-append (IsFrom client.stream.items a.taken (outer r.stage)) a.entries added
-              (all_from_more client.stream.items a.taken a.taken (outer s.session.stage) (outer r.stage) a.entries (λ is. is)
-              (λ fault. absurd (none_fault (outer s.session.stage) (ap outer waiting) fault)) attends.carries.causes)
-              (All-cons (IsFrom client.stream.items a.taken (outer r.stage)) (stop stops.EndOfInput) [] (refl, whole)
-              (All-nil (IsFrom client.stream.items a.taken (outer r.stage))));
-          unsent_is = λ fault. absurd (stopped_calm (outer r.stage) outer_is fault);
-        };
-      },
+      attends_by level history client b s t beside
+          (follows_on level history client.words.items a b s.session t.session s.words added attends.follows
+          (grown a.taken a.entries a.calls a.sent attends.follows.stands) refl refl alone_stop (ap served_of runner) sits (λ _. last))
+          (record {
+            stream_is = beside.stream ∙ attends.carries.stream_is;
+            taken = attends.carries.taken ∙ ap (λ (k : ℕ). take k client.stream.items) (sym at_is);
+            sent = attends.carries.sent ∙ ap (λ (x : List ℕ). x ++ a.lost) (sym sent_is);
+            lacks = subst (λ (x : List ℕ). Lacks t.session.stage x) (sym none_lost) lacks;
+            last = inl none_lost;
+            laid = stopped_laid (outer t.session.stage) client.stream.items a.taken outer_is whole;
+            causes = All-append (IsFrom client.stream.items a.taken (outer t.session.stage)) a.entries added
+                (all_from_more client.stream.items a.taken a.taken (outer s.session.stage) (outer t.session.stage) a.entries (λ is. is)
+                (λ fault. absurd (none_fault (outer s.session.stage) (ap outer waiting) fault)) attends.carries.causes)
+                (All-cons (IsFrom client.stream.items a.taken (outer t.session.stage)) (stop stops.EndOfInput) [] (refl, whole)
+                (All-nil (IsFrom client.stream.items a.taken (outer t.session.stage))));
+            unsent_is = λ fault. absurd (stopped_calm (outer t.session.stage) outer_is fault);
+          }),
     )
+
+-- the end is noted
+pub turn_noted : (s t : Seat) → IsBeside s t → t.at ≡ s.at → t.sent.items ≡ s.sent.items → t.session ≡ s.session → GrowsAlone s t
+turn_noted s t beside at_is sent_is session_is history level client a attends = (
+  a,
+  grew_alone a a history [] [] [] (sym (append-nil a.taken)) refl (sym (append-nil a.entries)) (sym (append-nil a.sent)) (alone_short [] [] tt),
+  attends_by level history client a s t beside
+      (subst (λ (x : Session). Follows level history client.words.items a x s.words) (sym session_is) attends.follows)
+      (record {
+        stream_is = beside.stream ∙ attends.carries.stream_is;
+        taken = attends.carries.taken ∙ ap (λ (k : ℕ). take k client.stream.items) (sym at_is);
+        sent = attends.carries.sent ∙ ap (λ (x : List ℕ). x ++ a.lost) (sym sent_is);
+        lacks = subst (λ (x : Session). Lacks x.stage a.lost) (sym session_is) attends.carries.lacks;
+        last = attends.carries.last;
+        laid = subst (λ (x : Session). IsLaid (outer x.stage) client.stream.items a.taken) (sym session_is) attends.carries.laid;
+        causes = subst (λ (x : Session). All (IsFrom client.stream.items a.taken (outer x.stage)) a.entries) (sym session_is) attends.carries.causes;
+        unsent_is = λ fault. attends.carries.unsent_is (ap (λ (x : Session). outer x.stage) (sym session_is) ∙ fault);
+      }),
+)

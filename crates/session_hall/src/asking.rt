@@ -4,7 +4,7 @@ ghost use Rattle.history_core.specs.Chronicle.{Chronicle, IsLegalChronicle};
 ghost use Rattle.session_core.specs.Stands.{IsFit, IsLast, message_at, outer};
 ghost use Rattle.session_core.specs.Sessions.{wanted, work_of};
 ghost use Rattle.session_core.specs.Wants.{IsOver};
-ghost use Rattle.session_hall.specs.Seats.{Grows, Goes, IsAttending, IsCall, IsCalm, IsSettled, LeftUnsent, IsCount, ShowsEnd, ShowsBy, TellsAll, shown_for};
+ghost use Rattle.session_hall.specs.Seats.{Grows, Goes, IsAttending, IsCall, IsCalm, IsSettled, LeftUnsent, GrowsAlone, IsCount, ShowsEnd, ShowsBy, TellsAll, shown_for};
 
 use crate::client::Stepped;
 use crate::seat::Seat;
@@ -94,7 +94,8 @@ fn shown(end: End) -> End
 fn note_end(seat: &mut Seat) -> Stepped
     requires settled { IsSettled (wanted seat.old.session) }
     requires goes_on { seat.old.end ≡ None }
-    ensures same { seat.new ≡ record seat.old { end = seat.new.end } }
+    ensures grows { GrowsAlone seat.old seat.new }
+    ensures session { seat.new.session ≡ seat.old.session }
     ensures shows { ShowsEnd seat.new.end (wanted seat.new.session) }
     ensures by { ShowsBy (Ok result) seat.new.end }
     ensures told { TellsAll seat.new.session }

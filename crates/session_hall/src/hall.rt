@@ -1,5 +1,5 @@
 // The hall.
-ghost use Rattle.std.specs.Prelude.{◌≡◌, ◌≢◌, ◌<◌, ◌++◌, ◌×◌, ℕ, List, All, Some, None, Ok, IfOk, IfSome, IsNone, slice_get};
+ghost use Rattle.std.specs.Prelude.{◌≡◌, ◌≢◌, ◌<◌, ◌++◌, ℕ, List, All, Some, None, Ok, IfOk, IfSome, IsNone, slice_get};
 ghost use Rattle.cell_base.specs.declared.level.Level.{Level as Served};
 ghost use Rattle.history_core.specs.Chronicle.{Chronicle, IsLegalChronicle};
 ghost use Rattle.block_machine.specs.Script.{has_short};

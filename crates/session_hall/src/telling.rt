@@ -149,13 +149,14 @@ fn hear(seat: &mut Seat)
     ensures end { seat.new.end ≡ seat.old.end }
     ensures heard { (seat.old.at < seat.new.at) ⊎ ((seat.new.at ≡ seat.old.at) × IsLast seat.new.session.stage) }
 {
-    let left = &seat.stream[seat.at..];
-    if left.is_empty() {
+    let left = seat.stream.len() - seat.at;
+    if left == 0 {
         seat.session.stop(Stop::EndOfInput);
         return;
     }
-    let n = seat.piece.min(left.len());
-    seat.session.feed(&left[..n]);
+    let n = seat.piece.min(left);
+    seat.session
+        .feed(&seat.stream[seat.at..seat.at + n]);
     seat.at += n;
 }
 
