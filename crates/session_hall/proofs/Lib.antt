@@ -8,4 +8,5 @@ pub mod Turning
 pub mod Asked
 pub mod Serving
 pub mod Going
+pub mod Opening
 pub mod Stepping

@@ -1,6 +1,6 @@
 -- What a seat shows of its client.
 use Rattle.std.proofs.Common.{◌≡◌, ◌≢◌, ℕ, ◌+◌, ◌<◌, List, [], ◌∷◌, ◌++◌, length, take, get_or, refl, sym, ◌∙◌, ap, subst, arith, Option, Some, None, inl, inr, false}
-use Rattle.std.specs.Prelude.{◌⊎◌, All, Contains, IsSome, drop}
+use Rattle.std.specs.Prelude.{◌⊎◌, All, Contains, drop}
 use Rattle.std.proofs.lemmas.List.{append-nil, take-append-drop}
 use Rattle.cell_base.specs.declared.level.Level.{Level}
 use Rattle.choice_stream.specs.Choices.{DrawsFirst}
@@ -30,7 +30,7 @@ use Rattle.session_core.proofs.Serving.{away_over}
 use Rattle.session_core.proofs.ValidRecords.{own_events}
 use Rattle.session_hall.specs.declared.client.Client.{Client}
 use Rattle.session_hall.specs.declared.seat.Seat.{Seat}
-use Rattle.session_hall.specs.Clients.{IsShown, HasCause, IsServed, no_past}
+use Rattle.session_hall.specs.Clients.{HasEnd, IsShown, HasCause, IsServed, no_past}
 use Rattle.session_hall.specs.Seats.{IsFrom, Attends, IsGoing, IsCalm, ShowsEnd, TellsAll, shown_for}
 
 -- ---- the end that is shown
@@ -122,13 +122,13 @@ cause_shown stream taken laid end (did a e) fault is = tt
 cause_shown stream taken laid end (refused why) fault is = tt
 cause_shown stream taken laid end (short final n) fault is = tt
 
-over_of : (end : Option End) (want : Want) → ShowsEnd end want → IsSome end → IsOver want
-over_of None want shows some = absurd (cc some.1)
+over_of : (end : Option End) (want : Want) → ShowsEnd end want → HasEnd end → IsOver want
+over_of None want shows some = absurd some
 over_of (Some x) want (e, w, is) some = subst IsOver (sym w) tt
 
 -- an ended session has left its book
 pub left_of : (level : Level) (history : Chronicle) (client : Client) (a : Account) (s : Seat) (attends : Attends level history client a s) →
-    ShowsEnd s.end (wants s.session.stage s.session.runner) → IsSome s.end → attends.follows.past.state ≡ no_session
+    ShowsEnd s.end (wants s.session.stage s.session.runner) → HasEnd s.end → attends.follows.past.state ≡ no_session
 left_of level history client a s attends shows some =
     away_over s.session attends.follows.past (over_of s.end (wants s.session.stage s.session.runner) shows some) attends.follows.sits
 

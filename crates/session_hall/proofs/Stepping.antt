@@ -1,6 +1,6 @@
 -- A hall after a client's step.
 use Rattle.std.proofs.Common.{◌≡◌, ◌≢◌, ◌==◌, ℕ, ◌+◌, ◌<◌, ◌≤◌, zero, suc, Bool, true, false, List, [], ◌∷◌, ◌++◌, length, get_or, refl, sym, ◌∙◌, ap, subst, arith, Option, Some, None, inl, inr, ◌⊎◌}
-use Rattle.std.specs.Prelude.{All, Contains, IfSome, IsSome, OnErr, OnOk, Result, Ok, Err, slice_get, if◌then◌else◌}
+use Rattle.std.specs.Prelude.{All, Contains, IfSome, OnErr, OnOk, Result, Ok, Err, slice_get, if◌then◌else◌}
 use Rattle.std.proofs.Math.ListN.{set}
 use Rattle.std.proofs.lemmas.Bool.{eqb-true}
 use Rattle.std.proofs.lemmas.Bool.Decides.{nat_tests}
@@ -29,6 +29,7 @@ use Rattle.session_hall.specs.declared.client.Stepped.TheVariants.{Called, Ended
 use Rattle.session_hall.specs.declared.hall.Hall.{Hall}
 use Rattle.session_hall.specs.declared.seat.Seat.{Seat}
 use Rattle.session_hall.specs.Accounts.{Comes, KeepsNumber, Grew}
+use Rattle.session_hall.specs.Clients.{HasEnd}
 use Rattle.session_hall.specs.Seats.{Attends, Goes, IsCalm, IsCount, IsFrom, LeftUnsent, ShowsBy, ShowsEnd, TellsAll}
 use Rattle.session_hall.specs.Halls.{with_account, IsAnswer, IsSeated, IsSent, IsStep, StandsFor}
 use Rattle.session_hall.proofs.Growing.{comes_none, keeps_same, keeps_some}
@@ -308,7 +309,7 @@ stands_same level history clients accounts hall client stands =
     }
 
 pub hall_rests : (level : Level) (history : Chronicle) (clients : List Client) (accounts : ℕ → Account) (hall : Hall) (client : ℕ) (s : Seat) →
-    StandsFor level history clients accounts hall → slice_get hall.seats.items client ≡ Some s → IsSome s.end →
+    StandsFor level history clients accounts hall → slice_get hall.seats.items client ≡ Some s → HasEnd s.end →
     IsStep clients accounts history client (Ok Ended) level hall
 hall_rests level history clients accounts hall client s stands at over = record {
   many = 0;

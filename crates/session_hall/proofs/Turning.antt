@@ -87,13 +87,13 @@ pub all_from_more : (stream taken more : List ℕ) (laid after : Option End) (es
 all_from_more stream taken more laid after es whole fault all k d within =
     from_more stream taken more laid after (get_or es k d) whole fault (all k d within)
 
-none_fault : (o : Option End) → o ≡ None → o ≡ Some ends.WriteFault → ⊥
+pub none_fault : (o : Option End) → o ≡ None → o ≡ Some ends.WriteFault → ⊥
 none_fault o none fault = cc (sym none ∙ fault)
 
 pub laid_same : (stream taken : List ℕ) (a b : Option End) → b ≡ a → IsLaid a stream taken → IsLaid b stream taken
 laid_same stream taken a b same laid = subst (λ (o : Option End). IsLaid o stream taken) (sym same) laid
 
-laid_none : (stream taken : List ℕ) (o : Option End) → o ≡ None → IsLaid o stream taken
+pub laid_none : (stream taken : List ℕ) (o : Option End) → o ≡ None → IsLaid o stream taken
 laid_none stream taken o none = subst (λ (x : Option End). IsLaid x stream taken) (sym none) tt
 
 -- the words and the stream stay

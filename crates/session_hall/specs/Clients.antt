@@ -1,5 +1,5 @@
 -- What became of one client of a hall.
-use Rattle.std.specs.Prelude.{◌≡◌, ◌≢◌, ◌⊎◌, ℕ, List, [], ◌++◌, All, Option, Some, None, IsSome, false}
+use Rattle.std.specs.Prelude.{◌≡◌, ◌≢◌, ◌⊎◌, ℕ, List, [], ◌++◌, All, Option, Some, None, false}
 use Rattle.cell_base.specs.declared.level.Level.{Level}
 use Rattle.choice_stream.specs.Choices.{DrawsFirst}
 use Rattle.history_core.specs.Chronicle.{Chronicle}
@@ -27,6 +27,11 @@ no_past level = record { seen = empty_history level; own = []; state = no_sessio
 -- what a book of this past sees once the history has come so far, by others' events alone
 abbrev pub come_to : Past → Chronicle → Past
 come_to past history = record { seen = history; own = past.own; state = past.state }
+
+-- an end is shown
+abbrev pub HasEnd : Option End → Type 0
+HasEnd None = ⊥
+HasEnd (Some end) = Unit {0}
 
 -- The end that a hall shows, by what the session's record comes to. A session whose reply found no room was stopped as by a failed write, and
 -- its end is a lack of memory.
@@ -59,7 +64,7 @@ pub record IsServed (level : Level) (history : Chronicle) (client : Client) (end
   pub words : List ℕ
   pub valid : IsValidRecord DrawsFirst (no_past level) client.words.items account.calls account.entries past words
   pub goes_on : GoesOn past (come_to past history)
-  pub left_book : IsSome end → past.state ≡ no_session
+  pub left_book : HasEnd end → past.state ≡ no_session
   pub own : given_events (opened_in account.entries) history.events ≡ events_of account.entries
   pub causes : All (HasCause client.stream.items account.taken end) account.entries
   pub lost_is : (account.lost ≡ []) ⊎ (end ≡ Some ends.Memory)

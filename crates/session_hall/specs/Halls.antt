@@ -1,5 +1,5 @@
 -- When a hall stands for one history and an account of each client, and what a step adds.
-use Rattle.std.specs.Prelude.{◌≡◌, ◌≢◌, ◌==◌, ◌≤◌, ◌<◌, ◌⊎◌, ℕ, List, [], if◌then◌else◌, length, slice_get, Contains, All, Option, Some, None, Result, Ok, Err, IsSome}
+use Rattle.std.specs.Prelude.{◌≡◌, ◌≢◌, ◌==◌, ◌≤◌, ◌<◌, ◌⊎◌, ℕ, List, [], ◌∷◌, if◌then◌else◌, length, slice_get, Contains, All, Option, Some, None, Result, Ok, Err}
 use Rattle.cell_base.specs.declared.level.Level.{Level}
 use Rattle.cell_base.specs.declared.memory.Memory.{Memory}
 use Rattle.history_core.specs.declared.event.Event.{Event}
@@ -16,8 +16,8 @@ use Rattle.session_hall.specs.declared.client.Stepped.{Stepped}
 use Rattle.session_hall.specs.declared.client.Stepped.TheVariants.{Called, Ended}
 use Rattle.session_hall.specs.declared.hall.Hall.{Hall}
 use Rattle.session_hall.specs.declared.seat.Seat.{Seat}
-use Rattle.session_hall.specs.Accounts.{Grew}
-use Rattle.session_hall.specs.Clients.{IsServed}
+use Rattle.session_hall.specs.Accounts.{Grew, nothing}
+use Rattle.session_hall.specs.Clients.{HasEnd, IsServed, empty_history}
 use Rattle.session_hall.specs.Seats.{Attends, IsCalm, ShowsEnd}
 
 -- the accounts with that of one client made this one
@@ -30,6 +30,13 @@ pub record IsSeated (level : Level) (history : Chronicle) (client : Client) (acc
   pub shows : ShowsEnd seat.end (wanted seat.session)
   pub calm : seat.end ≡ None → IsCalm seat
   pub served : IsServed level history client seat.end account
+
+-- the seats of clients of which nothing was heard yet, in order
+abbrev pub AreSeated : Level → List Client → List Seat → Type 0
+AreSeated level [] [] = Unit {0}
+AreSeated level (client ∷ clients) (seat ∷ seats) = IsSeated level (empty_history level) client nothing seat × AreSeated level clients seats
+AreSeated level [] (seat ∷ seats) = ⊥
+AreSeated level (client ∷ clients) [] = ⊥
 
 -- A hall at a level stands for one legal history and an account of each client. Each client was served so far. Each event is of the session of
 -- one client, and no two clients share a session.
@@ -66,7 +73,7 @@ IsSent _ = Unit {0}
 -- one that ends made one at most. A lack of memory leaves a reply unsent, and the session has then made the calls that it owed its book besides.
 abbrev pub IsAnswer : Result Stepped Memory → ℕ → List Entry → Option End → Type 0
 IsAnswer (Ok Called) many added end = (many ≡ 1) × All IsSent added × (end ≡ None)
-IsAnswer (Ok Ended) many added end = (many ≤ 1) × All IsSent added × IsSome end
+IsAnswer (Ok Ended) many added end = (many ≤ 1) × All IsSent added × HasEnd end
 IsAnswer (Err e) many added end = ((n : ℕ) × Contains added (unsent n)) × (end ≡ Some ends.Memory)
 
 -- A client's step: its account grew, and the other accounts stay.

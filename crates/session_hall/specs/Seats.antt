@@ -1,5 +1,5 @@
 -- When a seat of a hall stands for what went to and fro with its client.
-use Rattle.std.specs.Prelude.{◌≡◌, ◌≢◌, ◌≤◌, ◌⊎◌, ◌+◌, ◌-◌, ℕ, List, [], ◌++◌, length, take, All, Option, Some, None, IfSome, IsSome, Contains, Result, Ok, Err}
+use Rattle.std.specs.Prelude.{◌≡◌, ◌≢◌, ◌≤◌, ◌⊎◌, ◌+◌, ◌-◌, ℕ, List, [], ◌++◌, length, take, All, Option, Some, None, IfSome, Contains, Result, Ok, Err}
 use Rattle.cell_base.specs.declared.memory.Memory.{Memory}
 use Rattle.cell_base.specs.declared.level.Level.{Level}
 use Rattle.choice_stream.specs.Choices.{DrawsFirst}
@@ -29,7 +29,7 @@ use Rattle.session_hall.specs.declared.client.Stepped.{Stepped}
 use Rattle.session_hall.specs.declared.client.Stepped.TheVariants.{Called, Ended}
 use Rattle.session_hall.specs.declared.seat.Seat.{Seat}
 use Rattle.session_hall.specs.Accounts.{Grew}
-use Rattle.session_hall.specs.Clients.{no_past, come_to}
+use Rattle.session_hall.specs.Clients.{HasEnd, no_past, come_to}
 
 -- How a session of this number stands in a history, where its book has this past.
 pub record Lives (history : Chronicle) (past : Past) (number : Option ℕ) : Type 0 where
@@ -135,7 +135,7 @@ IsCount (Err e) many = Unit {0}
 -- what an answer says of the end that is shown
 abbrev pub ShowsBy : Result Stepped Memory → Option End → Type 0
 ShowsBy (Ok Called) end = end ≡ None
-ShowsBy (Ok Ended) end = IsSome end
+ShowsBy (Ok Ended) end = HasEnd end
 ShowsBy (Err e) end = end ≡ Some ends.Memory
 
 -- all that was due was sent, and no more is looked at: bytes or a call are wanted, or the end is there

@@ -9,7 +9,7 @@ ghost use Rattle.session_hall.specs.declared.client.Stepped.TheVariants.{Ended};
 ghost use Rattle.session_hall.specs.declared.seat.Seat.{Seat as Kept};
 ghost use Rattle.session_hall.specs.Accounts.{nothing};
 ghost use Rattle.session_hall.specs.Clients.{empty_history};
-ghost use Rattle.session_hall.specs.Halls.{IsSeated, StandsFor, IsHall, IsStep, HasEnded, clients_of};
+ghost use Rattle.session_hall.specs.Halls.{AreSeated, IsSeated, StandsFor, IsHall, IsStep, HasEnded, clients_of};
 
 use crate::asking;
 use crate::client::{Client, Stepped};
@@ -52,6 +52,18 @@ fn seat_for(alloc: Global, level: Level, client: Client) -> Result<Seat, Memory>
     })
 }
 
+// The seats of clients, in order.
+fn seats_for(alloc: Global, level: Level, clients: Vec<Client>) -> Result<Vec<Seat>, Memory>
+    requires pieces { All (λ (c : Known). 0 < c.piece) clients.items }
+    ensures { IfOk result (λ seats. AreSeated level clients.items seats.items) }
+{
+    let mut seats = Vec::new(alloc);
+    for client in clients {
+        seats.push(seat_for(alloc, level, client)?)?;
+    }
+    Ok(seats)
+}
+
 impl Hall {
     /// A hall at a level, over a history without a row at first and without an event. Nothing was heard of any client yet. Clients have
     /// numbers from 0. An error is out of memory.
@@ -61,14 +73,10 @@ impl Hall {
         ensures hall { IfOk result IsHall }
     {
         let store = Store::new(alloc, level, InitialState::empty(alloc))?;
-        let mut seats = Vec::with_capacity(alloc, clients.len())?;
-        for client in clients {
-            seats.push_reserved(seat_for(alloc, level, client)?);
-        }
         Ok(Hall {
             alloc,
             store: Some(store),
-            seats,
+            seats: seats_for(alloc, level, clients)?,
         })
     }
 
