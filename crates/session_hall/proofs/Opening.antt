@@ -24,7 +24,7 @@ use Rattle.session_hall.specs.declared.seat.Seat.{Seat}
 use Rattle.session_hall.specs.Accounts.{nothing}
 use Rattle.session_hall.specs.Clients.{empty_history, no_past}
 use Rattle.session_hall.specs.Seats.{Attends, IsFrom, ShowsEnd, TellsAll}
-use Rattle.session_hall.specs.Halls.{AreSeated, IsSeated, StandsFor}
+use Rattle.session_hall.specs.Halls.{Along, AreSeated, IsSeated, StandsFor}
 use Rattle.session_hall.proofs.Later.{goes_same}
 use Rattle.session_hall.proofs.Serving.{serves_of}
 use Rattle.session_hall.proofs.Turning.{laid_none, none_fault}
@@ -80,30 +80,30 @@ seated_new level client s stands stage served tables fit words stream at sent en
 
 -- ---- the seats, one after another
 
-pub seated_push : (level : Level) (clients : List Client) (seats : List Seat) (client : Client) (seat : Seat) → AreSeated level clients seats →
-    IsSeated level (empty_history level) client nothing seat → AreSeated level (clients ++ client ∷ []) (seats ++ seat ∷ [])
-seated_push level [] [] client seat are is = (is, tt)
-seated_push level (c ∷ cs) (s ∷ ss) client seat are is = (are.0, seated_push level cs ss client seat are.1 is)
-seated_push level [] (s ∷ ss) client seat are is = absurd are
-seated_push level (c ∷ cs) [] client seat are is = absurd are
+pub along_push : {X Y : Type 0} (P : X → Y → Type 0) (xs : List X) (ys : List Y) (x : X) (y : Y) → Along P xs ys → P x y →
+    Along P (xs ++ x ∷ []) (ys ++ y ∷ [])
+along_push P [] [] x y along is = (is, tt)
+along_push P (a ∷ xs) (b ∷ ys) x y along is = (along.0, along_push P xs ys x y along.1 is)
+along_push P [] (b ∷ ys) x y along is = absurd along
+along_push P (a ∷ xs) [] x y along is = absurd along
 
-seated_count : (level : Level) (clients : List Client) (seats : List Seat) → AreSeated level clients seats → length seats ≡ length clients
-seated_count level [] [] are = refl
-seated_count level (c ∷ cs) (s ∷ ss) are = ap (λ (n : ℕ). suc n) (seated_count level cs ss are.1)
-seated_count level [] (s ∷ ss) are = absurd are
-seated_count level (c ∷ cs) [] are = absurd are
+along_count : {X Y : Type 0} (P : X → Y → Type 0) (xs : List X) (ys : List Y) → Along P xs ys → length ys ≡ length xs
+along_count P [] [] along = refl
+along_count P (a ∷ xs) (b ∷ ys) along = let rest = along_count P xs ys along.1 in omega (arith, rest)
+along_count P [] (b ∷ ys) along = absurd along
+along_count P (a ∷ xs) [] along = absurd along
 
-seated_each : (level : Level) (clients : List Client) (seats : List Seat) → AreSeated level clients seats → (k : ℕ) (client : Client) (seat : Seat) →
-    slice_get clients k ≡ Some client → slice_get seats k ≡ Some seat → IsSeated level (empty_history level) client nothing seat
-seated_each level [] [] are k client seat c_is s_is = absurd (cc c_is)
-seated_each level (c ∷ cs) (s ∷ ss) are zero client seat c_is s_is =
-    let same_c : c ≡ client = cc c_is in
-    let same_s : s ≡ seat = cc s_is in
-    subst (λ (x : Client). IsSeated level (empty_history level) x nothing seat) same_c
-    (subst (λ (x : Seat). IsSeated level (empty_history level) c nothing x) same_s are.0)
-seated_each level (c ∷ cs) (s ∷ ss) are (suc k) client seat c_is s_is = seated_each level cs ss are.1 k client seat c_is s_is
-seated_each level [] (s ∷ ss) are k client seat c_is s_is = absurd are
-seated_each level (c ∷ cs) [] are k client seat c_is s_is = absurd are
+pub some_item : {X : Type 0} (x y : X) → Some x ≡ Some y → x ≡ y
+some_item x y is = cc is
+
+along_each : {X Y : Type 0} (P : X → Y → Type 0) (xs : List X) (ys : List Y) → Along P xs ys → (k : ℕ) (x : X) (y : Y) →
+    slice_get xs k ≡ Some x → slice_get ys k ≡ Some y → P x y
+along_each P [] [] along k x y x_is y_is = absurd (cc x_is)
+along_each P (a ∷ xs) (b ∷ ys) along zero x y x_is y_is =
+    subst (λ (z : _). P z y) (some_item a x x_is) (subst (λ (z : _). P a z) (some_item b y y_is) along.0)
+along_each P (a ∷ xs) (b ∷ ys) along (suc k) x y x_is y_is = along_each P xs ys along.1 k x y x_is y_is
+along_each P [] (b ∷ ys) along k x y x_is y_is = absurd along
+along_each P (a ∷ xs) [] along k x y x_is y_is = absurd along
 
 -- no session was opened yet
 pub hall_new : (level : Level) (clients : List Client) (hall : Hall) → hall.store ≡ Some (empty_history level) → IsLegalChronicle (empty_history level) →
@@ -113,8 +113,8 @@ hall_new level clients hall store legal are = record {
   level_is = refl;
   initial = refl;
   legal = legal;
-  count = seated_count level clients hall.seats.items are;
-  each = seated_each level clients hall.seats.items are;
+  count = along_count (λ (c : Client) (s : Seat). IsSeated level (empty_history level) c nothing s) clients hall.seats.items are;
+  each = along_each (λ (c : Client) (s : Seat). IsSeated level (empty_history level) c nothing s) clients hall.seats.items are;
   owned = λ e has. absurd (omega (arith, has.1));
   apart = λ j k s inside_j inside_k number_j number_k. absurd (cc number_j);
 }

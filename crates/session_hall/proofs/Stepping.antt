@@ -1,6 +1,7 @@
 -- A hall after a client's step.
 use Rattle.std.proofs.Common.{◌≡◌, ◌≢◌, ◌==◌, ℕ, ◌+◌, ◌<◌, ◌≤◌, zero, suc, Bool, true, false, List, [], ◌∷◌, ◌++◌, length, get_or, refl, sym, ◌∙◌, ap, subst, arith, Option, Some, None, inl, inr, ◌⊎◌}
 use Rattle.std.specs.Prelude.{All, Contains, IfSome, OnErr, OnOk, Result, Ok, Err, slice_get, if◌then◌else◌}
+use Rattle.std.specs.Option.{is_some}
 use Rattle.std.proofs.Math.ListN.{set}
 use Rattle.std.proofs.lemmas.Bool.{eqb-true}
 use Rattle.std.proofs.lemmas.Bool.Decides.{nat_tests}
@@ -31,7 +32,8 @@ use Rattle.session_hall.specs.declared.seat.Seat.{Seat}
 use Rattle.session_hall.specs.Accounts.{Comes, KeepsNumber, Grew}
 use Rattle.session_hall.specs.Clients.{HasEnd}
 use Rattle.session_hall.specs.Seats.{Attends, Goes, IsCalm, IsCount, IsFrom, LeftUnsent, ShowsBy, ShowsEnd, TellsAll}
-use Rattle.session_hall.specs.Halls.{with_account, IsAnswer, IsSeated, IsSent, IsStep, StandsFor}
+use Rattle.session_hall.specs.Halls.{with_account, HasEnded, IsAnswer, IsSeated, IsSent, IsStep, StandsFor}
+use Rattle.session_hall.proofs.Opening.{some_item}
 use Rattle.session_hall.proofs.Growing.{comes_none, keeps_same, keeps_some}
 use Rattle.session_hall.proofs.Living.{lives_others}
 use Rattle.session_hall.proofs.Others.{each_opened}
@@ -344,3 +346,30 @@ seat_known level history clients accounts hall k seat stands within is =
     let (client, client_is) = item_at clients k (omega (arith, within, stands.count)) in
     let at : slice_get hall.seats.items k ≡ Some seat = slice_get_read hall.seats.items (length hall.seats.items) k seat refl within is in
     (client, at, stands.each k client seat client_is at)
+
+-- the one seat at a place
+pub same_seat : (seats : List Seat) (k : ℕ) (a b : Seat) → k < length seats → a ≡ get_or seats k a → b ≡ get_or seats k b → a ≡ b
+same_seat seats k a b within a_is b_is =
+    some_item a b
+    (sym (slice_get_read seats (length seats) k a refl within a_is) ∙ slice_get_read seats (length seats) k b refl within b_is)
+
+pub some_end : (o : Option End) → true ≡ is_some o → HasEnd o
+some_end None is = absurd (cc is)
+some_end (Some e) is = tt
+
+pub none_end : (o : Option End) → false ≡ is_some o → o ≡ None
+none_end None is = refl
+none_end (Some e) is = absurd (cc is)
+
+pub calm_of : (result : Result Outcome Memory) (end : Option End) (P : Type 0) → ShowsBy result end → OnOk result P → end ≡ None → P
+calm_of (Ok Called) end P by ok none = ok
+calm_of (Ok Ended) end P by ok none = ok
+calm_of (Err e) end P by ok none = absurd (cc (sym by ∙ none))
+
+pub not_ended : (hall : Hall) (k : ℕ) (a : Seat) → slice_get hall.seats.items k ≡ Some a → a.end ≡ None → HasEnded hall k → ⊥
+not_ended hall k a at none (seat, end, there, is) =
+    let same : a ≡ seat = some_item a seat (sym at ∙ there) in
+    no_end (sym none ∙ ap (λ (s : Seat). s.end) same ∙ is)
+  where
+    no_end : {e : End} → None ≡ Some e → ⊥
+    no_end same = cc same

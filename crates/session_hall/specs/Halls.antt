@@ -31,12 +31,16 @@ pub record IsSeated (level : Level) (history : Chronicle) (client : Client) (acc
   pub calm : seat.end ≡ None → IsCalm seat
   pub served : IsServed level history client seat.end account
 
+-- what holds of two lists, item by item
+abbrev pub Along : {X Y : Type 0} → (X → Y → Type 0) → List X → List Y → Type 0
+Along P [] [] = Unit {0}
+Along P (x ∷ xs) (y ∷ ys) = P x y × Along P xs ys
+Along P [] (y ∷ ys) = ⊥
+Along P (x ∷ xs) [] = ⊥
+
 -- the seats of clients of which nothing was heard yet, in order
 abbrev pub AreSeated : Level → List Client → List Seat → Type 0
-AreSeated level [] [] = Unit {0}
-AreSeated level (client ∷ clients) (seat ∷ seats) = IsSeated level (empty_history level) client nothing seat × AreSeated level clients seats
-AreSeated level [] (seat ∷ seats) = ⊥
-AreSeated level (client ∷ clients) [] = ⊥
+AreSeated level clients seats = Along (λ client seat. IsSeated level (empty_history level) client nothing seat) clients seats
 
 -- A hall at a level stands for one legal history and an account of each client. Each client was served so far. Each event is of the session of
 -- one client, and no two clients share a session.

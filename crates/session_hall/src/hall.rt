@@ -73,6 +73,8 @@ impl Hall {
         ensures hall { IfOk result IsHall }
     {
         let store = Store::new(alloc, level, InitialState::empty(alloc))?;
+        // Only for its contract: the history is legal.
+        let _ = store.history();
         Ok(Hall {
             alloc,
             store: Some(store),
