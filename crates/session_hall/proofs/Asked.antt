@@ -1,18 +1,17 @@
 -- A seat goes on by a call of its book.
-use Rattle.std.proofs.Common.{◌≡◌, ◌≢◌, ℕ, ◌+◌, ◌<◌, ◌≤◌, List, [], ◌∷◌, ◌++◌, length, take, refl, sym, ◌∙◌, ap, subst, arith, append_assoc, length-append, Option, Some, None, inl, inr}
+use Rattle.std.proofs.Common.{◌≡◌, ℕ, ◌≤◌, List, [], ◌∷◌, ◌++◌, length, take, refl, sym, ◌∙◌, ap, subst, arith, append_assoc, Option, Some, None, inl, inr}
 use Rattle.std.specs.Prelude.{◌⊎◌, All, Contains, IfSome, IfNone}
 use Rattle.std.proofs.lemmas.List.{append-nil}
-use Rattle.std.proofs.lemmas.List.Elements.{All-nil, All-cons, All-append, All-contains, Contains-append_left, Contains-append_right, Contains-get_or}
+use Rattle.std.proofs.lemmas.List.Elements.{All-nil, All-cons, All-append, Contains-append_left}
 use Rattle.cell_base.specs.declared.level.Level.{Level}
 use Rattle.choice_stream.specs.Choices.{DrawsFirst}
 use Rattle.history_core.specs.declared.event.Event.{Event}
-use Rattle.history_core.specs.declared.event.Event.TheVariants.{Open}
 use Rattle.history_core.specs.declared.fault.DefineAnswer.TheVariants as defines
 use Rattle.history_core.specs.Events.{session_in}
 use Rattle.history_core.specs.Transactions.{HasPending}
 use Rattle.history_core.specs.Legal.{IsOpen}
 use Rattle.history_core.specs.Chronicle.{Chronicle, IsLegalChronicle}
-use Rattle.history_core.specs.Book.{Past, SessionState, no_session, in_session, pending, HasSession, session_of, GoesOn}
+use Rattle.history_core.specs.Book.{Past, SessionState, no_session, in_session, pending, HasSession, session_of}
 use Rattle.valid_writes.specs.Desk.{given_events, last_writes}
 use Rattle.valid_writes.specs.Owning.{OwnsAllThatComes}
 use Rattle.valid_writes.specs.Seats.{StandsIn}
@@ -30,7 +29,6 @@ use Rattle.block_machine.specs.declared.block.Owed.TheVariants as owed_kinds
 use Rattle.block_machine.specs.declared.call.Answer.{Answer}
 use Rattle.block_machine.specs.declared.call.Answer.TheVariants as answers
 use Rattle.block_machine.specs.declared.end.End.{End}
-use Rattle.block_machine.specs.declared.end.End.TheVariants as ends
 use Rattle.block_machine.specs.declared.message_runner.MessageRunner.{MessageRunner}
 use Rattle.block_machine.specs.declared.stage.MessageStage.{MessageStage}
 use Rattle.block_machine.specs.declared.stage.MessageStage.TheVariants as message_stage
@@ -38,7 +36,7 @@ use Rattle.session_core.specs.declared.session.Session.{Session}
 use Rattle.session_core.specs.declared.stage.SessionStage.{SessionStage}
 use Rattle.session_core.specs.declared.stage.SessionStage.TheVariants as stages
 use Rattle.session_core.specs.Told.{opened_in, opened_from}
-use Rattle.session_core.specs.Record.{Happens, StateAfter, IsValidRecord, events_of}
+use Rattle.session_core.specs.Record.{Happens, StateAfter, events_of}
 use Rattle.session_core.specs.Plays.{MayAsk, owed_of}
 use Rattle.session_core.specs.Wants as wishes
 use Rattle.session_core.specs.Stands.{IsLast, Lacks, outer, owed_at, served_of, wants}
@@ -53,9 +51,9 @@ use Rattle.session_hall.specs.declared.client.Client.{Client}
 use Rattle.session_hall.specs.declared.seat.Seat.{Seat}
 use Rattle.session_hall.specs.Accounts.{Comes, Grew, KeepsNumber}
 use Rattle.session_hall.specs.Clients.{no_past, come_to}
-use Rattle.session_hall.specs.Seats.{Lives, IsFrom, Follows, Carries, Attends, Grows}
+use Rattle.session_hall.specs.Seats.{Lives, IsFrom, Attends, Grows}
 use Rattle.session_hall.proofs.Entries.{opened-append, events-append, IsAlone, alone_short, short_from}
-use Rattle.session_hall.proofs.Coming.{Came, IsInner, IsForeignTo, asks_open, came_comes, came_of, one_later}
+use Rattle.session_hall.proofs.Coming.{Came, IsForeignTo, asks_open, came_comes, came_of, one_later}
 use Rattle.session_hall.proofs.Living.{lives_called, keeps_called, own_called, opened_apart}
 use Rattle.session_hall.proofs.Turning.{all_from_more, laid_same}
 

@@ -1,6 +1,6 @@
 -- A call of a book to whose history others had added before it.
-use Rattle.std.proofs.Common.{◌≡◌, ◌≢◌, ℕ, ◌+◌, List, [], ◌∷◌, ◌++◌, length, refl, sym, ◌∙◌, ap, subst, Option, Some, None, inl, inr}
-use Rattle.std.specs.Prelude.{◌⊎◌, All, IfSome}
+use Rattle.std.proofs.Common.{◌≡◌, ◌≢◌, ℕ, List, [], ◌∷◌, ◌++◌, length, refl, sym, ◌∙◌, ap, subst, Option, Some, None, inl, inr}
+use Rattle.std.specs.Prelude.{◌⊎◌, All}
 use Rattle.std.proofs.lemmas.List.{append-nil, append_cancel_left}
 use Rattle.cell_base.specs.declared.cell.Cell.{Cell}
 use Rattle.cell_base.specs.declared.value.Value.{Value}
@@ -11,7 +11,6 @@ use Rattle.history_core.specs.declared.fault.BookFault.{BookFault}
 use Rattle.history_core.specs.declared.fault.BookFault.TheVariants as faults
 use Rattle.history_core.specs.declared.fault.DefineAnswer.TheVariants as defines
 use Rattle.history_core.specs.Events.{session_in}
-use Rattle.history_core.specs.Chronicle.{Chronicle}
 use Rattle.history_core.specs.Book.{Past, SessionState, no_session, in_session, pending, HasSession, IsIdle, IsInTransaction, IsUnwritten, HasWrite, LastWrite, session_of, GoesOn, Adds}
 use Rattle.valid_writes.specs.Owning.{OwnsAllThatComes}
 use Rattle.block_machine.specs.Calls.{Call}
@@ -19,7 +18,7 @@ use Rattle.block_machine.specs.Calls as calls
 use Rattle.block_machine.specs.Script.{Entry, did, refused, short, unsent, stop}
 use Rattle.block_machine.specs.declared.call.Answer.{Answer}
 use Rattle.block_machine.specs.declared.call.Answer.TheVariants as answers
-use Rattle.session_core.specs.Told.{opened_after, opened_from}
+use Rattle.session_core.specs.Told.{opened_after}
 use Rattle.session_core.specs.Record.{Happens, Declines, Draws, StateAfter, IsValidRecord, ReadsBack, ReadsFrom, events_of}
 use Rattle.session_core.specs.Plays.{MayAsk}
 use Rattle.session_core.proofs.ValidRecords.{Happens-leaves, Declines-goes}

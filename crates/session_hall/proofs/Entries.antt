@@ -1,7 +1,6 @@
 -- What entries that no call made leave.
-use Rattle.std.proofs.Common.{◌≡◌, ℕ, List, [], ◌∷◌, ◌++◌, length, refl, sym, ◌∙◌, ap, subst, Option, Some, None}
+use Rattle.std.proofs.Common.{◌≡◌, ℕ, List, [], ◌∷◌, ◌++◌, refl, ap, Option}
 use Rattle.std.specs.Prelude.{All}
-use Rattle.std.proofs.lemmas.List.{append-nil}
 use Rattle.std.proofs.lemmas.List.Elements.{All-nil, All-cons}
 use Rattle.choice_stream.specs.Choices.{DrawsFirst}
 use Rattle.history_core.specs.declared.event.Event.{Event}
@@ -10,7 +9,7 @@ use Rattle.block_machine.specs.declared.end.Stop.TheVariants as stops
 use Rattle.block_machine.specs.Calls.{Call}
 use Rattle.block_machine.specs.Script.{Entry, did, refused, short, unsent, stop}
 use Rattle.history_core.specs.Book.{Past}
-use Rattle.session_core.specs.Told.{opened_after, opened_from, opened_in}
+use Rattle.session_core.specs.Told.{opened_after, opened_from}
 use Rattle.session_core.specs.Record.{IsValidRecord, events_of}
 use Rattle.session_core.specs.Steps.{IsShort}
 use Rattle.session_core.proofs.ValidRecords.{IsValidRecord-quiet, IsValidRecord-short}

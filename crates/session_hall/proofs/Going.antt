@@ -1,19 +1,19 @@
 -- A seat goes from one history to another.
-use Rattle.std.proofs.Common.{◌≡◌, ◌≢◌, ℕ, ◌+◌, ◌≤◌, List, refl, sym, ◌∙◌, ap, subst, arith, Option, Some, None, Ok}
+use Rattle.std.proofs.Common.{◌≡◌, ℕ, ◌+◌, refl, sym, ◌∙◌, subst, arith, Option, Some, Ok}
 use Rattle.history_core.specs.Chronicle.{Chronicle, IsLegalChronicle}
 use Rattle.block_machine.specs.Calls.{Call}
 use Rattle.block_machine.specs.declared.end.End.{End}
 use Rattle.block_machine.specs.declared.end.End.TheVariants as ends
 use Rattle.session_core.specs.Wants.{Want, IsOver}
 use Rattle.session_core.specs.Wants as wishes
-use Rattle.session_core.specs.Stands.{IsFit, outer, wants}
+use Rattle.session_core.specs.Stands.{outer, wants}
 use Rattle.session_core.specs.declared.session.Session.{Session}
 use Rattle.session_hall.specs.declared.client.Stepped.{Stepped}
 use Rattle.session_hall.specs.declared.client.Stepped.TheVariants.{Called, Ended}
 use Rattle.session_hall.specs.declared.seat.Seat.{Seat}
-use Rattle.session_hall.specs.Seats.{Goes, Grows, GrowsAlone, IsAttending, IsCall, IsCallOrEnd, IsCount, IsGoing, IsSettled, LeftUnsent, ShowsBy, ShowsEnd}
+use Rattle.session_hall.specs.Seats.{Goes, Grows, GrowsAlone, IsAttending, IsCall, IsCallOrEnd, IsCount, IsGoing, IsSettled, ShowsBy, ShowsEnd}
 use Rattle.session_hall.proofs.Serving.{fault_shown}
-use Rattle.session_hall.proofs.Turning.{alone_same, grows_then}
+use Rattle.session_hall.proofs.Turning.{grows_then}
 
 pub call_is : (w : Want) → IsCall w → (c : Call) × (w ≡ wishes.Book c)
 call_is (wishes.Book c) is = (c, refl)

@@ -1,13 +1,13 @@
 -- What a book sees once others have added to its history, and what it then adds itself.
-use Rattle.std.proofs.Common.{◌≡◌, ◌≢◌, ℕ, ◌+◌, List, [], ◌∷◌, ◌++◌, length, refl, sym, ◌∙◌, ap, subst, append_assoc, Option, Some, None, inl, inr}
-use Rattle.std.specs.Prelude.{All, Contains, IfSome}
-use Rattle.std.proofs.lemmas.List.{append-nil, append_cancel_left}
+use Rattle.std.proofs.Common.{◌≡◌, ◌≢◌, ℕ, List, [], ◌∷◌, ◌++◌, refl, sym, ◌∙◌, ap, subst, append_assoc}
+use Rattle.std.specs.Prelude.{All}
+use Rattle.std.proofs.lemmas.List.{append-nil}
 use Rattle.std.proofs.lemmas.List.Elements.{All-nil, All-append}
 use Rattle.sql_tree.specs.declared.table.Table.{Table}
 use Rattle.history_core.specs.declared.event.Event.{Event}
 use Rattle.history_core.specs.Events.{session_in}
 use Rattle.history_core.specs.Chronicle.{Chronicle}
-use Rattle.history_core.specs.Book.{Past, SessionState, no_session, in_session, pending, HasSession, session_of, GoesOn, Adds}
+use Rattle.history_core.specs.Book.{Past, SessionState, session_of, GoesOn, Adds}
 
 -- nothing has gone on
 pub goes_same : (p : Past) → GoesOn p p

@@ -1,5 +1,5 @@
 -- How a session stands in a history once others, or a call of its own, have added to it.
-use Rattle.std.proofs.Common.{◌≡◌, ◌≢◌, ℕ, ◌+◌, ◌<◌, List, [], ◌∷◌, ◌++◌, length, refl, sym, ◌∙◌, ap, subst, arith, Option, Some, None, inl, inr}
+use Rattle.std.proofs.Common.{◌≡◌, ◌≢◌, ℕ, ◌+◌, ◌<◌, List, [], ◌∷◌, ◌++◌, refl, sym, ◌∙◌, ap, subst, arith, Option, Some, None, inl, inr}
 use Rattle.std.specs.Prelude.{◌⊎◌, All, IfSome, Contains}
 use Rattle.std.proofs.lemmas.List.{append-nil}
 use Rattle.std.proofs.lemmas.List.Elements.{All-nil, All-cons, All-tail, Contains-append_left, Contains-push}
@@ -9,7 +9,6 @@ use Rattle.history_core.specs.Events.{session_in, opened}
 use Rattle.history_core.specs.Legal.{IsFormed, MayCome, Follows}
 use Rattle.history_core.specs.Chronicle.{Chronicle, IsLegalChronicle, own_events}
 use Rattle.history_core.specs.Book.{Past, SessionState, no_session, in_session, pending, HasSession, session_of, GoesOn}
-use Rattle.history_core.proofs.Numbers.{opened_bounds}
 use Rattle.history_core.proofs.Prefixes.{formed_back}
 use Rattle.valid_writes.specs.Desk.{given_events}
 use Rattle.valid_writes.specs.Owning.{OwnsAllThatComes}

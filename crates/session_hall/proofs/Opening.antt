@@ -1,14 +1,11 @@
 -- A hall of whose clients nothing was heard yet.
-use Rattle.std.proofs.Common.{◌≡◌, ℕ, ◌+◌, zero, suc, List, [], ◌∷◌, ◌++◌, length, take, refl, sym, ◌∙◌, ap, subst, arith, Option, Some, None, inl, false}
-use Rattle.std.specs.Prelude.{All, Contains, slice_get}
+use Rattle.std.proofs.Common.{◌≡◌, ℕ, zero, suc, List, [], ◌∷◌, ◌++◌, length, take, refl, sym, ◌∙◌, ap, subst, arith, Option, Some, None, inl}
+use Rattle.std.specs.Prelude.{slice_get}
 use Rattle.std.proofs.lemmas.List.{append-nil}
 use Rattle.std.proofs.lemmas.List.Elements.{All-nil}
 use Rattle.cell_base.specs.declared.level.Level.{Level}
-use Rattle.history_core.specs.declared.event.Event.{Event}
 use Rattle.history_core.specs.Chronicle.{IsLegalChronicle}
-use Rattle.block_machine.specs.Knowledge.{Knowledge, at_start}
-use Rattle.block_machine.specs.Script.{Entry}
-use Rattle.block_machine.specs.Runners.{knowledge_of, tables_of}
+use Rattle.block_machine.specs.Runners.{tables_of}
 use Rattle.block_machine.specs.declared.end.End.{End}
 use Rattle.session_core.specs.declared.phase.Phase.TheVariants as phases
 use Rattle.session_core.specs.declared.session.Session.{Session}

@@ -1,22 +1,22 @@
 -- Events of other sessions leave where a session stands.
-use Rattle.std.proofs.Common.{◌≡◌, ◌≢◌, ◌==◌, ℕ, ◌+◌, ◌<◌, ◌≤◌, List, [], ◌∷◌, ◌++◌, length, refl, sym, ◌∙◌, ap, subst, arith, append_assoc, Option, Some, None, inl, inr, true, false}
+use Rattle.std.proofs.Common.{◌≡◌, ◌≢◌, ◌==◌, ℕ, ◌+◌, List, [], ◌∷◌, ◌++◌, refl, sym, ◌∙◌, ap, subst, arith, append_assoc, Option, Some, None, inl, inr, false}
 use Rattle.std.specs.Prelude.{All, Contains, IfSome}
 use Rattle.std.proofs.lemmas.Bool.Decides.{nat_tests}
 use Rattle.std.proofs.lemmas.List.{append-nil}
-use Rattle.std.proofs.lemmas.List.Elements.{All-head, All-tail, All-append, Contains-append_left, Contains-push_cases, Contains-push, Contains-get_or}
+use Rattle.std.proofs.lemmas.List.Elements.{All-head, All-tail, Contains-append_left, Contains-push_cases, Contains-push, Contains-get_or}
 use Rattle.cell_base.specs.declared.cell.Cell.{Cell}
 use Rattle.cell_base.specs.declared.value.Value.{Value}
 use Rattle.history_core.specs.declared.event.Event.{Event}
 use Rattle.history_core.specs.declared.event.Event.TheVariants.{Open, Close, Define, Look, Begin, Scan, Read, Own, Write, Commit, Rollback, Show}
-use Rattle.history_core.specs.Events.{session_in, opened, is_open_event}
+use Rattle.history_core.specs.Events.{session_in, opened}
 use Rattle.history_core.specs.Transactions.{HasPending}
-use Rattle.history_core.specs.Legal.{IsFormed, MayCome, Follows}
+use Rattle.history_core.specs.Legal.{IsFormed, Follows}
 use Rattle.history_core.specs.Book.{SessionState, no_session, in_session, pending, session_of}
 use Rattle.history_core.specs.Chronicle.{own_events}
 use Rattle.history_core.proofs.SessionLemmas.{open_still, pending_still}
 use Rattle.history_core.proofs.Numbers.{opened_bounds, pending_opened}
 use Rattle.history_core.proofs.Prefixes.{along, formed_back}
-use Rattle.valid_writes.specs.Desk.{given_events, last_writes}
+use Rattle.valid_writes.specs.Desk.{given_events}
 use Rattle.valid_writes.specs.Seats.{StandsIn}
 use Rattle.valid_writes.proofs.Writes.{own_skip, last_writes-skip}
 

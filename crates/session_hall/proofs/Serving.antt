@@ -1,12 +1,11 @@
 -- What a seat shows of its client.
-use Rattle.std.proofs.Common.{◌≡◌, ◌≢◌, ℕ, ◌+◌, ◌<◌, List, [], ◌∷◌, ◌++◌, length, take, get_or, refl, sym, ◌∙◌, ap, subst, arith, Option, Some, None, inl, inr, false}
-use Rattle.std.specs.Prelude.{◌⊎◌, All, Contains, drop}
-use Rattle.std.proofs.lemmas.List.{append-nil, take-append-drop}
+use Rattle.std.proofs.Common.{◌≡◌, ◌≢◌, ℕ, List, [], ◌++◌, get_or, refl, sym, ◌∙◌, ap, subst, Option, Some, None, inl, inr, false}
+use Rattle.std.specs.Prelude.{◌⊎◌, drop}
+use Rattle.std.proofs.lemmas.List.{take-append-drop}
 use Rattle.cell_base.specs.declared.level.Level.{Level}
 use Rattle.choice_stream.specs.Choices.{DrawsFirst}
-use Rattle.history_core.specs.declared.event.Event.{Event}
 use Rattle.history_core.specs.Chronicle.{Chronicle}
-use Rattle.history_core.specs.Book.{Past, no_session}
+use Rattle.history_core.specs.Book.{no_session}
 use Rattle.block_machine.specs.Calls.{Call}
 use Rattle.block_machine.specs.Calls as calls
 use Rattle.block_machine.specs.Script.{Entry, did, refused, short, unsent, stop, Next, more, call, ended}
@@ -24,14 +23,14 @@ use Rattle.session_core.specs.Requests.{Requests, AreRequests}
 use Rattle.session_core.specs.Record.{events_of}
 use Rattle.session_core.specs.Wants.{Want, of_message, IsOver}
 use Rattle.session_core.specs.Wants as wishes
-use Rattle.session_core.specs.Stands.{Lacks, Shows, end_of, outer, served_of, wants}
+use Rattle.session_core.specs.Stands.{Lacks, Shows, end_of, outer, wants}
 use Rattle.session_core.specs.Serve.{Account}
 use Rattle.session_core.proofs.Serving.{away_over}
 use Rattle.session_core.proofs.ValidRecords.{own_events}
 use Rattle.session_hall.specs.declared.client.Client.{Client}
 use Rattle.session_hall.specs.declared.seat.Seat.{Seat}
 use Rattle.session_hall.specs.Clients.{HasEnd, IsShown, HasCause, IsServed, no_past}
-use Rattle.session_hall.specs.Seats.{IsFrom, Attends, IsGoing, IsCalm, ShowsEnd, TellsAll, shown_for}
+use Rattle.session_hall.specs.Seats.{IsFrom, Attends, IsCalm, ShowsEnd, TellsAll, shown_for}
 
 -- ---- the end that is shown
 

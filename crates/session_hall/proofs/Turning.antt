@@ -1,6 +1,6 @@
 -- A seat goes on without a call: what it then stands for.
-use Rattle.std.proofs.Common.{◌≡◌, ◌≢◌, ℕ, ◌+◌, ◌-◌, ◌<◌, ◌≤◌, List, [], ◌∷◌, ◌++◌, length, take, drop, get_or, refl, sym, ◌∙◌, ap, subst, arith, length-append, Option, Some, None, inl, inr}
-use Rattle.std.specs.Prelude.{◌⊎◌, All, Contains, drop}
+use Rattle.std.proofs.Common.{◌≡◌, ◌≢◌, ℕ, ◌+◌, ◌<◌, ◌≤◌, List, [], ◌∷◌, ◌++◌, length, take, drop, get_or, refl, sym, ◌∙◌, ap, subst, arith, length-append, Option, Some, None, inl, inr}
+use Rattle.std.specs.Prelude.{All, drop}
 use Rattle.std.proofs.Math.Seq.{take-add}
 use Rattle.std.proofs.lemmas.List.{append-nil, take_all, length-take-le}
 use Rattle.std.proofs.lemmas.List.Elements.{All-nil, All-cons, All-append, Contains-append_left, Contains-push}
@@ -15,18 +15,16 @@ use Rattle.block_machine.specs.declared.end.End.TheVariants as ends
 use Rattle.block_machine.specs.declared.end.Stop.TheVariants as stops
 use Rattle.session_core.specs.declared.session.Session.{Session}
 use Rattle.session_core.specs.declared.stage.SessionStage.{SessionStage}
-use Rattle.session_core.specs.declared.stage.SessionStage.TheVariants as stages
 use Rattle.session_core.specs.Told.{opened_in}
 use Rattle.session_core.specs.Record.{IsValidRecord}
 use Rattle.session_core.specs.Wants as wishes
 use Rattle.session_core.specs.Stands.{IsHolding, IsLast, IsStopped, Lacks, outer, served_of, wants}
 use Rattle.session_core.specs.Sessions.{Stands, StandsShort}
-use Rattle.session_core.specs.Serve.{Account, IsOfLast}
+use Rattle.session_core.specs.Serve.{Account}
 use Rattle.session_core.specs.Running.{Sits}
 use Rattle.session_core.proofs.Serving.{stage_waiting, stage_taking, Lacks-holding}
 use Rattle.session_hall.specs.declared.client.Client.{Client}
 use Rattle.session_hall.specs.declared.seat.Seat.{Seat}
-use Rattle.session_hall.specs.Accounts.{Grew}
 use Rattle.session_hall.specs.Clients.{no_past}
 use Rattle.session_hall.specs.Seats.{Lives, IsLaid, IsFrom, Follows, Carries, Attends, Grows, GrowsAlone, Keeps}
 use Rattle.session_hall.proofs.Entries.{opened-append, IsAlone, alone_short, alone_unsent, alone_stop, short_from}
@@ -224,8 +222,15 @@ turn_fed s t n piece piece_is beside at_is sent_is some within wanted grown runn
     let b : Account = record a { taken = a.taken ++ piece; entries = a.entries ++ added } in
     let size : length client.stream.items ≡ length s.stream.items = ap length (sym attends.carries.stream_is) in
     let short_of : a.taken ≡ client.stream.items → ⊥ = λ whole.
-    absurd (omega (arith, some, within, size, ap length whole, ap length attends.carries.taken,
-    length-take-le s.at client.stream.items (omega (arith, within, size)))) in (
+    absurd (omega (
+      arith,
+      some,
+      within,
+      size,
+      ap length whole,
+      ap length attends.carries.taken,
+      length-take-le s.at client.stream.items (omega (arith, within, size)),
+    )) in (
       b,
       grew_alone a b history piece added [] refl refl refl (sym (append-nil a.sent)) alone,
       attends_by level history client b s t beside

@@ -1,11 +1,11 @@
 -- What went to and fro with one client of a hall, and how that grows.
-use Rattle.std.specs.Prelude.{◌≡◌, ◌≢◌, ◌≤◌, ◌<◌, ℕ, List, [], ◌++◌, length, All, Option, Some, None, IfSome}
+use Rattle.std.specs.Prelude.{◌≡◌, ◌≤◌, ◌<◌, ℕ, List, [], ◌++◌, length, All, Option, Some, None, IfSome}
 use Rattle.sql_tree.specs.declared.table.Table.{Table}
 use Rattle.history_core.specs.declared.event.Event.{Event}
 use Rattle.history_core.specs.Events.{session_in, opened}
 use Rattle.history_core.specs.Chronicle.{Chronicle}
 use Rattle.block_machine.specs.Calls.{Call}
-use Rattle.block_machine.specs.Script.{Entry, did, refused, short, unsent, stop}
+use Rattle.block_machine.specs.Script.{Entry}
 use Rattle.session_core.specs.Told.{opened_in}
 use Rattle.session_core.specs.Record.{events_of}
 use Rattle.session_core.specs.Serve.{Account}

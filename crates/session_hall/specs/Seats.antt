@@ -1,11 +1,11 @@
 -- When a seat of a hall stands for what went to and fro with its client.
-use Rattle.std.specs.Prelude.{◌≡◌, ◌≢◌, ◌≤◌, ◌⊎◌, ◌+◌, ◌-◌, ℕ, List, [], ◌++◌, length, take, All, Option, Some, None, IfSome, Contains, Result, Ok, Err}
+use Rattle.std.specs.Prelude.{◌≡◌, ◌≢◌, ◌≤◌, ◌⊎◌, ◌+◌, ◌-◌, ℕ, List, ◌++◌, length, take, All, Option, Some, None, IfSome, Contains, Result, Ok, Err}
 use Rattle.cell_base.specs.declared.memory.Memory.{Memory}
 use Rattle.cell_base.specs.declared.level.Level.{Level}
 use Rattle.choice_stream.specs.Choices.{DrawsFirst}
 use Rattle.history_core.specs.declared.event.Event.TheVariants.{Open}
 use Rattle.history_core.specs.Chronicle.{Chronicle, IsLegalChronicle}
-use Rattle.history_core.specs.Book.{Past, SessionState, HasSession, GoesOn, no_session, session_of}
+use Rattle.history_core.specs.Book.{Past, HasSession, GoesOn, no_session, session_of}
 use Rattle.valid_writes.specs.Desk.{given_events}
 use Rattle.valid_writes.specs.Seats.{StandsIn}
 use Rattle.block_machine.specs.Calls.{Call}

@@ -155,8 +155,7 @@ fn hear(seat: &mut Seat)
         return;
     }
     let n = seat.piece.min(left);
-    seat.session
-        .feed(&seat.stream[seat.at..seat.at + n]);
+    seat.session.feed(&seat.stream[seat.at..seat.at + n]);
     seat.at += n;
 }
 

@@ -1,7 +1,7 @@
 use Rattle.std.proofs.Common.{refl, subst, sym}
 use Rattle.history_core.specs.Chronicle.{IsLegalChronicle}
 use Rattle.session_core.specs.Sessions.{wanted}
-use Rattle.session_hall.proofs.Asked.{IsSeatAt, asked_grows, asked_sits, seat_open}
+use Rattle.session_hall.proofs.Asked.{asked_grows, asked_sits, seat_open}
 use Rattle.session_hall.proofs.Going.{call_is}
 use Rattle.session_hall.proofs.asking.ask_on.Goals as goal
 

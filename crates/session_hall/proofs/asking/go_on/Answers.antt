@@ -1,7 +1,7 @@
-use Rattle.std.proofs.Common.{rules, refl, ap, subst, sym, ◌∙◌}
+use Rattle.std.proofs.Common.{rules, subst}
 use Rattle.session_core.specs.Sessions.{wanted}
 use Rattle.session_core.specs.declared.session.Session.{Session}
-use Rattle.session_hall.specs.Seats.{IsCall, ShowsEnd}
+use Rattle.session_hall.specs.Seats.{ShowsEnd}
 use Rattle.session_hall.proofs.Going.{around_alone, count_none, count_one, goes_alone, goes_between, legal_at}
 use Rattle.session_hall.proofs.Turning.{alone_then}
 use Rattle.session_hall.proofs.asking.go_on.Goals as goal

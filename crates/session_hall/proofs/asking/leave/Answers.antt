@@ -1,5 +1,5 @@
-use Rattle.std.proofs.Common.{ℕ, ◌+◌, refl, ◌∙◌}
-use Rattle.session_hall.proofs.Going.{around_gone, attending_at, goes_alone, goes_then, legal_at}
+use Rattle.std.proofs.Common.{◌+◌, refl, ◌∙◌}
+use Rattle.session_hall.proofs.Going.{around_gone, goes_alone, goes_then, legal_at}
 use Rattle.session_hall.proofs.Turning.{alone_same}
 use Rattle.session_hall.proofs.asking.leave.Goals as goal
 

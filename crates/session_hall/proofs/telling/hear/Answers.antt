@@ -1,4 +1,4 @@
-use Rattle.std.proofs.Common.{rules, arith, ◌+◌, ◌-◌, ◌≡◌, ℕ, List, drop, length, refl, ap, take, ◌∙◌}
+use Rattle.std.proofs.Common.{rules, arith, ◌≡◌, ℕ, List, drop, refl, ap, take, ◌∙◌}
 use Rattle.session_core.proofs.Serving.{sits_kept}
 use Rattle.session_hall.proofs.Turning.{turn_fed, turn_stopped}
 use Rattle.session_hall.proofs.telling.hear.Goals as goal

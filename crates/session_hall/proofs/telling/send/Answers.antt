@@ -1,4 +1,4 @@
-use Rattle.std.proofs.Common.{◌++◌, ℕ, List, refl, sym, ap, ◌∙◌}
+use Rattle.std.proofs.Common.{◌++◌, ℕ, List, refl, ap, ◌∙◌}
 use Rattle.block_machine.specs.Runners.{knowledge_of}
 use Rattle.session_core.specs.Stands.{reply_of, served_of}
 use Rattle.session_core.proofs.Knowing.{served_kept, tables_kept}
