@@ -1,5 +1,5 @@
 // Halls, step by step.
-ghost use Rattle.std.specs.Prelude.{◌≡◌, ◌<◌, All, length, IfOk};
+ghost use Rattle.std.specs.Prelude.{◌≡◌, ◌<◌, ◌≤◌, All, length, IfOk};
 ghost use Rattle.session_hall.specs.declared.client.Client.{Client as Known};
 ghost use Rattle.session_hall.specs.Halls.{IsHall, clients_of};
 
@@ -68,12 +68,12 @@ fn go(hall: &mut Hall, client: u32, times: u32) -> Result<bool, Memory>
 // More steps than any client makes.
 const MOST: u32 = 1000;
 
-// All clients go on by turns, and then to their ends. Answers whether they came there.
-fn run(hall: &mut Hall, count: u32, turns: &[(u32, u32)]) -> Result<bool, Memory>
+// The clients go on by turns. Answers whether each turn is that of a client.
+fn take_turns(hall: &mut Hall, count: u32, turns: &[(u32, u32)]) -> Result<bool, Memory>
     requires hall { IsHall hall.old }
-    requires count { clients_of hall.old ≡ count }
+    requires count { count ≤ clients_of hall.old }
     ensures hall { IsHall hall.new }
-    ensures count { clients_of hall.new ≡ count }
+    ensures range { clients_of hall.new ≡ clients_of hall.old }
 {
     for (client, times) in turns {
         if *client >= count {
@@ -81,6 +81,16 @@ fn run(hall: &mut Hall, count: u32, turns: &[(u32, u32)]) -> Result<bool, Memory
         }
         go(hall, *client, *times)?;
     }
+    Ok(true)
+}
+
+// All clients go on to their ends, one after another. Answers whether they came there.
+fn finish(hall: &mut Hall, count: u32) -> Result<bool, Memory>
+    requires hall { IsHall hall.old }
+    requires count { count ≤ clients_of hall.old }
+    ensures hall { IsHall hall.new }
+    ensures range { clients_of hall.new ≡ clients_of hall.old }
+{
     for client in 0..count {
         if !go(hall, client, MOST)? {
             return Ok(false);
@@ -109,15 +119,22 @@ fn has_reads(events: &[Event], reads: &[(u32, u32, u32)]) -> bool {
     at == reads.len()
 }
 
-// Whether the clients were sent these bytes, and ended by their own will.
+// Whether these clients were sent these bytes.
 fn has_sent(hall: &Hall, count: u32, sent: &[(u32, &[u8])]) -> bool
-    requires count { clients_of hall.now ≡ count }
+    requires { count ≤ clients_of hall.now }
 {
     for (client, bytes) in sent {
         if *client >= count || hall.sent(*client) != *bytes {
             return false;
         }
     }
+    true
+}
+
+// Whether all clients ended by their own will, and none lacked memory.
+fn all_left(hall: &Hall, count: u32) -> bool
+    requires { count ≤ clients_of hall.now }
+{
     for client in 0..count {
         if hall.end(client) != Some(&End::Terminated) || hall.short(client) {
             return false;
@@ -133,10 +150,14 @@ fn holds(alloc: Global, row: &Row, piece: u32) -> Result<bool, Fail>
     let clients = clients(alloc, row, piece)?;
     let count = clients.len() as u32;
     let mut hall = Hall::new(alloc, row.level, clients)?;
-    if !run(&mut hall, count, row.turns)? {
+    if !take_turns(&mut hall, count, row.turns)? || !finish(&mut hall, count)? {
         return Ok(false);
     }
-    Ok(has_reads(hall.history().events(), row.reads) && has_sent(&hall, count, row.sent))
+    Ok(
+        has_reads(hall.history().events(), row.reads)
+            && has_sent(&hall, count, row.sent)
+            && all_left(&hall, count),
+    )
 }
 
 const ROWS: [Row; 14] = [

@@ -1,5 +1,5 @@
 // The hall.
-ghost use Rattle.std.specs.Prelude.{◌≡◌, ◌≢◌, ◌<◌, ◌++◌, ℕ, List, All, Some, None, Ok, IfOk, IfSome, IsNone, slice_get};
+ghost use Rattle.std.specs.Prelude.{◌≡◌, ◌≢◌, ◌<◌, ◌++◌, ℕ, List, All, Some, None, Ok, IfOk, IfSome, IsNone, length, slice_get};
 ghost use Rattle.cell_base.specs.declared.level.Level.{Level as Served};
 ghost use Rattle.history_core.specs.Chronicle.{Chronicle, IsLegalChronicle};
 ghost use Rattle.block_machine.specs.Script.{has_short};
@@ -71,6 +71,7 @@ impl Hall {
         requires pieces { All (λ (c : Known). 0 < c.piece) clients.items }
         ensures stands { IfOk result (λ hall. StandsFor level (empty_history level) clients.items (λ k. nothing) hall) }
         ensures hall { IfOk result IsHall }
+        ensures range { IfOk result (λ hall. clients_of hall ≡ length clients.items) }
     {
         let store = Store::new(alloc, level, InitialState::empty(alloc))?;
         // Only for its contract: the history is legal.

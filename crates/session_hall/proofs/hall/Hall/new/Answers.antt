@@ -13,3 +13,6 @@ returns-clause-stands c =
 
 pub returns-clause-hall : goal.returns-clause-hall
 returns-clause-hall c = (c.args.level, empty_history c.args.level, c.args.clients.items, (λ k. nothing), returns-clause-stands c)
+
+pub returns-clause-range : goal.returns-clause-range
+returns-clause-range c = (returns-clause-stands c).count
