@@ -148,7 +148,9 @@ fn holds(alloc: Global, row: &Row, piece: u32) -> Result<bool, Fail>
     requires { 0 < piece }
 {
     let clients = clients(alloc, row, piece)?;
-    let count = clients.len() as u32;
+    let Ok(count) = u32::try_from(clients.len()) else {
+        return Ok(false);
+    };
     let mut hall = Hall::new(alloc, row.level, clients)?;
     if !take_turns(&mut hall, count, row.turns)? || !finish(&mut hall, count)? {
         return Ok(false);
@@ -181,14 +183,12 @@ const ROWS: [Row; 14] = [
 fn held(alloc: Global, piece: u32) -> Result<usize, Fail>
     requires { 0 < piece }
 {
-    let mut count = 0;
-    for row in ROWS.as_slice() {
-        if !holds(alloc, row, piece)? {
-            return Ok(count);
+    for number in 0..ROWS.len() {
+        if !holds(alloc, &ROWS[number], piece)? {
+            return Ok(number);
         }
-        count += 1;
     }
-    Ok(count)
+    Ok(ROWS.len())
 }
 
 #[test]
