@@ -21,7 +21,7 @@ loop-client-preserved c =
         done ++ c.in-Some.client ∷ [],
         append_assoc done (c.in-Some.client ∷ []) (into_iter_items c.next.new.self)
             ∙ ap (λ (x : List Client). done ++ x) (sym front) ∙ whole,
-        subst (λ (xs : List Seat). AreSeated c.args.level (done ++ c.in-Some.client ∷ []) xs) (sym c.in_ok-push.ensures.items)
+        subst (λ (xs : List Seat). AreSeated c.args.level (done ++ c.in-Some.client ∷ []) xs) (sym {A = List Seat} c.in_ok-push.ensures.items)
             (along_push (λ (x : Client) (y : Seat). IsSeated (c.args.level) (empty_history c.args.level) x nothing y) done c.loop-client.seats.items
             c.in-Some.client c.in_ok-seat_for.field-0 are c.in_ok-seat_for.ensures),
       );
