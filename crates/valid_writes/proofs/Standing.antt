@@ -28,6 +28,7 @@ use Rattle.valid_writes.specs.declared.desk.Stage.{Stage}
 use Rattle.valid_writes.specs.declared.desk.Stage.TheVariants.{NoSession, InSession, Pending}
 use Rattle.valid_writes.specs.declared.desk.Desk.{Desk}
 use Rattle.valid_writes.specs.Store.{IsStore}
+use Rattle.valid_writes.specs.Seats.{StandsIn}
 use Rattle.valid_writes.specs.Desk.{note, state_of, Stands, IsServed, IsDesk, GoesTo, Stays, DefinesTo}
 
 -- a plain event that isn't a write
@@ -279,3 +280,8 @@ pub stands_open_is : (events : List Event) (session : ℕ) (stage : Stage) → H
 stands_open_is events session NoSession has stands = absurd has
 stands_open_is events session InSession has stands = stands.0
 stands_open_is events session Pending has stands = stands.0
+
+pub stands_in : (events : List Event) (session : ℕ) (stage : Stage) → Stands stage session events → StandsIn (state_of stage session events) events
+stands_in events session NoSession stands = tt
+stands_in events session InSession stands = stands
+stands_in events session Pending stands = (stands.0, stands.1, refl)

@@ -1,3 +1,4 @@
 pub mod Store
 pub mod Desk
 pub mod Owning
+pub mod Seats

@@ -100,6 +100,7 @@ impl SeatBook {
     ghost use Rattle.history_core.specs.Chronicle.{IsLegalChronicle};
     ghost use Rattle.history_core.specs.Legal.{IsOpen};
     ghost use Rattle.history_core.specs.Book.{HasSession, session_of};
+    ghost use Rattle.valid_writes.specs.Seats.{StandsIn};
 
     /// The history that the book has seen, which is the store's, and legal.
     pub fn history(&self) -> &History
@@ -113,6 +114,7 @@ impl SeatBook {
     pub fn into_store(self) -> Store
         ensures is { result ≡ self.seen }
         ensures open { HasSession self.state → IsOpen self.seen.events (session_of self.state) }
+        ensures stands { StandsIn self.state self.seen.events }
     {
         Store::of(self.desk.store)
     }

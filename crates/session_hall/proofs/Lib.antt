@@ -1,0 +1,12 @@
+pub mod Others
+pub mod Later
+pub mod Entries
+pub mod Coming
+pub mod Living
+pub mod Growing
+pub mod Turning
+pub mod Asked
+pub mod Serving
+pub mod Going
+pub mod Opening
+pub mod Stepping

@@ -1,0 +1,4 @@
+pub mod Accounts
+pub mod Clients
+pub mod Seats
+pub mod Halls
