@@ -1,0 +1,7 @@
+pub mod Writers
+pub mod Prefixes
+pub mod Commits
+pub mod Begins
+pub mod Weak
+pub mod Counted
+pub mod Lines

@@ -24,10 +24,10 @@ abbrev pub offered : List Event → ℕ
 offered events = sum_by offer_of events
 
 -- the counts are those of the events
-pub record AreCounts (events : List Event) (counts : Counts) : Type 0 where
-  pub sessions : counts.sessions ≡ opened events
-  pub transactions : counts.transactions ≡ begun events
-  pub events : counts.events ≡ length events
-  pub reads : counts.reads ≡ reads events
-  pub offered : counts.offered ≡ offered events
-  pub weak : HasWeak events counts.weak
+pub record AreCounts (all : List Event) (counts : Counts) : Type 0 where
+  pub sessions : counts.sessions ≡ opened all
+  pub transactions : counts.transactions ≡ begun all
+  pub events : counts.events ≡ length all
+  pub reads : counts.reads ≡ reads all
+  pub offered : counts.offered ≡ offered all
+  pub weak : HasWeak all counts.weak

@@ -1,5 +1,5 @@
 -- How what a walk through the events keeps stands for the events that it has passed.
-use Rattle.std.specs.Prelude.{◌≡◌, ◌≢◌, ◌<◌, ◌≤◌, ◌+◌, ◌⊎◌, ℕ, Bool, if◌then◌else◌, List, Contains, ◌∷◌, ◌++◌, codes, decimal, length, take, nat_eq, unwrap_or}
+use Rattle.std.specs.Prelude.{◌≡◌, ◌≢◌, ◌<◌, ◌≤◌, ◌+◌, ◌*◌, ◌⊎◌, ℕ, Bool, if◌then◌else◌, List, Contains, ◌∷◌, ◌++◌, codes, decimal, length, take, nat_eq, unwrap_or}
 use Rattle.std.specs.HashMap as hash_map
 use Rattle.indexmap.specs.IndexMap as index_map
 use Rattle.cell_base.specs.declared.cell.Cell.{Cell}
@@ -83,22 +83,25 @@ pub record HasRoom (counts : Counts) : Type 0 where
   pub weak : counts.weak < 4294967296
 
 -- the event is counted, as a weak read or not
-pub record CountsNext (old : Counts) (event : Event) (weak : Bool) (new : Counts) : Type 0 where
+pub record CountsNext (old : Counts) (event : Event) (stale : Bool) (new : Counts) : Type 0 where
   pub sessions : new.sessions ≡ old.sessions + (if is_open_event event then 1 else 0)
   pub transactions : new.transactions ≡ old.transactions + (if is_begin event then 1 else 0)
   pub events : new.events ≡ old.events + 1
   pub reads : new.reads ≡ old.reads + (if is_read event then 1 else 0)
   pub offered : new.offered ≡ old.offered + offer_of event
-  pub weak : new.weak ≡ old.weak + (if weak then 1 else 0)
+  pub small : new.offered ≤ old.offered + 4294967295
+  pub weak : new.weak ≡ old.weak + (if stale then 1 else 0)
 
 -- the counts are those of the events before the place
-pub record AreCountsBelow (events : List Event) (place : ℕ) (counts : Counts) : Type 0 where
-  pub sessions : counts.sessions ≡ opened (take place events)
-  pub transactions : counts.transactions ≡ begun (take place events)
+pub record AreCountsBelow (all : List Event) (place : ℕ) (counts : Counts) : Type 0 where
+  pub sessions : counts.sessions ≡ opened (take place all)
+  pub transactions : counts.transactions ≡ begun (take place all)
   pub events : counts.events ≡ place
-  pub reads : counts.reads ≡ reads (take place events)
-  pub offered : counts.offered ≡ offered (take place events)
-  pub weak : HasWeakBelow events place counts.weak
+  pub reads : counts.reads ≡ reads (take place all)
+  pub offered : counts.offered ≡ offered (take place all)
+  pub small : counts.offered ≤ 4294967295 * counts.events
+  pub weak : HasWeakBelow all place counts.weak
+  pub few : counts.weak ≤ counts.events
 
 -- a name, which begins and ends with a blank, and a number, for each count
 abbrev pub counted_words : Counts → List ℕ
