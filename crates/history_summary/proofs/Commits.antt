@@ -47,9 +47,9 @@ pub latest_still :
 latest_still events k e latest is none are cell =
     latest_next events k cell (writer_at latest cell)
     (λ m commits.
-        let both : Some e ≡ Some (Commit commits.session) = sym is ∙ commits.commit.is in
-        let same : e ≡ Commit commits.session = cc in
-        none commits.session same)
+    let both : Some e ≡ Some (Commit commits.session) = sym is ∙ commits.commit.is in
+    let same : e ≡ Commit commits.session = cc in
+    none commits.session same)
     (are cell)
 
 -- a commit
@@ -67,8 +67,8 @@ latest_commit initial events k n s old new formed commit takes are cell =
       | inr apart ↦ subst (λ (w : ℕ). IsLatest events (k + 1) cell w) (sym apart.1)
           (latest_next events k cell (writer_at old cell)
           (λ m commits.
-              let same : m ≡ n = one_commits initial events k m n commits.session s formed commits.commit commit in
-              apart.0 (subst (λ (u : ℕ). HasWritten events u cell) same commits.written))
+          let same : m ≡ n = one_commits initial events k m n commits.session s formed commits.commit commit in
+          apart.0 (subst (λ (u : ℕ). HasWritten events u cell) same commits.written))
           (are cell))
     ]
 

@@ -66,11 +66,7 @@ fn add_writer(latest: &mut Latest, cell: &Cell, number: u32) -> Result<(), Memor
 }
 
 /// Makes the transaction the latest writer of all cells that it wrote.
-pub fn set_writers(
-    latest: &mut Latest,
-    writes: &[(Cell, Value)],
-    number: u32,
-) -> Result<(), Memory>
+pub fn set_writers(latest: &mut Latest, writes: &[(Cell, Value)], number: u32) -> Result<(), Memory>
     ensures { OnOk result (SetsWriters latest.old writes.now number latest.new) }
 {
     for entry in writes {
