@@ -5,3 +5,4 @@ pub mod Begins
 pub mod Weak
 pub mod Counted
 pub mod Lines
+pub mod Unique
