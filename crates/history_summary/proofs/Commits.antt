@@ -1,5 +1,5 @@
 -- The latest writers, before an event and behind it.
-use Rattle.std.proofs.Common.{◌≡◌, ◌≢◌, ℕ, ◌+◌, ◌<◌, ◌≤◌, List, Some, arith, refl, ap, sym, ◌∙◌, subst, inl, inr, ◌⊎◌}
+use Rattle.std.proofs.Common.{◌≡◌, ℕ, ◌+◌, ◌<◌, ◌≤◌, List, Some, arith, sym, ◌∙◌, subst, inl, inr}
 use Rattle.std.specs.List.{slice_get}
 use Rattle.std.proofs.lemmas.Bool.{cases_lt}
 use Rattle.cell_base.specs.declared.cell.Cell.{Cell}
@@ -10,7 +10,7 @@ use Rattle.history_core.specs.Transactions.{IsOf}
 use Rattle.history_core.specs.Relations.{HasWritten}
 use Rattle.history_core.specs.Legal.{IsFormed}
 use Rattle.history_summary.specs.declared.latest.Latest.{Latest}
-use Rattle.history_summary.specs.Latest.{CommitsWrite, CommitsLast, NoneCommits, IsLatest}
+use Rattle.history_summary.specs.Latest.{CommitsWrite, IsLatest}
 use Rattle.history_summary.specs.Walk.{writer_at, TakesCells, AreLatest}
 use Rattle.history_summary.proofs.Prefixes.{one_commits}
 

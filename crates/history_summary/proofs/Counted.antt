@@ -1,5 +1,5 @@
 -- The counts, one event after another.
-use Rattle.std.proofs.Common.{◌≡◌, ℕ, ◌+◌, ◌*◌, ◌<◌, ◌≤◌, List, [], ◌∷◌, ◌++◌, Some, Bool, true, false, cond, length, take, arith, refl, ap, sym, ◌∙◌, subst, ◌↔◌}
+use Rattle.std.proofs.Common.{◌≡◌, ℕ, ◌+◌, ◌≤◌, List, Some, Bool, true, false, cond, length, take, arith, refl, ap, sym, ◌∙◌, subst, ◌↔◌}
 use Rattle.std.specs.Prelude.{IsTrue, count_by, sum_by}
 use Rattle.std.specs.List.{slice_get}
 use Rattle.std.proofs.lemmas.List.{take_all}

@@ -1,5 +1,5 @@
 -- How the line is put together.
-use Rattle.std.proofs.Common.{◌≡◌, ℕ, List, [], ◌∷◌, ◌++◌, Result, Ok, Err, refl, ap, sym, ◌∙◌, append_assoc}
+use Rattle.std.proofs.Common.{◌≡◌, ℕ, List, ◌++◌, Result, Ok, Err, ap, ◌∙◌, append_assoc}
 use Rattle.std.specs.Prelude.{codes, OnOk}
 use Rattle.std.specs.Fmt.{decimal}
 use Rattle.cell_base.specs.declared.memory.Memory.{Memory}

@@ -1,5 +1,5 @@
 -- The transactions of a history beside those of its first events.
-use Rattle.std.proofs.Common.{◌≡◌, ℕ, ◌+◌, ◌<◌, ◌≤◌, List, [], ◌∷◌, ◌++◌, Some, length, get_or, take, min, arith, refl, ap, sym, ◌∙◌, subst}
+use Rattle.std.proofs.Common.{◌≡◌, ℕ, ◌+◌, ◌<◌, ◌≤◌, List, [], ◌∷◌, ◌++◌, Some, length, take, min, arith, ap, sym, ◌∙◌, subst}
 use Rattle.std.specs.List.{slice_get}
 use Rattle.std.proofs.lemmas.List.{take-take, take_more, length-take-le, length-take}
 use Rattle.std.proofs.lemmas.Option.{slice_get_within, get_or_from_slice_get}
@@ -7,7 +7,7 @@ use Rattle.cell_base.specs.declared.cell.Cell.{Cell}
 use Rattle.cell_base.specs.declared.value.Value.{Value}
 use Rattle.history_core.specs.declared.event.Event.{Event}
 use Rattle.history_core.specs.declared.event.Event.TheVariants.{Begin, Commit}
-use Rattle.history_core.specs.Events.{begun, session_in}
+use Rattle.history_core.specs.Events.{begun}
 use Rattle.history_core.specs.Transactions.{IsStart, IsOf, IsPending}
 use Rattle.history_core.specs.Legal.{IsFormed, MayCome}
 use Rattle.history_core.proofs.Places.{slice_get-take}

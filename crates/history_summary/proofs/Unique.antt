@@ -1,6 +1,6 @@
 -- A history has one summary line.
-use Rattle.std.proofs.Common.{◌≡◌, ◌≢◌, ◌==◌, ℕ, ◌<◌, ◌≤◌, List, ◌++◌, ◌∷◌, [], length, arith, ap, sym, ◌∙◌}
-use Rattle.std.specs.List.{Contains, AllPairs, IsDistinct}
+use Rattle.std.proofs.Common.{◌≡◌, ℕ, ◌≤◌, List, ◌++◌, ◌∷◌, [], length, arith, ap, sym, ◌∙◌}
+use Rattle.std.specs.List.{Contains}
 use Rattle.std.specs.List.Sorted.{IsStrictlyIncreasing}
 use Rattle.std.specs.Cmp.{unsigned_Decides}
 use Rattle.std.proofs.lemmas.Cmp.{nat_eq_equiv}

@@ -1,5 +1,5 @@
 -- The weak reads, one event after another.
-use Rattle.std.proofs.Common.{◌≡◌, ◌≢◌, ℕ, ◌+◌, ◌<◌, ◌≤◌, List, [], ◌∷◌, ◌++◌, Some, Bool, true, false, cond, length, get_or, arith, refl, ap, sym, ◌∙◌, subst, inl, inr, ◌⊎◌, ◌↔◌, add-zero}
+use Rattle.std.proofs.Common.{◌≡◌, ℕ, ◌+◌, ◌<◌, List, [], ◌∷◌, ◌++◌, Some, Bool, true, false, cond, length, get_or, arith, refl, sym, ◌∙◌, subst, inl, inr, ◌↔◌, add-zero}
 use Rattle.std.specs.Prelude.{IsTrue}
 use Rattle.std.specs.List.{slice_get, Contains}
 use Rattle.std.specs.List.Sorted.{IsStrictlyIncreasing}
@@ -12,7 +12,7 @@ use Rattle.history_core.specs.declared.event.Event.{Event}
 use Rattle.history_core.specs.declared.event.Event.TheVariants.{Open, Close, Define, Look, Begin, Scan, Read, Own, Write, Commit, Rollback, Show}
 use Rattle.history_core.specs.Legal.{IsFormed}
 use Rattle.history_summary.specs.declared.latest.Latest.{Latest}
-use Rattle.history_summary.specs.Latest.{IsLatest, IsWeakAt, HasWeakBelow}
+use Rattle.history_summary.specs.Latest.{IsWeakAt, HasWeakBelow}
 use Rattle.history_summary.specs.Walk.{writer_at, IsStale, AreLatest}
 use Rattle.history_summary.proofs.Commits.{latest_unique}
 

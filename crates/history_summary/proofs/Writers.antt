@@ -1,5 +1,5 @@
 -- The writers of cells, as further ones are set.
-use Rattle.std.proofs.Common.{◌≡◌, ◌≢◌, ℕ, ◌+◌, ◌≤◌, List, [], ◌∷◌, ◌++◌, Some, None, Option, Bool, true, false, Ok, Err, Result, length, arith, refl, ap, sym, ◌∙◌, subst, inl, inr, ◌⊎◌}
+use Rattle.std.proofs.Common.{ℕ, List, [], ◌∷◌, ◌++◌, Ok, Err, Result, length, arith, refl, ap, sym, ◌∙◌, subst, inl, inr}
 use Rattle.std.specs.Prelude.{OnOk}
 use Rattle.std.specs.List.{Contains}
 use Rattle.std.proofs.lemmas.List.Elements.{Contains-push_cases, Contains-append_left, Contains-push}
@@ -14,7 +14,7 @@ use Rattle.history_core.specs.Records.{IsRecordOf}
 use Rattle.history_core.proofs.Greatest.{greatest}
 use Rattle.std.proofs.lemmas.Option.{slice_get_within}
 use Rattle.history_summary.specs.declared.latest.Latest.{Latest}
-use Rattle.history_summary.specs.Walk.{writer_at, SetsWriter, SetsWriters, WritesCell, TakesCells}
+use Rattle.history_summary.specs.Walk.{SetsWriter, SetsWriters, TakesCells}
 
 -- ---- one write after another
 

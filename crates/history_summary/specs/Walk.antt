@@ -1,5 +1,5 @@
 -- How what a walk through the events keeps stands for the events that it has passed.
-use Rattle.std.specs.Prelude.{◌≡◌, ◌≢◌, ◌<◌, ◌≤◌, ◌+◌, ◌*◌, ◌⊎◌, ℕ, Bool, if◌then◌else◌, List, Contains, ◌∷◌, ◌++◌, codes, decimal, length, take, nat_eq, unwrap_or}
+use Rattle.std.specs.Prelude.{◌≡◌, ◌≢◌, ◌<◌, ◌≤◌, ◌+◌, ◌*◌, ◌⊎◌, ℕ, Bool, if◌then◌else◌, List, Contains, ◌++◌, codes, decimal, length, take, nat_eq, unwrap_or}
 use Rattle.std.specs.HashMap as hash_map
 use Rattle.indexmap.specs.IndexMap as index_map
 use Rattle.cell_base.specs.declared.cell.Cell.{Cell}

@@ -1,9 +1,8 @@
-use Rattle.std.proofs.Common.{◌≡◌, ℕ, ◌+◌, ◌<◌, ◌≤◌, Some, List, take, refl, ap, sym, ◌∙◌, subst}
+use Rattle.std.proofs.Common.{ℕ, ◌+◌, ◌<◌, ◌≤◌, Some, take, refl, ap, sym, ◌∙◌, subst}
 use Rattle.history_core.specs.Events.{begun}
 use Rattle.history_core.specs.declared.event.Event.{Event}
 use Rattle.history_core.specs.declared.event.Event.TheVariants.{Begin, Commit}
 use Rattle.history_core.proofs.Numbers.{pending_positive}
-use Rattle.history_summary.specs.declared.latest.Latest.{Latest}
 use Rattle.history_summary.specs.Walk.{TakesCells}
 use Rattle.history_summary.proofs.Begins.{running_still, running_begin, committing, no_begin}
 use Rattle.history_summary.proofs.Commits.{latest_still, latest_commit}

@@ -1,4 +1,4 @@
-use Rattle.std.proofs.Common.{◌≡◌, ℕ, ◌+◌, ◌<◌, ◌≤◌, sym, ◌∙◌, subst, arith, ap}
+use Rattle.std.proofs.Common.{◌≡◌, ℕ, ◌+◌, sym, ◌∙◌, subst, arith, ap}
 use Rattle.std.proofs.lemmas.Option.{slice_get_within}
 use Rattle.history_summary.specs.declared.counts.Counts.{Counts}
 use Rattle.history_summary.specs.Walk.{CountsNext, AreCountsBelow, AreRunning, AreLatest}
