@@ -2,6 +2,7 @@
 ghost use Rattle.std.specs.Prelude.{◌≡◌, ◌↔◌, IsTrue, IfOk, Contains, OnOk};
 ghost use Rattle.history_core.specs.declared.event.Event.{Event as EventData};
 ghost use Rattle.history_core.specs.declared.event.Event.TheVariants as events;
+ghost use Rattle.history_core.specs.Transactions.{HasPending};
 ghost use Rattle.history_core.specs.Legal.{IsOpen};
 ghost use Rattle.history_core.specs.Book.{HasTable, no_session};
 ghost use Rattle.summary_cases.specs.SessionStates.{IsReady, IsBusy};
@@ -39,7 +40,7 @@ pub fn idle_seat(store: Store, session: u32) -> Result<SeatBook, BookFault>
     if !is_open(store.history().events(), session) {
         return Err(BookFault::Memory);
     }
-    if store.history().pending(session).is_some() {
+    if has_pending(&store, session) {
         return Err(BookFault::Memory);
     }
     let book = store.seat(Some(session));
@@ -54,7 +55,7 @@ pub fn busy_seat(store: Store, session: u32) -> Result<SeatBook, BookFault>
     if !is_open(store.history().events(), session) {
         return Err(BookFault::Memory);
     }
-    if store.history().pending(session).is_none() {
+    if !has_pending(&store, session) {
         return Err(BookFault::Memory);
     }
     let book = store.seat(Some(session));
@@ -70,6 +71,16 @@ fn with_table(book: &SeatBook) -> Result<(), BookFault>
         return Err(BookFault::Memory);
     }
     Ok(())
+}
+
+/// Whether a transaction of the session is pending.
+fn has_pending(store: &Store, session: u32) -> bool
+    ensures { IsTrue result ↔ HasPending store.now.events session }
+{
+    match store.history().pending(session) {
+        Some(_) => true,
+        None => false,
+    }
 }
 
 /// Whether the session was opened and not closed.
