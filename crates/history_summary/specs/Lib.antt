@@ -1,0 +1,4 @@
+pub mod Latest
+pub mod Counts
+pub mod Line
+pub mod Walk
