@@ -54,8 +54,11 @@ pub fn precedes(history: &History, first: u32, second: u32) -> bool
     requires { second ≤ begun history.now.events }
     ensures { IsTrue result ↔ Precedes history.now.events first second }
 {
-    if first == 0 || second == 0 {
-        return first < second;
+    if second == 0 {
+        return false;
+    }
+    if first == 0 {
+        return true;
     }
     is_session_ordered(history, first, second) || reads_from(history, first, second)
 }

@@ -1,5 +1,5 @@
 // What the records of transactions show of one read.
-ghost use Rattle.std.specs.Prelude.{◌≡◌, ◌<◌, ◌≤◌, ◌↔◌, Contains, IsTrue};
+ghost use Rattle.std.specs.Prelude.{◌≡◌, ◌<◌, ◌≤◌, ◌↔◌, Any, Contains, IsTrue};
 ghost use Rattle.history_core.specs.Events.{begun};
 ghost use Rattle.saturation.specs.Views.{IsUnlisted, IsRival, number_of, source_of};
 ghost use Rattle.axiom_base.specs.Sights.{WritesUnlisted};
@@ -7,6 +7,7 @@ ghost use Rattle.axiom_base.specs.Sights.{WritesUnlisted};
 use cell_base::{Cell, Key};
 use history_core::{History, Seen, TxnState};
 use saturation::is_writer;
+use txn_buffer::TxnBuffer;
 
 /// The number of the event that showed it.
 pub fn number(seen: &Seen) -> u32
@@ -45,6 +46,16 @@ fn is_unlisted(table: u32, keys: &[Key], cell: &Cell) -> bool
     }
 }
 
+/// Whether the buffer holds the presence of a key that the scan of the table doesn't list.
+fn has_unlisted(buffer: &TxnBuffer, table: u32, keys: &[Key]) -> bool
+    ensures { IsTrue result ↔ Any (λ entry. IsUnlisted table keys.now entry.0) buffer.now.writes }
+{
+    buffer
+        .writes()
+        .iter()
+        .any(|entry| is_unlisted(table, keys, &entry.0))
+}
+
 /// Whether the transaction has committed.
 fn is_committed(state: TxnState) -> bool
     ensures { IsTrue result ↔ (state ≡ TxnState.Committed) }
@@ -66,10 +77,7 @@ fn writes_unlisted(history: &History, table: u32, keys: &[Key], writer: u32) -> 
     if !is_committed(txn.state) {
         return false;
     }
-    txn.buffer
-        .writes()
-        .iter()
-        .any(|write| is_unlisted(table, keys, &write.0))
+    has_unlisted(&txn.buffer, table, keys)
 }
 
 /// Whether the transaction, which isn't the source of the read, writes a cell that it gave.

@@ -1,5 +1,5 @@
 // The pairs that a further read of a pending transaction forces.
-ghost use Rattle.std.specs.Prelude.{◌≡◌, ◌<◌, ◌≤◌, ◌+◌, ◌↔◌, ℕ, IsTrue, IfOk, OnOk, length};
+ghost use Rattle.std.specs.Prelude.{◌≡◌, ◌<◌, ◌≤◌, ◌+◌, ◌↔◌, ◌⊎◌, ℕ, Any, IsTrue, IfOk, OnOk, length, Contains};
 ghost use Rattle.std.specs.List.Sorted.{IsStrictlyIncreasing};
 ghost use Rattle.cell_base.specs.declared.level.Level.{Level};
 ghost use Rattle.history_core.specs.Events.{begun};
@@ -37,6 +37,16 @@ fn is_demanded_by(history: &History, sight: &Sight, seen: &Seen, first: u32, sec
     sees(sight, number(seen), first) && is_rival(history, seen, first)
 }
 
+/// Whether one of these reads demands the pair.
+fn demand_one(history: &History, sight: &Sight, all: &[Seen], first: u32, second: u32) -> bool
+    requires size { length sight.now.since.items ≡ begun history.now.events + 1 }
+    requires first { first ≤ begun history.now.events }
+    ensures { IsTrue result ↔ Any (λ s. IsDemandedBy history.now.events sight.now.since.items s first second) all.now }
+{
+    all.iter()
+        .any(|seen| is_demanded_by(history, sight, seen, first, second))
+}
+
 /// Whether one of the reads of the reader demands the pair.
 fn is_demanded(history: &History, sight: &Sight, reader: u32, first: u32, second: u32) -> bool
     requires some { 0 < reader }
@@ -45,12 +55,13 @@ fn is_demanded(history: &History, sight: &Sight, reader: u32, first: u32, second
     requires first { first ≤ begun history.now.events }
     ensures { IsTrue result ↔ IsDemandedOf history.now.events reader sight.now.since.items first second }
 {
-    for seen in history.txn(reader).seen.as_slice() {
-        if is_demanded_by(history, sight, seen, first, second) {
-            return true;
-        }
-    }
-    false
+    demand_one(
+        history,
+        sight,
+        history.txn(reader).seen.as_slice(),
+        first,
+        second,
+    )
 }
 
 /// Whether the pair is demanded with the further read.
@@ -95,6 +106,13 @@ fn is_forced(
         && !is_demanded(history, before, read.reader, first, second)
 }
 
+/// Whether one of these reads is from the transaction.
+fn has_source(all: &[Seen], number: u32) -> bool
+    ensures { IsTrue result ↔ Any (λ s. number ≡ source_of s) all.now }
+{
+    all.iter().any(|seen| number == source(seen))
+}
+
 /// Whether the transaction is the reader, or one of the reader's reads is from it, the further one included.
 fn is_target(history: &History, read: &FurtherRead, number: u32) -> bool
     requires some { 0 < read.now.reader }
@@ -105,11 +123,7 @@ fn is_target(history: &History, read: &FurtherRead, number: u32) -> bool
     if number == read.reader || number == source(&read.seen) {
         return true;
     }
-    let txn = history.txn(read.reader);
-    txn.seen
-        .as_slice()
-        .iter()
-        .any(|seen| number == source(seen))
+    has_source(history.txn(read.reader).seen.as_slice(), number)
 }
 
 /// The second numbers of the pairs that the further read may force, ascending.
@@ -142,7 +156,9 @@ fn add_pairs(
     requires before { length before.now.since.items ≡ begun history.now.events + 1 }
     requires after { length after.now.since.items ≡ begun history.now.events + 1 }
     requires first { first ≤ begun history.now.events }
-    requires seconds { AreAllWith (IsTarget history.now.events read.now.reader read.now.seen) seconds.now }
+    requires ascending { IsStrictlyIncreasing seconds.now }
+    requires reached { (second : ℕ) → IsTrialIn history.now.events read.now.reader read.now.seen before.now.since.items after.now.since.items first second →
+        Contains seconds.now second }
     requires gathered { AreGathered (IsTrialIn history.now.events read.now.reader read.now.seen before.now.since.items after.now.since.items)
         (IsFirstBelow first) edges.old.items }
     ensures { OnOk result (AreGathered (IsTrialIn history.now.events read.now.reader read.now.seen before.now.since.items after.now.since.items)
