@@ -164,11 +164,12 @@ fn add_pairs(
     ensures { OnOk result (AreGathered (IsTrialIn history.now.events read.now.reader read.now.seen before.now.since.items after.now.since.items)
         (IsFirstBelow (first + 1)) edges.new.items) }
 {
-    for second in seconds {
-        if is_forced(history, read, before, after, first, *second) {
+    for number in seconds {
+        let second = *number;
+        if is_forced(history, read, before, after, first, second) {
             edges.push(Edge {
                 before: first,
-                after: *second,
+                after: second,
             })?;
         }
     }
