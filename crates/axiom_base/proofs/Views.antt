@@ -1,6 +1,6 @@
 -- The pairs that reads demand by what they see, and those that the axiom at a level demands.
-use Rattle.std.proofs.Common.{◌≡◌, ℕ, ◌+◌, ◌<◌, ◌≤◌, List, [], ◌∷◌, ◌++◌, ◌-◌, Some, None, Option, length, slice_index_or, arith, refl, ap, sym, ◌∙◌, subst, inl, inr, ◌⊎◌, ◌↔◌}
-use Rattle.std.specs.List.{Contains, Any}
+use Rattle.std.proofs.Common.{◌≡◌, ℕ, ◌+◌, ◌<◌, ◌≤◌, List, ◌-◌, Some, None, Option, length, slice_index_or, arith, refl, ap, sym, ◌∙◌, subst, inl, inr, ◌⊎◌, ◌↔◌}
+use Rattle.std.specs.List.{Any}
 use Rattle.std.proofs.lemmas.List.{length_push, get_or_past}
 use Rattle.std.proofs.lemmas.Option.{slice_get_within}
 use Rattle.std.proofs.lemmas.Bool.{cases_lt}
@@ -17,21 +17,21 @@ use Rattle.history_core.specs.declared.txn.Seen.TheVariants.{Read as SeenRead}
 use Rattle.history_core.specs.declared.txn.Txn.{Txn}
 use Rattle.history_core.specs.declared.txn.TxnState.TheVariants.{Committed}
 use Rattle.history_core.specs.Events.{begun}
-use Rattle.history_core.specs.Transactions.{RunsAt, IsOf, IsPending}
-use Rattle.history_core.specs.Relations.{Writes, Gives, Reads, Precedes, IsVisibleAt, IsVisible, Demands}
+use Rattle.history_core.specs.Transactions.{RunsAt, IsPending}
+use Rattle.history_core.specs.Relations.{Writes, Gives, Reads, Precedes, IsVisibleAt, IsVisible}
 use Rattle.history_core.specs.Records.{seen_of, Saw, IsRecordOf}
 use Rattle.history_core.specs.Forced.{IsDemandOf, IsTrial}
 use Rattle.history_core.proofs.Places.{runs_unique}
 use Rattle.history_core.proofs.Grown.{runs_kept, of_back}
 use Rattle.history_core.proofs.Prefixes.{IsSound, of_kept}
 use Rattle.history_core.proofs.Offers.{writer_bounded}
-use Rattle.history_core.proofs.Next.{of_new, pending_bounded}
+use Rattle.history_core.proofs.Next.{of_new}
 use Rattle.saturation.specs.Laws.{with_read}
 use Rattle.saturation.specs.Views.{number_of, source_of, IsUnlisted}
 use Rattle.saturation.proofs.Sights.{any_from_contains, gives_from_seen, seen_from_gives, seen_number, written_from_record, none_from_record, writes_later}
-use Rattle.saturation.proofs.After.{writes_kept, writes_before}
+use Rattle.saturation.proofs.After.{size_after, writes_kept, writes_before}
 use Rattle.saturation.proofs.Decides.{committed_bounded, reader_positive}
-use Rattle.axiom_base.specs.Axioms.{IsSeenByEvent, AreVisibleAt, DemandsAt, IsTrialAt, AreTrialAt}
+use Rattle.axiom_base.specs.Axioms.{AreVisibleAt, DemandsAt, IsTrialAt, AreTrialAt}
 use Rattle.axiom_base.specs.Sights.{WritesUnlisted, IsAfter, Sees, IsSightOf, IsSight, IsSightWith, AreAllWith, IsDemandedBy, IsDemandedOf, IsTrialIn, IsTarget, AreGathered, IsFirstBelow}
 
 -- ---- what one read sees
@@ -240,6 +240,13 @@ reads_from_trial level events s k x w before after pending sight sight_with a b 
       ],
       λ old. none (demands_now level events k before sight a b old),
     )
+
+-- the list has a place for each transaction
+pub sight_with_size :
+    (level : Level) (events : List Event) (s k : ℕ) (x : Cell) (w : ℕ) (after : List (Option ℕ)) → IsPending events k s →
+    IsSightWith level events k x w after → length after ≡ begun events + 1
+sight_with_size level events s k x w after pending sight_with =
+    (sight_with s 0 0 Null pending).size ∙ ap (λ (m : ℕ). m + 1) (size_after events s x w 0 0 Null)
 
 -- ---- the numbers of these pairs
 

@@ -1,5 +1,5 @@
 -- The axiom at a level of one's choice: what a read sees, which pairs the reads of a transaction demand, and what a further read adds to them.
-use Rattle.std.specs.Prelude.{◌≡◌, ◌≢◌, ◌<◌, ◌+◌, ◌⊎◌, ◌↔◌, ℕ, Some, List, [], ◌∷◌, ◌++◌, Contains, slice_get}
+use Rattle.std.specs.Prelude.{◌≡◌, ◌≢◌, ◌<◌, ◌+◌, ◌⊎◌, ◌↔◌, ℕ, Some, List, Contains, slice_get}
 use Rattle.std.specs.List.Sorted.{IsStrictlyIncreasing}
 use Rattle.graph_base.specs.declared.Edge.{Edge}
 use Rattle.cell_base.specs.declared.level.Level.{Level}

@@ -26,7 +26,8 @@ fn sight(alloc: Global, history: &History, reader: u32) -> Result<Sight, Memory>
 {
     let _events = history.events();
     let marks = predecessors(alloc, history, reader)?;
-    always_seen(alloc, &marks)
+    let sight = always_seen(alloc, &marks)?;
+    Ok(sight)
 }
 
 /// What they see with a further read from the source.
@@ -38,7 +39,8 @@ fn sight_with(alloc: Global, history: &History, reader: u32, source: u32) -> Res
     let _events = history.events();
     let mut marks = predecessors(alloc, history, reader)?;
     marks[source as usize] = true;
-    always_seen(alloc, &marks)
+    let sight = always_seen(alloc, &marks)?;
+    Ok(sight)
 }
 
 /// The transactions that the external read of the reader sees which is the event of the number `place`, ascending. Events are numbered from 1.
@@ -53,7 +55,8 @@ pub fn visible(
     ensures { IfOk result (λ writers. AreVisibleAt Ra history.now.events reader place writers.items) }
 {
     let sight = sight(alloc, history, reader)?;
-    visible_by(alloc, &sight, place)
+    let writers = visible_by(alloc, history, &sight, place)?;
+    Ok(writers)
 }
 
 /// The pairs that a further read of the cell from the source forces: the source before the reader, and what the reader demands with it and
@@ -71,5 +74,6 @@ pub fn trial(
 {
     let before = sight(alloc, history, reader)?;
     let after = sight_with(alloc, history, reader, source)?;
-    trial_by(alloc, history, reader, cell, source, &before, &after)
+    let edges = trial_by(alloc, history, reader, cell, source, &before, &after)?;
+    Ok(edges)
 }

@@ -63,7 +63,8 @@ pub fn visible(
     ensures { IfOk result (λ writers. AreVisibleAt Rc history.now.events reader place writers.items) }
 {
     let sight = sight(alloc, history, reader)?;
-    visible_by(alloc, &sight, place)
+    let writers = visible_by(alloc, history, &sight, place)?;
+    Ok(writers)
 }
 
 /// The pairs that a further read of the cell from the source forces: the source before the reader, and what the reader demands with it and
@@ -80,5 +81,6 @@ pub fn trial(
     ensures { IfOk result (λ edges. AreTrialAt Rc history.now.events reader cell.now source edges.items) }
 {
     let sight = sight(alloc, history, reader)?;
-    trial_by(alloc, history, reader, cell, source, &sight, &sight)
+    let edges = trial_by(alloc, history, reader, cell, source, &sight, &sight)?;
+    Ok(edges)
 }

@@ -1,4 +1,3 @@
-use Rattle.std.proofs.Common.{arith}
 use Rattle.saturation.proofs.Marks.{predecessors_push}
 use Rattle.axiom_base.proofs.precedence.predecessors.Goals as goal
 

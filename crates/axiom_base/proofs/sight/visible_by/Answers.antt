@@ -1,4 +1,4 @@
-use Rattle.std.proofs.Common.{◌≡◌, None, length, sym, ◌∙◌, arith}
+use Rattle.std.proofs.Common.{sym, ◌∙◌, arith}
 use Rattle.std.proofs.lemmas.Bool.{false≢true}
 use Rattle.axiom_base.specs.Sights.{Sees}
 use Rattle.axiom_base.proofs.Gathering.{all_push, all_skip, all_whole}
@@ -20,5 +20,7 @@ loop-writer-preserved c =
 
 pub returns : goal.returns
 returns c =
+    let number = c.begun-writer-end.ensures.number in
+    let size = c.requires in
     all_whole (Sees c.args.sight.now.since.items c.args.number) c.loop-writer.writer c.loop-writer.writers.items
     (λ k sees. let h = seen_within c.args.sight.now.since.items c.args.number k sees in omega arith) c.loop-writer.invariant

@@ -1,4 +1,4 @@
-use Rattle.std.proofs.Common.{◌≡◌, ◌+◌, ◌<◌, ◌≤◌, ℕ, List, Option, length, arith, sym, subst}
+use Rattle.std.proofs.Common.{◌≡◌, ◌+◌, ◌<◌, length, arith, subst}
 use Rattle.history_core.specs.declared.txn.Seen.{Seen}
 use Rattle.history_core.specs.declared.txn.Seen.TheVariants.{Read as SeenRead}
 use Rattle.history_core.specs.Events.{begun}
