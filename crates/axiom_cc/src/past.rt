@@ -11,16 +11,16 @@ use history_core::History;
 use std::alloc::Global;
 
 /// A marked transaction whose predecessors aren't marked yet.
-fn next_open(marks: &[bool], done: &[bool]) -> Option<u32>
-    requires size { length done.now ≡ length marks.now }
-    requires small { length marks.now ≤ 65536 }
+fn next_open(history: &History, marks: &[bool], done: &[bool]) -> Option<u32>
+    requires marks { length marks.now ≡ begun history.now.events + 1 }
+    requires done { length done.now ≡ begun history.now.events + 1 }
     ensures marked { IfSome result (IsMarked marks.now) }
     ensures open { IfSome result (IsUnmarked done.now) }
     ensures none { IfNone result ((n : ℕ) → IsMarked marks.now n → IsMarked done.now n) }
 {
-    for n in 0..marks.len() {
-        if marks[n] && !done[n] {
-            return Some(n as u32);
+    for n in 0..history.begun() + 1 {
+        if marks[n as usize] && !done[n as usize] {
+            return Some(n);
         }
     }
     None
@@ -32,6 +32,7 @@ fn mark_predecessors(history: &History, second: u32, marks: &mut Vec<bool>)
     requires size { length marks.old.items ≡ begun history.now.events + 1 }
     ensures { MarksPredecessors history.now.events second marks.old.items marks.new.items }
 {
+    let _events = history.events();
     for first in 0..history.begun() + 1 {
         if precedes(history, first, second) {
             marks[first as usize] = true;
@@ -44,9 +45,8 @@ pub fn mark_past(alloc: Global, history: &History, marks: &mut Vec<bool>) -> Res
     requires { length marks.old.items ≡ begun history.now.events + 1 }
     ensures { OnOk result (IsPastOf history.now.events marks.old.items marks.new.items) }
 {
-    let _events = history.events();
     let mut done = vec![in alloc; false; marks.len()]?;
-    while let Some(second) = next_open(marks, &done) {
+    while let Some(second) = next_open(history, marks, &done) {
         done[second as usize] = true;
         mark_predecessors(history, second, marks);
     }
