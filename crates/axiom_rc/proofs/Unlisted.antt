@@ -17,12 +17,15 @@ use Rattle.history_core.specs.Relations.{Gives}
 use Rattle.history_core.specs.Records.{seen_of}
 use Rattle.saturation.specs.Views.{source_of}
 
-all_bytes : List Key → ℕ
+abbrev pub all_bytes : List Key → ℕ
 all_bytes [] = 0
 all_bytes (key ∷ keys) = key_bytes key + all_bytes keys
 
+none_listed : (k : ℕ) (key : Key) → slice_get [] k ≡ Some key → key_bytes key ≤ 0
+none_listed k key at = let h = slice_get_within [] k key at in absurd (omega arith)
+
 listed_short : (keys : List Key) (k : ℕ) (key : Key) → slice_get keys k ≡ Some key → key_bytes key ≤ all_bytes keys
-listed_short [] k key at = let h = slice_get_within {Key} [] k key at in absurd (omega arith)
+listed_short [] k key at = none_listed k key at
 listed_short (first ∷ keys) zero key at =
     let both : Some first ≡ Some key = at in
     let is : first ≡ key = cc in
@@ -30,7 +33,7 @@ listed_short (first ∷ keys) zero key at =
 listed_short (first ∷ keys) (suc k) key at = let h = listed_short keys k key at in omega arith
 
 -- a text longer than all of them together
-longer : List Key → Key
+abbrev pub longer : List Key → Key
 longer keys = Text (replicate (all_bytes keys + 1) 0)
 
 pub is_unlisted : (keys : List Key) → Contains keys (longer keys) → ⊥
@@ -50,7 +53,7 @@ gives_some (Read s x w c u v) n seen shown =
 gives_some (Scan s table keys) n seen shown =
     let both : Some (SeenScan n table keys) ≡ Some seen = shown in
     let is : seen ≡ SeenScan n table keys = cc in
-    (Presence table (longer keys), (refl, (is_unlisted keys, ap source_of is)))
+    (Presence table (longer keys), (refl, is_unlisted keys, ap source_of is))
 gives_some (Open s) n seen shown = cc
 gives_some (Close s) n seen shown = cc
 gives_some (Define s name) n seen shown = cc

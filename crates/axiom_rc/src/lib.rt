@@ -5,13 +5,13 @@
 //! doesn't list. These are slow programs for readers and tests; the store decides by rows of bits.
 #![tactic(auto)]
 
-ghost use Rattle.std.specs.Prelude.{◌≤◌, ◌<◌, ◌+◌, IfOk, length};
+ghost use Rattle.std.specs.Prelude.{◌≡◌, ◌≤◌, ◌<◌, ◌↔◌, ◌⊎◌, ℕ, None, IfOk, length, replicate};
 ghost use Rattle.cell_base.specs.declared.level.Level.TheVariants.{Rc};
 ghost use Rattle.history_core.specs.Events.{begun};
 ghost use Rattle.history_core.specs.Relations.{Writes};
 ghost use Rattle.saturation.specs.Views.{source_of};
 ghost use Rattle.axiom_base.specs.Axioms.{IsUnderway, AreVisibleAt, AreTrialAt};
-ghost use Rattle.axiom_base.specs.Sights.{IsSight};
+ghost use Rattle.axiom_base.specs.Sights.{IsAfter, IsSight};
 ghost use Rattle.axiom_rc.specs.Notes.{Notes};
 
 use axiom_base::{Sight, number, source, trial_by, visible_by};
@@ -21,7 +21,9 @@ use history_core::{History, Seen};
 use std::alloc::Global;
 
 /// The earlier of the two, where there is one.
-fn earlier(old: Option<u32>, number: u32) -> u32 {
+fn earlier(old: Option<u32>, number: u32) -> u32
+    ensures { (later : ℕ) → (result < later) ↔ (IsAfter old later ⊎ (number < later)) }
+{
     match old {
         Some(event) => event.min(number),
         None => number,
@@ -37,6 +39,14 @@ fn note(since: &mut Vec<Option<u32>>, seen: &Seen)
     since[at] = Some(earlier(since[at], number(seen)));
 }
 
+/// No read sees any of so many transactions.
+fn nothing_seen(alloc: Global, size: usize) -> Result<Vec<Option<u32>>, Memory>
+    ensures { IfOk result (λ since. since.items ≡ replicate size None) }
+{
+    let since = vec![in alloc; None; size]?;
+    Ok(since)
+}
+
 /// What the reads of the reader see.
 fn sight(alloc: Global, history: &History, reader: u32) -> Result<Sight, Memory>
     requires some { 0 < reader }
@@ -44,7 +54,7 @@ fn sight(alloc: Global, history: &History, reader: u32) -> Result<Sight, Memory>
     ensures { IfOk result (λ sight. IsSight Rc history.now.events reader sight.since.items) }
 {
     let _events = history.events();
-    let mut since = vec![in alloc; None; history.begun() as usize + 1]?;
+    let mut since = nothing_seen(alloc, history.begun() as usize + 1)?;
     for seen in history.txn(reader).seen.as_slice() {
         note(&mut since, seen);
     }
