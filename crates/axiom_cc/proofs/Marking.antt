@@ -1,5 +1,5 @@
 -- Marks on a causal past, as they are made.
-use Rattle.std.proofs.Common.{◌≡◌, ℕ, ◌+◌, ◌<◌, ◌≤◌, zero, suc, List, [], ◌∷◌, Bool, true, false, length, get_or, get_or-set_same, get_or-set_other, set, replicate, arith, refl, ap, sym, ◌∙◌, subst, inl, inr, ◌⊎◌, ◌↔◌}
+use Rattle.std.proofs.Common.{◌≡◌, ℕ, ◌+◌, ◌<◌, zero, suc, List, Bool, true, false, length, get_or, get_or-set_same, get_or-set_other, set, replicate, arith, refl, sym, ◌∙◌, subst, inl, inr, ◌⊎◌, ◌↔◌}
 use Rattle.std.proofs.lemmas.List.{length-set, length-replicate}
 use Rattle.std.proofs.lemmas.Bool.{cases_eq, cases_lt, false≢true}
 use Rattle.order_witness.specs.Marks.{IsMarked, IsUnmarked}
@@ -11,7 +11,6 @@ use Rattle.history_core.proofs.Prefixes.{IsSound}
 use Rattle.saturation.specs.Views.{IsPastOf}
 use Rattle.saturation.proofs.Chains.{chained_first, chained_one}
 use Rattle.saturation.proofs.Decides.{precedes_range}
-use Rattle.saturation.proofs.Readers.{marked_within}
 use Rattle.axiom_cc.specs.Following.{MarksPredecessors}
 
 marked_set : (marks : List Bool) (at : ℕ) → at < length marks → (n : ℕ) → IsMarked (set marks at true) n ↔ (IsMarked marks n ⊎ (n ≡ at))

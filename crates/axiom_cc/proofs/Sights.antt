@@ -1,5 +1,5 @@
 -- What the reads of a transaction see at Causal Consistency, by marks on its causal past.
-use Rattle.std.proofs.Common.{◌≡◌, ◌≤◌, ◌+◌, ℕ, List, Option, Bool, true, length, set, refl, sym, ◌∙◌, ◌↔◌}
+use Rattle.std.proofs.Common.{◌≡◌, ◌≤◌, ◌+◌, ℕ, List, Option, Bool, true, length, set, ◌∙◌, ◌↔◌}
 use Rattle.order_witness.specs.Marks.{IsMarked}
 use Rattle.cell_base.specs.declared.level.Level.TheVariants.{Cc}
 use Rattle.cell_base.specs.declared.cell.Cell.{Cell}
@@ -32,4 +32,4 @@ pub sight_then :
     ((place writer : ℕ) → Sees since (place + 1) writer ↔ IsMarked marks writer) → IsSightWith Cc events reader cell source since
 sight_then events reader cell source start marks since sound small are past size exact =
     λ s n u v pending. sight_of events (with_read events s cell source n u v) reader (length events + 1) (set start source true) marks since
-        (starts_with events s reader cell source n u v start sound pending small are) past size exact
+    (starts_with events s reader cell source n u v start sound pending small are) past size exact

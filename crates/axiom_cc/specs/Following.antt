@@ -1,5 +1,5 @@
 -- Marks on a causal past, as they are made: those whose predecessors are marked are done.
-use Rattle.std.specs.Prelude.{◌≡◌, ◌<◌, ◌⊎◌, ◌↔◌, ℕ, Bool, List, length}
+use Rattle.std.specs.Prelude.{◌≡◌, ◌⊎◌, ◌↔◌, ℕ, Bool, List, length}
 use Rattle.order_witness.specs.Marks.{IsMarked}
 use Rattle.history_core.specs.declared.event.Event.{Event}
 use Rattle.history_core.specs.Relations.{Precedes}

@@ -1,6 +1,5 @@
 -- What the reads of a transaction see at Read Atomic, by marks on what precedes it.
-use Rattle.std.proofs.Common.{◌≡◌, ◌≤◌, ◌+◌, ℕ, List, Option, Bool, true, length, set, refl, sym, ◌∙◌, ◌↔◌}
-use Rattle.std.proofs.lemmas.List.{length-set}
+use Rattle.std.proofs.Common.{◌≡◌, ◌≤◌, ◌+◌, ℕ, List, Option, Bool, true, length, set, ◌↔◌}
 use Rattle.order_witness.specs.Marks.{IsMarked}
 use Rattle.cell_base.specs.declared.level.Level.TheVariants.{Ra}
 use Rattle.cell_base.specs.declared.cell.Cell.{Cell}
@@ -30,4 +29,4 @@ pub sight_then :
     ((place writer : ℕ) → Sees since (place + 1) writer ↔ IsMarked (set marks source true) writer) → IsSightWith Ra events reader cell source since
 sight_then events reader cell source marks since sound small are size exact =
     λ s n u v pending. sight_of events (with_read events s cell source n u v) reader (length events + 1) (set marks source true) since
-        (starts_with events s reader cell source n u v marks sound pending small are) size exact
+    (starts_with events s reader cell source n u v marks sound pending small are) size exact

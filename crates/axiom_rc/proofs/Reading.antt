@@ -1,5 +1,5 @@
 -- What later reads see by the reads before them.
-use Rattle.std.proofs.Common.{◌≡◌, ℕ, ◌+◌, ◌<◌, ◌≤◌, zero, suc, List, [], ◌∷◌, ◌++◌, Option, Some, None, length, get_or, set, replicate, get_or-set_same, get_or-set_other, arith, refl, ap, sym, ◌∙◌, subst, inl, inr, ◌⊎◌, ◌↔◌}
+use Rattle.std.proofs.Common.{◌≡◌, ℕ, ◌+◌, ◌<◌, ◌≤◌, zero, suc, List, Option, Some, None, length, get_or, set, replicate, get_or-set_same, get_or-set_other, arith, refl, ap, sym, ◌∙◌, subst, inl, inr, ◌⊎◌, ◌↔◌}
 use Rattle.std.specs.List.{Contains, slice_get}
 use Rattle.std.proofs.lemmas.List.{length-set, length-replicate}
 use Rattle.std.proofs.lemmas.Option.{slice_get_within}
@@ -7,22 +7,19 @@ use Rattle.std.proofs.lemmas.Bool.{cases_eq}
 use Rattle.txn_buffer.proofs.Lists.{at_contains, contains_at}
 use Rattle.cell_base.specs.declared.level.Level.TheVariants.{Rc}
 use Rattle.cell_base.specs.declared.cell.Cell.{Cell}
-use Rattle.cell_base.specs.declared.value.Value.{Value}
 use Rattle.history_core.specs.declared.event.Event.{Event}
 use Rattle.history_core.specs.declared.event.Event.TheVariants.{Read}
 use Rattle.history_core.specs.declared.txn.Seen.{Seen}
 use Rattle.history_core.specs.declared.txn.Txn.{Txn}
 use Rattle.history_core.specs.Events.{begun}
-use Rattle.history_core.specs.Transactions.{IsPending}
 use Rattle.history_core.specs.Relations.{ReadsBefore, Gives}
-use Rattle.history_core.specs.Records.{Saw, IsRecordOf}
+use Rattle.history_core.specs.Records.{IsRecordOf}
 use Rattle.history_core.proofs.Prefixes.{IsSound}
-use Rattle.saturation.specs.Laws.{with_read}
 use Rattle.saturation.specs.Views.{number_of, source_of}
 use Rattle.saturation.proofs.Sights.{seen_from_gives, seen_number}
 use Rattle.saturation.proofs.After.{size_after, before_kept, before_back}
 use Rattle.saturation.proofs.Decides.{committed_bounded}
-use Rattle.axiom_base.specs.Sights.{IsAfter, Sees, IsSightOf, IsSight, IsSightWith}
+use Rattle.axiom_base.specs.Sights.{IsAfter, Sees, IsSight, IsSightWith}
 use Rattle.axiom_rc.specs.Notes.{Notes}
 use Rattle.axiom_rc.proofs.Unlisted.{gives_some}
 

@@ -1,6 +1,5 @@
-use Rattle.std.proofs.Common.{◌<◌, ◌+◌, sym, ◌∙◌, ap, ℕ, arith}
+use Rattle.std.proofs.Common.{◌<◌, ◌+◌, arith}
 use Rattle.cell_base.specs.declared.level.Level.TheVariants.{Ra}
-use Rattle.cell_base.specs.declared.value.Value.TheVariants.{Null}
 use Rattle.history_core.specs.Events.{begun}
 use Rattle.history_core.proofs.Offers.{writer_bounded}
 use Rattle.history_core.proofs.Next.{pending_bounded}

@@ -1,4 +1,4 @@
-use Rattle.std.proofs.Common.{◌≡◌, ◌+◌, Some, None, slice_get, length, replicate, Option, ℕ, List, refl, sym, ◌∙◌, subst, arith}
+use Rattle.std.proofs.Common.{◌≡◌, ◌+◌, Some, None, slice_get, length, replicate, Option, ℕ, refl, sym, subst, arith}
 use Rattle.std.proofs.lemmas.Option.{slice_get_read}
 use Rattle.history_core.specs.Events.{begun}
 use Rattle.history_core.proofs.Prefixes.{sound_of}

@@ -5,10 +5,10 @@ use Rattle.axiom_base.proofs.trial.is_target.Goals as goal
 pub returns : goal.returns
 returns c = (
   λ h. (
-      c.requires.number,
-      inr (inr (target_from_record c.args.history.now.events c.args.read.now.reader c.txn.result.now c.args.number c.txn.ensures
-      (rw c.as_slice.ensures at (c.has_source.ensures.0 h)))),
-    ),
+    c.requires.number,
+    inr (inr (target_from_record c.args.history.now.events c.args.read.now.reader c.txn.result.now c.args.number c.txn.ensures
+        (rw c.as_slice.ensures at (c.has_source.ensures.0 h)))),
+  ),
   λ target. elim target.1 [
     | inl own ↦ absurd (c.if-number-read.false own)
     | inr other ↦ elim other [
