@@ -9,7 +9,8 @@ use crate::stop::Stop;
 use cell_base::Level;
 use cell_base::Level::{Cc, Ra, Rc};
 use graph_base::{Edge, Graph};
-use saturation::{candidates, forced, holds_cycle};
+use history_core::History;
+use saturation::{forced, holds_cycle, is_writer};
 use std::alloc::Global;
 use valid_writes::Store;
 
@@ -30,70 +31,111 @@ fn trials_are_what_reads_add(rt: HostRuntime) -> Result<(), Stop> {
 /// Whether all of this is so at each level.
 fn agree(alloc: Global, steps: &[(u32, Step)], session: u32, spot: Spot) -> Result<bool, Stop> {
     for level in [Rc, Ra, Cc] {
-        let store = play(alloc, level, steps)?;
-        let sources = candidates(alloc, store.history(), &spot.cell())?;
-        if !agree_at(alloc, level, steps, session, spot, sources.as_slice())? {
+        if !agree_at(alloc, level, steps, session, spot)? {
             return Ok(false);
         }
     }
     Ok(true)
 }
 
-/// Whether it is so of each of the sources.
+/// Whether it is so of each source that the cell has.
 fn agree_at(
     alloc: Global,
     level: Level,
     steps: &[(u32, Step)],
     session: u32,
     spot: Spot,
-    sources: &[u32],
 ) -> Result<bool, Stop> {
-    for source in sources {
-        let store = play(alloc, level, steps)?;
-        if !agrees(alloc, store, level, session, spot, *source)? {
+    for source in 0..3 {
+        if is_source(alloc, level, steps, spot, source)?
+            && !agrees(alloc, level, steps, session, spot, source)?
+        {
             return Ok(false);
         }
     }
     Ok(true)
 }
 
+/// Whether the transaction writes the cell.
+fn is_source(
+    alloc: Global,
+    level: Level,
+    steps: &[(u32, Step)],
+    spot: Spot,
+    source: u32,
+) -> Result<bool, Stop> {
+    let store = play(alloc, level, steps)?;
+    Ok(is_writer(store.history(), source, &spot.cell()))
+}
+
 /// Whether it is so of the read.
 fn agrees(
     alloc: Global,
-    store: Store,
     level: Level,
+    steps: &[(u32, Step)],
     session: u32,
     spot: Spot,
     source: u32,
 ) -> Result<bool, Stop> {
-    let before = forced(alloc, store.history())?;
-    let new = trial(alloc, store.history(), level, session, &spot.cell(), source)?;
-    let both = joined(alloc, &before, new.as_slice())?;
-    let is_offered = offer(&store, session, &spot.cell())?.contains(&source);
+    let store = play(alloc, level, steps)?;
+    let both = forced_with_trial(alloc, store.history(), level, session, spot, source)?;
+    let is_offered = is_offered(&store, session, spot, source)?;
     if closes_cycle(alloc, &both)? == is_offered {
         return Ok(false);
     }
     if !is_offered {
         return Ok(true);
     }
-    let store = make(store, level, session, Step::Read(spot, source))?;
-    let after = forced(alloc, store.history())?;
-    Ok(are_same(after.edges.as_slice(), both.edges.as_slice()))
+    adds(
+        alloc,
+        store,
+        level,
+        session,
+        Step::Read(spot, source),
+        &both,
+    )
 }
 
-/// The graph with further edges.
-fn joined(alloc: Global, graph: &Graph, more: &[Edge]) -> Result<Graph, Stop> {
-    let mut edges = Vec::new(alloc);
-    for edge in graph.edges.as_slice() {
-        edges.push(*edge)?;
-    }
+/// Whether the read is offered.
+fn is_offered(store: &Store, session: u32, spot: Spot, source: u32) -> Result<bool, Stop> {
+    let sources = offer(store, session, &spot.cell())?;
+    Ok(sources.as_slice().contains(&source))
+}
+
+/// What the history forces, and the trial of the read.
+fn forced_with_trial(
+    alloc: Global,
+    history: &History,
+    level: Level,
+    session: u32,
+    spot: Spot,
+    source: u32,
+) -> Result<Graph, Stop> {
+    let mut graph = forced(alloc, history)?;
+    let pairs = trial(alloc, history, level, session, &spot.cell(), source)?;
+    add_all(&mut graph.edges, pairs.as_slice())?;
+    Ok(graph)
+}
+
+fn add_all(edges: &mut Vec<Edge>, more: &[Edge]) -> Result<(), Stop> {
     for edge in more {
         edges.push(*edge)?;
     }
-    Ok(Graph {
-        size: graph.size,
-        edges,
-    })
+    Ok(())
+}
+
+/// Whether just these pairs are forced after the step.
+fn adds(
+    alloc: Global,
+    store: Store,
+    level: Level,
+    session: u32,
+    step: Step,
+    want: &Graph,
+) -> Result<bool, Stop> {
+    let store = make(store, level, session, step)?;
+    let after = forced(alloc, store.history())?;
+    Ok(are_same(after.edges.as_slice(), want.edges.as_slice()))
 }
 
 /// Whether all numbers of the graph's edges are below its size.
