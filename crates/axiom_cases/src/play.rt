@@ -142,7 +142,10 @@ fn read(store: Store, session: u32, spot: Spot, source: u32) -> Result<Store, St
     let cell = spot.cell();
     let word = word_for(&store, session, &cell, source)?;
     let mut book = busy_seat(store, session)?;
-    if book.wrote(&cell) || !has_table(&book, table(&cell)) {
+    if book.wrote(&cell) {
+        return Err(Stop::Misplaced);
+    }
+    if !has_table(&book, table(&cell)) {
         return Err(Stop::Misplaced);
     }
     book.read(&cell, word)?;
@@ -152,10 +155,14 @@ fn read(store: Store, session: u32, spot: Spot, source: u32) -> Result<Store, St
 /// The word that picks the source.
 fn word_for(store: &Store, session: u32, cell: &Cell, source: u32) -> Result<u32, Stop> {
     let offer = offer(store, session, cell)?;
-    match offer.iter().position(|number| *number == source) {
-        Some(word) => Ok(word as u32),
-        None => Err(Stop::Misplaced),
+    let mut word = 0u32;
+    for number in offer.as_slice() {
+        if *number == source {
+            return Ok(word);
+        }
+        word = word.saturating_add(1);
     }
+    Err(Stop::Misplaced)
 }
 
 fn write(store: Store, session: u32, spot: Spot) -> Result<Store, Stop> {
