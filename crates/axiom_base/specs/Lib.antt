@@ -1,0 +1,2 @@
+pub mod Axioms
+pub mod Sights

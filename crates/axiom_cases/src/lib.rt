@@ -1,0 +1,22 @@
+//! Tests of the axiom crates: what reads see and what further reads force, found by hand, at each level over one history; and beside the pairs
+//! that `saturation` finds and the offers of a store.
+//!
+//! A definition could say something else than its reader thinks, and no clause says that memory is left. The crate has nothing but tests.
+#![tactic(auto)]
+
+#[cfg(test)]
+mod answers;
+#[cfg(test)]
+mod courses;
+#[cfg(test)]
+mod play;
+#[cfg(test)]
+mod seats;
+#[cfg(test)]
+mod stop;
+#[cfg(test)]
+mod tables;
+#[cfg(test)]
+mod together;
+#[cfg(test)]
+mod worked;

@@ -1,0 +1,2 @@
+pub mod Unlisted
+pub mod Reading
