@@ -1,5 +1,5 @@
 // The program.
-ghost use Rattle.std.specs.Prelude.{◌≡◌};
+ghost use Rattle.std.specs.Prelude.{◌≡◌, IfOk};
 ghost use Rattle.link_traits.specs.Host.{objects_out};
 ghost use Rattle.monkey_server.specs.Program.{no_past, status_of, ServesAlone, Pipes, Does};
 ghost use Rattle.link_traits.specs.Traffic.{sight_of};
@@ -53,6 +53,14 @@ fn serve_alone<L: Link>(
     served
 }
 
+// The book of a new history at a level, without a row and without an event.
+fn new_book(alloc: Global, level: Level) -> Result<SeatBook, Memory>
+    ensures { IfOk result (λ book. book ≡ no_past level) }
+{
+    let store = Store::new(alloc, level, InitialState::empty(alloc))?;
+    Ok(store.seat(None))
+}
+
 // Serves one session over the standard link.
 fn pipe<H: Host>(alloc: Global, host: &mut H, command: PipeCommand) -> Status
     requires { objects_out (H.hosted host.old) ≡ 0 }
@@ -60,8 +68,8 @@ fn pipe<H: Host>(alloc: Global, host: &mut H, command: PipeCommand) -> Status
     ensures none_out { objects_out (H.hosted host.new) ≡ 0 }
 {
     let PipeCommand { level, words } = command;
-    let mut book = match Store::new(alloc, level, InitialState::empty(alloc)) {
-        Ok(store) => store.seat(None),
+    let mut book = match new_book(alloc, level) {
+        Ok(book) => book,
         Err(Memory) => return Status { code: 5 },
     };
     let mut link = match host.standard_link() {
