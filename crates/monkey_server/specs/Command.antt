@@ -25,6 +25,12 @@ IsWord digits n = IsNumber 4294967296 digits n
 abbrev pub IsLongWord : List ℕ → ℕ → Type 0
 IsLongWord digits n = IsNumber 18446744073709551616 digits n
 
+-- of one from 1 to this one
+pub record IsUpTo (most : ℕ) (digits : List ℕ) (n : ℕ) : Type 0 where
+  pub word : IsWord digits n
+  pub some : 0 < n
+  pub within : n ≤ most
+
 -- numbers with a comma between two of them
 abbrev pub Lists : List ℕ → List ℕ → Type 0
 Lists text [] = ⊥
@@ -34,6 +40,16 @@ Lists text (n ∷ (m ∷ more)) = (front : List ℕ) × (rest : List ℕ) × (te
 -- `check PATH`
 abbrev pub IsCheck : List (List ℕ) → List ℕ → Type 0
 IsCheck args path = args ≡ codes "check" ∷ path ∷ []
+
+-- `sim LEVEL SEED SESSIONS QUERIES`
+pub record IsSim (args : List (List ℕ)) (level : Level) (seed sessions queries : ℕ) : Type 0 where
+  pub seed_digits : List ℕ
+  pub session_digits : List ℕ
+  pub query_digits : List ℕ
+  pub args_are : args ≡ codes "sim" ∷ level_word level ∷ seed_digits ∷ session_digits ∷ query_digits ∷ []
+  pub seed_is : IsLongWord seed_digits seed
+  pub sessions_are : IsUpTo 64 session_digits sessions
+  pub queries_are : IsUpTo 200 query_digits queries
 
 -- `pipe LEVEL WORDS`
 abbrev pub IsPipe : List (List ℕ) → Level → List ℕ → Type 0

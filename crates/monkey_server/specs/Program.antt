@@ -13,7 +13,8 @@ use Rattle.session_core.specs.Serve.{scene_of, Account, Serves}
 use Rattle.choice_stream.specs.Choices.{DrawsFirst}
 use Rattle.host_calls.specs.Printing.{Printed}
 use Rattle.check_command.specs.Checks.{Checks}
-use Rattle.monkey_server.specs.Command.{IsPipe, IsCheck}
+use Rattle.sim_command.specs.Simulations.{Simulates}
+use Rattle.monkey_server.specs.Command.{IsPipe, IsCheck, IsSim}
 
 abbrev pub usage_line : List ℕ
 usage_line = codes "usage: monkeydb pipe LEVEL WORDS | serve [OPTIONS] | check PATH | sim LEVEL SEED SESSIONS QUERIES" ++ 10 ∷ []
@@ -76,11 +77,14 @@ Pipes level words before code after = Piped level words before code after ⊎ (L
 pub record IsNoCommand (args : List (List ℕ)) : Type 0 where
   pub no_pipe : (level : Level) (words : List ℕ) → ¬ (IsPipe args level words)
   pub no_check : (path : List ℕ) → ¬ (IsCheck args path)
+  pub no_sim : (level : Level) (seed sessions queries : ℕ) → ¬ (IsSim args level seed sessions queries)
 
 -- what the program does with these words
 abbrev pub Does : List (List ℕ) → Hosted → ℕ → Hosted → Type 0
 Does args before code after =
     ((level : Level) × (words : List ℕ) × IsPipe args level words × Pipes level words before code after)
     ⊎ (((path : List ℕ) × IsCheck args path × Checks path before code after)
+    ⊎ (((level : Level) × (seed : ℕ) × (sessions : ℕ) × (queries : ℕ) × IsSim args level seed sessions queries
+    × Simulates level seed sessions queries before code after)
     ⊎ ((IsNoCommand args × Printed usage_line 2 before code after)
-    ⊎ Untouched before code after))
+    ⊎ Untouched before code after)))

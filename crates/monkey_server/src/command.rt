@@ -1,11 +1,12 @@
-// The commands `pipe LEVEL WORDS` and `check PATH`, read from the words that the program is started with.
+// The commands `pipe LEVEL WORDS`, `check PATH` and `sim LEVEL SEED SESSIONS QUERIES`, read from the words that the program is started with.
 ghost use Rattle.std.specs.Prelude.{◌≡◌, ◌≢◌, ◌≤◌, ◌<◌, ◌+◌, ◌*◌, ◌-◌, ◌↔◌, ℕ, List, [], ◌∷◌, ◌++◌, codes, Contains, IfOk, IfSome, IsNone, IsTrue, Ok, None};
 ghost use Rattle.cell_base.specs.declared.level.Level.{Level as Served};
 ghost use Rattle.block_machine.specs.Settings.{level_word};
-ghost use Rattle.monkey_server.specs.Command.{IsDigit, IsWord, IsLongWord, Lists, IsPipe, IsCheck};
+ghost use Rattle.monkey_server.specs.Command.{IsDigit, IsWord, IsLongWord, IsUpTo, Lists, IsPipe, IsCheck, IsSim};
 
 use block_machine::level_named;
 use cell_base::{Items, Level, Memory, Text};
+use sim_command::Plan;
 use std::alloc::Global;
 
 // The number with one more digit, where that fits 64 bits.
@@ -43,6 +44,18 @@ fn word(part: &[u8]) -> Option<u32>
 {
     let number = number(part)?;
     u32::try_from(number).ok()
+}
+
+// The number that the digits spell, where it is from 1 to this one.
+fn up_to(most: u32, part: &[u8]) -> Option<u32>
+    ensures some { IfSome result (λ n. IsUpTo most part.now n) }
+    ensures none { IsNone result → (n : ℕ) → ¬ (IsUpTo most part.now n) }
+{
+    let number = word(part)?;
+    if number == 0 || number > most {
+        return None;
+    }
+    Some(number)
 }
 
 // What stands before the first comma, and what after it.
@@ -118,6 +131,25 @@ pub fn check_path(args: &[Text]) -> Option<&Text>
         return None;
     }
     Some(path)
+}
+
+/// What `sim LEVEL SEED SESSIONS QUERIES` simulates. `None` comes exactly where the words are no such command.
+pub fn sim_plan(args: &[Text]) -> Option<Plan>
+    ensures some { IfSome result (λ plan. IsSim args.now plan.level plan.seed plan.sessions plan.queries) }
+    ensures none { IsNone result → (level : Served) (seed sessions queries : ℕ) → ¬ (IsSim args.now level seed sessions queries) }
+{
+    let [sim, level, seed, sessions, queries] = args else {
+        return None;
+    };
+    if !is_word(sim, b"sim") {
+        return None;
+    }
+    Some(Plan {
+        level: level_of(level)?,
+        seed: number(seed.bytes())?,
+        sessions: up_to(64, sessions.bytes())?,
+        queries: up_to(200, queries.bytes())?,
+    })
 }
 
 /// The command `pipe LEVEL WORDS`.

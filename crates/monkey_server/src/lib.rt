@@ -1,7 +1,7 @@
 //! The commands of the program.
 //!
 //! [`monkey_main`] does all that the program does in a host (`specs/Program`): `pipe LEVEL WORDS` serves one session over the standard link,
-//! `check PATH` checks the log of a file, other words print the usage line.
+//! `check PATH` checks the log of a file, `sim LEVEL SEED SESSIONS QUERIES` simulates sessions, other words print the usage line.
 #![tactic(auto)]
 
 mod command;

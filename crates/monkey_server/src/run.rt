@@ -4,7 +4,7 @@ ghost use Rattle.link_traits.specs.Host.{objects_out};
 ghost use Rattle.monkey_server.specs.Program.{no_past, status_of, ServesAlone, Pipes, Does};
 ghost use Rattle.link_traits.specs.Traffic.{sight_of};
 
-use crate::command::{PipeCommand, check_path, command_of};
+use crate::command::{PipeCommand, check_path, command_of, sim_plan};
 use cell_base::{Items, Level, Memory, Text};
 use check_command::check_file;
 use choice_stream::ListWords;
@@ -12,6 +12,7 @@ use history_core::InitialState;
 use host_calls::{Status, print};
 use link_traits::{Host, HostFault, Link};
 use session_core::{End, Served, serve_link};
+use sim_command::simulate;
 use std::alloc::Global;
 use valid_writes::{SeatBook, Store};
 
@@ -85,10 +86,12 @@ fn pipe<H: Host>(alloc: Global, host: &mut H, command: PipeCommand) -> Status
 /// Does all that the program does with the words of its command line, its own name left out. `pipe LEVEL WORDS` serves one
 /// session over the host's standard link, at Read Committed (`rc`), Read Atomic (`ra`) or Causal Consistency (`cc`), with the numbers of
 /// WORDS as the choice words and 0 after them; `check PATH` reads the log of a file and prints `ok`, the first breach of its history, or why
-/// it is no log; other words print the usage line.
+/// it is no log; `sim LEVEL SEED SESSIONS QUERIES` simulates sessions whose queries and choices are drawn from a seed, and prints a summary of
+/// their history; other words print the usage line.
 ///
-/// The status is 0 where the session ended well or was a cancel request, and for `ok`; 1 where its input was cut short or was no messages,
-/// where its start was refused, or where more bytes were wanted than are read, and for a breach or a fault of a log; 2 for the usage line;
+/// The status is 0 where the session ended well or was a cancel request, for `ok`, and for a summary; 1 where its input was cut short or was no
+/// messages, where its start was refused, or where more bytes were wanted than are read, for a breach or a fault of a log, and where a
+/// simulation made 4,294,967,295 steps without coming to its end; 2 for the usage line;
 /// 3 where reading failed; 4 where writing failed; 5 where memory ran out; and 6 where the host counted that it gave no link or file.
 pub fn monkey_main<H: Host>(alloc: Global, host: &mut H, words: &[Text]) -> Status
     requires { objects_out (H.hosted host.old) ≡ 0 }
@@ -97,6 +100,9 @@ pub fn monkey_main<H: Host>(alloc: Global, host: &mut H, words: &[Text]) -> Stat
 {
     if let Some(path) = check_path(words) {
         return check_file(alloc, host, path);
+    }
+    if let Some(plan) = sim_plan(words) {
+        return simulate(alloc, host, plan);
     }
     match command_of(alloc, words) {
         Ok(Some(command)) => pipe(alloc, host, command),

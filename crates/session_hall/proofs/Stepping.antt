@@ -44,16 +44,16 @@ item_at [] k within = absurd (omega (arith, within))
 item_at (x ∷ xs) zero within = (x, refl)
 item_at (x ∷ xs) (suc k) within = item_at xs k (omega (arith, within))
 
-same_test : (a b : ℕ) → a ≡ b → (a == b) ≡ true
+pub same_test : (a b : ℕ) → a ≡ b → (a == b) ≡ true
 same_test a b h = grind (arith, nat_tests)
 
-other_test : (a b : ℕ) → a ≢ b → (a == b) ≡ false
+pub other_test : (a b : ℕ) → a ≢ b → (a == b) ≡ false
 other_test a b h = grind (arith, nat_tests)
 
-with_same : (accounts : ℕ → Account) (client : ℕ) (a : Account) (k : ℕ) → k ≡ client → with_account accounts client a k ≡ a
+pub with_same : (accounts : ℕ → Account) (client : ℕ) (a : Account) (k : ℕ) → k ≡ client → with_account accounts client a k ≡ a
 with_same accounts client a k is = ap (λ (t : Bool). if t then a else accounts k) (same_test k client is)
 
-with_other : (accounts : ℕ → Account) (client : ℕ) (a : Account) (k : ℕ) → k ≢ client → with_account accounts client a k ≡ accounts k
+pub with_other : (accounts : ℕ → Account) (client : ℕ) (a : Account) (k : ℕ) → k ≢ client → with_account accounts client a k ≡ accounts k
 with_other accounts client a k apart = ap (λ (t : Bool). if t then a else accounts k) (other_test k client apart)
 
 either : (j k : ℕ) → (j ≡ k) ⊎ (j ≢ k)

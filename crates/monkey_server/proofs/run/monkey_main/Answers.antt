@@ -13,13 +13,14 @@ returns-in-Ok-Some-clause-does g c =
     inl (command.level, command.words, is, c.pipe.ensures.pipes)
 
 pub returns-in-Ok-None-clause-does : goal.returns-in-Ok-None-clause-does
-returns-in-Ok-None-clause-does g c = inr (inr (inl (
+returns-in-Ok-None-clause-does g c = inr (inr (inr (inl (
   record {
     no_pipe = c.in-Ok-None.ensures.none (subst (λ x. IsNone x) (sym c.in-Ok-None.field-0-is) refl);
     no_check = c.in_default.ensures.none refl;
+    no_sim = c.in_default-sim_plan.ensures.none refl;
   },
   subst (λ (line : List ℕ). Printed line 2 (g.H.Host.hosted c.args.host.now) c.print.result.code (g.H.Host.hosted c.print.new.host)) c.as_bytes.ensures.value c.print.ensures.printed,
-)))
+))))
 
 pub returns-in-Err-clause-does : goal.returns-in-Err-clause-does
-returns-in-Err-clause-does g c = inr (inr (inr (refl, refl)))
+returns-in-Err-clause-does g c = inr (inr (inr (inr (refl, refl))))

@@ -1,0 +1,156 @@
+// The command `sim LEVEL SEED SESSIONS QUERIES`.
+ghost use Rattle.std.specs.Prelude.{◌≡◌, ◌<◌, ◌≤◌, ◌+◌, ℕ, List, true, false, Some, IfOk, IfErr, OnOk};
+ghost use Rattle.cell_base.specs.declared.level.Level.{Level as Served};
+ghost use Rattle.link_traits.specs.Host.{objects_out};
+ghost use Rattle.history_core.specs.Chronicle.{Chronicle};
+ghost use Rattle.history_summary.specs.Line.{IsSummary};
+ghost use Rattle.block_machine.specs.Script.{has_short};
+ghost use Rattle.session_hall.specs.Halls.{IsHall, clients_of};
+ghost use Rattle.session_hall.specs.declared.client.Client.{Client};
+ghost use Rattle.sim_command.specs.Runs.{Moment};
+ghost use Rattle.sim_command.specs.Simulations.{numbers_from, IsSchedule, IsSimulation, IsCutOff, Simulates};
+ghost use Rattle.sim_command.specs.Playing.{StandsAt, Goes, IsNewHall, AreAny};
+
+use crate::playing::{SimFault, go_to_end, play};
+use cell_base::{Level, Memory};
+use choice_stream::SeedWords;
+use history_summary::summary;
+use host_calls::{Status, print};
+use link_traits::Host;
+use session_hall::Hall;
+use sim_clients::sim_clients;
+use std::alloc::Global;
+
+/// The stream of the seed that says whose step it is.
+const SCHEDULE: u64 = 65;
+
+/// What is simulated.
+#[derive(Clone, Copy, Debug, PartialEq, Eq)]
+pub struct Plan {
+    pub level: Level,
+    pub seed: u64,
+    /// How many sessions there are beside the one that makes the table, from 1 to 64.
+    pub sessions: u32,
+    /// How many queries each sends, from 1 to 200.
+    pub queries: u32,
+}
+
+// The numbers from 1 to this one.
+fn numbers_to(alloc: Global, many: u32) -> Result<Vec<u32>, Memory>
+    requires { many < 4294967295 }
+    ensures { IfOk result (λ numbers. numbers.items ≡ numbers_from 1 many) }
+{
+    let mut numbers = Vec::with_capacity(alloc, many as usize)?;
+    for number in 0..many {
+        numbers.push(number + 1)?;
+    }
+    Ok(numbers)
+}
+
+// Whether memory ran out in none of the first so many clients' sessions.
+fn are_at_rest(hall: &Hall, many: u32) -> bool
+    requires { many ≤ clients_of hall.now }
+    ensures { result ≡ true → (level : Served) (clients : List Client) (moment : Moment) → StandsAt level clients moment hall.now → (k : ℕ) → k < many →
+        has_short (moment.accounts k).entries ≡ false }
+{
+    for client in 0..many {
+        if hall.short(client) {
+            return false;
+        }
+    }
+    true
+}
+
+// A hall of the clients of the seed, of which nothing was heard yet.
+fn new_hall(alloc: Global, plan: Plan) -> Result<Hall, Memory>
+    requires { plan.queries ≤ 200 }
+    ensures new { IfOk result (IsNewHall plan.level plan.seed plan.sessions plan.queries) }
+    ensures hall { IfOk result IsHall }
+    ensures count { IfOk result (λ hall. clients_of hall ≡ plan.sessions + 1) }
+{
+    let clients = sim_clients(alloc, plan.seed, plan.sessions, plan.queries)?;
+    Hall::new(alloc, plan.level, clients)
+}
+
+// Lets all clients go on to their ends, in the order of the seed.
+fn play_all(alloc: Global, hall: &mut Hall, plan: Plan, left: &mut u32) -> Result<(), SimFault>
+    requires hall { IsHall hall.old }
+    requires count { clients_of hall.old ≡ plan.sessions + 1 }
+    requires sessions { plan.sessions ≤ 64 }
+    ensures ok { OnOk result (Goes (IsSchedule plan.seed plan.sessions) left.old hall.old left.new hall.new) }
+    ensures hall { IsHall hall.new }
+    ensures range { clients_of hall.new ≡ clients_of hall.old }
+    ensures cut { IfErr result (λ e. e ≡ SimFault.Steps → (left.new ≡ 0) × Goes AreAny left.old hall.old left.new hall.new) }
+{
+    match go_to_end(hall, 0, left) {
+        Ok(()) => {}
+        Err(fault) => return Err(fault),
+    }
+    let Ok(mut going) = numbers_to(alloc, plan.sessions) else {
+        return Err(SimFault::Memory);
+    };
+    let mut words = SeedWords::new(plan.seed, SCHEDULE);
+    match play(hall, &mut going, &mut words, left) {
+        Ok(()) => Ok(()),
+        Err(fault) => Err(fault),
+    }
+}
+
+// The hall after all its clients have ended.
+fn played(alloc: Global, plan: Plan) -> Result<Hall, SimFault>
+    requires queries { plan.queries ≤ 200 }
+    requires sessions { plan.sessions ≤ 64 }
+    ensures ok { IfOk result (λ hall. (history : Chronicle) → hall.store ≡ Some history → IsSimulation plan.level plan.seed plan.sessions plan.queries history) }
+    ensures hall { IfOk result IsHall }
+    ensures cut { IfErr result (λ e. e ≡ SimFault.Steps → IsCutOff plan.level plan.seed plan.sessions plan.queries) }
+{
+    let Ok(mut hall) = new_hall(alloc, plan) else {
+        return Err(SimFault::Memory);
+    };
+    let mut left = u32::MAX;
+    match play_all(alloc, &mut hall, plan, &mut left) {
+        Ok(()) => {}
+        Err(fault) => return Err(fault),
+    }
+    if are_at_rest(&hall, plan.sessions + 1) {
+        Ok(hall)
+    } else {
+        Err(SimFault::Memory)
+    }
+}
+
+// The summary of the history.
+fn line_of(alloc: Global, plan: Plan) -> Result<Vec<u8>, SimFault>
+    requires queries { plan.queries ≤ 200 }
+    requires sessions { plan.sessions ≤ 64 }
+    ensures ok { IfOk result (λ line. (history : Chronicle) × IsSimulation plan.level plan.seed plan.sessions plan.queries history
+        × IsSummary plan.level plan.seed history.events line.items) }
+    ensures cut { IfErr result (λ e. e ≡ SimFault.Steps → IsCutOff plan.level plan.seed plan.sessions plan.queries) }
+{
+    let hall = match played(alloc, plan) {
+        Ok(hall) => hall,
+        Err(fault) => return Err(fault),
+    };
+    match summary(alloc, plan.level, plan.seed, hall.history()) {
+        Ok(line) => Ok(line),
+        Err(Memory) => Err(SimFault::Memory),
+    }
+}
+
+/// Simulates many sessions over one history and prints its summary.
+///
+/// The status is 0 where the line was written whole; 1 where 4,294,967,295 steps were made; 4 where a write failed; and 5 where memory ran out,
+/// also inside a session: then nothing is printed.
+pub fn simulate<H: Host>(alloc: Global, host: &mut H, plan: Plan) -> Status
+    requires queries { plan.queries ≤ 200 }
+    requires sessions { plan.sessions ≤ 64 }
+    requires none_out { objects_out (H.hosted host.old) ≡ 0 }
+    ensures simulates { Simulates plan.level plan.seed plan.sessions plan.queries (H.hosted host.old) result.code (H.hosted host.new) }
+    ensures none_out { objects_out (H.hosted host.new) ≡ 0 }
+{
+    match line_of(alloc, plan) {
+        Ok(line) => print(host, &line, Status { code: 0 }),
+        Err(SimFault::Steps) => Status { code: 1 },
+        Err(SimFault::Memory) => Status { code: 5 },
+    }
+}
