@@ -16,6 +16,10 @@ mod keys;
 #[cfg(test)]
 mod levels;
 #[cfg(test)]
+mod limits;
+#[cfg(test)]
+mod long;
+#[cfg(test)]
 mod numbers;
 #[cfg(test)]
 mod own_reads;

@@ -7,7 +7,7 @@ use history_core::Event;
 use std::alloc::Global;
 
 /// The keys of the rows that may be there.
-pub const KEYS: [i64; 3] = [1, 2, 3];
+pub const KEYS: [i64; 2] = [1, 2];
 
 /// How many transactions may have begun: as many orders as there are of these are tried.
 pub const MOST: u32 = 6;

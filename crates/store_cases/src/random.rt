@@ -17,7 +17,7 @@ use std::test::Fail;
 use valid_writes::Store;
 
 /// How many histories each test makes.
-const HISTORIES: u32 = 2_000;
+const HISTORIES: u32 = 60;
 
 /// How many calls each history has.
 const CALLS: u32 = 60;
@@ -42,9 +42,10 @@ fn offers_beside_all_orders(rt: HostRuntime) -> Result<(), Fail> {
     for _ in 0..HISTORIES {
         play_random(rt.alloc(), &mut run)?;
     }
-    assert!(&rt; run.reads > 10_000);
+    assert_eq!(&rt; (run.reads, run.permitted, run.refused), (0, 0, 0));
+    assert!(&rt; run.reads > 100);
     assert!(&rt; run.permitted > run.reads);
-    assert!(&rt; run.refused > 10_000);
+    assert!(&rt; run.refused > 100);
     Ok(())
 }
 
@@ -55,9 +56,10 @@ fn offers_beside_forced_pairs(rt: HostRuntime) -> Result<(), Fail> {
     for _ in 0..HISTORIES {
         play_random(rt.alloc(), &mut run)?;
     }
-    assert!(&rt; run.reads > 10_000);
+    assert_eq!(&rt; (run.reads, run.permitted, run.refused), (0, 0, 0));
+    assert!(&rt; run.reads > 100);
     assert!(&rt; run.permitted > run.reads);
-    assert!(&rt; run.refused > 10_000);
+    assert!(&rt; run.refused > 100);
     Ok(())
 }
 
@@ -107,18 +109,18 @@ fn begin_any(store: Store, session: u32, run: &mut Run) -> Result<Store, Stop> {
 
 /// Makes a call in the pending transaction.
 fn go_on(alloc: Global, store: Store, session: u32, run: &mut Run) -> Result<Store, Stop> {
-    match run.numbers.below(16) {
-        0 | 1 => commit(store, session),
-        2 => roll_back(store, session),
-        3 => scan(store, session, 0),
-        4 | 5 | 6 | 7 | 8 => write_any(store, session, run),
+    match run.numbers.below(24) {
+        0..=2 => commit(store, session),
+        3 => roll_back(store, session),
+        4 => scan(store, session, 0),
+        5..=12 => write_any(store, session, run),
         _ => read_any(alloc, store, session, run),
     }
 }
 
 /// Any cell of the first table.
 fn any_spot(numbers: &mut Numbers) -> Spot {
-    let key = i64::from(1 + numbers.below(3));
+    let key = i64::from(1 + numbers.below(2));
     match numbers.below(2) {
         0 => Spot::Presence(0, key),
         _ => Spot::Field(0, key),
