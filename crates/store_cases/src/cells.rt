@@ -4,7 +4,7 @@ ghost use Rattle.history_core.specs.Initial.{IsStorable};
 use cell_base::{Cell, Key, Value};
 
 /// A cell of a table with the columns k and v: the table's number and the key.
-#[derive(Clone, Copy, Debug, PartialEq, Eq)]
+#[derive(Clone, Copy, PartialEq, Eq)]
 pub enum Spot {
     /// Whether the row is there.
     Presence(u32, i64),

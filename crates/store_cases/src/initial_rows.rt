@@ -10,8 +10,8 @@ use crate::start::{reopen, start_from, table};
 use crate::told::{Told, is_told, reads_of};
 use cell_base::{Items, Key, Level, Value};
 use history_core::{BookFault, InitialState};
-use valid_writes::SeatBook;
 use std::alloc::Global;
+use valid_writes::SeatBook;
 
 /// A read of a row that was never written finds it, at each level, and a row that isn't there isn't found. The load is that of the
 /// four cells and of the events.

@@ -7,8 +7,8 @@ use crate::start::{reopen, start};
 use crate::told::{Told, is_told, reads_of};
 use cell_base::{Items, Level, Value};
 use history_core::BookFault;
-use valid_writes::SeatBook;
 use std::alloc::Global;
+use valid_writes::SeatBook;
 
 /// In a lone session a read at Read Atomic or Causal Consistency is offered the last committed write alone, whatever the levels
 /// of the transactions before, and one at Read Committed each write that no later one has passed.

@@ -122,9 +122,15 @@ fn defines_64_tables(rt: HostRuntime) -> Result<(), Fail> {
     let alloc = rt.alloc();
     let mut book = start(alloc)?;
     for number in 1..64 {
-        assert_eq!(&rt; define(alloc, &mut book, number)?, Ok(DefineAnswer::Defined(number)));
+        assert_eq!(&rt;
+            define(alloc, &mut book, number)?,
+            Ok(DefineAnswer::Defined(number))
+        );
     }
-    assert_eq!(&rt; define(alloc, &mut book, 64)?, Err(BookFault::Full(Limit::Tables)));
+    assert_eq!(&rt;
+        define(alloc, &mut book, 64)?,
+        Err(BookFault::Full(Limit::Tables))
+    );
     assert_eq!(&rt; define(alloc, &mut book, 63)?, Ok(DefineAnswer::Taken(64)));
     Ok(())
 }
@@ -152,6 +158,9 @@ fn begins_65535_transactions(rt: HostRuntime) -> Result<(), Fail> {
         commit(&mut book);
     }
     assert_eq!(&rt; book.history().begun(), 65_535);
-    assert_eq!(&rt; refused_begin(&mut book), Some(BookFault::Full(Limit::Transactions)));
+    assert_eq!(&rt;
+        refused_begin(&mut book),
+        Some(BookFault::Full(Limit::Transactions))
+    );
     Ok(())
 }

@@ -9,8 +9,8 @@ use crate::start::{start, text};
 use crate::told::{is_own, is_shown, is_told, reads_of};
 use cell_base::{Level, Value};
 use history_core::BookFault;
-use valid_writes::SeatBook;
 use std::alloc::Global;
+use valid_writes::SeatBook;
 
 /// A cell that is written twice reads as it was written last. Events 4 and 5 are the writes.
 #[test]

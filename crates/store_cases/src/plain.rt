@@ -13,7 +13,7 @@ pub const KEYS: [i64; 2] = [1, 2];
 pub const MOST: u32 = 6;
 
 /// A transaction.
-#[derive(Clone, Copy, Debug)]
+#[derive(Clone, Copy)]
 struct Txn {
     session: u32,
     level: Level,
@@ -21,7 +21,7 @@ struct Txn {
 }
 
 /// An external read of a transaction, at the place of its event.
-#[derive(Clone, Copy, Debug)]
+#[derive(Clone, Copy)]
 struct Given {
     reader: u32,
     place: usize,
@@ -30,7 +30,7 @@ struct Given {
 }
 
 /// What the events say: the transactions by their numbers, what each wrote, committed or not, and what each read.
-#[derive(Debug, Drop)]
+#[derive(Drop)]
 pub struct Plain {
     txns: Vec<Txn>,
     writes: Vec<(u32, Spot)>,
@@ -105,7 +105,9 @@ fn lists(keys: &Items<Key>, wanted: i64) -> bool {
 impl Plain {
     /// How many transactions there are, with the initial one.
     fn size(&self) -> u32 {
-        self.txns.iter().fold(0u32, |count, _| count.saturating_add(1))
+        self.txns
+            .iter()
+            .fold(0u32, |count, _| count.saturating_add(1))
     }
 
     fn txn(&self, number: u32) -> Option<Txn> {
@@ -139,9 +141,7 @@ impl Plain {
                 is_committed: false,
             })?,
             Event::Commit { session } => self.note_commit(*session),
-            Event::Write { session, cell, .. } => {
-                self.writes.push((self.last_of(*session), spot_of(cell)))?
-            }
+            Event::Write { session, cell, .. } => self.note_write(*session, spot_of(cell))?,
             Event::Read {
                 session,
                 cell,
@@ -165,7 +165,19 @@ impl Plain {
         }
     }
 
-    fn note_read(&mut self, session: u32, place: usize, spot: Spot, source: u32) -> Result<(), Stop> {
+    fn note_write(&mut self, session: u32, spot: Spot) -> Result<(), Stop> {
+        let writer = self.last_of(session);
+        self.writes.push((writer, spot))?;
+        Ok(())
+    }
+
+    fn note_read(
+        &mut self,
+        session: u32,
+        place: usize,
+        spot: Spot,
+        source: u32,
+    ) -> Result<(), Stop> {
         let reader = self.last_of(session);
         self.reads.push(Given {
             reader,
@@ -251,9 +263,24 @@ impl Plain {
     /// Whether the level of its transaction lets the read see the writer.
     fn sees(&self, causal: &[(u32, u32)], read: Given, writer: u32) -> bool {
         match self.txn(read.reader) {
-            Some(Txn { level: Level::Rc, .. }) => self.reads_before(read, writer),
-            Some(Txn { level: Level::Ra, .. }) => self.precedes(writer, read.reader),
-            Some(Txn { level: Level::Cc, .. }) => causal.contains(&(writer, read.reader)),
+            Some(
+                Txn {
+                    level: Level::Rc,
+                    ..
+                },
+            ) => self.reads_before(read, writer),
+            Some(
+                Txn {
+                    level: Level::Ra,
+                    ..
+                },
+            ) => self.precedes(writer, read.reader),
+            Some(
+                Txn {
+                    level: Level::Cc,
+                    ..
+                },
+            ) => causal.contains(&(writer, read.reader)),
             None => false,
         }
     }

@@ -2,16 +2,16 @@
 use crate::cells::Spot;
 use crate::keys::are_integers;
 use crate::seats::{
-    begin, close, commit, define, empty_store, offer, open, own, read, roll_back, scan, unlike, write,
+    begin, close, commit, define, empty_store, offer, open, roll_back, scan, see, unlike, write,
 };
 use crate::stop::Stop;
-use cell_base::Level;
+use cell_base::{Level, Value};
 use history_core::Event;
 use std::alloc::Global;
 use valid_writes::Store;
 
 /// A call, with what is expected of it. A number that a cell has is read as `Spot::value` says.
-#[derive(Clone, Copy, Debug)]
+#[derive(Clone, Copy)]
 pub enum Call<'a> {
     /// Opens the session, which is the next one.
     Open,
@@ -61,7 +61,7 @@ fn play_one(alloc: Global, store: Store, session: u32, call: Call) -> Result<Sto
     }
     let number = store.history().next_number();
     let store = make(alloc, store, session, call)?;
-    if store.history().next_number() != number.saturating_add(1) || !is_told(&store, session, call) {
+    if store.history().next_number() != number.saturating_add(1) || !is_told(&store, call) {
         return Err(unlike(&store));
     }
     Ok(store)
@@ -75,8 +75,8 @@ fn make(alloc: Global, store: Store, session: u32, call: Call) -> Result<Store, 
         Call::Define(text) => define(alloc, store, session, text),
         Call::Begin(level) => begin(store, session, level),
         Call::Scan(table, _) => scan(store, session, table),
-        Call::Read(spot, _, word, _) => read(store, session, spot, word),
-        Call::Own(spot, _) => own(store, session, spot),
+        Call::Read(spot, _, word, _) => see(store, session, spot, word),
+        Call::Own(spot, _) => see(store, session, spot, 0),
         Call::Write(spot, number) => write(store, session, spot, number),
         Call::Commit => commit(store, session),
         Call::RollBack => roll_back(store, session),
@@ -91,63 +91,56 @@ fn is_offered(store: &Store, session: u32, call: Call) -> Result<bool, Stop> {
     }
 }
 
-/// Whether the last event is the call's, in the session.
-fn is_told(store: &Store, session: u32, call: Call) -> bool {
+/// Whether the last event tells what the call expects.
+fn is_told(store: &Store, call: Call) -> bool {
     match store.history().events().last() {
-        Some(event) => is_event_of(event, session, call),
+        Some(event) => tells(event, call),
         None => false,
     }
 }
 
-/// Whether the event is the call's, in the session.
-fn is_event_of(event: &Event, own: u32, call: Call) -> bool {
-    match (event, call) {
-        (Event::Open { session }, Call::Open) => *session == own,
-        (Event::Close { session }, Call::Close) => *session == own,
-        (Event::Define { session, .. }, Call::Define(_)) => *session == own,
-        (Event::Begin { session, level }, Call::Begin(want)) => *session == own && *level == want,
-        (Event::Commit { session }, Call::Commit) => *session == own,
-        (Event::Rollback { session }, Call::RollBack) => *session == own,
-        (event, call) => is_cell_event_of(event, own, call),
+/// Whether the event tells what the call expects; that it is the call's is a clause of each call.
+fn tells(event: &Event, call: Call) -> bool {
+    match call {
+        Call::Scan(_, keys) => tells_keys(event, keys),
+        Call::Own(spot, number) => tells_own(event, &spot.value(number)),
+        Call::Read(spot, offered, word, number) => {
+            tells_read(event, offered, word, &spot.value(number))
+        }
+        _ => true,
     }
 }
 
-/// The same of scans, reads and writes.
-fn is_cell_event_of(event: &Event, own: u32, call: Call) -> bool {
-    match (event, call) {
-        (Event::Scan { session, table, keys }, Call::Scan(number, want)) => {
-            *session == own && *table == number && are_integers(keys, want)
-        }
-        (Event::Own { session, cell, value }, Call::Own(spot, number)) => {
-            *session == own && cell.is_same(&spot.cell()) && value.is_same(&spot.value(number))
-        }
-        (Event::Write { session, cell, value }, Call::Write(spot, number)) => {
-            *session == own && cell.is_same(&spot.cell()) && value.is_same(&spot.value(number))
-        }
-        (event, call) => is_read_of(event, own, call),
+/// Whether the event is a scan that lists these keys.
+fn tells_keys(event: &Event, want: &[i64]) -> bool {
+    match event {
+        Event::Scan { keys, .. } => are_integers(keys, want),
+        _ => false,
     }
 }
 
-/// The same of a read, which takes the write that the word picks.
-fn is_read_of(event: &Event, own: u32, call: Call) -> bool {
-    match (event, call) {
-        (
-            Event::Read {
-                session,
-                cell,
-                source,
-                count,
-                word,
-                value,
-            },
-            Call::Read(spot, offered, by, number),
-        ) => {
-            *session == own
-                && cell.is_same(&spot.cell())
-                && *count as usize == offered.len()
+/// Whether the event is an own read of the value.
+fn tells_own(event: &Event, want: &Value) -> bool {
+    match event {
+        Event::Own { value, .. } => value.is_same(want),
+        _ => false,
+    }
+}
+
+/// Whether the event is a read that takes the one of the offered writes that the word picks, with this value.
+fn tells_read(event: &Event, offered: &[u32], by: u32, want: &Value) -> bool {
+    match event {
+        Event::Read {
+            source,
+            count,
+            word,
+            value,
+            ..
+        } => {
+            *count as usize == offered.len()
                 && *word == by
                 && picked(offered, by) == Some(*source)
-                && value.is_same(&spot.value(number))
+                && value.is_same(want)
         }
         _ => false,
     }

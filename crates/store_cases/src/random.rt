@@ -1,6 +1,7 @@
 // Random histories of several sessions with mixed levels, scans, own reads and rollbacks: each offer beside the plain program, and beside the
 // forced pairs; and each order.
-ghost use Rattle.std.specs.Prelude.{◌<◌};
+ghost use Rattle.history_core.specs.Transactions.{HasPending};
+ghost use Rattle.saturation.specs.Laws.{AreForced};
 
 use crate::cells::Spot;
 use crate::numbers::Numbers;
@@ -8,7 +9,8 @@ use crate::plain::{self, KEYS, plain_offer};
 use crate::play::stage;
 use crate::seats::{begin, commit, misplaced, offer, roll_back, scan, see, unlike, write};
 use crate::stop::Stop;
-use cell_base::Level;
+use cell_base::{Cell, Level};
+use graph_base::Graph;
 use history_core::History;
 use order_witness::{Verdict, order_or_cycle};
 use saturation::{candidates, forced, is_permitted};
@@ -17,7 +19,7 @@ use std::test::Fail;
 use valid_writes::Store;
 
 /// How many histories each test makes.
-const HISTORIES: u32 = 60;
+const HISTORIES: u32 = 1_000;
 
 /// How many calls each history has.
 const CALLS: u32 = 60;
@@ -42,10 +44,9 @@ fn offers_beside_all_orders(rt: HostRuntime) -> Result<(), Fail> {
     for _ in 0..HISTORIES {
         play_random(rt.alloc(), &mut run)?;
     }
-    assert_eq!(&rt; (run.reads, run.permitted, run.refused), (0, 0, 0));
-    assert!(&rt; run.reads > 100);
+    assert!(&rt; run.reads > 10_000);
     assert!(&rt; run.permitted > run.reads);
-    assert!(&rt; run.refused > 100);
+    assert!(&rt; run.refused > 1_000);
     Ok(())
 }
 
@@ -56,10 +57,9 @@ fn offers_beside_forced_pairs(rt: HostRuntime) -> Result<(), Fail> {
     for _ in 0..HISTORIES {
         play_random(rt.alloc(), &mut run)?;
     }
-    assert_eq!(&rt; (run.reads, run.permitted, run.refused), (0, 0, 0));
-    assert!(&rt; run.reads > 100);
+    assert!(&rt; run.reads > 10_000);
     assert!(&rt; run.permitted > run.reads);
-    assert!(&rt; run.refused > 100);
+    assert!(&rt; run.refused > 1_000);
     Ok(())
 }
 
@@ -164,7 +164,7 @@ fn is_right(
     Ok(by_orders.as_slice() == offered)
 }
 
-/// The candidates with which the forced pairs have no cycle.
+/// The writes that the session's pending transaction may read next, by the forced pairs.
 fn offer_by_pairs(
     alloc: Global,
     store: &Store,
@@ -172,32 +172,36 @@ fn offer_by_pairs(
     spot: Spot,
     run: &mut Run,
 ) -> Result<Vec<u32>, Stop> {
+    let history = store.history();
+    let graph = forced(alloc, history)?;
+    match history.pending(session) {
+        Some(_) => permitted(alloc, history, &graph, session, &spot.cell(), run),
+        None => Err(misplaced(store)),
+    }
+}
+
+/// The candidates with which the forced pairs have no cycle.
+fn permitted(
+    alloc: Global,
+    history: &History,
+    graph: &Graph,
+    session: u32,
+    cell: &Cell,
+    run: &mut Run,
+) -> Result<Vec<u32>, Stop>
+    requires forced { AreForced history.now.events graph.now.edges.items }
+    requires pending { HasPending history.now.events session }
+{
     let mut permitted = Vec::new(alloc);
-    for source in candidates(alloc, store.history(), &spot.cell())? {
-        if permits(alloc, store, session, spot, source)? {
-            permitted.push(source)?;
+    for source in &candidates(alloc, history, cell)? {
+        if is_permitted(alloc, history, graph, session, cell, *source)? {
+            permitted.push(*source)?;
             run.permitted = run.permitted.saturating_add(1);
         } else {
             run.refused = run.refused.saturating_add(1);
         }
     }
     Ok(permitted)
-}
-
-/// Whether the forced pairs of the history with the read have no cycle.
-fn permits(
-    alloc: Global,
-    store: &Store,
-    session: u32,
-    spot: Spot,
-    source: u32,
-) -> Result<bool, Stop> {
-    let history = store.history();
-    let graph = forced(alloc, history)?;
-    match history.pending(session) {
-        Some(_) => Ok(is_permitted(alloc, history, &graph, session, &spot.cell(), source)?),
-        None => Err(misplaced(store)),
-    }
 }
 
 /// Whether the store's order is the least one that has the forced pairs.

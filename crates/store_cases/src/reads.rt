@@ -7,8 +7,8 @@ use crate::start::{reopen, start};
 use crate::told::{Told, is_told, reads_of};
 use cell_base::{Items, Level, Value};
 use history_core::BookFault;
-use valid_writes::SeatBook;
 use std::alloc::Global;
+use valid_writes::SeatBook;
 
 /// A session misses its own committed row: words 0, 0.
 #[test]

@@ -12,8 +12,8 @@ use crate::start::{reopen, start, text};
 use crate::told::{Told, is_told, reads_of};
 use cell_base::{Cell, Items, Key, Level, Value};
 use history_core::BookFault;
-use valid_writes::SeatBook;
 use std::alloc::Global;
+use valid_writes::SeatBook;
 
 /// A table without writes has no keys.
 #[test]

@@ -9,7 +9,7 @@ use crate::cells::Spot;
 use crate::stop::Stop;
 use crate::tables::table_of_text;
 use cell_base::{Cell, Level};
-use history_core::{Book, Event, History, InitialState};
+use history_core::{Book, BookFault, Event, History, InitialState};
 use std::alloc::Global;
 use valid_writes::{SeatBook, Store};
 
@@ -144,41 +144,27 @@ pub fn scan(store: Store, session: u32, table: u32) -> Result<Store, Stop> {
     Ok(book.into_store())
 }
 
-/// Reads a cell that the transaction hasn't written.
-pub fn read(store: Store, session: u32, spot: Spot, word: u32) -> Result<Store, Stop> {
-    let cell = spot.cell();
-    let mut book = busy_seat(store, session)?;
-    if book.wrote(&cell) || !has_table(&book, table(&cell)) {
-        return Err(misplaced(&book.into_store()));
-    }
-    book.read(&cell, word)?;
-    Ok(book.into_store())
-}
-
-/// Reads a cell that the transaction has written.
-pub fn own(store: Store, session: u32, spot: Spot) -> Result<Store, Stop> {
-    let cell = spot.cell();
-    let mut book = busy_seat(store, session)?;
-    if !book.wrote(&cell) {
-        return Err(misplaced(&book.into_store()));
-    }
-    book.own(&cell)?;
-    Ok(book.into_store())
-}
-
-/// Reads a cell, whether the transaction has written it or not.
+/// Reads a cell: what the transaction has written to it, or else what the word picks.
 pub fn see(store: Store, session: u32, spot: Spot, word: u32) -> Result<Store, Stop> {
     let cell = spot.cell();
     let mut book = busy_seat(store, session)?;
-    if book.wrote(&cell) {
-        book.own(&cell)?;
-        return Ok(book.into_store());
-    }
     if !has_table(&book, table(&cell)) {
         return Err(misplaced(&book.into_store()));
     }
-    book.read(&cell, word)?;
+    see_cell(&mut book, &cell, word)?;
     Ok(book.into_store())
+}
+
+fn see_cell(book: &mut SeatBook, cell: &Cell, word: u32) -> Result<(), BookFault>
+    requires pending { IsInTransaction book.old.state }
+    requires table { HasTable book.old (table_of cell.now) }
+{
+    if book.wrote(cell) {
+        book.own(cell)?;
+        return Ok(());
+    }
+    book.read(cell, word)?;
+    Ok(())
 }
 
 /// Writes what the number stands for to the cell.

@@ -1,8 +1,8 @@
 // The reads of a history, external and own, and what it told of its length.
 use cell_base::{Cell, Items, Memory, Value};
 use history_core::Event;
-use valid_writes::SeatBook;
 use std::alloc::Global;
+use valid_writes::SeatBook;
 
 /// A read as the history tells it.
 #[derive(Debug, PartialEq, Eq, Drop)]

@@ -206,10 +206,7 @@ fn reads_a_part(rt: HostRuntime) -> Result<(), Fail> {
     let store = play(
         alloc,
         between_two_rows(alloc, Rc)?,
-        &[
-            (1, Read(p(2), &[0, 2], 1, 1)),
-            (1, Read(f(2), &[2], 0, 20)),
-        ],
+        &[(1, Read(p(2), &[0, 2], 1, 1)), (1, Read(f(2), &[2], 0, 20))],
     )?;
     assert_eq!(&rt; store.order()?.as_slice(), [0, 2, 1].as_slice());
     assert!(&rt; forces(alloc, &store, 2, 1)?);
@@ -262,12 +259,7 @@ fn reads_twice(rt: HostRuntime) -> Result<(), Stop> {
 }
 
 /// An UPDATE of the row in a session of its own, by the word 1.
-fn update(
-    alloc: Global,
-    store: Store,
-    session: u32,
-    value: i64,
-) -> Result<Store, Stop> {
+fn update(alloc: Global, store: Store, session: u32, value: i64) -> Result<Store, Stop> {
     play(
         alloc,
         store,
@@ -370,7 +362,10 @@ fn scan_and_get(alloc: Global, level: Level, offered: &[u32]) -> Result<(), Stop
         alloc,
         stage(alloc, 2)?,
         &[
-            (1, Define(b"CREATE TABLE u (k bigint PRIMARY KEY, v bigint)")),
+            (
+                1,
+                Define(b"CREATE TABLE u (k bigint PRIMARY KEY, v bigint)"),
+            ),
             (1, Begin(level)),
             (1, Scan(0, &[])),
             (2, Begin(level)),
