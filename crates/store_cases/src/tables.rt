@@ -1,6 +1,5 @@
 // Sound tables of a text.
-ghost use Rattle.std.specs.Prelude.{◌≡◌, ◌<◌, ◌^◌, Contains, length, IfOk, Some, Err, Ok};
-ghost use Rattle.sql_tree.specs.declared.statement.CreateTable.{CreateTable};
+ghost use Rattle.std.specs.Prelude.{◌<◌, ◌^◌, ◌↔◌, Contains, length, IfOk, IsTrue};
 ghost use Rattle.sql_tree.specs.declared.statement.Statement.TheVariants as kinds;
 ghost use Rattle.cell_base.specs.Texts.{HasNoZero};
 ghost use Rattle.sql_statements.specs.Faults.{AreStatementsOf};
@@ -44,7 +43,7 @@ fn short_text(alloc: Global, bytes: &[u8]) -> Result<Text, Stop>
 
 /// Whether a byte is zero.
 fn has_zero(bytes: &[u8]) -> bool
-    ensures { result ≡ Bool.false → HasNoZero bytes.now }
+    ensures { IsTrue result ↔ Contains bytes.now 0 }
 {
     bytes.iter().any(|byte| *byte == 0)
 }
