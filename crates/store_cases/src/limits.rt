@@ -108,11 +108,20 @@ fn refused_begin(book: &mut SeatBook) -> Option<BookFault>
 #[test]
 fn opens_4096_sessions(rt: HostRuntime) -> Result<(), Fail> {
     let mut book = start(rt.alloc())?;
-    for _ in 1..4_096 {
-        reopen(&mut book)?;
-    }
+    reopen_many(&mut book, 4_095)?;
     book.close();
     assert_eq!(&rt; book.open(), Err(BookFault::Full(Limit::Sessions)));
+    Ok(())
+}
+
+/// Closes the session and opens another, so many times.
+fn reopen_many(book: &mut SeatBook, count: u32) -> Result<(), BookFault>
+    requires { IsReady book.old }
+    ensures { OnOk result (IsReady book.new) }
+{
+    for _ in 0..count {
+        reopen(book)?;
+    }
     Ok(())
 }
 
@@ -121,18 +130,26 @@ fn opens_4096_sessions(rt: HostRuntime) -> Result<(), Fail> {
 fn defines_64_tables(rt: HostRuntime) -> Result<(), Fail> {
     let alloc = rt.alloc();
     let mut book = start(alloc)?;
-    for number in 1..64 {
-        assert_eq!(&rt;
-            define(alloc, &mut book, number)?,
-            Ok(DefineAnswer::Defined(number))
-        );
-    }
+    assert!(&rt; define_many(alloc, &mut book)?);
     assert_eq!(&rt;
         define(alloc, &mut book, 64)?,
         Err(BookFault::Full(Limit::Tables))
     );
     assert_eq!(&rt; define(alloc, &mut book, 63)?, Ok(DefineAnswer::Taken(64)));
     Ok(())
+}
+
+/// Whether the tables of the numbers from 1 to 63 are defined, each under its number.
+fn define_many(alloc: Global, book: &mut SeatBook) -> Result<bool, Fail>
+    requires { IsReady book.old }
+    ensures { IsReady book.new }
+{
+    for number in 1..64 {
+        if define(alloc, book, number)? != Ok(DefineAnswer::Defined(number)) {
+            return Ok(false);
+        }
+    }
+    Ok(true)
 }
 
 /// Defines the table of this number's name.
@@ -153,14 +170,23 @@ fn define(
 #[test]
 fn begins_65535_transactions(rt: HostRuntime) -> Result<(), Fail> {
     let mut book = start(rt.alloc())?;
-    for _ in 0..65_535 {
-        begin(&mut book, Level::Cc)?;
-        commit(&mut book);
-    }
+    begin_many(&mut book, 65_535)?;
     assert_eq!(&rt; book.history().begun(), 65_535);
     assert_eq!(&rt;
         refused_begin(&mut book),
         Some(BookFault::Full(Limit::Transactions))
     );
+    Ok(())
+}
+
+/// Begins and commits so many transactions.
+fn begin_many(book: &mut SeatBook, count: u32) -> Result<(), BookFault>
+    requires { IsReady book.old }
+    ensures { OnOk result (IsReady book.new) }
+{
+    for _ in 0..count {
+        begin(book, Level::Cc)?;
+        commit(book);
+    }
     Ok(())
 }

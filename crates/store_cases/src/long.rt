@@ -18,7 +18,7 @@ const READERS: u32 = 4_000;
 #[test]
 fn misses_its_own_row_4000_times(rt: HostRuntime) -> Result<(), Fail> {
     let mut book = start(rt.alloc())?;
-    write_alone(&mut book, 1)?;
+    write_alone(&mut book)?;
     read_many(&mut book, Level::Rc, 0)?;
     assert_eq!(&rt; count_reads(&book, 0, 2), READERS as usize);
     let store = book.into_store();
@@ -32,7 +32,7 @@ fn misses_its_own_row_4000_times(rt: HostRuntime) -> Result<(), Fail> {
 #[test]
 fn sees_its_own_row_4000_times(rt: HostRuntime) -> Result<(), Fail> {
     let mut book = start(rt.alloc())?;
-    write_alone(&mut book, 1)?;
+    write_alone(&mut book)?;
     read_many(&mut book, Level::Cc, 0)?;
     assert_eq!(&rt; count_reads(&book, 1, 1), READERS as usize);
     let store = book.into_store();
@@ -47,7 +47,7 @@ fn sees_its_own_row_4000_times(rt: HostRuntime) -> Result<(), Fail> {
 #[test]
 fn misses_another_row_4000_times(rt: HostRuntime) -> Result<(), Fail> {
     let mut book = start(rt.alloc())?;
-    write_alone(&mut book, 1)?;
+    write_alone(&mut book)?;
     reopen(&mut book)?;
     read_many(&mut book, Level::Cc, 0)?;
     assert_eq!(&rt; count_reads(&book, 0, 2), READERS as usize);
@@ -67,9 +67,7 @@ fn misses_another_row_4000_times(rt: HostRuntime) -> Result<(), Fail> {
 #[test]
 fn offers_a_thousand_writers(rt: HostRuntime) -> Result<(), Fail> {
     let mut book = start(rt.alloc())?;
-    for _ in 0..1_000 {
-        write_alone(&mut book, 1)?;
-    }
+    write_many(&mut book, 1_000)?;
     read_alone(&mut book, Level::Rc, 1)?;
     assert_eq!(&rt; count_reads(&book, 1, 1_001), 1);
     read_alone(&mut book, Level::Ra, 0)?;
@@ -78,14 +76,25 @@ fn offers_a_thousand_writers(rt: HostRuntime) -> Result<(), Fail> {
     Ok(())
 }
 
-/// A transaction that writes the presence of the row.
-fn write_alone(book: &mut SeatBook, key: i64) -> Result<(), BookFault>
+/// A transaction that writes the presence of row 1.
+fn write_alone(book: &mut SeatBook) -> Result<(), BookFault>
     requires { IsReady book.old }
     ensures { OnOk result (IsReady book.new) }
 {
     begin(book, Level::Rc)?;
-    write(book, presence_of(key), Value::Flag(true))?;
+    write(book, presence_of(1), Value::Flag(true))?;
     commit(book);
+    Ok(())
+}
+
+/// So many of them.
+fn write_many(book: &mut SeatBook, count: u32) -> Result<(), BookFault>
+    requires { IsReady book.old }
+    ensures { OnOk result (IsReady book.new) }
+{
+    for _ in 0..count {
+        write_alone(book)?;
+    }
     Ok(())
 }
 
