@@ -1,12 +1,11 @@
 // Long histories: thousands of transactions of which each reads, and what precedes what in the end.
-ghost use Rattle.std.specs.Prelude.{OnOk, IfOk};
+ghost use Rattle.std.specs.Prelude.{OnOk};
 ghost use Rattle.store_cases.specs.SessionStates.{IsReady};
 
-use crate::calls::{begin, commit, field_of, presence_of, read, write, write_row};
+use crate::calls::{begin, commit, presence_of, read, write};
 use crate::start::{reopen, start};
 use cell_base::{Level, Value};
 use history_core::{BookFault, Event};
-use std::alloc::Global;
 use std::test::Fail;
 use valid_writes::{SeatBook, Store};
 

@@ -2,12 +2,10 @@
 // behind its statement.
 use crate::cells::{Spot, f, p};
 use crate::play::Call::{Begin, Commit, Define, Own, Read, RollBack, Scan, Write};
-use crate::play::{Call, play, stage};
+use crate::play::{play, stage};
 use crate::stop::Stop;
 use cell_base::Level;
 use cell_base::Level::{Cc, Ra, Rc};
-use graph_base::{Edge, Graph};
-use order_witness::{Verdict, order_or_cycle};
 use saturation::forced;
 use std::alloc::Global;
 use std::test::Fail;
