@@ -1,7 +1,7 @@
 -- Steps one after another.
 use Rattle.std.proofs.Common.{◌≡◌, ◌==◌, ◌⊎◌, inl, inr, true, false, ℕ, zero, suc, All, ◌+◌, ◌<◌, ◌%◌, List, [], ◌∷◌, ◌++◌, ◌≤◌, get_or, length, refl, sym, ◌∙◌, ap, subst, arith, Option, Some, Ok, append_assoc}
 use Rattle.std.specs.List.{slice_get}
-use Rattle.std.proofs.lemmas.List.{length-append}
+use Rattle.std.proofs.lemmas.List.{append-nil, length-append}
 use Rattle.std.proofs.lemmas.List.Elements.{All-push}
 use Rattle.std.proofs.lemmas.Bool.{cases_order}
 use Rattle.cell_base.specs.declared.level.Level.{Level}
@@ -17,8 +17,8 @@ use Rattle.session_hall.specs.declared.client.Stepped.TheVariants.{Called, Ended
 use Rattle.session_hall.specs.declared.hall.Hall.{Hall}
 use Rattle.session_hall.specs.Halls.{StandsFor, IsStep, clients_of}
 use Rattle.sim_command.specs.Runs.{Moment, Pick, Moves, Runs}
-use Rattle.sim_command.specs.Simulations.{going_after, DrawsTo, AreDrawn, GoesToEnd, IsSchedule, numbers_from}
-use Rattle.sim_command.specs.Playing.{StandsAt, Plays, Goes, IsStepOf, IsPicked}
+use Rattle.sim_command.specs.Simulations.{going_after, DrawsTo, AreDrawn, AreDrawnFirst, GoesOn, GoesToEnd, IsSchedule, IsFront, numbers_from}
+use Rattle.sim_command.specs.Playing.{StandsAt, Plays, Goes, IsStepOf, IsPicked, AreNone}
 use Rattle.session_hall.proofs.Stepping.{other_test}
 use Rattle.sim_command.proofs.Steps.{step_moves, within}
 
@@ -85,18 +85,14 @@ plays_one left rest old new client stepped count small step level clients before
       holds = refl;
     }
 
--- each step is of the client, which goes on
-abbrev pub AllGoOn : ℕ → List Pick → Type 0
-AllGoOn client picks = All (λ pick. pick ≡ record { client = client; stepped = Called }) picks
-
 -- the client has gone on so far, and goes on
-pub goes_on : (client : ℕ) (picks more : List Pick) → AllGoOn client picks → IsStepOf client Called more → AllGoOn client (picks ++ more)
+pub goes_on : (client : ℕ) (picks more : List Pick) → GoesOn client picks → IsStepOf client Called more → GoesOn client (picks ++ more)
 goes_on client picks more all is =
-    subst (λ (ps : List Pick). AllGoOn client (picks ++ ps)) (sym is)
+    subst (λ (ps : List Pick). GoesOn client (picks ++ ps)) (sym is)
     (All-push (λ pick. pick ≡ record { client = client; stepped = Called }) picks (record { client = client; stepped = Called }) all refl)
 
 -- and ends
-pub ends : (client : ℕ) (picks more : List Pick) → AllGoOn client picks → IsStepOf client Ended more → GoesToEnd client (picks ++ more)
+pub ends : (client : ℕ) (picks more : List Pick) → GoesOn client picks → IsStepOf client Ended more → GoesToEnd client (picks ++ more)
 ends client picks more all is = record { before = picks; is = ap (λ (ps : List Pick). picks ++ ps) is; going = all }
 
 -- the next that is picked
@@ -178,3 +174,18 @@ pieces seed sessions queries clients are =
 -- the history of a hall is one
 pub same_history : (store : Option Chronicle) (a b : Chronicle) → store ≡ Some a → store ≡ Some b → a ≡ b
 same_history store a b first second = let both : Some a ≡ Some b = sym first ∙ second in cc
+
+-- what holds of steps holds of them with none after them
+pub with_none : (P : List Pick → Type 0) (picks more : List Pick) → P picks → AreNone more → P (picks ++ more)
+with_none P picks more holds none = subst P (sym (ap (λ (ps : List Pick). picks ++ ps) none ∙ append-nil picks)) holds
+
+-- a front whose draws go on
+pub fronts : (seed sessions : ℕ) (going : List ℕ) → going ≡ numbers_from 1 sessions → (front : ChaCha) → front ≡ stream_front seed 65 →
+    (makes asks : List Pick) → GoesToEnd 0 makes → AreDrawnFirst front going asks → IsFront seed sessions (makes ++ asks)
+fronts seed sessions going are front is makes asks maker drawn = inr (
+  makes,
+  asks,
+  refl,
+  maker,
+  subst (λ (g : ChaCha). AreDrawnFirst g (numbers_from 1 sessions) asks) is (subst (λ (ns : List ℕ). AreDrawnFirst front ns asks) are drawn),
+)

@@ -37,9 +37,9 @@ pub record IsPicked (word : ℕ) (going left : List ℕ) (picks : List Pick) : T
   pub picked : slice_get going (word % length going) ≡ Some pick.client
   pub left_is : left ≡ going_after pick.stepped (word % length going) going
 
--- any steps
-abbrev pub AreAny : List Pick → Type 0
-AreAny picks = Unit {0}
+-- no step
+abbrev pub AreNone : List Pick → Type 0
+AreNone picks = picks ≡ []
 
 -- the hall has the clients of the seed, of which nothing was heard yet
 pub record IsNewHall (level : Level) (seed sessions queries : ℕ) (hall : Hall) : Type 0 where

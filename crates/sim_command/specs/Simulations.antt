@@ -15,11 +15,15 @@ use Rattle.session_hall.specs.declared.client.Stepped.TheVariants.{Called, Ended
 use Rattle.sim_clients.specs.Clients.{AreClients}
 use Rattle.sim_command.specs.Runs.{Moment, Pick, Runs, at_first}
 
+-- all steps are of this client, which goes on
+abbrev pub GoesOn : ℕ → List Pick → Type 0
+GoesOn client picks = All (λ pick. pick ≡ record { client = client; stepped = Called }) picks
+
 -- all steps are of this client, and the last one is its end
 pub record GoesToEnd (client : ℕ) (picks : List Pick) : Type 0 where
   pub before : List Pick
   pub is : picks ≡ before ++ record { client = client; stepped = Ended } ∷ []
-  pub going : All (λ pick. pick ≡ record { client = client; stepped = Called }) before
+  pub going : GoesOn client before
 
 -- those that go on after a step of the one at a place
 abbrev pub going_after : Stepped → ℕ → List ℕ → List ℕ
@@ -32,6 +36,12 @@ DrawsTo generator going [] after left = (generator ≡ after) × (going ≡ left
 DrawsTo generator going (pick ∷ picks) after left =
     (word : ℕ) × (rest : ChaCha) × Draws generator word rest × (slice_get going (word % length going) ≡ Some pick.client)
     × DrawsTo rest (going_after pick.stepped (word % length going) going) picks after left
+
+-- whoever goes on after them
+pub record AreDrawnFirst (generator : ChaCha) (going : List ℕ) (picks : List Pick) : Type 0 where
+  pub rest : ChaCha
+  pub left : List ℕ
+  pub draws : DrawsTo generator going picks rest left
 
 -- until none goes on
 pub record AreDrawn (generator : ChaCha) (going : List ℕ) (picks : List Pick) : Type 0 where
@@ -63,16 +73,23 @@ pub record IsSimulation (level : Level) (seed sessions queries : ℕ) (history :
   pub at_rest : (k : ℕ) → k < length clients → has_short (last.accounts k).entries ≡ false
   pub history_is : last.history ≡ history
 
+-- a front of such a schedule: the client that makes the table goes on, or it has gone to its end and each other step is drawn
+abbrev pub IsFront : ℕ → ℕ → List Pick → Type 0
+IsFront seed sessions picks =
+    GoesOn 0 picks
+    ⊎ ((makes : List Pick) × (asks : List Pick) × (picks ≡ makes ++ asks) × GoesToEnd 0 makes × AreDrawnFirst (stream_front seed 65) (numbers_from 1 sessions) asks)
+
 -- how many steps are made at most
 abbrev pub most_steps : ℕ
 most_steps = 4294967295
 
--- so many steps were made of the clients of the seed as are made at most
+-- so many steps were made of the clients of the seed, in the order of the seed, as are made at most
 pub record IsCutOff (level : Level) (seed sessions queries : ℕ) : Type 0 where
   pub clients : List Client
   pub are : AreClients seed sessions queries clients
   pub picks : List Pick
   pub last : Moment
+  pub front : IsFront seed sessions picks
   pub run : Runs level clients (at_first level) picks last
   pub many : length picks ≡ most_steps
 

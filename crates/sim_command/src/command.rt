@@ -8,8 +8,8 @@ ghost use Rattle.block_machine.specs.Script.{has_short};
 ghost use Rattle.session_hall.specs.Halls.{IsHall, clients_of};
 ghost use Rattle.session_hall.specs.declared.client.Client.{Client};
 ghost use Rattle.sim_command.specs.Runs.{Moment};
-ghost use Rattle.sim_command.specs.Simulations.{numbers_from, IsSchedule, IsSimulation, IsCutOff, Simulates};
-ghost use Rattle.sim_command.specs.Playing.{StandsAt, Goes, IsNewHall, AreAny};
+ghost use Rattle.sim_command.specs.Simulations.{numbers_from, IsSchedule, IsFront, IsSimulation, IsCutOff, Simulates};
+ghost use Rattle.sim_command.specs.Playing.{StandsAt, Goes, IsNewHall};
 
 use crate::playing::{SimFault, go_to_end, play};
 use cell_base::{Level, Memory};
@@ -80,7 +80,7 @@ fn play_all(alloc: Global, hall: &mut Hall, plan: Plan, left: &mut u32) -> Resul
     ensures ok { OnOk result (Goes (IsSchedule plan.seed plan.sessions) left.old hall.old left.new hall.new) }
     ensures hall { IsHall hall.new }
     ensures range { clients_of hall.new ≡ clients_of hall.old }
-    ensures cut { IfErr result (λ e. e ≡ SimFault.Steps → (left.new ≡ 0) × Goes AreAny left.old hall.old left.new hall.new) }
+    ensures cut { IfErr result (λ e. e ≡ SimFault.Steps → (left.new ≡ 0) × Goes (IsFront plan.seed plan.sessions) left.old hall.old left.new hall.new) }
 {
     match go_to_end(hall, 0, left) {
         Ok(()) => {}

@@ -1,8 +1,8 @@
 // Plays a hall, step by step.
 ghost use Rattle.std.specs.Prelude.{◌≡◌, ◌<◌, ◌≤◌, ◌+◌, [], ℕ, All, length, IfOk, IfErr, OnOk};
 ghost use Rattle.session_hall.specs.Halls.{IsHall, clients_of};
-ghost use Rattle.sim_command.specs.Simulations.{GoesToEnd, AreDrawn};
-ghost use Rattle.sim_command.specs.Playing.{Goes, IsStepOf, IsPicked, AreAny};
+ghost use Rattle.sim_command.specs.Simulations.{GoesOn, GoesToEnd, AreDrawn, AreDrawnFirst};
+ghost use Rattle.sim_command.specs.Playing.{Goes, IsStepOf, IsPicked, AreNone};
 
 use cell_base::Memory;
 use choice_stream::SeedWords;
@@ -37,7 +37,7 @@ fn step(hall: &mut Hall, client: u32, left: &mut u32) -> Result<Stepped, SimFaul
     ensures fewer { OnOk result (left.new < left.old) }
     ensures hall { IsHall hall.new }
     ensures range { clients_of hall.new ≡ clients_of hall.old }
-    ensures cut { IfErr result (λ e. e ≡ SimFault.Steps → (left.new ≡ 0) × Goes AreAny left.old hall.old left.new hall.new) }
+    ensures cut { IfErr result (λ e. e ≡ SimFault.Steps → (left.new ≡ 0) × Goes AreNone left.old hall.old left.new hall.new) }
 {
     if *left == 0 {
         return Err(SimFault::Steps);
@@ -54,7 +54,7 @@ pub fn go_to_end(hall: &mut Hall, client: u32, left: &mut u32) -> Result<(), Sim
     ensures ok { OnOk result (Goes (GoesToEnd client) left.old hall.old left.new hall.new) }
     ensures hall { IsHall hall.new }
     ensures range { clients_of hall.new ≡ clients_of hall.old }
-    ensures cut { IfErr result (λ e. e ≡ SimFault.Steps → (left.new ≡ 0) × Goes AreAny left.old hall.old left.new hall.new) }
+    ensures cut { IfErr result (λ e. e ≡ SimFault.Steps → (left.new ≡ 0) × Goes (GoesOn client) left.old hall.old left.new hall.new) }
 {
     loop {
         match step(hall, client, left) {
@@ -80,7 +80,7 @@ fn step_picked(
     ensures going { OnOk result (All (λ k. k < clients_of hall.new) going.new.items) }
     ensures hall { IsHall hall.new }
     ensures range { clients_of hall.new ≡ clients_of hall.old }
-    ensures cut { IfErr result (λ e. e ≡ SimFault.Steps → (left.new ≡ 0) × Goes AreAny left.old hall.old left.new hall.new) }
+    ensures cut { IfErr result (λ e. e ≡ SimFault.Steps → (left.new ≡ 0) × Goes AreNone left.old hall.old left.new hall.new) }
 {
     let at = word as usize % going.len();
     match step(hall, going[at], left)? {
@@ -104,7 +104,7 @@ pub fn play(
     ensures ok { OnOk result (Goes (AreDrawn words.old going.old.items) left.old hall.old left.new hall.new) }
     ensures hall { IsHall hall.new }
     ensures range { clients_of hall.new ≡ clients_of hall.old }
-    ensures cut { IfErr result (λ e. e ≡ SimFault.Steps → (left.new ≡ 0) × Goes AreAny left.old hall.old left.new hall.new) }
+    ensures cut { IfErr result (λ e. e ≡ SimFault.Steps → (left.new ≡ 0) × Goes (AreDrawnFirst words.old going.old.items) left.old hall.old left.new hall.new) }
 {
     while !going.is_empty() {
         match step_picked(hall, going, words.next(), left) {

@@ -16,6 +16,7 @@ returns-in-Err-clause-cut c = λ is.
       are = new.are;
       picks = plays.picks;
       last = plays.after;
+      front = plays.holds;
       run = plays.runs;
       many = omega (arith, count, none);
     }

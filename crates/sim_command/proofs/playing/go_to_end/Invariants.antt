@@ -1,12 +1,12 @@
 use Rattle.std.proofs.Common.{◌≡◌, All}
 use Rattle.session_hall.specs.Halls.{IsHall, clients_of}
 use Rattle.sim_command.specs.Playing.{Goes}
-use Rattle.sim_command.proofs.Plays.{AllGoOn}
+use Rattle.sim_command.specs.Simulations.{GoesOn}
 use Rattle.sim_command.proofs.playing.go_to_end.Given as goal
 
 abbrev pub invariant-loop-fault : goal.invariant-loop-fault
 invariant-loop-fault l = record {
-  goes : Goes (AllGoOn l.client) l.initial.left l.initial.hall l.left l.hall;
+  goes : Goes (GoesOn l.client) l.initial.left l.initial.hall l.left l.hall;
   hall : IsHall l.hall;
   range : clients_of l.hall ≡ clients_of l.initial.hall;
 }

@@ -1,8 +1,8 @@
 use Rattle.std.proofs.Common.{◌≡◌, ◌∙◌, List, ℕ, [], subst}
-use Rattle.sim_command.specs.declared.playing.SimFault.{SimFault}
-use Rattle.sim_command.specs.Simulations.{DrawsTo, AreDrawn}
-use Rattle.sim_command.specs.Playing.{Goes, IsPicked, AreAny}
-use Rattle.sim_command.proofs.Plays.{plays_on, plays_less, draws_next, none_left}
+use Rattle.sim_command.specs.Runs.{Pick}
+use Rattle.sim_command.specs.Simulations.{DrawsTo, AreDrawn, AreDrawnFirst}
+use Rattle.sim_command.specs.Playing.{Goes, IsPicked, AreNone}
+use Rattle.sim_command.proofs.Plays.{plays_on, plays_less, draws_next, none_left, with_none}
 use Rattle.sim_command.proofs.playing.play.Goals as goal
 
 pub loop-hall-preserved : goal.loop-hall-preserved
@@ -23,9 +23,13 @@ loop-hall-preserved c =
 
 pub returns-in-Err-clause-cut : goal.returns-in-Err-clause-cut
 returns-in-Err-clause-cut c = λ is.
-    let cut = c.in-Err.ensures.cut is in (
+    let cut = c.in-Err.ensures.cut is in
+    let first = c.args.words.now in
+    let going : List ℕ = c.args.going.now.items in
+    let Drawn : List Pick → Type 0 = λ picks. DrawsTo first going picks c.loop-hall.words c.loop-hall.going.items in (
       cut.0,
-      plays_on (λ picks. DrawsTo c.args.words.now c.args.going.now.items picks c.loop-hall.words c.loop-hall.going.items) AreAny AreAny (λ p m x y. tt)
+      plays_on Drawn AreNone (AreDrawnFirst first going)
+          (λ picks more draws none. record { rest = c.loop-hall.words; left = c.loop-hall.going.items; draws = with_none Drawn picks more draws none })
           c.args.left.now c.loop-hall.left c.step_picked.new.left c.args.hall.now c.loop-hall.hall c.step_picked.new.hall
           c.loop-hall.invariant.goes cut.1,
     )
