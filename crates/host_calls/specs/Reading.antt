@@ -1,5 +1,5 @@
 -- What reading a file of a host comes to.
-use Rattle.std.specs.Prelude.{◌≡◌, ◌<◌, ◌⊎◌, ℕ, List, [], ◌∷◌, ◌++◌, length, Option, None, Some, IfSome}
+use Rattle.std.specs.Prelude.{◌≡◌, ◌≤◌, ◌<◌, ◌+◌, ◌⊎◌, ℕ, List, [], ◌∷◌, ◌++◌, length, Option, None, Some, IfSome}
 use Rattle.link_traits.specs.Faults.{Rose}
 use Rattle.link_traits.specs.Traffic.{Traffic, Both, Sight, untouched}
 use Rattle.link_traits.specs.Host.{Hosted, open_file_called, file_returned, call_failed, open_failed, bytes_at}
@@ -39,12 +39,13 @@ pub record FileLent (path : List ℕ) (before : Hosted) (given returned : Sight)
     back = before.back ++ file_returned returned ∷ [];
   }
 
--- the bytes are the file's of that path, to its end or to more than so many of them
+-- the bytes are the file's of that path, to its end or to one more than so many of them
 pub record FileRead (path : List ℕ) (most : ℕ) (bytes : List ℕ) (before after : Hosted) : Type 0 where
   pub given : Sight
   pub returned : Sight
   pub lent : FileLent path before given returned after
   pub bytes_are : Both (ReadWhole most bytes) given.traffic returned.traffic
+  pub few : length bytes ≤ most + 1
 
 -- the file was opened, and one of its reads failed
 pub record ReadFailed (path : List ℕ) (before after : Hosted) : Type 0 where

@@ -1,5 +1,5 @@
 // Reads a file whole.
-ghost use Rattle.std.specs.Prelude.{◌≡◌, ◌≤◌, ◌<◌, [], length, IfOk, IfErr, OnOk};
+ghost use Rattle.std.specs.Prelude.{◌≡◌, ◌≤◌, ◌<◌, ◌+◌, [], length, IfOk, IfErr, OnOk};
 ghost use Rattle.link_traits.specs.Traffic.{Both};
 ghost use Rattle.link_traits.specs.Host.{objects_out};
 ghost use Rattle.host_calls.specs.Reading.{AddsPiece, IsReadFault, ReadWhole, FileRead, Unread};
@@ -63,6 +63,8 @@ fn read_piece<S: Source>(
 ) -> Result<usize, FileFault>
     requires room { 0 < length room.old }
     ensures read { IfOk result (λ n. AddsPiece n bytes.old.items bytes.new.items (S.traffic source.old) (S.traffic source.new)) }
+    ensures within { IfOk result (λ n. n ≤ length room.old) }
+    ensures count { IfOk result (λ n. length bytes.new.items ≡ length bytes.old.items + n) }
     ensures later { S.read_faults source.old ≤ S.read_faults source.new }
     ensures fault { IfErr result (λ e. IsReadFault e (S.read_faults source.old) (S.read_faults source.new)) }
 {
@@ -82,6 +84,7 @@ fn read_on<S: Source>(
     requires most { most < 18446744073709551615 }
     requires empty { bytes.old.items ≡ [] }
     ensures whole { OnOk result (Both (ReadWhole most bytes.new.items) (S.traffic source.old) (S.traffic source.new)) }
+    ensures few { OnOk result (length bytes.new.items ≤ most + 1) }
     ensures later { S.read_faults source.old ≤ S.read_faults source.new }
     ensures fault { IfErr result (λ e. IsReadFault e (S.read_faults source.old) (S.read_faults source.new)) }
 {

@@ -17,7 +17,7 @@ pub fn pipe_has_one_history()
     ensures { PipeHasOneHistory }
 {}
 
-/// Two runs of the program with the same words of the command line, in any two hosts that tell beforehand links with the same
+/// Two runs of the program with the same words `pipe LEVEL WORDS`, in any two hosts that tell beforehand links with the same
 /// input: where the status of each is 0 or 1, the two have the same status, and wrote the same bytes.
 pub fn program_runs_are_alike()
     ensures { ProgramRunsAreAlike }

@@ -8,6 +8,7 @@ invariant-loop-bytes g l = record {
   so_far : Both (ReadSoFar l.bytes.items) (g.S.Sides.traffic l.initial.source) (g.S.Sides.traffic l.source);
   later : g.S.Sides.read_faults l.initial.source ≤ g.S.Sides.read_faults l.source;
   room : 0 < length l.room;
+  few : length l.bytes.items ≤ l.most + 1;
 }
 
 abbrev pub decreases-loop-bytes : goal.decreases-loop-bytes
