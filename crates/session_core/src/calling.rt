@@ -19,7 +19,6 @@ use block_machine::Answer;
 use history_core::Book;
 use link_traits::Words;
 use statement_course::Demand;
-use std::alloc::Global;
 
 // Whether the session wants a write.
 fn wants_write(session: &Session) -> bool
@@ -55,12 +54,7 @@ fn answer_of<B: Book, W: Words>(session: &Session, book: &mut B, words: &mut W) 
 /// Makes the one call of its book that a session wants, and hands the session the answer. The book may have been used by others
 /// meanwhile, as long as the session still sits by it. Whatever the session was fed, answered and sent before, its record has grown by
 /// just this call, as it was answered, and perhaps by a lack of memory of the session's own after it.
-pub fn make_call<B: Book, W: Words>(
-    _alloc: Global,
-    session: &mut Session,
-    book: &mut B,
-    words: &mut W,
-)
+pub fn make_call<B: Book, W: Words>(session: &mut Session, book: &mut B, words: &mut W)
     requires wanted { (c : Asked) × (wanted session.old ≡ wishes.Book c) }
     requires sits { Sits session.old (B.past book.old) }
     ensures made { MakesCall W.gives session.old (B.past book.old) words.old session.new (B.past book.new) words.new }

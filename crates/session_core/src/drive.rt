@@ -17,7 +17,6 @@ use crate::session::Session;
 use crate::want::Want;
 use history_core::Book;
 use link_traits::{Link, Words, send_all};
-use std::alloc::Global;
 
 // Sends a reply. Answers whether it was sent whole.
 fn send_whole<L: Link>(link: &mut L, reply: &[u8]) -> bool
@@ -65,7 +64,6 @@ fn take<B: Book, W: Words>(session: &mut Session, book: &B, words: &W)
 
 // Does what the session wants. Answers whether it wanted something.
 fn serve_want<B: Book, L: Link, W: Words>(
-    alloc: Global,
     session: &mut Session,
     book: &mut B,
     link: &mut L,
@@ -97,7 +95,7 @@ fn serve_want<B: Book, L: Link, W: Words>(
             true
         }
         Want::Define | Want::Cells | Want::Book(_) => {
-            make_call(alloc, session, book, words);
+            make_call(session, book, words);
             true
         }
         Want::Bytes | Want::Ended(_) => false,
@@ -105,12 +103,7 @@ fn serve_want<B: Book, L: Link, W: Words>(
 }
 
 // Where a statement runs, makes the call that it demands. Answers whether one runs.
-fn step_on<B: Book, W: Words>(
-    alloc: Global,
-    session: &mut Session,
-    book: &mut B,
-    words: &mut W,
-) -> bool
+fn step_on<B: Book, W: Words>(session: &mut Session, book: &mut B, words: &mut W) -> bool
     requires sits { Sits session.old (B.past book.old) }
     ensures ran { (level : Level) (before : Scene W) (seen : Sight) (many : ℕ) →
         Ran W.gives level before session.old (scene_of (B.past book.old) words.old seen) many →
@@ -127,7 +120,7 @@ fn step_on<B: Book, W: Words>(
 {
     match session.demand() {
         Want::Cells => {
-            make_call(alloc, session, book, words);
+            make_call(session, book, words);
             true
         }
         _ => false,
@@ -135,7 +128,7 @@ fn step_on<B: Book, W: Words>(
 }
 
 // Makes all calls that a running statement demands.
-fn run_on<B: Book, W: Words>(alloc: Global, session: &mut Session, book: &mut B, words: &mut W)
+fn run_on<B: Book, W: Words>(session: &mut Session, book: &mut B, words: &mut W)
     requires sits { Sits session.old (B.past book.old) }
     ensures ran { (level : Level) (before : Scene W) (seen : Sight) (many : ℕ) →
         Ran W.gives level before session.old (scene_of (B.past book.old) words.old seen) many →
@@ -148,12 +141,11 @@ fn run_on<B: Book, W: Words>(alloc: Global, session: &mut Session, book: &mut B,
     ensures legal { IsLegalChronicle (B.past book.old).seen → IsLegalChronicle (B.past book.new).seen }
     ensures stays { B.stays book.old book.new }
 {
-    while step_on(alloc, session, book, words) {}
+    while step_on(session, book, words) {}
 }
 
 // Where a message runs, makes a call or sends a reply, and runs a statement to its end. Answers whether a message runs.
 fn step_message<B: Book, L: Link, W: Words>(
-    alloc: Global,
     session: &mut Session,
     book: &mut B,
     link: &mut L,
@@ -175,14 +167,13 @@ fn step_message<B: Book, L: Link, W: Words>(
     if !session.is_running() {
         return false;
     }
-    serve_want(alloc, session, book, link, words);
-    run_on(alloc, session, book, words);
+    serve_want(session, book, link, words);
+    run_on(session, book, words);
     true
 }
 
 // Runs a message to its end.
 fn run_message<B: Book, L: Link, W: Words>(
-    alloc: Global,
     session: &mut Session,
     book: &mut B,
     link: &mut L,
@@ -198,13 +189,12 @@ fn run_message<B: Book, L: Link, W: Words>(
     ensures legal { IsLegalChronicle (B.past book.old).seen → IsLegalChronicle (B.past book.new).seen }
     ensures stays { B.stays book.old book.new }
 {
-    while step_message(alloc, session, book, link, words) {}
+    while step_message(session, book, link, words) {}
 }
 
 // One turn: a call is made, a reply sent or a message looked at, and a message that runs is run to its end. Answers whether the
 // session wanted it.
 fn turn<B: Book, L: Link, W: Words>(
-    alloc: Global,
     session: &mut Session,
     book: &mut B,
     link: &mut L,
@@ -221,16 +211,15 @@ fn turn<B: Book, L: Link, W: Words>(
     ensures legal { IsLegalChronicle (B.past book.old).seen → IsLegalChronicle (B.past book.new).seen }
     ensures stays { B.stays book.old book.new }
 {
-    if !serve_want(alloc, session, book, link, words) {
+    if !serve_want(session, book, link, words) {
         return false;
     }
-    run_message(alloc, session, book, link, words);
+    run_message(session, book, link, words);
     true
 }
 
 /// Serves until bytes are wanted or the end is there.
 pub fn drive<B: Book, L: Link, W: Words>(
-    alloc: Global,
     session: &mut Session,
     book: &mut B,
     link: &mut L,
@@ -246,5 +235,5 @@ pub fn drive<B: Book, L: Link, W: Words>(
     ensures legal { IsLegalChronicle (B.past book.old).seen → IsLegalChronicle (B.past book.new).seen }
     ensures stays { B.stays book.old book.new }
 {
-    while turn(alloc, session, book, link, words) {}
+    while turn(session, book, link, words) {}
 }

@@ -145,13 +145,13 @@ fn run<B: Book, L: Link, W: Words>(
 {
     let mut left = MOST_READ;
     loop {
-        drive(alloc, session, book, link, words);
+        drive(session, book, link, words);
         if let Want::Ended(_) = session.demand() {
             return finish(session);
         }
         let n = take_in(session, book, link, words, room, left);
         if n == 0 {
-            drive(alloc, session, book, link, words);
+            drive(session, book, link, words);
             return finish(session);
         }
         left -= n;

@@ -11,11 +11,10 @@ use crate::seat::Seat;
 use crate::telling::{listen, settle, wants_call};
 use cell_base::Memory;
 use session_core::{End, Want, make_call};
-use std::alloc::Global;
 use valid_writes::Store;
 
 // Makes the call that the session wants on a store, which is given back.
-fn ask_on(alloc: Global, store: Store, seat: &mut Seat) -> Store
+fn ask_on(store: Store, seat: &mut Seat) -> Store
     requires attending { IsAttending store seat.old }
     requires call { IsCall (wanted seat.old.session) }
     ensures grows { Grows store seat.old 1 result seat.new }
@@ -30,12 +29,12 @@ fn ask_on(alloc: Global, store: Store, seat: &mut Seat) -> Store
     // Only for its contract: the history is legal.
     let _ = store.history();
     let mut book = store.seat(number);
-    make_call(alloc, &mut seat.session, &mut book, &mut seat.words);
+    make_call(&mut seat.session, &mut book, &mut seat.words);
     book.into_store()
 }
 
 // Makes the call that the session wants.
-fn ask(alloc: Global, store: &mut Option<Store>, seat: &mut Seat)
+fn ask(store: &mut Option<Store>, seat: &mut Seat)
     requires attending { (history : Chronicle) × (store.old ≡ Some history) × IsAttending history seat.old }
     requires call { IsCall (wanted seat.old.session) }
     ensures goes { (history : Chronicle) → store.old ≡ Some history → Goes history seat.old 1 store.new seat.new }
@@ -46,13 +45,13 @@ fn ask(alloc: Global, store: &mut Option<Store>, seat: &mut Seat)
     ensures work { work_of seat.new.session < work_of seat.old.session + message_at seat.new.session.stage }
 {
     match store.take() {
-        Some(taken) => *store = Some(ask_on(alloc, taken, seat)),
+        Some(taken) => *store = Some(ask_on(taken, seat)),
         None => unreachable!(),
     }
 }
 
 // Where a call is wanted, makes it. Answers whether one was.
-fn ask_next(alloc: Global, store: &mut Option<Store>, seat: &mut Seat) -> bool
+fn ask_next(store: &mut Option<Store>, seat: &mut Seat) -> bool
     requires attending { (history : Chronicle) × (store.old ≡ Some history) × IsLegalChronicle history × IsAttending history seat.old }
     requires unsent { LeftUnsent seat.old }
     ensures goes { (history : Chronicle) → store.old ≡ Some history → (many : ℕ) × Goes history seat.old many store.new seat.new }
@@ -64,12 +63,12 @@ fn ask_next(alloc: Global, store: &mut Option<Store>, seat: &mut Seat) -> bool
     if !wants_call(&seat.session) {
         return false;
     }
-    ask(alloc, store, seat);
+    ask(store, seat);
     true
 }
 
 // Makes the calls that a session owes its book after a reply that was left unsent.
-fn leave(alloc: Global, store: &mut Option<Store>, seat: &mut Seat)
+fn leave(store: &mut Option<Store>, seat: &mut Seat)
     requires attending { (history : Chronicle) × (store.old ≡ Some history) × IsLegalChronicle history × IsAttending history seat.old }
     requires unsent { LeftUnsent seat.old }
     ensures goes { (history : Chronicle) → store.old ≡ Some history → (many : ℕ) × Goes history seat.old many store.new seat.new }
@@ -77,7 +76,7 @@ fn leave(alloc: Global, store: &mut Option<Store>, seat: &mut Seat)
     ensures end { seat.new.end ≡ seat.old.end }
     ensures over { IsOver (wanted seat.new.session) }
 {
-    while ask_next(alloc, store, seat) {}
+    while ask_next(store, seat) {}
 }
 
 // The end that is shown: a session that was stopped as by a failed write found no room for a reply.
@@ -111,7 +110,7 @@ fn note_end(seat: &mut Seat) -> Stepped
 }
 
 // Lets a client go on until its session has made one call of its book, or has ended; all that is then due is sent.
-fn go_on(alloc: Global, store: &mut Option<Store>, seat: &mut Seat) -> Result<Stepped, Memory>
+fn go_on(store: &mut Option<Store>, seat: &mut Seat) -> Result<Stepped, Memory>
     requires attending { (history : Chronicle) × (store.old ≡ Some history) × IsLegalChronicle history × IsAttending history seat.old }
     requires settled { IsSettled (wanted seat.old.session) }
     requires goes_on { seat.old.end ≡ None }
@@ -128,17 +127,13 @@ fn go_on(alloc: Global, store: &mut Option<Store>, seat: &mut Seat) -> Result<St
     if !wants_call(&seat.session) {
         return Ok(note_end(seat));
     }
-    ask(alloc, store, seat);
+    ask(store, seat);
     settle(seat)?;
     Ok(note_end(seat))
 }
 
 /// A client's step. Where no room for a reply can be had, the session leaves its book and has ended.
-pub(crate) fn step(
-    alloc: Global,
-    store: &mut Option<Store>,
-    seat: &mut Seat,
-) -> Result<Stepped, Memory>
+pub(crate) fn step(store: &mut Option<Store>, seat: &mut Seat) -> Result<Stepped, Memory>
     requires attending { (history : Chronicle) × (store.old ≡ Some history) × IsLegalChronicle history × IsAttending history seat.old }
     requires settled { IsSettled (wanted seat.old.session) }
     requires goes_on { seat.old.end ≡ None }
@@ -150,10 +145,10 @@ pub(crate) fn step(
     ensures calm { OnOk result (IsCalm seat.new) }
     ensures unsent { OnErr result (LeftUnsent seat.new) }
 {
-    match go_on(alloc, store, seat) {
+    match go_on(store, seat) {
         Ok(stepped) => Ok(stepped),
         Err(Memory) => {
-            leave(alloc, store, seat);
+            leave(store, seat);
             note_end(seat);
             Err(Memory)
         }

@@ -25,7 +25,6 @@ use valid_writes::Store;
 /// Many sessions over one history, one call at a time.
 #[derive(Debug, Drop)]
 pub struct Hall {
-    alloc: Global,
     // Away only while a session makes a call.
     store: Option<Store>,
     seats: Vec<Seat>,
@@ -77,7 +76,6 @@ impl Hall {
         // Only for its contract: the history is legal.
         let _ = store.history();
         Ok(Hall {
-            alloc,
             store: Some(store),
             seats: seats_for(alloc, level, clients)?,
         })
@@ -99,11 +97,7 @@ impl Hall {
         if self.seats[client as usize].end.is_some() {
             return Ok(Stepped::Ended);
         }
-        asking::step(
-            self.alloc,
-            &mut self.store,
-            &mut self.seats[client as usize],
-        )
+        asking::step(&mut self.store, &mut self.seats[client as usize])
     }
 
     /// What a client was sent.
@@ -139,8 +133,16 @@ impl Hall {
         ensures is { self.now.store ≡ Some result.now }
         ensures legal { IsLegalChronicle result.now }
     {
+        self.store().history()
+    }
+
+    /// The store of the one history, which tells the order of its transactions too.
+    pub fn store(&self) -> &Store
+        requires { IsHall self.now }
+        ensures is { self.now.store ≡ Some result.now }
+    {
         match &self.store {
-            Some(store) => store.history(),
+            Some(store) => store,
             None => unreachable!(),
         }
     }
