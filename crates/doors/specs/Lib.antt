@@ -1,2 +1,3 @@
 pub mod Passage
 pub mod Network
+pub mod MemDoors

@@ -4,8 +4,11 @@
 //! in, what went back and how often the outside failed (`specs/Passage`, `specs/Network`).
 #![tactic(auto)]
 
+mod counts;
 mod door;
+mod mem_door;
 mod network;
 
 pub use door::Door;
+pub use mem_door::MemDoor;
 pub use network::Network;
