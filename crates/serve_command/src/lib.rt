@@ -7,6 +7,7 @@
 mod command;
 mod line;
 mod manning;
+mod service;
 
 pub use command::serve;
-pub use manning::Service;
+pub use service::Service;
