@@ -2,7 +2,7 @@
 ghost use Rattle.std.specs.Prelude.{◌≡◌, ◌+◌, ◌<◌, ◌≤◌, ◌++◌, ℕ, List, [], All, IfOk, length, map, vec_len, vec_capacity};
 ghost use Rattle.cell_base.specs.declared.level.Level.{Level as Served};
 ghost use Rattle.turn_lock.specs.Passes.{PassValue, split_off};
-ghost use Rattle.doors.specs.Passage.{Passage};
+ghost use Rattle.doors.specs.Passage.{Passage, IsUnused};
 ghost use Rattle.door_workers.specs.Visits.{events_of_visits};
 ghost use Rattle.shared_book.specs.declared.entry.Entry.{Entry};
 ghost use Rattle.shared_book.specs.Entries.{event_lists};
@@ -100,7 +100,7 @@ pub fn leave<R: Wait, D: Door>(
     requires none { doors.old.items ≡ [] }
     requires capacity { vec_len workers.old ≤ vec_capacity doors.old }
     ensures left { (level : Served) (start : PassValue Entry) (seed accept : ℕ) (opened : List Passage) →
-        past_of (fresh_book start) ≡ no_past level → start.kept ≡ [] →
+        past_of (fresh_book start) ≡ no_past level → start.kept ≡ [] → All IsUnused opened →
         HaveEnded D.passage level start seed accept 0 opened workers.old.items →
         (parts : List Part) × AreParts level seed accept 0 opened parts (map D.passage doors.new.items)
         × (event_lists pass.new ≡ event_lists pass.old ++ map (λ part. events_of_visits part.visits) parts) × (result ≡ worst_of parts) }

@@ -1,0 +1,4 @@
+pub mod Pairs
+pub mod Visiting
+pub mod Ended
+pub mod Leaving
