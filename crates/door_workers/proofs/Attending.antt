@@ -103,7 +103,7 @@ pub attended_one : {B W : Type 0} (unchanged : B → B → Type 0) (gives : W �
 attended_one unchanged gives level a b came went outcome account between came_in given serves served accept none legal stays = record {
   visits = record { came = came; went = went; outcome = outcome; account = account } ∷ [];
   number_is = refl;
-  are_visits = (b.past, b.words, serves, (refl, refl));
+  are_visits = (b.past, b.words, serves, none, (refl, refl));
   served = served;
   accepted = ap (λ (p : Passage). p.accepted) given ∙ came_in.accepted;
   back = ap (λ (p : Passage). p.back) given ∙ ap (λ links. links ++ went ∷ []) came_in.back;
