@@ -18,7 +18,7 @@ use Rattle.shared_book.specs.Entries.{events_of, event_lists, key_of}
 use Rattle.shared_book.specs.Books.{BookValue, fresh_book, past_of, Stays}
 use Rattle.serve_command.specs.Parts.{Part, IsPart, AreParts, no_past, worse, worst_of}
 use Rattle.serve_command.specs.Manning.{Begins, HasEnded, HaveEnded}
-use Rattle.serve_command.proofs.Visiting.{own_of_visits}
+use Rattle.door_workers.proofs.Visiting.{own_of_visits}
 
 -- ---- parts
 

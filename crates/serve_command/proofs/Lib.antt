@@ -1,4 +1,3 @@
 pub mod Pairs
-pub mod Visiting
 pub mod Ended
 pub mod Leaving

@@ -12,7 +12,7 @@ use Rattle.door_workers.specs.Visits.{events_of_visits}
 use Rattle.shared_book.specs.Finish.{Finished}
 use Rattle.serve_command.specs.Parts.{Part, AreParts, empty_history, records_of, worst_of}
 use Rattle.serve_command.specs.Line.{served_line}
-use Rattle.serve_command.specs.declared.service.Service.{Service}
+use Rattle.command_line.specs.declared.serve.ServeOptions.{ServeOptions}
 
 -- the status of a server: a worker's fault stands before what came of the log and of the line
 abbrev pub status_of : Option HostFault → ℕ → ℕ
@@ -21,47 +21,47 @@ status_of (Some faults.Memory) code = 5
 status_of (Some faults.Failed) code = 6
 
 -- The doors were opened at the address, one for each worker, and came back.
-pub record Opened (service : Service) (before : Networked) (opened returned : List Passage) (after : Networked) : Type 0 where
-  pub number : length opened ≡ service.workers
+pub record Opened (options : ServeOptions) (before : Networked) (opened returned : List Passage) (after : Networked) : Type 0 where
+  pub number : length opened ≡ options.workers
   pub unused : All IsUnused opened
-  pub told : IfSome before.to_open (λ next. opened ≡ take service.workers next)
+  pub told : IfSome before.to_open (λ next. opened ≡ take options.workers next)
   pub next : Option (List Passage)
-  pub network : after ≡ doors_returned returned (doors_opened service.listen opened next before)
+  pub network : after ≡ doors_returned returned (doors_opened options.listen opened next before)
 
 -- The log of the history was written, where one was asked for, and the line was printed; or memory ran out before, and nothing was.
-abbrev pub Ends : Service → Chronicle → Hosted → ℕ → Hosted → Type 0
-Ends service history before code after =
-    LogsAndPrints service.log history (served_line history.events) before code after ⊎ ((code ≡ 5) × (after ≡ before))
+abbrev pub Ends : ServeOptions → Chronicle → Hosted → ℕ → Hosted → Type 0
+Ends options history before code after =
+    LogsAndPrints options.log history (served_line history.events) before code after ⊎ ((code ≡ 5) × (after ≡ before))
 
 -- The doors were opened, the workers served the links that came in by them, these lists of events came of their passes, the first of which made
 -- none, and the doors were given back.
-pub record Ran (service : Service) (before : Networked) (lists : List (List Event)) (fault : Option HostFault) (after : Networked) : Type 0 where
+pub record Ran (options : ServeOptions) (before : Networked) (lists : List (List Event)) (fault : Option HostFault) (after : Networked) : Type 0 where
   pub opened : List Passage
   pub returned : List Passage
   pub parts : List Part
-  pub doors : Opened service before opened returned after
-  pub are_parts : AreParts service.level service.seed service.accept 0 opened parts returned
+  pub doors : Opened options before opened returned after
+  pub are_parts : AreParts options.level options.seed options.accept 0 opened parts returned
   pub lists_are : lists ≡ [] ∷ map (λ part. events_of_visits part.visits) parts
   pub fault_is : fault ≡ worst_of parts
 
 -- The workers served the links of their doors over one history, which is legal and goes on from an empty one of the level. The records of the
 -- links hold all its events: of each session that has an event in a record, the history has just that record's events, in their order, and no
 -- session stands in two records.
-pub record Served (service : Service) (before : Networked) (host_before : Hosted) (code : ℕ) (after : Networked) (host_after : Hosted) : Type 0 where
+pub record Served (options : ServeOptions) (before : Networked) (host_before : Hosted) (code : ℕ) (after : Networked) (host_after : Hosted) : Type 0 where
   pub opened : List Passage
   pub returned : List Passage
   pub parts : List Part
   pub history : Chronicle
-  pub doors : Opened service before opened returned after
-  pub are_parts : AreParts service.level service.seed service.accept 0 opened parts returned
-  pub one_history : Finished (empty_history service.level) (records_of parts) history
+  pub doors : Opened options before opened returned after
+  pub are_parts : AreParts options.level options.seed options.accept 0 opened parts returned
+  pub one_history : Finished (empty_history options.level) (records_of parts) history
   pub end_code : ℕ
-  pub ends : Ends service history host_before end_code host_after
+  pub ends : Ends options history host_before end_code host_after
   pub code_is : code ≡ status_of (worst_of parts) end_code
 
 -- `serve`: memory ran out before a door was opened; or the network opened none, and counted that; or the links that came in were served.
-abbrev pub Serves : Service → Networked → Hosted → ℕ → Networked → Hosted → Type 0
-Serves service before host_before code after host_after =
+abbrev pub Serves : ServeOptions → Networked → Hosted → ℕ → Networked → Hosted → Type 0
+Serves options before host_before code after host_after =
     ((code ≡ 5) × (after ≡ before) × (host_after ≡ host_before))
-    ⊎ (((code ≡ 6) × (after ≡ open_failed service.listen service.workers before) × (host_after ≡ host_before))
-    ⊎ Served service before host_before code after host_after)
+    ⊎ (((code ≡ 6) × (after ≡ open_failed options.listen options.workers before) × (host_after ≡ host_before))
+    ⊎ Served options before host_before code after host_after)

@@ -14,8 +14,8 @@ ghost use Rattle.serve_command.specs.Serving.{status_of, Ran, Ends, Serves};
 
 use crate::line::line_of;
 use crate::manning::{leave, man, rooms};
-use crate::service::Service;
 use cell_base::{Level, Memory};
+use command_line::{Progress as Verbosity, ServeOptions};
 use door_workers::{Progress, serve_doors};
 use doors::Network;
 use history_core::InitialState;
@@ -37,11 +37,19 @@ fn word_of(level: Level) -> &'static str {
     }
 }
 
+// Whether lines on standard error tell of each link.
+fn progress_of(options: &ServeOptions) -> Progress {
+    match options.progress {
+        Verbosity::Told => Progress::Told,
+        Verbosity::Quiet => Progress::Silent,
+    }
+}
+
 // Tells where the server listens.
-fn tell_start<R: Eprint>(rt: &R, service: &Service) {
-    if service.progress == Progress::Told {
-        let (listen, level) = (service.listen.as_str(), word_of(service.level));
-        let (seed, workers) = (service.seed, service.workers);
+fn tell_start<R: Eprint>(rt: &R, options: &ServeOptions) {
+    if progress_of(options) == Progress::Told {
+        let (listen, level) = (options.listen.as_str(), word_of(options.level));
+        let (seed, workers) = (options.seed, options.workers);
         let _ = eprintln!(rt; "listening at {listen}, level {level}, seed {seed}, {workers} connections at once");
     }
 }
@@ -54,44 +62,44 @@ fn run<R: Threads + Wait + Eprint + Sync, N: Network>(
     network: &mut N,
     shared: &Shared,
     pass: &mut Pass,
-    service: &Service,
+    options: &ServeOptions,
 ) -> Result<Option<HostFault>, HostFault>
-    requires workers { service.now.workers ≤ 64 }
+    requires workers { options.now.workers ≤ 64 }
     requires pass { pass.old ≡ first_pass shared.now }
-    requires start { chronicle_of shared.now.start ≡ empty_history service.now.level }
-    ensures ok { IfOk result (λ fault. Ran service.now (N.networked network.old) (event_lists pass.new) fault (N.networked network.new)) }
-    ensures failed { IfErr result (λ fault. fault ≡ HostFault.Failed → N.networked network.new ≡ open_failed service.now.listen service.now.workers (N.networked network.old)) }
+    requires start { chronicle_of shared.now.start ≡ empty_history options.now.level }
+    ensures ok { IfOk result (λ fault. Ran options.now (N.networked network.old) (event_lists pass.new) fault (N.networked network.new)) }
+    ensures failed { IfErr result (λ fault. fault ≡ HostFault.Failed → N.networked network.new ≡ open_failed options.now.listen options.now.workers (N.networked network.old)) }
     ensures memory { IfErr result (λ fault. fault ≡ HostFault.Memory → N.networked network.new ≡ N.networked network.old) }
     ensures lock { IfOk result (λ fault. pass.new.lock ≡ shared.now) }
     ensures parts { IfOk result (λ fault. pass.new.parts ≡ all_parts) }
 {
-    let mut rooms = rooms(alloc, service.workers, service.accept)?;
-    let mut workers = Vec::with_capacity(alloc, service.workers as usize)?;
-    let mut doors = network.doors(&service.listen, service.workers)?;
-    tell_start(rt, service);
+    let mut rooms = rooms(alloc, options.workers, options.accept)?;
+    let mut workers = Vec::with_capacity(alloc, options.workers as usize)?;
+    let mut doors = network.doors(&options.listen, options.workers)?;
+    tell_start(rt, options);
     man(
         rt,
         shared,
         pass,
-        service,
+        options,
         &mut doors,
         &mut rooms,
         &mut workers,
     );
-    serve_doors(rt, alloc, service.level, service.progress, &mut workers);
+    serve_doors(rt, alloc, options.level, progress_of(options), &mut workers);
     let fault = leave(shared, pass, &mut workers, &mut doors);
     network.doors_back(doors);
     Ok(fault)
 }
 
 // Writes the log, where one is asked for, and prints the line.
-fn end<H: Host>(alloc: Global, host: &mut H, service: &Service, store: &Store) -> Status
+fn end<H: Host>(alloc: Global, host: &mut H, options: &ServeOptions, store: &Store) -> Status
     requires none_out { objects_out (H.hosted host.old) ≡ 0 }
-    ensures ends { Ends service.now store.now (H.hosted host.old) result.code (H.hosted host.new) }
+    ensures ends { Ends options.now store.now (H.hosted host.old) result.code (H.hosted host.new) }
     ensures none_out { objects_out (H.hosted host.new) ≡ 0 }
 {
     match line_of(alloc, store.history()) {
-        Ok(line) => log_and_print(alloc, host, service.log.as_ref(), store, &line),
+        Ok(line) => log_and_print(alloc, host, options.log.as_ref(), store, &line),
         Err(Memory) => Status { code: 5 },
     }
 }
@@ -118,25 +126,25 @@ pub fn serve<R: Threads + Wait + Eprint + Sync, H: Host, N: Network>(
     alloc: Global,
     host: &mut H,
     network: &mut N,
-    service: &Service,
+    options: &ServeOptions,
 ) -> Status
-    requires workers { service.now.workers ≤ 64 }
+    requires workers { options.now.workers ≤ 64 }
     requires none_out { objects_out (H.hosted host.old) ≡ 0 }
-    ensures serves { Serves service.now (N.networked network.old) (H.hosted host.old) result.code (N.networked network.new) (H.hosted host.new) }
+    ensures serves { Serves options.now (N.networked network.old) (H.hosted host.old) result.code (N.networked network.new) (H.hosted host.new) }
     ensures none_out { objects_out (H.hosted host.new) ≡ 0 }
 {
-    let Ok(store) = Store::new(alloc, service.level, InitialState::empty(alloc)) else {
+    let Ok(store) = Store::new(alloc, options.level, InitialState::empty(alloc)) else {
         return Status { code: 5 };
     };
     let Ok((shared, mut pass)) = Shared::new(alloc, store) else {
         return Status { code: 5 };
     };
-    let fault = match run(rt, alloc, network, &shared, &mut pass, service) {
+    let fault = match run(rt, alloc, network, &shared, &mut pass, options) {
         Ok(fault) => fault,
         Err(HostFault::Failed) => return Status { code: 6 },
         Err(HostFault::Memory) => return Status { code: 5 },
     };
     let store = shared.finish(pass);
-    let status = end(alloc, host, service, &store);
+    let status = end(alloc, host, options, &store);
     status_after(fault, status)
 }

@@ -7,7 +7,5 @@
 mod command;
 mod line;
 mod manning;
-mod service;
 
 pub use command::serve;
-pub use service::Service;

@@ -10,7 +10,7 @@ ghost use Rattle.serve_command.specs.Parts.{Part, AreParts, no_past, worse as wo
 ghost use Rattle.serve_command.specs.Manning.{AreManned, HaveEnded, MayLeave};
 ghost use Rattle.shared_book.specs.Books.{fresh_book, past_of};
 
-use crate::service::Service;
+use command_line::ServeOptions;
 use cell_base::Memory;
 use choice_stream::SeedWords;
 use door_workers::Worker;
@@ -39,7 +39,7 @@ pub fn man<'a, R: Wait, D: Door>(
     rt: &'a R,
     shared: &'a Shared,
     pass: &mut Pass,
-    service: &Service,
+    options: &ServeOptions,
     doors: &mut Vec<D>,
     rooms: &mut Vec<Vec<Served>>,
     workers: &mut Vec<Worker<SharedBook<'a, R>, D, SeedWords>>,
@@ -48,10 +48,10 @@ pub fn man<'a, R: Wait, D: Door>(
     requires parts { vec_len doors.old < pass.old.parts }
     requires number { vec_len rooms.old ≡ vec_len doors.old }
     requires empty { All (λ room. vec_len room ≡ 0) rooms.old.items }
-    requires room { All (λ room. service.now.accept ≤ vec_capacity room) rooms.old.items }
+    requires room { All (λ room. options.now.accept ≤ vec_capacity room) rooms.old.items }
     requires none { workers.old.items ≡ [] }
     requires capacity { vec_len doors.old ≤ vec_capacity workers.old }
-    ensures manned { AreManned (split_off pass.old) service.now.seed service.now.accept 0 doors.old.items workers.new.items }
+    ensures manned { AreManned (split_off pass.old) options.now.seed options.now.accept 0 doors.old.items workers.new.items }
     ensures pass { pass.new ≡ record pass.old { parts = pass.new.parts } }
     ensures parts { pass.new.parts + vec_len doors.old ≡ pass.old.parts }
     ensures number { vec_len workers.new ≡ vec_len doors.old }
@@ -66,8 +66,8 @@ pub fn man<'a, R: Wait, D: Door>(
         workers.push_reserved(Worker {
             book: shared.book(rt, shared.split(pass)),
             door,
-            words: SeedWords::new(service.seed, stream),
-            accept: service.accept,
+            words: SeedWords::new(options.seed, stream),
+            accept: options.accept,
             served,
             fault: None,
         });
