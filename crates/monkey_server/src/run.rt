@@ -14,8 +14,8 @@ use doors::Network;
 use history_core::InitialState;
 use host_calls::{Status, print};
 use link_traits::{Host, HostFault, Link};
-use session_core::{End, Served, serve_link};
 use serve_command::serve;
+use session_core::{End, Served, serve_link};
 use sim_command::{Plan, simulate};
 use std::alloc::Global;
 use std::sync::Wait;
@@ -93,7 +93,7 @@ fn pipe<H: Host>(alloc: Global, host: &mut H, command: PipeCommand) -> Status
 fn sim<H: Host>(alloc: Global, host: &mut H, wanted: &SimPlan) -> Status
     requires sessions { wanted.now.sessions ≤ 64 }
     requires queries { wanted.now.queries ≤ 200 }
-    requires { objects_out (H.hosted host.old) ≡ 0 }
+    requires none_out { objects_out (H.hosted host.old) ≡ 0 }
     ensures simulates { Simulates wanted.now.level wanted.now.seed wanted.now.sessions wanted.now.queries wanted.now.log (H.hosted host.old) result.code (H.hosted host.new) }
     ensures none_out { objects_out (H.hosted host.new) ≡ 0 }
 {

@@ -33,10 +33,13 @@ module _ {D : Type 0} (passage : D → Passage) (level : Level) (pass : PassValu
       absurd (omega (arith, pairs.0, ap (λ (l : List (Worker BookValue D ChaCha)). length l) manned))
   ended stream (door ∷ doors) workers after manned pairs =
       let (front, worker, is, begins, rest) = manned in
-      let last = last_pair WorkedTo front worker after (subst (λ (l : List (Worker BookValue D ChaCha)). EachPair WorkedTo l after) is pairs) in
-      (last.before, last.last, last.is,
-      record { began = worker; door = door; begins = begins; before_is = refl; worked = last.related },
-      ended (suc stream) doors front last.before rest last.rest)
+      let last = last_pair WorkedTo front worker after (subst (λ (l : List (Worker BookValue D ChaCha)). EachPair WorkedTo l after) is pairs) in (
+        last.before,
+        last.last,
+        last.is,
+        record { began = worker; door = door; begins = begins; before_is = refl; worked = last.related },
+        ended (suc stream) doors front last.before rest last.rest,
+      )
 
   -- a worker that begins may work
   begins_ready : (stream : ℕ) (door : D) (worker : Worker BookValue D ChaCha) → IsUnused (passage door) → Begins pass seed accept stream door worker →

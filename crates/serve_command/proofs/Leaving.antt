@@ -27,9 +27,11 @@ pub parts_push : (level : Level) (seed most stream : ℕ) (befores : List Passag
     AreParts level seed most stream (befores ++ before ∷ []) (parts ++ part ∷ []) (afters ++ after ∷ [])
 parts_push level seed most stream [] [] [] before part after are is =
     (subst (λ (n : ℕ). IsPart level seed most n before part after) (omega arith) is, tt)
-parts_push level seed most stream (b ∷ befores) (p ∷ parts) (a ∷ afters) before part after are is =
-    (are.0, parts_push level seed most (suc stream) befores parts afters before part after are.1
-    (subst (λ (n : ℕ). IsPart level seed most n before part after) (omega arith) is))
+parts_push level seed most stream (b ∷ befores) (p ∷ parts) (a ∷ afters) before part after are is = (
+  are.0,
+  parts_push level seed most (suc stream) befores parts afters before part after are.1
+      (subst (λ (n : ℕ). IsPart level seed most n before part after) (omega arith) is),
+)
 parts_push level seed most stream [] [] (a ∷ afters) before part after are is = absurd are
 parts_push level seed most stream [] (p ∷ parts) afters before part after are is = absurd are
 parts_push level seed most stream (b ∷ befores) [] afters before part after are is = absurd are
@@ -72,8 +74,8 @@ module _ {D : Type 0} (passage : D → Passage) (level : Level) (pass : PassValu
       let first : past_of began.book ≡ no_past level = ap past_of has_ended.begins.book ∙ new in
       let door : passage began.door ≡ before = ap passage has_ended.begins.door_is ∙ has_ended.before_is in
       let visits : AreVisits Draws level (no_past level) (stream_front seed stream) attended.visits (past_of worker.book) worker.words =
-          subst (λ (w : ChaCha). AreVisits Draws level (no_past level) w attended.visits (past_of worker.book) worker.words) has_ended.begins.words
-          (subst (λ (p : Past). AreVisits Draws level p began.words attended.visits (past_of worker.book) worker.words) first attended.are_visits) in
+      subst (λ (w : ChaCha). AreVisits Draws level (no_past level) w attended.visits (past_of worker.book) worker.words) has_ended.begins.words
+      (subst (λ (p : Past). AreVisits Draws level p began.words attended.visits (past_of worker.book) worker.words) first attended.are_visits) in
       record {
         part = record { visits = attended.visits; fault = worker.fault };
         is = record {

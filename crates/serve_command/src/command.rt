@@ -50,7 +50,9 @@ fn tell_start<R: Eprint>(rt: &R, options: &ServeOptions) {
     if progress_of(options) == Progress::Told {
         let (listen, level) = (options.listen.as_str(), word_of(options.level));
         let (seed, workers) = (options.seed, options.workers);
-        let _ = eprintln!(rt; "listening at {listen}, level {level}, seed {seed}, {workers} connections at once");
+        let _ = eprintln!(rt;
+            "listening at {listen}, level {level}, seed {seed}, {workers} connections at once"
+        );
     }
 }
 
@@ -75,7 +77,13 @@ fn run<R: Threads + Wait + Eprint + Sync, N: Network>(
 {
     let mut rooms = rooms(alloc, options.workers, options.accept)?;
     let mut workers = Vec::with_capacity(alloc, options.workers as usize)?;
-    let mut doors = network.doors(&options.listen, options.workers)?;
+    let mut doors = match network.doors(&options.listen, options.workers) {
+        Ok(doors) => doors,
+        Err(fault) => {
+            workers.destroy_empty();
+            return Err(fault);
+        }
+    };
     tell_start(rt, options);
     man(
         rt,
@@ -88,6 +96,7 @@ fn run<R: Threads + Wait + Eprint + Sync, N: Network>(
     );
     serve_doors(rt, alloc, options.level, progress_of(options), &mut workers);
     let fault = leave(shared, pass, &mut workers, &mut doors);
+    workers.destroy_empty();
     network.doors_back(doors);
     Ok(fault)
 }

@@ -38,11 +38,7 @@ pub fn line_of(alloc: Global, history: &History) -> Result<Vec<u8>, Memory>
     let mut line = Vec::new(alloc);
     line.extend_from_slice(b"served ")?;
     put_named(&mut line, sessions_of(events), b" sessions ")?;
-    put_named(
-        &mut line,
-        u64::from(history.begun()),
-        b" transactions ",
-    )?;
+    put_named(&mut line, u64::from(history.begun()), b" transactions ")?;
     put_named(&mut line, events.len() as u64, b" events\n")?;
     Ok(line)
 }

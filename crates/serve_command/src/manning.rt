@@ -10,9 +10,9 @@ ghost use Rattle.serve_command.specs.Parts.{Part, AreParts, no_past, worse as wo
 ghost use Rattle.serve_command.specs.Manning.{AreManned, HaveEnded, MayLeave};
 ghost use Rattle.shared_book.specs.Books.{fresh_book, past_of};
 
-use command_line::ServeOptions;
 use cell_base::Memory;
 use choice_stream::SeedWords;
+use command_line::ServeOptions;
 use door_workers::Worker;
 use doors::Door;
 use link_traits::HostFault;
@@ -106,6 +106,7 @@ pub fn leave<R: Wait, D: Door>(
         × (event_lists pass.new ≡ event_lists pass.old ++ map (λ part. events_of_visits part.visits) parts) × (result ≡ worst_of parts) }
     ensures lock { pass.new.lock ≡ shared.now }
     ensures parts { pass.new.parts ≡ pass.old.parts + vec_len workers.old }
+    ensures emptied { workers.new.items ≡ [] }
 {
     let mut fault = None;
     while let Some(worker) = workers.pop() {

@@ -77,7 +77,8 @@ impl SeatCall for Look {
     ghost does = { λ call old answer new. Looks call.known old answer new };
 
     fn make(self, place: Place, book: &mut SeatBook) -> (Place, Result<Items<Table>, BookFault>) {
-        (place, book.look(self.known))
+        let Look { known } = self;
+        (place, book.look(known))
     }
 
     ghost may_later = { λ call few many state le may. looks_later call.known few many state le may };
@@ -103,7 +104,8 @@ impl<'a> SeatCall for Define<'a> {
     ghost does = { λ call old answer new. Defines call.table.now old answer new };
 
     fn make(self, place: Place, book: &mut SeatBook) -> (Place, Result<DefineAnswer, BookFault>) {
-        (place, book.define(self.table))
+        let Define { table } = self;
+        (place, book.define(table))
     }
 
     ghost may_later = { λ _ few many state le may. may };
@@ -128,7 +130,8 @@ impl SeatCall for Begin {
     ghost does = { λ call old answer new. Begins call.level old answer new };
 
     fn make(self, place: Place, book: &mut SeatBook) -> (Place, Result<u32, BookFault>) {
-        match book.begin(self.level) {
+        let Begin { level } = self;
+        match book.begin(level) {
             Ok(number) => (place.begun(), Ok(number)),
             Err(fault) => (place, Err(fault)),
         }
@@ -157,7 +160,8 @@ impl SeatCall for Scan {
     ghost does = { λ call old answer new. Scans call.table old answer new };
 
     fn make(self, place: Place, book: &mut SeatBook) -> (Place, Result<Items<Key>, BookFault>) {
-        (place, book.scan(self.table))
+        let Scan { table } = self;
+        (place, book.scan(table))
     }
 
     ghost may_later = { λ call few many state le may. in_table_later call.table few many state le may };
@@ -182,7 +186,8 @@ impl<'a> SeatCall for Wrote<'a> {
     ghost does = { λ call old answer new. TellsWrote call.cell.now old answer new };
 
     fn make(self, place: Place, book: &mut SeatBook) -> (Place, bool) {
-        (place, book.wrote(self.cell))
+        let Wrote { cell } = self;
+        (place, book.wrote(cell))
     }
 
     ghost may_later = { λ _ few many state le may. may };
@@ -207,7 +212,8 @@ impl<'a> SeatCall for Own<'a> {
     ghost does = { λ call old answer new. ReadsOwn call.cell.now old answer new };
 
     fn make(self, place: Place, book: &mut SeatBook) -> (Place, Result<Value, BookFault>) {
-        (place, book.own(self.cell))
+        let Own { cell } = self;
+        (place, book.own(cell))
     }
 
     ghost may_later = { λ _ few many state le may. may };
@@ -235,7 +241,8 @@ impl<'a> SeatCall for Read<'a> {
     ghost does = { λ call old answer new. Reads call.cell.now call.word old answer new };
 
     fn make(self, place: Place, book: &mut SeatBook) -> (Place, Result<Value, BookFault>) {
-        (place, book.read(self.cell, self.word))
+        let Read { cell, word } = self;
+        (place, book.read(cell, word))
     }
 
     ghost may_later = { λ call few many state le may. reads_later call.cell.now few many state le may };

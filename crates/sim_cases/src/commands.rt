@@ -4,8 +4,8 @@ ghost use Rattle.link_traits.specs.Host.{objects_out};
 ghost use Rattle.link_traits.specs.Hosts.{mem_hosted};
 
 use cell_base::{Items, Memory, Text};
-use link_traits::{HostFile, MemHost, MemPlan, MemSink};
 use doors::MemNetwork;
+use link_traits::{HostFile, MemHost, MemPlan, MemSink};
 use monkey_server::monkey_main;
 use std::alloc::Global;
 use std::test::Fail;
@@ -90,20 +90,8 @@ fn repeats(rt: &HostRuntime, line: &[u8], beginning: &[u8]) -> Result<bool, Memo
 
 #[test]
 fn simulates_again(rt: HostRuntime) -> Result<(), Fail> {
-    assert!(rt;
-        repeats(
-            &rt,
-            b"sim cc 7 4 20",
-            b"sim cc 7 sessions 5 transactions "
-        )?
-    );
-    assert!(rt;
-        repeats(
-            &rt,
-            b"sim cc 7 8 100",
-            b"sim cc 7 sessions 9 transactions "
-        )?
-    );
+    assert!(rt; repeats(&rt, b"sim cc 7 4 20", b"sim cc 7 sessions 5 transactions ")?);
+    assert!(rt; repeats(&rt, b"sim cc 7 8 100", b"sim cc 7 sessions 9 transactions ")?);
     assert!(rt;
         repeats(
             &rt,
