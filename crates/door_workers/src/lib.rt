@@ -6,10 +6,12 @@
 //! time: what a book's visits ask of it is told of that book alone.
 #![tactic(auto)]
 
+mod laws;
 mod progress;
 mod serve;
 mod worker;
 
+pub use laws::visits_are_own;
 pub use progress::Progress;
 pub use serve::serve_doors;
 pub use worker::Worker;

@@ -35,6 +35,7 @@ fn serve_visit<B: Book, D: Door, W: Words>(
         (scene_of (B.past worker.new.book) worker.new.words went) account ×
         (D.passage worker.new.door ≡ given_back went (D.passage worker.old.door)) }
     ensures kept { worker.new.served.items ≡ worker.old.served.items ++ result ∷ [] }
+    ensures len { vec_len worker.new.served ≡ vec_len worker.old.served + 1 }
     ensures capacity { vec_capacity worker.new.served ≡ vec_capacity worker.old.served }
     ensures no_session { (B.past worker.new.book).state ≡ no_session }
     ensures legal { IsLegalChronicle (B.past worker.old.book).seen → IsLegalChronicle (B.past worker.new.book).seen }
@@ -70,6 +71,7 @@ fn serve_next<R: Eprint, B: Book, D: Door, W: Words>(
     ensures goes_on { result ≡ true → worker.new.fault ≡ None }
     ensures none_left { result ≡ false → worker.new.fault ≡ None → IsNoneLeft (D.passage worker.new.door).to_come }
     ensures balance { length (D.passage worker.new.door).back ≤ (D.passage worker.new.door).accepted }
+    ensures len { vec_len worker.new.served ≤ vec_len worker.old.served + 1 }
     ensures capacity { vec_capacity worker.new.served ≡ vec_capacity worker.old.served }
 {
     match worker.door.accept() {
