@@ -1,3 +1,6 @@
+pub mod Pairs
+pub mod Ended
+pub mod Leaving
 pub mod Somewhere
 pub mod OwnEvents
 pub mod OneOpening

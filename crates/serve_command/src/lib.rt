@@ -9,4 +9,3 @@ mod line;
 mod manning;
 
 pub use command::serve;
-pub use manning::Service;
