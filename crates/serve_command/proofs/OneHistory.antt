@@ -16,9 +16,9 @@ use Rattle.serve_command.proofs.OneOpening.{opened_once, session_positive}
 use Rattle.serve_command.proofs.Opens.{OpensItsSessions, visits_open}
 use Rattle.serve_command.proofs.Joined.{joined_append, has_at, alone, one_place, together}
 
--- the events of each worker, and of a pass that made none
-abbrev pub lists_of : List Part → List (List Event)
-lists_of parts = [] ∷ map (λ part. events_of_visits part.visits) parts
+-- the events of a pass that made none, and those of each worker
+abbrev lists_made : List Part → List (List Event)
+lists_made parts = [] ∷ map (λ part. events_of_visits part.visits) parts
 
 records_open : (level : Level) (seed most stream : ℕ) (befores : List Passage) (parts : List Part) (afters : List Passage) →
     AreParts level seed most stream befores parts afters → All OpensItsSessions (records_of parts)
@@ -49,12 +49,12 @@ record IsOfRecords (history : Chronicle) (parts : List Part) (s : ℕ) : Type 0 
   same : own_events history.events s ≡ own_events (joined (records_of parts)) s
   once : opened (own_events (joined (records_of parts)) s) ≤ 1
 
-of_records : (start : Chronicle) (parts : List Part) (history : Chronicle) (s : ℕ) → Finished start (lists_of parts) history →
+of_records : (start : Chronicle) (parts : List Part) (history : Chronicle) (s : ℕ) → Finished start (lists_made parts) history →
     HasEventOf s (joined (records_of parts)) → IsOfRecords history parts s
 of_records start parts history s finished has =
     let is = sym (joined_records parts) in
-    let in_lists : HasEventOf s (joined (lists_of parts)) = subst (HasEventOf s) (joined_records parts) has in
-    let all = together (lists_of parts) history.events s finished.whole finished.apart in_lists in
+    let in_lists : HasEventOf s (joined (lists_made parts)) = subst (HasEventOf s) (joined_records parts) has in
+    let all = together (lists_made parts) history.events s finished.whole finished.apart in_lists in
     let same = all ∙ ap (λ (events : List Event). own_events events s) is in
     let once = opened_once history.initial history.events s finished.legal.legal.formed in
     record {
@@ -82,7 +82,7 @@ one_history start level seed most stream befores afters parts history are finish
       of.same ∙ alone (records_of parts) s opens of.above of.once k d within has;
   held = λ e added.
       let some = finished.held e added in
-      let at = joined_any (λ x. x ≡ e) (lists_of parts) (some.0, some.1, some.2, some.3, any_from_contains some.1 e some.4) in
+      let at = joined_any (λ x. x ≡ e) (lists_made parts) (some.0, some.1, some.2, some.3, any_from_contains some.1 e some.4) in
       let found = any_joined (λ x. x ≡ e) (records_of parts) (subst (Any (λ x. x ≡ e)) (sym (joined_records parts)) at) in
       (found.0, found.1, found.2, found.3, contains_from_any found.1 e found.4);
   apart = λ i j s one other is_one is_other has_one has_other.
@@ -90,7 +90,7 @@ one_history start level seed most stream befores afters parts history are finish
       one_place (records_of parts) s opens of.above of.once i j one other is_one is_other has_one has_other;
   start_is_free = λ s has some.
       finished.start_is_free s has
-      (any_joined (λ (e : Event). session_in e ≡ s) (lists_of parts)
+      (any_joined (λ (e : Event). session_in e ≡ s) (lists_made parts)
       (subst (HasEventOf s) (joined_records parts) (joined_any (λ (e : Event). session_in e ≡ s) (records_of parts) some)));
 }
   where

@@ -1,5 +1,5 @@
 -- A record that begins without a session opens each session that it has an event of.
-use Rattle.std.proofs.Common.{◌≡◌, ℕ, ◌<◌, true, List, [], ◌∷◌, ◌++◌, All, map, arith, refl, sym, ap, ◌∙◌, inl, inr, ◌⊎◌, append_assoc, append-nil}
+use Rattle.std.proofs.Common.{◌≡◌, ℕ, ◌<◌, true, List, [], ◌∷◌, ◌++◌, All, map, arith, refl, sym, ap, ◌∙◌, inl, inr, ◌⊎◌}
 use Rattle.std.proofs.lemmas.Bool.{cases_eq}
 use Rattle.std.proofs.lemmas.List.Elements.{All-nil, All-cons}
 use Rattle.cell_base.specs.declared.level.Level.{Level}
@@ -16,7 +16,7 @@ use Rattle.block_machine.specs.declared.call.Answer.{Answer}
 use Rattle.block_machine.specs.declared.call.Answer.TheVariants as answers
 use Rattle.block_machine.specs.Script.{Entry, did, refused, short, unsent, stop}
 use Rattle.session_core.specs.Record.{Happens, Declines, StateAfter, IsValidRecord, events_of}
-use Rattle.door_workers.specs.Visits.{Visit, AreVisits, events_of_visits}
+use Rattle.door_workers.specs.Visits.{Visit, AreVisits}
 use Rattle.serve_command.specs.Parts.{record_of}
 use Rattle.serve_command.proofs.OwnEvents.{own_here, own_other, opened_opening}
 
@@ -108,12 +108,3 @@ visits_open gives level past words (visit ∷ visits) q w rests are =
     record_opens gives past words visit.account.calls visit.account.entries are.0 are.1 are.2.valid s above
     (λ is. let zero_is = is ∙ ap session_of rests in omega arith) none)
     (visits_open gives level are.0 are.1 visits q w are.3 are.4)
-
--- the events of the visits are those that the book made its own
-pub own_of_visits : {W : Type 0} (gives : W → ℕ → W → Type 0) (level : Level) (past : Past) (words : W) (visits : List Visit) (q : Past) (w : W) →
-    AreVisits gives level past words visits q w → q.own ≡ past.own ++ events_of_visits visits
-own_of_visits gives level past words [] q w are = ap (λ (p : Past). p.own) are.0 ∙ sym (append-nil past.own)
-own_of_visits gives level past words (visit ∷ visits) q w are =
-    own_of_visits gives level are.0 are.1 visits q w are.4
-    ∙ ap (λ (own : List Event). own ++ events_of_visits visits) are.2.own
-    ∙ append_assoc past.own (events_of visit.account.entries) (events_of_visits visits)
