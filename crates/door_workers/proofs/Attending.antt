@@ -1,5 +1,5 @@
 -- What a worker has attended to: nothing, one link, and further links.
-use Rattle.std.proofs.Common.{◌≡◌, ◌+◌, ◌<◌, ℕ, List, [], ◌∷◌, ◌++◌, length, map, Option, None, Some, refl, sym, ◌∙◌, ap, subst, arith, inl, inr, length-append, Err, IsErrOf, IfSome}
+use Rattle.std.proofs.Common.{◌≡◌, ◌+◌, ◌<◌, ℕ, List, [], ◌∷◌, ◌++◌, map, Option, None, Some, refl, sym, ◌∙◌, ap, subst, arith, inl, inr, length-append, Err, IsErrOf, IfSome}
 use Rattle.std.proofs.lemmas.List.{append-nil, append_assoc, map-append}
 use Rattle.cell_base.specs.declared.level.Level.{Level}
 use Rattle.link_traits.specs.Traffic.{Sight}
@@ -10,7 +10,7 @@ use Rattle.history_core.specs.Book.{Past, no_session}
 use Rattle.session_core.specs.declared.served.Served.{Served}
 use Rattle.session_core.specs.Serve.{Account, Serves, scene_of}
 use Rattle.doors.specs.Passage.{Passage, CameIn, IsNextOf, given_back, accept_failed}
-use Rattle.door_workers.specs.Visits.{Visit, came_of, went_of, outcome_of}
+use Rattle.door_workers.specs.Visits.{came_of, went_of, outcome_of}
 use Rattle.door_workers.specs.Workers.{Post, AreNextOf, IsNoneLeft, faults_after, Ceases, Attended}
 use Rattle.door_workers.proofs.Visiting.{visits_joined}
 

@@ -1,5 +1,5 @@
 -- What a worker does: it serves the links of its door one after another.
-use Rattle.std.specs.Prelude.{◌≡◌, ◌⊎◌, ◌<◌, ◌+◌, ◌≤◌, ℕ, List, [], ◌∷◌, ◌++◌, length, map, Option, None, Some}
+use Rattle.std.specs.Prelude.{◌≡◌, ◌⊎◌, ◌<◌, ◌+◌, ◌≤◌, ℕ, List, [], ◌++◌, length, map, Option, None, Some}
 use Rattle.cell_base.specs.declared.level.Level.{Level}
 use Rattle.link_traits.specs.Faults.{counted}
 use Rattle.link_traits.specs.Traffic.{Sight}

@@ -1,3 +1,9 @@
 pub mod Pairs
 pub mod Ended
 pub mod Leaving
+pub mod Somewhere
+pub mod OwnEvents
+pub mod OneOpening
+pub mod Opens
+pub mod Joined
+pub mod OneHistory

@@ -1,4 +1,4 @@
-use Rattle.std.proofs.Common.{◌≡◌, ◌≤◌, ◌<◌, ◌+◌, ℕ, refl, ◌∙◌, arith, vec_len, vec_capacity}
+use Rattle.std.proofs.Common.{◌≡◌, ◌+◌, refl, ◌∙◌, arith}
 use Rattle.door_workers.specs.Workers.{post_of}
 use Rattle.door_workers.proofs.Attending.{attended_none, attended_then, before_same, ceases_short, ceases_full, faults_then, faults_none, faults_same}
 use Rattle.door_workers.proofs.serve.work.Goals as goal
