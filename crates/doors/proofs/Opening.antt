@@ -33,6 +33,6 @@ pub opened_told : (address : List ℕ) (number : ℕ) (network : TcpNetworkState
 opened_told address number network doors are =
     let passages : map tcp_passage doors ≡ replicate number (tcp_passage new_tcp_door) = ap (map tcp_passage) are ∙ new_passages number in
     let count : length (map tcp_passage doors) ≡ number = ap length passages ∙ length-replicate number (tcp_passage new_tcp_door) in
-      call_told address number network
-      ∙ sym (ap (λ p. told_with address number p network) passages)
-      ∙ sym (ap (λ n. told_with address n (map tcp_passage doors) network) count)
+    call_told address number network
+    ∙ sym (ap (λ p. told_with address number p network) passages)
+    ∙ sym (ap (λ n. told_with address n (map tcp_passage doors) network) count)

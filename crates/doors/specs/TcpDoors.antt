@@ -1,5 +1,5 @@
 -- What doors and networks over sockets show: no bytes, and no link beforehand.
-use Rattle.std.specs.Prelude.{◌+◌, ◌-◌, ℕ, List, [], ◌∷◌, ◌++◌, map, replicate, Option, Some, None}
+use Rattle.std.specs.Prelude.{◌+◌, ℕ, List, [], ◌∷◌, ◌++◌, map, replicate, Option, Some, None}
 use Rattle.link_traits.specs.Faults.{counted}
 use Rattle.link_traits.specs.Traffic.{Sight}
 use Rattle.link_traits.specs.Hosts.{no_bytes}

@@ -1,4 +1,4 @@
-use Rattle.std.proofs.Common.{◌≡◌, ◌≤◌, ◌+◌, ◌-◌, length}
+use Rattle.std.proofs.Common.{◌≤◌, ◌+◌, ◌-◌, length}
 use Rattle.doors.proofs.wire.send_patiently.Given as goal
 
 abbrev pub invariant-loop-sent : goal.invariant-loop-sent

@@ -1,4 +1,4 @@
-use Rattle.std.proofs.Common.{◌≡◌, ◌∙◌, ap}
+use Rattle.std.proofs.Common.{◌∙◌, ap}
 use Rattle.doors.specs.TcpDoors.{tcp_networked}
 use Rattle.doors.proofs.Opening.{opened_told}
 use Rattle.doors.proofs.tcp_network.TcpNetworkNetwork.doors.Goals as goal
