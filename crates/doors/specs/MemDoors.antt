@@ -1,5 +1,5 @@
 -- What a door in memory shows.
-use Rattle.std.specs.Prelude.{◌≡◌, ◌+◌, ℕ, List, [], ◌∷◌, ◌++◌, map, Some}
+use Rattle.std.specs.Prelude.{◌+◌, ℕ, List, [], ◌∷◌, ◌++◌, map, Some}
 use Rattle.link_traits.specs.Faults.{counted}
 use Rattle.link_traits.specs.Memory.{MemEnds, mem_sight}
 use Rattle.doors.specs.Passage.{Passage}

@@ -1,9 +1,8 @@
 -- What a network in memory shows.
-use Rattle.std.specs.Prelude.{◌+◌, ◌-◌, ◌<◌, ◌⊎◌, ℕ, List, [], ◌∷◌, ◌++◌, length, map, take, drop, Option, Some, None}
+use Rattle.std.specs.Prelude.{◌+◌, ◌-◌, ◌<◌, ◌⊎◌, ℕ, List, [], ◌∷◌, ◌++◌, length, map, take, drop, Some, None}
 use Rattle.std.specs.Option.{option_map}
 use Rattle.link_traits.specs.Faults.{counted}
 use Rattle.link_traits.specs.Memory.{FailsNext}
-use Rattle.doors.specs.Passage.{Passage}
 use Rattle.doors.specs.Network.{DoorsCall, Networked}
 use Rattle.doors.specs.Returns.{Returns}
 use Rattle.doors.specs.MemDoors.{MemDoorState, mem_passage}

@@ -1,5 +1,5 @@
 -- What doors and networks over sockets show: no bytes, and no link beforehand.
-use Rattle.std.specs.Prelude.{◌+◌, ◌-◌, ℕ, List, [], ◌∷◌, ◌++◌, map, replicate, Option, Some, None}
+use Rattle.std.specs.Prelude.{◌+◌, ℕ, List, [], ◌∷◌, ◌++◌, map, replicate, Option, Some, None}
 use Rattle.link_traits.specs.Faults.{counted}
 use Rattle.link_traits.specs.Traffic.{Sight}
 use Rattle.link_traits.specs.Hosts.{no_bytes}
@@ -68,3 +68,21 @@ tcp_networked network = record {
   faults = network.failures;
   to_open = None;
 }
+
+-- a call is told
+abbrev pub tcp_call_added : TcpDoorsCall → TcpNetworkState → TcpNetworkState
+tcp_call_added call network = record network { told = network.told ++ call ∷ [] }
+
+-- so many doors were opened at an address, and went out
+abbrev pub tcp_doors_opened : List ℕ → ℕ → TcpNetworkState → TcpNetworkState
+tcp_doors_opened address number network =
+    record (tcp_call_added (record { address = address; number = number; opening = openings.Opened }) network) {
+      returned = record network.returned { out = network.returned.out + 1 };
+    }
+
+-- no doors were opened, and that was counted
+abbrev pub tcp_open_failed : List ℕ → ℕ → TcpNetworkState → TcpNetworkState
+tcp_open_failed address number network =
+    record (tcp_call_added (record { address = address; number = number; opening = openings.Failed }) network) {
+      failures = counted network.failures;
+    }

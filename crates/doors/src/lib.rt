@@ -19,6 +19,7 @@ mod tcp_call;
 mod tcp_door;
 mod tcp_link;
 mod tcp_network;
+mod wire;
 
 pub use door::Door;
 pub use link_faults::LinkFaults;

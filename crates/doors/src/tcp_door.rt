@@ -8,7 +8,8 @@ use crate::door::Door;
 use crate::link_faults::LinkFaults;
 use crate::returned::Returned;
 use crate::stop_sign::StopSign;
-use crate::tcp_link::{HELD, TcpLink};
+use crate::tcp_link::TcpLink;
+use crate::wire::{HELD, Wire};
 use link_traits::HostFault;
 use std::alloc::Global;
 use std::io;
@@ -94,7 +95,7 @@ fn next_link(
     let mine = Arc::try_clone(sign)?;
     match next_stream(listener) {
         _ if sign.is_raised() => Ok(None),
-        Ok(stream) => Ok(Some(TcpLink::new(stream, mine, held))),
+        Ok(stream) => Ok(Some(TcpLink::new(Wire::new(stream, mine, held)))),
         Err(_) => Err(HostFault::Failed),
     }
 }

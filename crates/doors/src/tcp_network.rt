@@ -1,7 +1,7 @@
 // A network over sockets.
-ghost use Rattle.std.specs.Prelude.{◌≡◌, ◌≢◌, [], IfOk, replicate};
-ghost use Rattle.std.specs.IoError.{error_kind};
-ghost use Rattle.doors.specs.TcpDoors.{TcpDoorState, TcpNetworkState, new_tcp_door, tcp_networked};
+ghost use Rattle.std.specs.Prelude.{◌≡◌, ◌<◌, [], IfOk, IsErrOf, OnOk, map, replicate};
+ghost use Rattle.doors.specs.Network.{doors_returned};
+ghost use Rattle.doors.specs.TcpDoors.{TcpDoorState, TcpNetworkState, new_tcp_door, tcp_passage, tcp_networked, tcp_doors_opened, tcp_open_failed};
 
 use crate::counts::count_one;
 use crate::network::Network;
@@ -83,15 +83,14 @@ impl<R: Net<Listener = TcpListener, Stream = TcpStream> + Eprint + Copy> TcpNetw
             failures: 0,
         }
     }
-}
 
-impl<R: Net<Listener = TcpListener, Stream = TcpStream> + Eprint + Copy> Network for TcpNetwork<R> {
-    type Door = TcpDoor;
-
-    ghost networked = { tcp_networked };
-
-    /// Opens doors over one socket that listens at the address. Where the system refuses, one line on standard error gives its reason.
-    fn doors(&mut self, address: &Text, number: u32) -> Result<Vec<TcpDoor>, HostFault> {
+    // Opens doors, and tells the call. Nothing changes where memory runs out.
+    fn open(&mut self, address: &Text, number: u32) -> Result<Vec<TcpDoor>, HostFault>
+        ensures doors { IfOk result (λ doors. doors.items ≡ replicate number new_tcp_door) }
+        ensures ok { OnOk result (self.new ≡ tcp_doors_opened address.now number self.old) }
+        ensures failed { IsErrOf result HostFault.Failed → self.new ≡ tcp_open_failed address.now number self.old }
+        ensures memory { IsErrOf result HostFault.Memory → self.new ≡ self.old }
+    {
         let told = address.copy(self.alloc)?;
         self.told.reserve(1)?;
         self.returned.lend()?;
@@ -121,9 +120,24 @@ impl<R: Net<Listener = TcpListener, Stream = TcpStream> + Eprint + Copy> Network
             }
         }
     }
+}
+
+impl<R: Net<Listener = TcpListener, Stream = TcpStream> + Eprint + Copy> Network for TcpNetwork<R> {
+    type Door = TcpDoor;
+
+    ghost networked = { tcp_networked };
+
+    /// Opens doors over one socket that listens at the address. Where the system refuses, one line on standard error gives its reason.
+    fn doors(&mut self, address: &Text, number: u32) -> Result<Vec<TcpDoor>, HostFault> {
+        let doors = self.open(address, number)?;
+        Ok(doors)
+    }
 
     /// Takes the doors of a call back, and stops them, so that nobody waits at their socket.
-    fn doors_back(&mut self, doors: Vec<TcpDoor>) {
+    fn doors_back(&mut self, doors: Vec<TcpDoor>)
+        requires { 0 < (tcp_networked self.old).lent }
+        ensures { tcp_networked self.new ≡ doors_returned (map tcp_passage doors.items) (tcp_networked self.old) }
+    {
         for door in doors.iter() {
             door.stop();
         }
