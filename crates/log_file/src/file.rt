@@ -1,6 +1,5 @@
 // The log of a history, written to a file.
-ghost use Rattle.std.specs.Prelude.{◌≡◌, None, IfErr, IfOk, OnOk, map};
-ghost use Rattle.std.specs.Option.{option_map};
+ghost use Rattle.std.specs.Prelude.{◌≡◌, ℕ, List, IfErr, IfOk, OnOk};
 ghost use Rattle.link_traits.specs.Host.{objects_out};
 ghost use Rattle.log_file.specs.Logging.{LogWritten, LogUnwritten, IsFirstOrder, Logs, LogsAndPrints, status_after as status_code};
 ghost use Rattle.log_file.specs.Text.{trace_of, text_of};
@@ -43,11 +42,11 @@ fn write_log<H: Host>(
 fn log_history<H: Host>(
     alloc: Global,
     host: &mut H,
-    path: Option<&Text>,
+    path: &Option<Text>,
     store: &Store,
 ) -> Option<WriteFault>
     requires none_out { objects_out (H.hosted host.old) ≡ 0 }
-    ensures logs { Logs (option_map (λ p. p.now) path) store.now result (H.hosted host.old) (H.hosted host.new) }
+    ensures logs { Logs path.now store.now result (H.hosted host.old) (H.hosted host.new) }
     ensures none_out { objects_out (H.hosted host.new) ≡ 0 }
 {
     match path {
@@ -74,12 +73,12 @@ fn status_after(fault: Option<WriteFault>, status: Status) -> Status
 pub fn log_and_print<H: Host>(
     alloc: Global,
     host: &mut H,
-    log: Option<&Text>,
+    log: &Option<Text>,
     store: &Store,
     line: &[u8],
 ) -> Status
     requires none_out { objects_out (H.hosted host.old) ≡ 0 }
-    ensures told { LogsAndPrints (option_map (λ p. p.now) log) store.now line.now (H.hosted host.old) result.code (H.hosted host.new) }
+    ensures told { LogsAndPrints log.now store.now line.now (H.hosted host.old) result.code (H.hosted host.new) }
     ensures none_out { objects_out (H.hosted host.new) ≡ 0 }
 {
     let fault = log_history(alloc, host, log, store);

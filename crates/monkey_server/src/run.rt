@@ -103,7 +103,7 @@ fn sim<H: Host>(alloc: Global, host: &mut H, wanted: &SimPlan) -> Status
         sessions: wanted.sessions,
         queries: wanted.queries,
     };
-    simulate(alloc, host, plan, wanted.log.as_ref())
+    simulate(alloc, host, plan, &wanted.log)
 }
 
 // Does what the command says.

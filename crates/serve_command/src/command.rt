@@ -108,7 +108,7 @@ fn end<H: Host>(alloc: Global, host: &mut H, options: &ServeOptions, store: &Sto
     ensures none_out { objects_out (H.hosted host.new) ≡ 0 }
 {
     match line_of(alloc, store.history()) {
-        Ok(line) => log_and_print(alloc, host, options.log.as_ref(), store, &line),
+        Ok(line) => log_and_print(alloc, host, &options.log, store, &line),
         Err(Memory) => Status { code: 5 },
     }
 }

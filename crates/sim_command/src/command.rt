@@ -1,7 +1,6 @@
 // The command `sim LEVEL SEED SESSIONS QUERIES`.
 ghost use Rattle.std.specs.Prelude.{◌≡◌, ◌<◌, ◌≤◌, ◌+◌, ℕ, List, true, false, Some, IfOk, IfErr, OnOk};
 ghost use Rattle.cell_base.specs.declared.level.Level.{Level as Served};
-ghost use Rattle.std.specs.Option.{option_map};
 ghost use Rattle.link_traits.specs.Host.{objects_out};
 ghost use Rattle.history_core.specs.Chronicle.{Chronicle};
 ghost use Rattle.block_machine.specs.Script.{has_short};
@@ -125,11 +124,11 @@ fn played(alloc: Global, plan: Plan) -> Result<Hall, SimFault>
 /// The status is 0 where all was written whole; 1 where 4,294,967,295 steps were made; 4 where a write failed; 5 where memory ran out,
 /// also inside a session: then no summary is printed; and 6 where the file couldn't be made. What is wrong with the log stands before what is
 /// wrong with the summary, which is printed all the same.
-pub fn simulate<H: Host>(alloc: Global, host: &mut H, plan: Plan, log: Option<&Text>) -> Status
+pub fn simulate<H: Host>(alloc: Global, host: &mut H, plan: Plan, log: &Option<Text>) -> Status
     requires queries { plan.queries ≤ 200 }
     requires sessions { plan.sessions ≤ 64 }
     requires none_out { objects_out (H.hosted host.old) ≡ 0 }
-    ensures simulates { Simulates plan.level plan.seed plan.sessions plan.queries (option_map (λ p. p.now) log) (H.hosted host.old) result.code (H.hosted host.new) }
+    ensures simulates { Simulates plan.level plan.seed plan.sessions plan.queries log.now (H.hosted host.old) result.code (H.hosted host.new) }
     ensures none_out { objects_out (H.hosted host.new) ≡ 0 }
 {
     let hall = match played(alloc, plan) {
