@@ -55,9 +55,27 @@ fn reads_sim(rt: HostRuntime) -> Result<(), Fail> {
     let alloc = rt.alloc();
     assert!(rt; is(alloc, &["sim", "cc", "7", "8", "100"], "sim cc 7 8 100")?);
     assert!(rt; is(alloc, &["sim", "rc", "007", "64", "200"], "sim rc 7 64 200")?);
-    assert!(rt; is(alloc, &["sim", "ra", "18446744073709551615", "1", "1"], "sim ra 18446744073709551615 1 1")?);
-    assert!(rt; is(alloc, &["sim", "rc", "0", "1", "2", "--log", "a"], "sim rc 0 1 2 log a")?);
-    assert!(rt; is(alloc, &["sim", "--log=a", "rc", "0", "1", "2"], "sim rc 0 1 2 log a")?);
+    assert!(rt;
+        is(
+            alloc,
+            &["sim", "ra", "18446744073709551615", "1", "1"],
+            "sim ra 18446744073709551615 1 1"
+        )?
+    );
+    assert!(rt;
+        is(
+            alloc,
+            &["sim", "rc", "0", "1", "2", "--log", "a"],
+            "sim rc 0 1 2 log a"
+        )?
+    );
+    assert!(rt;
+        is(
+            alloc,
+            &["sim", "--log=a", "rc", "0", "1", "2"],
+            "sim rc 0 1 2 log a"
+        )?
+    );
     Ok(())
 }
 
@@ -75,7 +93,12 @@ fn refuses_other_words_of_sim(rt: HostRuntime) -> Result<(), Fail> {
     assert!(rt; is_unknown(alloc, &["sim", "cc", "7", "1"])?);
     assert!(rt; is_unknown(alloc, &["sim", "cc", "7", "1", "1", "1"])?);
     assert!(rt; is_unknown(alloc, &["sim", "cc", "7", "1", "1", "--log"])?);
-    assert!(rt; is_unknown(alloc, &["sim", "cc", "7", "1", "1", "--log", "a", "--log", "a"])?);
+    assert!(rt;
+        is_unknown(
+            alloc,
+            &["sim", "cc", "7", "1", "1", "--log", "a", "--log", "a"]
+        )?
+    );
     Ok(())
 }
 
@@ -84,17 +107,54 @@ fn reads_serve(rt: HostRuntime) -> Result<(), Fail> {
     let alloc = rt.alloc();
     assert!(rt; is(alloc, &["serve"], "serve rc 0 127.0.0.1:5433 16 64")?);
     assert!(rt; is(alloc, &["serve", "--"], "serve rc 0 127.0.0.1:5433 16 64")?);
-    assert!(rt; is(alloc, &["serve", "--quiet"], "serve rc 0 127.0.0.1:5433 16 64 quiet")?);
-    assert!(rt; is(
-        alloc,
-        &[
-            "serve", "--level", "cc", "--seed=7", "--listen", "0.0.0.0:1", "--workers", "064", "--accept=4096", "--log", "a", "--quiet",
-        ],
-        "serve cc 7 0.0.0.0:1 64 4096 log a quiet",
-    )?);
-    assert!(rt; is(alloc, &["serve", "--quiet", "--level=ra"], "serve ra 0 127.0.0.1:5433 16 64 quiet")?);
-    assert!(rt; is(alloc, &["serve", "--seed", "18446744073709551615"], "serve rc 18446744073709551615 127.0.0.1:5433 16 64")?);
-    assert!(rt; is(alloc, &["serve", "--workers=1", "--accept=1", "--listen=", "--log="], "serve rc 0  1 1 log ")?);
+    assert!(rt;
+        is(
+            alloc,
+            &["serve", "--quiet"],
+            "serve rc 0 127.0.0.1:5433 16 64 quiet"
+        )?
+    );
+    assert!(rt;
+        is(
+            alloc,
+            &[
+                "serve",
+                "--level",
+                "cc",
+                "--seed=7",
+                "--listen",
+                "0.0.0.0:1",
+                "--workers",
+                "064",
+                "--accept=4096",
+                "--log",
+                "a",
+                "--quiet",
+            ],
+            "serve cc 7 0.0.0.0:1 64 4096 log a quiet",
+        )?
+    );
+    assert!(rt;
+        is(
+            alloc,
+            &["serve", "--quiet", "--level=ra"],
+            "serve ra 0 127.0.0.1:5433 16 64 quiet"
+        )?
+    );
+    assert!(rt;
+        is(
+            alloc,
+            &["serve", "--seed", "18446744073709551615"],
+            "serve rc 18446744073709551615 127.0.0.1:5433 16 64"
+        )?
+    );
+    assert!(rt;
+        is(
+            alloc,
+            &["serve", "--workers=1", "--accept=1", "--listen=", "--log="],
+            "serve rc 0  1 1 log "
+        )?
+    );
     Ok(())
 }
 

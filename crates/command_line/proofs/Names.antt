@@ -1,14 +1,12 @@
 -- The first word names one command, and the words behind it say one thing.
 use Rattle.std.proofs.Common.{◌≡◌, ◌≢◌, ◌∙◌, ℕ, List, [], ◌∷◌, ap, sym, subst, refl, slice_index, Result, Ok, Err, IfOk}
 use Rattle.std.specs.Prelude.{Option, Some, None, IfSome, IsNone, if◌then◌else◌, ◌==◌}
-use Rattle.cell_base.specs.declared.level.Level.{Level}
 use Rattle.cell_base.specs.declared.memory.Memory.{Memory}
 use Rattle.clap.specs.Words.{App, Text, Row, fault_of, matches_of}
 use Rattle.command_line.specs.Arguments.{word_of, arguments_of}
-use Rattle.command_line.specs.Commands.{Says, GivesPipe, GivesServe, GivesCheck, GivesSim, IsNoCommand}
+use Rattle.command_line.specs.Commands.{Says, IsNoCommand}
 use Rattle.command_line.specs.declared.arguments.Name.{Name}
 use Rattle.command_line.specs.declared.arguments.Name.TheVariants.{Pipe, Serve, Check, Sim}
-use Rattle.command_line.specs.declared.serve.ServeOptions.{ServeOptions}
 
 -- the name by the first two bytes of its word
 abbrev name_by : ℕ → ℕ → Name
@@ -40,42 +38,8 @@ said_same n args s t p q =
 pub other : (n m : Name) (args : List Text) (s t : List Row) → (n ≡ m → ⊥) → Says n args s → Says m args t → ⊥
 other n m args s t differ p q = differ (name_same n m args s t p q)
 
-pub pipe_alone : (args : List Text) (s : List Row) → Says Pipe args s → ((level : Level) (words : List ℕ) → ¬ (GivesPipe s level words)) → IsNoCommand args
-pipe_alone args s says none = record {
-  no_pipe = λ level words h. none level words (subst (λ (r : List Row). GivesPipe r level words) (said_same Pipe args h.0 s h.1 says) h.2);
-  no_serve = λ options h. other Pipe Serve args s h.0 (λ e. absurd (cc)) says h.1;
-  no_check = λ path h. other Pipe Check args s h.0 (λ e. absurd (cc)) says h.1;
-  no_sim = λ level seed sessions queries log h. other Pipe Sim args s h.0 (λ e. absurd (cc)) says h.1;
-}
-
-pub serve_alone : (args : List Text) (s : List Row) → Says Serve args s → ((options : ServeOptions) → ¬ (GivesServe s options)) → IsNoCommand args
-serve_alone args s says none = record {
-  no_pipe = λ level words h. other Serve Pipe args s h.0 (λ e. absurd (cc)) says h.1;
-  no_serve = λ options h. none options (subst (λ (r : List Row). GivesServe r options) (said_same Serve args h.0 s h.1 says) h.2);
-  no_check = λ path h. other Serve Check args s h.0 (λ e. absurd (cc)) says h.1;
-  no_sim = λ level seed sessions queries log h. other Serve Sim args s h.0 (λ e. absurd (cc)) says h.1;
-}
-
-pub check_alone : (args : List Text) (s : List Row) → Says Check args s → ((path : List ℕ) → ¬ (GivesCheck s path)) → IsNoCommand args
-check_alone args s says none = record {
-  no_pipe = λ level words h. other Check Pipe args s h.0 (λ e. absurd (cc)) says h.1;
-  no_serve = λ options h. other Check Serve args s h.0 (λ e. absurd (cc)) says h.1;
-  no_check = λ path h. none path (subst (λ (r : List Row). GivesCheck r path) (said_same Check args h.0 s h.1 says) h.2);
-  no_sim = λ level seed sessions queries log h. other Check Sim args s h.0 (λ e. absurd (cc)) says h.1;
-}
-
-pub sim_alone : (args : List Text) (s : List Row) → Says Sim args s
-    → ((level : Level) (seed sessions queries : ℕ) (log : Option (List ℕ)) → ¬ (GivesSim s level seed sessions queries log)) → IsNoCommand args
-sim_alone args s says none = record {
-  no_pipe = λ level words h. other Sim Pipe args s h.0 (λ e. absurd (cc)) says h.1;
-  no_serve = λ options h. other Sim Serve args s h.0 (λ e. absurd (cc)) says h.1;
-  no_check = λ path h. other Sim Check args s h.0 (λ e. absurd (cc)) says h.1;
-  no_sim = λ level seed sessions queries log h.
-      none level seed sessions queries log (subst (λ (r : List Row). GivesSim r level seed sessions queries log) (said_same Sim args h.0 s h.1 says) h.2);
-}
-
 -- words to which no command says anything are none
-pub unsaid : (args : List Text) → ((n : Name) (s : List Row) → ¬ (Says n args s)) → IsNoCommand args
+unsaid : (args : List Text) → ((n : Name) (s : List Row) → ¬ (Says n args s)) → IsNoCommand args
 unsaid args none = record {
   no_pipe = λ level words h. none Pipe h.0 h.1;
   no_serve = λ options h. none Serve h.0 h.1;

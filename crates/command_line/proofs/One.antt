@@ -1,10 +1,10 @@
 -- What words say of each argument, they say once.
-use Rattle.std.proofs.Common.{◌≡◌, ◌≢◌, ◌∙◌, ℕ, List, [], ◌∷◌, ap, sym, subst, refl, slice_index}
+use Rattle.std.proofs.Common.{◌≡◌, ◌∙◌, ℕ, List, [], ◌∷◌, ap, sym, subst, refl, slice_index}
 use Rattle.std.specs.Prelude.{Option, Some, None, IsSomeAnd, if◌then◌else◌, ◌==◌, codes}
 use Rattle.cell_base.specs.declared.level.Level.{Level}
 use Rattle.cell_base.specs.declared.level.Level.TheVariants.{Rc, Ra, Cc}
 use Rattle.clap.specs.Words.{Row, first_of}
-use Rattle.command_line.specs.Numbers.{level_word, IsLevelWord, number_of, IsNumber, IsLongWord, IsUpTo, Lists}
+use Rattle.command_line.specs.Numbers.{level_word, IsLevelWord, number_of, IsLongWord, IsUpTo, Lists}
 use Rattle.command_line.specs.Commands.{IsOr, IsProgress, GivesPipe, GivesServe, GivesSim}
 use Rattle.command_line.specs.declared.pipe.PipeCommand.{PipeCommand}
 use Rattle.command_line.specs.declared.serve.Progress.{Progress}

@@ -96,5 +96,4 @@ pub fn read_command(alloc: Global, args: &[Text]) -> Result<CommandLine, Memory>
 /// The same words are one command, so it is the words alone that say which one is read.
 pub fn one_command()
     ensures { OneCommand }
-{
-}
+{}

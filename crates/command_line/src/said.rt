@@ -59,7 +59,11 @@ fn said_by<'a>(command: Command<'a>, words: &'a [&'a str]) -> Result<Option<Said
 }
 
 /// What the words behind the name give for the command's arguments. `None` comes exactly where `clap` doesn't take them.
-pub fn said_of<'a>(alloc: Global, name: Name, words: &'a [&'a str]) -> Result<Option<Said<'a>>, Memory>
+pub fn said_of<'a>(
+    alloc: Global,
+    name: Name,
+    words: &'a [&'a str],
+) -> Result<Option<Said<'a>>, Memory>
     ensures some { IfOk result (λ found. IfSome found (λ said. Says name (word_of name ∷ map (λ w. w.now) words.entry.now) said)) }
     ensures none { IfOk result (λ found. IsNone found → (said : List Row) → ¬ (Says name (word_of name ∷ map (λ w. w.now) words.entry.now) said)) }
 {

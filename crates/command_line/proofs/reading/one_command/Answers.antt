@@ -1,13 +1,9 @@
 -- The same words are one command.
-use Rattle.std.proofs.Common.{◌≡◌, ◌∙◌, ℕ, List, ap, sym, subst, refl}
+use Rattle.std.proofs.Common.{◌≡◌, ◌∙◌, List, ap, sym, subst, refl}
 use Rattle.std.specs.Prelude.{Some, codes}
 use Rattle.clap.specs.Words.{Row, first_of}
-use Rattle.command_line.specs.Commands.{Says, GivesPipe, GivesServe, GivesCheck, GivesSim, IsCommandLine, OneCommand}
+use Rattle.command_line.specs.Commands.{GivesPipe, GivesServe, GivesSim, OneCommand}
 use Rattle.command_line.specs.declared.arguments.Name.TheVariants as names
-use Rattle.command_line.specs.declared.pipe.PipeCommand.{PipeCommand}
-use Rattle.command_line.specs.declared.serve.ServeOptions.{ServeOptions}
-use Rattle.command_line.specs.declared.sim.SimPlan.{SimPlan}
-use Rattle.command_line.specs.declared.reading.CommandLine.{CommandLine}
 use Rattle.command_line.specs.declared.reading.CommandLine.TheVariants as lines
 use Rattle.command_line.proofs.Names.{other, said_same}
 use Rattle.command_line.proofs.One.{pipe_same, serve_same, sim_same}
