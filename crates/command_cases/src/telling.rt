@@ -71,10 +71,11 @@ fn push_line(alloc: Global, out: &mut String, line: &CommandLine) -> Result<(), 
     }
 }
 
-fn texts(alloc: Global, words: &[&str]) -> Result<Vec<Text>, Memory> {
+// The words with a bar between two of them, as texts.
+fn texts(alloc: Global, words: &str) -> Result<Vec<Text>, Memory> {
     let mut texts = Vec::new(alloc);
-    for word in words {
-        let Ok(text) = Text::from_bytes(alloc, word.as_bytes()) else {
+    for word in words.as_bytes().split(|byte| *byte == b'|') {
+        let Ok(text) = Text::from_bytes(alloc, word) else {
             return Err(Memory);
         };
         texts.push(text)?;
@@ -82,21 +83,41 @@ fn texts(alloc: Global, words: &[&str]) -> Result<Vec<Text>, Memory> {
     Ok(texts)
 }
 
-/// What the words are, as one line.
-pub fn told(alloc: Global, words: &[&str]) -> Result<String, Memory> {
-    let texts = texts(alloc, words)?;
-    let line = read_command(alloc, texts.as_slice())?;
+// Whether this is what the words are.
+fn is(alloc: Global, words: &[Text], told: &str) -> Result<bool, Memory> {
+    let line = read_command(alloc, words)?;
     let mut out = String::new(alloc);
     push_line(alloc, &mut out, &line)?;
-    Ok(out)
+    Ok(out.as_str() == told)
 }
 
-/// Whether this is what the words are.
-pub fn is(alloc: Global, words: &[&str], line: &str) -> Result<bool, Memory> {
-    Ok(told(alloc, words)?.as_str() == line)
+/// Whether no words at all are no command.
+pub fn is_none(alloc: Global) -> Result<bool, Memory> {
+    is(alloc, &[], "unknown")
 }
 
-/// Whether the words are no command.
-pub fn is_unknown(alloc: Global, words: &[&str]) -> Result<bool, Memory> {
-    is(alloc, words, "unknown")
+// Whether this is what the words with bars are.
+fn is_told(alloc: Global, words: &str, told: &str) -> Result<bool, Memory> {
+    let texts = texts(alloc, words)?;
+    is(alloc, texts.as_slice(), told)
+}
+
+/// Whether the words with bars are told so, each.
+pub fn are(alloc: Global, cases: &[(&str, &str)]) -> Result<bool, Memory> {
+    for case in cases {
+        if !is_told(alloc, case.0, case.1)? {
+            return Ok(false);
+        }
+    }
+    Ok(true)
+}
+
+/// Whether the words with bars are no command, each.
+pub fn are_unknown(alloc: Global, cases: &[&str]) -> Result<bool, Memory> {
+    for words in cases {
+        if !is_told(alloc, *words, "unknown")? {
+            return Ok(false);
+        }
+    }
+    Ok(true)
 }

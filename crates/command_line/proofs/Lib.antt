@@ -4,3 +4,4 @@ pub mod Words
 pub mod Free
 pub mod Names
 pub mod One
+pub mod Plain

@@ -1,7 +1,7 @@
 // The command that the words of the command line are.
 ghost use Rattle.std.specs.Prelude.{List, IfOk};
 ghost use Rattle.clap.specs.Words.{Text as Bytes};
-ghost use Rattle.command_line.specs.Commands.{Says, IsCommandLine, OneCommand};
+ghost use Rattle.command_line.specs.Commands.{Says, IsCommandLine, OneCommand, PlainPipe, PlainCheck, PlainSim};
 
 use crate::arguments::{Name, name_of};
 use crate::check::check_of;
@@ -96,4 +96,11 @@ pub fn read_command(alloc: Global, args: &[Text]) -> Result<CommandLine, Memory>
 /// The same words are one command, so it is the words alone that say which one is read.
 pub fn one_command()
     ensures { OneCommand }
+{}
+
+/// The commands with places are read in their plain form, place by place.
+pub fn plain_words()
+    ensures pipe { PlainPipe }
+    ensures check { PlainCheck }
+    ensures sim { PlainSim }
 {}
