@@ -1,15 +1,15 @@
 -- Words that begin with no dash are values of places, one after another.
-use Rattle.std.proofs.Common.{◌≡◌, ◌≢◌, ◌∙◌, ◌<◌, ℕ, List, [], ◌∷◌, ◌++◌, length, Bool, false, ap, ap₂, sym, subst, refl, arith, ◌+◌}
-use Rattle.std.specs.Prelude.{Option, Some, None, All, if◌then◌else◌, ◌==◌, ◌&&◌, codes, is_some}
+use Rattle.std.proofs.Common.{◌≡◌, ◌≢◌, ◌∙◌, ℕ, List, [], ◌∷◌, ◌++◌, Bool, false, ap, ap₂, sym, subst, refl, arith, ◌+◌}
+use Rattle.std.specs.Prelude.{Option, Some, None, if◌then◌else◌, ◌==◌, ◌&&◌, codes, is_some}
 use Rattle.std.specs.Option.{option_and_then, option_map_or}
 use Rattle.std.specs.Str.{bytes_eq}
 use Rattle.std.proofs.lemmas.Bool.{ne_eqb}
 use Rattle.cell_base.specs.declared.level.Level.{Level}
 use Rattle.cell_base.specs.declared.level.Level.TheVariants.{Rc, Ra, Cc}
 use Rattle.clap.specs.Lexer.{long_of, short_of, long_of_rest, short_of_rest, strip_byte}
-use Rattle.clap.specs.Words.{App, Rule, Row, Shape, Text, built, fault_of, matches_of, first_of}
+use Rattle.clap.specs.Words.{App, Rule, Shape, Text, built, fault_of, matches_of, first_of}
 use Rattle.clap.specs.Kinds.{Kinds, or_else}
-use Rattle.clap.specs.Walk.{Held, Walk, Step, value, trailing, idle, word_met, walked, walk_from, nothing_held, after_step, to_positional, arg_by_index, long_or_other, short_or_plain, settled, finished}
+use Rattle.clap.specs.Walk.{Held, Walk, Step, value, trailing, idle, word_met, walked, nothing_held, after_step, to_positional, arg_by_index, long_or_other, short_or_plain, settled, finished}
 use Rattle.clap.specs.Simple.{entered}
 use Rattle.clap.specs.Faults.{other_fault, flag_word_fault, bundle_fault, turn_fault, step_fault, walk_fault, entered_fault, settle_fault, defaults_fault, check_fault}
 use Rattle.clap.proofs.OnLiterals.{clap_on_literals}

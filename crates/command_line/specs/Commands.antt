@@ -107,3 +107,19 @@ abbrev pub PlainSim : Type 0
 PlainSim = (level : Level) (seed_digits session_digits query_digits : List ℕ) (seed sessions queries : ℕ) → IsLongWord seed_digits seed
     → IsUpTo 64 session_digits sessions → IsUpTo 200 query_digits queries
     → IsSim (codes "sim" ∷ level_word level ∷ seed_digits ∷ session_digits ∷ query_digits ∷ []) level seed sessions queries None
+
+-- the options of `serve` where no value is given
+abbrev pub default_options : Progress → ServeOptions
+default_options progress = record {
+  level = Rc;
+  seed = 0;
+  listen = codes "127.0.0.1:5433";
+  workers = 16;
+  accept = 64;
+  log = None;
+  progress = progress;
+}
+
+-- `serve` alone, and with its flag
+abbrev pub PlainServe : Type 0
+PlainServe = IsServe (codes "serve" ∷ []) (default_options Told) × IsServe (codes "serve" ∷ codes "--quiet" ∷ []) (default_options Quiet)

@@ -1,7 +1,7 @@
 // The command that the words of the command line are.
 ghost use Rattle.std.specs.Prelude.{List, IfOk};
 ghost use Rattle.clap.specs.Words.{Text as Bytes};
-ghost use Rattle.command_line.specs.Commands.{Says, IsCommandLine, OneCommand, PlainPipe, PlainCheck, PlainSim};
+ghost use Rattle.command_line.specs.Commands.{Says, IsCommandLine, OneCommand, PlainPipe, PlainCheck, PlainSim, PlainServe};
 
 use crate::arguments::{Name, name_of};
 use crate::check::check_of;
@@ -98,9 +98,10 @@ pub fn one_command()
     ensures { OneCommand }
 {}
 
-/// The commands with places are read in their plain form, place by place.
+/// The commands in their plain form: places in their order, and `serve` without values.
 pub fn plain_words()
     ensures pipe { PlainPipe }
     ensures check { PlainCheck }
     ensures sim { PlainSim }
+    ensures serve { PlainServe }
 {}
