@@ -12,7 +12,6 @@ word_of Serve = codes "serve"
 word_of Check = codes "check"
 word_of Sim = codes "sim"
 
-
 -- an argument by its place, which has to be there
 abbrev pub place : Text → Rule
 place name = record (new_rule name) { action = Some Set; required = true }

@@ -3,7 +3,7 @@ use Rattle.std.specs.Prelude.{◌≡◌, ◌≢◌, ℕ, List, [], ◌∷◌, co
 use Rattle.cell_base.specs.declared.level.Level.{Level}
 use Rattle.cell_base.specs.declared.level.Level.TheVariants.{Rc}
 use Rattle.clap.specs.Words.{Text, Row, fault_of, matches_of, first_of}
-use Rattle.command_line.specs.Numbers.{IsLevelWord, IsLongWord, IsUpTo, Lists}
+use Rattle.command_line.specs.Numbers.{level_word, IsLevelWord, IsLongWord, IsUpTo, Lists}
 use Rattle.command_line.specs.Arguments.{word_of, arguments_of}
 use Rattle.command_line.specs.declared.arguments.Name.{Name}
 use Rattle.command_line.specs.declared.arguments.Name.TheVariants as names
@@ -95,3 +95,31 @@ IsCommandLine args lines.Unknown = IsNoCommand args
 -- the same words are one command
 abbrev pub OneCommand : Type 0
 OneCommand = (args : List (List ℕ)) (a b : CommandLine) → IsCommandLine args a → IsCommandLine args b → a ≡ b
+
+-- The commands with places, in their plain form: these words, in this order. A path begins with no dash (45) and is some text.
+abbrev pub PlainPipe : Type 0
+PlainPipe = (level : Level) (list words : List ℕ) → Lists list words → IsPipe (codes "pipe" ∷ level_word level ∷ list ∷ []) level words
+
+abbrev pub PlainCheck : Type 0
+PlainCheck = (first : ℕ) (rest : List ℕ) → first ≢ 45 → IsCheck (codes "check" ∷ (first ∷ rest) ∷ []) (first ∷ rest)
+
+abbrev pub PlainSim : Type 0
+PlainSim = (level : Level) (seed_digits session_digits query_digits : List ℕ) (seed sessions queries : ℕ) → IsLongWord seed_digits seed
+    → IsUpTo 64 session_digits sessions → IsUpTo 200 query_digits queries
+    → IsSim (codes "sim" ∷ level_word level ∷ seed_digits ∷ session_digits ∷ query_digits ∷ []) level seed sessions queries None
+
+-- the options of `serve` where no value is given
+abbrev pub default_options : Progress → ServeOptions
+default_options progress = record {
+  level = Rc;
+  seed = 0;
+  listen = codes "127.0.0.1:5433";
+  workers = 16;
+  accept = 64;
+  log = None;
+  progress = progress;
+}
+
+-- `serve` alone, and with its flag
+abbrev pub PlainServe : Type 0
+PlainServe = IsServe (codes "serve" ∷ []) (default_options Told) × IsServe (codes "serve" ∷ codes "--quiet" ∷ []) (default_options Quiet)

@@ -82,42 +82,46 @@ fn bare<'a>(alloc: Global, name: &'a str) -> Command<'a>
 fn pipe_arguments<'a>(alloc: Global) -> Result<Command<'a>, Memory>
     ensures { IfOk result (λ command. app_of command ≡ pipe_arguments) }
 {
-    Ok(bare(alloc, "pipe")
+    let command = bare(alloc, "pipe")
         .arg(place(alloc, "level"))?
-        .arg(place(alloc, "words"))?)
+        .arg(place(alloc, "words"))?;
+    Ok(command)
 }
 
 // The arguments of `serve`.
 fn serve_arguments<'a>(alloc: Global) -> Result<Command<'a>, Memory>
     ensures { IfOk result (λ command. app_of command ≡ serve_arguments) }
 {
-    Ok(bare(alloc, "serve")
+    let command = bare(alloc, "serve")
         .arg(text_option(alloc, "level"))?
         .arg(text_option(alloc, "seed"))?
         .arg(text_option(alloc, "listen"))?
         .arg(text_option(alloc, "workers"))?
         .arg(text_option(alloc, "accept"))?
         .arg(text_option(alloc, "log"))?
-        .arg(flag(alloc, "quiet"))?)
+        .arg(flag(alloc, "quiet"))?;
+    Ok(command)
 }
 
 // The arguments of `check`.
 fn check_arguments<'a>(alloc: Global) -> Result<Command<'a>, Memory>
     ensures { IfOk result (λ command. app_of command ≡ check_arguments) }
 {
-    Ok(bare(alloc, "check").arg(place(alloc, "path"))?)
+    let command = bare(alloc, "check").arg(place(alloc, "path"))?;
+    Ok(command)
 }
 
 // The arguments of `sim`.
 fn sim_arguments<'a>(alloc: Global) -> Result<Command<'a>, Memory>
     ensures { IfOk result (λ command. app_of command ≡ sim_arguments) }
 {
-    Ok(bare(alloc, "sim")
+    let command = bare(alloc, "sim")
         .arg(place(alloc, "level"))?
         .arg(place(alloc, "seed"))?
         .arg(place(alloc, "sessions"))?
         .arg(place(alloc, "queries"))?
-        .arg(text_option(alloc, "log"))?)
+        .arg(text_option(alloc, "log"))?;
+    Ok(command)
 }
 
 /// The arguments of the command.

@@ -9,32 +9,32 @@ use cell_base::Level;
 
 /// The level that the text names.
 pub fn level_given(given: Option<&str>) -> Option<Level>
-    ensures some { IfSome result (λ level. IsSomeAnd (option_map (λ s. s.now) given) (λ text. IsLevelWord text level)) }
-    ensures none { IsNone result → (level : Served) → ¬ (IsSomeAnd (option_map (λ s. s.now) given) (λ text. IsLevelWord text level)) }
+    ensures some { IfSome result (λ level. IsSomeAnd (option_map (λ s. s.now) given.entry) (λ text. IsLevelWord text level)) }
+    ensures none { IsNone result → (level : Served) → ¬ (IsSomeAnd (option_map (λ s. s.now) given.entry) (λ text. IsLevelWord text level)) }
 {
     level_of(given?)
 }
 
 /// The number that the text spells, where it fits 64 bits.
 pub fn number_given(given: Option<&str>) -> Option<u64>
-    ensures some { IfSome result (λ n. IsSomeAnd (option_map (λ s. s.now) given) (λ text. IsLongWord text n)) }
-    ensures none { IsNone result → (n : ℕ) → ¬ (IsSomeAnd (option_map (λ s. s.now) given) (λ text. IsLongWord text n)) }
+    ensures some { IfSome result (λ n. IsSomeAnd (option_map (λ s. s.now) given.entry) (λ text. IsLongWord text n)) }
+    ensures none { IsNone result → (n : ℕ) → ¬ (IsSomeAnd (option_map (λ s. s.now) given.entry) (λ text. IsLongWord text n)) }
 {
     number(given?.as_bytes())
 }
 
 /// The number that the text spells, where it is from 1 to this one.
 pub fn up_to_given(most: u32, given: Option<&str>) -> Option<u32>
-    ensures some { IfSome result (λ n. IsSomeAnd (option_map (λ s. s.now) given) (λ text. IsUpTo most text n)) }
-    ensures none { IsNone result → (n : ℕ) → ¬ (IsSomeAnd (option_map (λ s. s.now) given) (λ text. IsUpTo most text n)) }
+    ensures some { IfSome result (λ n. IsSomeAnd (option_map (λ s. s.now) given.entry) (λ text. IsUpTo most text n)) }
+    ensures none { IsNone result → (n : ℕ) → ¬ (IsSomeAnd (option_map (λ s. s.now) given.entry) (λ text. IsUpTo most text n)) }
 {
     up_to(most, given?.as_bytes())
 }
 
 /// The level that the text names, and this one where there is no text.
 pub fn level_or(default: Level, given: Option<&str>) -> Option<Level>
-    ensures some { IfSome result (λ level. IsOr default IsLevelWord (option_map (λ s. s.now) given) level) }
-    ensures none { IsNone result → (level : Served) → ¬ (IsOr default IsLevelWord (option_map (λ s. s.now) given) level) }
+    ensures some { IfSome result (λ level. IsOr default IsLevelWord (option_map (λ s. s.now) given.entry) level) }
+    ensures none { IsNone result → (level : Served) → ¬ (IsOr default IsLevelWord (option_map (λ s. s.now) given.entry) level) }
 {
     match given {
         Some(text) => level_of(text),
@@ -44,8 +44,8 @@ pub fn level_or(default: Level, given: Option<&str>) -> Option<Level>
 
 /// The number that the text spells, where it fits 64 bits, and this one where there is no text.
 pub fn number_or(default: u64, given: Option<&str>) -> Option<u64>
-    ensures some { IfSome result (λ n. IsOr default IsLongWord (option_map (λ s. s.now) given) n) }
-    ensures none { IsNone result → (n : ℕ) → ¬ (IsOr default IsLongWord (option_map (λ s. s.now) given) n) }
+    ensures some { IfSome result (λ n. IsOr default IsLongWord (option_map (λ s. s.now) given.entry) n) }
+    ensures none { IsNone result → (n : ℕ) → ¬ (IsOr default IsLongWord (option_map (λ s. s.now) given.entry) n) }
 {
     match given {
         Some(text) => number(text.as_bytes()),
@@ -55,8 +55,8 @@ pub fn number_or(default: u64, given: Option<&str>) -> Option<u64>
 
 /// The number that the text spells, where it is from 1 to this one, and the default where there is no text.
 pub fn up_to_or(default: u32, most: u32, given: Option<&str>) -> Option<u32>
-    ensures some { IfSome result (λ n. IsOr default (IsUpTo most) (option_map (λ s. s.now) given) n) }
-    ensures none { IsNone result → (n : ℕ) → ¬ (IsOr default (IsUpTo most) (option_map (λ s. s.now) given) n) }
+    ensures some { IfSome result (λ n. IsOr default (IsUpTo most) (option_map (λ s. s.now) given.entry) n) }
+    ensures none { IsNone result → (n : ℕ) → ¬ (IsOr default (IsUpTo most) (option_map (λ s. s.now) given.entry) n) }
 {
     match given {
         Some(text) => up_to(most, text.as_bytes()),

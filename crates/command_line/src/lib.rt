@@ -16,6 +16,6 @@ mod serve;
 mod sim;
 
 pub use pipe::PipeCommand;
-pub use reading::{CommandLine, one_command, read_command};
+pub use reading::{CommandLine, one_command, plain_words, read_command};
 pub use serve::{Progress, ServeOptions};
 pub use sim::SimPlan;

@@ -20,8 +20,8 @@ pub struct PipeCommand {
 
 // The numbers that the text lists.
 fn words_given(alloc: Global, given: Option<&str>) -> Result<Option<Items<u32>>, Memory>
-    ensures some { IfOk result (λ found. IfSome found (λ words. IsSomeAnd (option_map (λ s. s.now) given) (λ text. Lists text words))) }
-    ensures none { IfOk result (λ found. IsNone found → (words : List ℕ) → ¬ (IsSomeAnd (option_map (λ s. s.now) given) (λ text. Lists text words))) }
+    ensures some { IfOk result (λ found. IfSome found (λ words. IsSomeAnd (option_map (λ s. s.now) given.entry) (λ text. Lists text words))) }
+    ensures none { IfOk result (λ found. IsNone found → (words : List ℕ) → ¬ (IsSomeAnd (option_map (λ s. s.now) given.entry) (λ text. Lists text words))) }
 {
     match given {
         Some(text) => words_of(alloc, text.as_bytes()),

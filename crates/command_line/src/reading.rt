@@ -1,7 +1,7 @@
 // The command that the words of the command line are.
 ghost use Rattle.std.specs.Prelude.{List, IfOk};
 ghost use Rattle.clap.specs.Words.{Text as Bytes};
-ghost use Rattle.command_line.specs.Commands.{Says, IsCommandLine, OneCommand};
+ghost use Rattle.command_line.specs.Commands.{Says, IsCommandLine, OneCommand, PlainPipe, PlainCheck, PlainSim, PlainServe};
 
 use crate::arguments::{Name, name_of};
 use crate::check::check_of;
@@ -27,27 +27,55 @@ pub enum CommandLine {
     Unknown,
 }
 
+// What the words give for `pipe`.
+fn pipe_line(alloc: Global, said: &Said) -> Result<CommandLine, Memory>
+    ensures { IfOk result (λ line. (args : List Bytes) → Says Name.Pipe args said.now → IsCommandLine args line) }
+{
+    match pipe_of(alloc, said)? {
+        Some(pipe) => Ok(CommandLine::Pipe(pipe)),
+        None => Ok(CommandLine::Unknown),
+    }
+}
+
+// What the words give for `serve`.
+fn serve_line(alloc: Global, said: &Said) -> Result<CommandLine, Memory>
+    ensures { IfOk result (λ line. (args : List Bytes) → Says Name.Serve args said.now → IsCommandLine args line) }
+{
+    match serve_of(alloc, said)? {
+        Some(options) => Ok(CommandLine::Serve(options)),
+        None => Ok(CommandLine::Unknown),
+    }
+}
+
+// What the words give for `check`.
+fn check_line(alloc: Global, said: &Said) -> Result<CommandLine, Memory>
+    ensures { IfOk result (λ line. (args : List Bytes) → Says Name.Check args said.now → IsCommandLine args line) }
+{
+    match check_of(alloc, said)? {
+        Some(path) => Ok(CommandLine::Check { path }),
+        None => Ok(CommandLine::Unknown),
+    }
+}
+
+// What the words give for `sim`.
+fn sim_line(alloc: Global, said: &Said) -> Result<CommandLine, Memory>
+    ensures { IfOk result (λ line. (args : List Bytes) → Says Name.Sim args said.now → IsCommandLine args line) }
+{
+    match sim_of(alloc, said)? {
+        Some(plan) => Ok(CommandLine::Sim(plan)),
+        None => Ok(CommandLine::Unknown),
+    }
+}
+
 // What the words behind the name give for the command.
 fn line_of(alloc: Global, name: Name, said: &Said) -> Result<CommandLine, Memory>
     ensures { IfOk result (λ line. (args : List Bytes) → Says name args said.now → IsCommandLine args line) }
 {
     match name {
-        Name::Pipe => Ok(match pipe_of(alloc, said)? {
-            Some(pipe) => CommandLine::Pipe(pipe),
-            None => CommandLine::Unknown,
-        }),
-        Name::Serve => Ok(match serve_of(alloc, said)? {
-            Some(options) => CommandLine::Serve(options),
-            None => CommandLine::Unknown,
-        }),
-        Name::Check => Ok(match check_of(alloc, said)? {
-            Some(path) => CommandLine::Check { path },
-            None => CommandLine::Unknown,
-        }),
-        Name::Sim => Ok(match sim_of(alloc, said)? {
-            Some(plan) => CommandLine::Sim(plan),
-            None => CommandLine::Unknown,
-        }),
+        Name::Pipe => pipe_line(alloc, said),
+        Name::Serve => serve_line(alloc, said),
+        Name::Check => check_line(alloc, said),
+        Name::Sim => sim_line(alloc, said),
     }
 }
 
@@ -68,5 +96,12 @@ pub fn read_command(alloc: Global, args: &[Text]) -> Result<CommandLine, Memory>
 /// The same words are one command, so it is the words alone that say which one is read.
 pub fn one_command()
     ensures { OneCommand }
-{
-}
+{}
+
+/// The commands in their plain form: places in their order, and `serve` without values.
+pub fn plain_words()
+    ensures pipe { PlainPipe }
+    ensures check { PlainCheck }
+    ensures sim { PlainSim }
+    ensures serve { PlainServe }
+{}

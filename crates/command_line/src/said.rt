@@ -23,12 +23,19 @@ impl<'a> Model for Said<'a> {
     ghost view = { λ s. rows_of (found_of s.matches) };
 }
 
+// The text that matches have for an argument.
+fn text_at<'a>(matches: &ArgMatches<'a>, name: &str) -> Option<&'a str>
+    ensures { option_map (λ s. s.now) result ≡ first_of name.now (rows_of (found_of matches.now)) }
+{
+    matches.get_str(name)
+}
+
 impl<'a> Said<'a> {
     /// The text that they give for an argument.
     pub fn value(&self, name: &str) -> Option<&'a str>
         ensures { option_map (λ s. s.now) result ≡ first_of name.now self.now }
     {
-        self.matches.get_str(name)
+        text_at(&self.matches, name)
     }
 }
 
@@ -52,7 +59,11 @@ fn said_by<'a>(command: Command<'a>, words: &'a [&'a str]) -> Result<Option<Said
 }
 
 /// What the words behind the name give for the command's arguments. `None` comes exactly where `clap` doesn't take them.
-pub fn said_of<'a>(alloc: Global, name: Name, words: &'a [&'a str]) -> Result<Option<Said<'a>>, Memory>
+pub fn said_of<'a>(
+    alloc: Global,
+    name: Name,
+    words: &'a [&'a str],
+) -> Result<Option<Said<'a>>, Memory>
     ensures some { IfOk result (λ found. IfSome found (λ said. Says name (word_of name ∷ map (λ w. w.now) words.entry.now) said)) }
     ensures none { IfOk result (λ found. IsNone found → (said : List Row) → ¬ (Says name (word_of name ∷ map (λ w. w.now) words.entry.now) said)) }
 {
@@ -64,7 +75,10 @@ pub fn said_of<'a>(alloc: Global, name: Name, words: &'a [&'a str]) -> Result<Op
 pub fn strs<'a>(alloc: Global, words: &'a [Text]) -> Result<Vec<&'a str>, Memory>
     ensures { IfOk result (λ strs. map (λ w. w.now) strs.items ≡ words.entry.now) }
 {
-    let strs: Vec<&str> = words.iter().map(|word| word.as_str()).collect(alloc)?;
+    let mut strs = Vec::new(alloc);
+    for word in words {
+        strs.push(word.as_str())?;
+    }
     Ok(strs)
 }
 
@@ -80,7 +94,7 @@ pub fn text_of(alloc: Global, text: &str) -> Result<Text, Memory>
 
 /// The text once more, where there is one.
 pub fn text_or_none(alloc: Global, text: Option<&str>) -> Result<Option<Text>, Memory>
-    ensures { IfOk result (λ copy. copy ≡ option_map (λ s. s.now) text) }
+    ensures { IfOk result (λ copy. copy ≡ option_map (λ s. s.now) text.entry) }
 {
     match text {
         Some(text) => Ok(Some(text_of(alloc, text)?)),
