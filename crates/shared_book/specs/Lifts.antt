@@ -3,6 +3,7 @@ use Rattle.std.specs.Prelude.{◌≡◌, ◌≤◌, ◌<◌, ℕ, Bool, List, []
 use Rattle.std.proofs.Common.{sym, ap, ◌∙◌, subst, append_assoc}
 use Rattle.std.proofs.lemmas.List.{append-nil, append_cancel_left}
 use Rattle.std.proofs.lemmas.List.Elements.{Contains-push}
+use Rattle.std.proofs.Math.Nat.{le_trans, lt_of_lt_of_le}
 use Rattle.cell_base.specs.declared.cell.Cell.{Cell}
 use Rattle.cell_base.specs.declared.key.Key.{Key}
 use Rattle.cell_base.specs.declared.level.Level.{Level}
@@ -189,16 +190,16 @@ module _ (before x y : Chronicle) (own mine added : List Event) (state after : S
 
 -- a call that may be made may be made also where there are more tables
 pub looks_later : (known few many : ℕ) (state : SessionState) → few ≤ many → HasSession state × (known ≤ few) → HasSession state × (known ≤ many)
-looks_later known few many state le may = (may.0, le-trans may.1 le)
+looks_later known few many state le may = (may.0, le_trans may.1 le)
 
 pub in_table_later : (table few many : ℕ) (state : SessionState) → few ≤ many → IsInTransaction state × (table < few) →
     IsInTransaction state × (table < many)
-in_table_later table few many state le may = (may.0, lt-le-trans may.1 le)
+in_table_later table few many state le may = (may.0, lt_of_lt_of_le may.1 le)
 
 pub reads_later : (cell : Cell) (few many : ℕ) (state : SessionState) → few ≤ many →
     IsInTransaction state × IsUnwritten cell state × (table_of cell < few) → IsInTransaction state × IsUnwritten cell state × (table_of cell < many)
-reads_later cell few many state le may = (may.0, may.1, lt-le-trans may.2 le)
+reads_later cell few many state le may = (may.0, may.1, lt_of_lt_of_le may.2 le)
 
 pub writes_later : (cell : Cell) (value : Value) (few many : ℕ) (state : SessionState) → few ≤ many →
     IsInTransaction state × IsStorable value × (table_of cell < few) → IsInTransaction state × IsStorable value × (table_of cell < many)
-writes_later cell value few many state le may = (may.0, may.1, lt-le-trans may.2 le)
+writes_later cell value few many state le may = (may.0, may.1, lt_of_lt_of_le may.2 le)

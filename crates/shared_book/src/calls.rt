@@ -23,10 +23,8 @@ impl SeatCall for Open {
 
     fn make(self, place: Place, book: &mut SeatBook) -> (Place, Result<u32, BookFault>) {
         let Open = self;
-        match book.open() {
-            Ok(session) => (Place::InSession(session), Ok(session)),
-            Err(fault) => (place, Err(fault)),
-        }
+        let answer = book.open();
+        (place.opened(&answer), answer)
     }
 
     ghost may_later = { λ _ few many state le may. may };
@@ -77,7 +75,8 @@ impl SeatCall for Look {
     ghost does = { λ call old answer new. Looks call.known old answer new };
 
     fn make(self, place: Place, book: &mut SeatBook) -> (Place, Result<Items<Table>, BookFault>) {
-        (place, book.look(self.known))
+        let Look { known } = self;
+        (place, book.look(known))
     }
 
     ghost may_later = { λ call few many state le may. looks_later call.known few many state le may };
@@ -103,7 +102,8 @@ impl<'a> SeatCall for Define<'a> {
     ghost does = { λ call old answer new. Defines call.table.now old answer new };
 
     fn make(self, place: Place, book: &mut SeatBook) -> (Place, Result<DefineAnswer, BookFault>) {
-        (place, book.define(self.table))
+        let Define { table } = self;
+        (place, book.define(table))
     }
 
     ghost may_later = { λ _ few many state le may. may };
@@ -128,10 +128,9 @@ impl SeatCall for Begin {
     ghost does = { λ call old answer new. Begins call.level old answer new };
 
     fn make(self, place: Place, book: &mut SeatBook) -> (Place, Result<u32, BookFault>) {
-        match book.begin(self.level) {
-            Ok(number) => (place.begun(), Ok(number)),
-            Err(fault) => (place, Err(fault)),
-        }
+        let Begin { level } = self;
+        let answer = book.begin(level);
+        (place.begun(&answer), answer)
     }
 
     ghost may_later = { λ _ few many state le may. may };
@@ -157,7 +156,8 @@ impl SeatCall for Scan {
     ghost does = { λ call old answer new. Scans call.table old answer new };
 
     fn make(self, place: Place, book: &mut SeatBook) -> (Place, Result<Items<Key>, BookFault>) {
-        (place, book.scan(self.table))
+        let Scan { table } = self;
+        (place, book.scan(table))
     }
 
     ghost may_later = { λ call few many state le may. in_table_later call.table few many state le may };
@@ -182,7 +182,8 @@ impl<'a> SeatCall for Wrote<'a> {
     ghost does = { λ call old answer new. TellsWrote call.cell.now old answer new };
 
     fn make(self, place: Place, book: &mut SeatBook) -> (Place, bool) {
-        (place, book.wrote(self.cell))
+        let Wrote { cell } = self;
+        (place, book.wrote(cell))
     }
 
     ghost may_later = { λ _ few many state le may. may };
@@ -207,7 +208,8 @@ impl<'a> SeatCall for Own<'a> {
     ghost does = { λ call old answer new. ReadsOwn call.cell.now old answer new };
 
     fn make(self, place: Place, book: &mut SeatBook) -> (Place, Result<Value, BookFault>) {
-        (place, book.own(self.cell))
+        let Own { cell } = self;
+        (place, book.own(cell))
     }
 
     ghost may_later = { λ _ few many state le may. may };
@@ -235,7 +237,8 @@ impl<'a> SeatCall for Read<'a> {
     ghost does = { λ call old answer new. Reads call.cell.now call.word old answer new };
 
     fn make(self, place: Place, book: &mut SeatBook) -> (Place, Result<Value, BookFault>) {
-        (place, book.read(self.cell, self.word))
+        let Read { cell, word } = self;
+        (place, book.read(cell, word))
     }
 
     ghost may_later = { λ call few many state le may. reads_later call.cell.now few many state le may };

@@ -25,11 +25,15 @@ pub struct Shared {
 }
 
 impl Model for Shared {
+    ghost use Rattle.std.specs.Coded.{codes};
+    ghost use Rattle.sql_tree.specs.contracts.typed_expr.TypedNode as typed_node;
     ghost use Rattle.turn_lock.specs.Passes.{LockValue};
     ghost use Rattle.shared_book.specs.declared.entry.Entry.{Entry};
     ghost use Rattle.shared_book.specs.Books.{StartsLegal};
 
     ghost Value = { LockValue Entry };
+
+    ghost coded = { Prim.hlevel (codes, typed_node.the_row.coded) };
 
     ghost view = { λ s. s.lock };
 
