@@ -29,6 +29,18 @@ pending_has no_session is = absurd is
 pending_has (in_session s) is = absurd is
 pending_has (pending s ws) is = tt
 
+pub on_any : {A E : Type 0} (r : Result A E) (P : Type 0) → P → OnOk r P
+on_any (Ok a) P p = p
+on_any (Err e) P p = tt
+
+pub if_on : {A E : Type 0} (r : Result A E) (P : Type 0) → OnOk r P → IfOk r (λ _. P)
+if_on (Ok a) P h = h
+if_on (Err e) P h = h
+
+pub on_same : {A E : Type 0} (r : Result A E) (old new next : SessionState) → session_of next ≡ session_of old → OnOk r (new ≡ next) → OnOk r (session_of new ≡ session_of old)
+on_same (Ok a) old new next is h = ap session_of h ∙ is
+on_same (Err e) old new next is h = h
+
 module _ (old new : Past) (alone : OwnsAllThatComes old new) where
   one_event : (e : Event) → Adds old e new → IsOfSession old.state e →
       (HasSession new.state → (HasSession old.state × (session_of new.state ≡ session_of old.state)) ⊎ (e ≡ events.Open (session_of new.state))) → AddsOne old new

@@ -12,9 +12,11 @@ use Rattle.valid_writes.specs.Desk.{last_writes}
 use Rattle.valid_writes.specs.Seats.{StandsIn}
 use Rattle.shared_book.specs.declared.place.Place.{Place}
 use Rattle.shared_book.specs.declared.place.Place.TheVariants.{NoSession, InSession, Pending}
+use Rattle.turn_lock.specs.Entries.{AddsAtMostOne}
+use Rattle.shared_book.specs.Entries.{entries_of}
 use Rattle.shared_book.specs.Places.{state_at, session_at, IsAt}
 use Rattle.shared_book.specs.Turns.{AddsOne, Turned, past_with}
-use Rattle.shared_book.proofs.Found.{state_is}
+use Rattle.shared_book.proofs.Found.{state_is, adds_at_most_one}
 
 pub at_place : (place : Place) (events : List Event) → IsAt place (state_at place events)
 at_place NoSession events = tt
@@ -56,3 +58,8 @@ turned_is place after does x y old new answer seen state left at stands legal le
       stands = subst (λ (h : Chronicle). StandsIn (state_at after y.events) h.events) (sym left)
           (subst (λ (s : SessionState). StandsIn s new.seen.events) then stands);
     }
+
+pub turned_adds : {A : Type 0} (place after : Place) (does : Past → A → Past → Type 0) (x y : Chronicle) (answer : A) → Turned place does x after answer y →
+    AddsAtMostOne (entries_of x) (entries_of y)
+turned_adds place after does x y answer t =
+    adds_at_most_one x y t.legal t.legal_after t.mine t.ours (state_at place x.events) (state_at after y.events) t.adds

@@ -42,6 +42,7 @@ impl Model for Shared {
 
 impl Shared {
     /// A shared history that goes on from the store's, and the pass that has all parts. When out of memory, it gives the store back.
+    #[tactic(auto, using(crate::proofs::Found::legal_same))]
     pub fn new(alloc: Global, store: Store) -> Result<(Shared, Pass), Store>
         ensures start { IfOk result (λ made. made.0.start ≡ entries_of store) }
         ensures is { IfOk result (λ made. chronicle_of made.0.start ≡ store) }
@@ -86,6 +87,7 @@ impl Shared {
     }
 
     /// Gives the store, once all passes are joined into one. It takes no memory and doesn't wait.
+    #[tactic(auto, using(crate::proofs::Ending::finished))]
     pub fn finish(self, pass: Pass) -> Store
         requires lock { pass.lock ≡ self }
         requires parts { pass.parts ≡ all_parts }
