@@ -6,5 +6,5 @@ use Rattle.shared_book.proofs.calls.BeginSeatCall.make.Goals as goal
 
 pub returns-clause-adds : goal.returns-clause-adds
 returns-clause-adds c =
-    added_or_none _ _ c.begin.ensures.stays c.begin.result (λ n. events.Begin (session_of c.args.book.now.state) c.args.self.level) c.begin.ensures.ok c.begin.ensures.err
-    (idle_has _ c.requires.may) (λ n. refl) (on_same _ _ _ _ refl c.begin.ensures.state)
+    added_or_none _ _ c.begin-answer.ensures.stays c.begin-answer.result (λ n. events.Begin (session_of c.args.book.now.state) c.args.self.level) c.begin-answer.ensures.ok c.begin-answer.ensures.err
+    (idle_has _ c.requires.may) (λ n. refl) (on_same c.begin-answer.result _ _ _ refl c.begin-answer.ensures.state)

@@ -6,5 +6,5 @@ use Rattle.shared_book.proofs.calls.WriteSeatCall.make.Goals as goal
 
 pub returns-clause-adds : goal.returns-clause-adds
 returns-clause-adds c =
-    added_or_none _ _ c.write.ensures.stays c.write.result (λ done. events.Write (session_of c.args.book.now.state) c.args.self.cell c.args.self.value) (if_on _ _ c.write.ensures.ok)
-    c.write.ensures.err (pending_has _ c.requires.may.0) (λ done. refl) (on_same _ _ _ _ refl c.write.ensures.state)
+    added_or_none _ _ c.write.ensures.stays c.write.result (λ done. events.Write (session_of c.args.book.now.state) c.args.self.cell c.args.self.value) (if_on c.write.result _ c.write.ensures.ok)
+    c.write.ensures.err (pending_has _ c.requires.may.0) (λ done. refl) (on_same c.write.result _ _ _ refl c.write.ensures.state)
