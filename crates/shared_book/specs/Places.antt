@@ -1,6 +1,7 @@
 -- Where the session of a book stands in a history.
-use Rattle.std.specs.Prelude.{◌≡◌, ℕ, List, Option, Some, None}
+use Rattle.std.specs.Prelude.{◌≡◌, ℕ, List, Option, Some, None, Result, Ok, Err}
 use Rattle.history_core.specs.declared.event.Event.{Event}
+use Rattle.history_core.specs.declared.fault.BookFault.{BookFault}
 use Rattle.history_core.specs.Book.{SessionState, no_session, in_session, pending}
 use Rattle.valid_writes.specs.Desk.{last_writes}
 use Rattle.shared_book.specs.declared.place.Place.{Place}
@@ -30,11 +31,20 @@ session_at NoSession = None
 session_at (InSession session) = Some session
 session_at (Pending session) = Some session
 
+-- where a session stands once one was opened, unless that was refused
+abbrev pub place_opened : Result ℕ BookFault → Place → Place
+place_opened (Ok session) place = InSession session
+place_opened (Err fault) place = place
+
 -- where an open session stands once a transaction has begun, and once it has ended
 abbrev pub place_begun : Place → Place
 place_begun NoSession = NoSession
 place_begun (InSession session) = Pending session
 place_begun (Pending session) = Pending session
+
+abbrev pub begun_if : Result ℕ BookFault → Place → Place
+begun_if (Ok number) place = place_begun place
+begun_if (Err fault) place = place
 
 abbrev pub place_ended : Place → Place
 place_ended NoSession = NoSession

@@ -29,11 +29,15 @@ pub struct SharedBook<'a, R: Wait> {
 }
 
 impl<'a, R: Wait> Model for SharedBook<'a, R> {
+    ghost use Rattle.std.specs.Coded.{codes};
+    ghost use Rattle.sql_tree.specs.contracts.typed_expr.TypedNode as typed_node;
     ghost use Rattle.shared_book.specs.Entries.{events_of};
     ghost use Rattle.shared_book.specs.Places.{state_at};
     ghost use Rattle.shared_book.specs.Books.{BookValue, IsBook};
 
     ghost Value = { BookValue };
+
+    ghost coded = { Prim.hlevel (codes, typed_node.the_row.coded) };
 
     ghost view = { λ b. record { pass = b.pass; state = state_at b.place (events_of b.pass.seen) } };
 
@@ -76,7 +80,7 @@ impl<'a, R: Wait> SharedBook<'a, R> {
     /// The pass, back.
     pub fn into_pass(self) -> Pass<Kept>
         requires { self.state ≡ no_session }
-        ensures { result ≡ self.pass }
+        ensures { result ≡ self.entry.pass }
     {
         self.pass
     }

@@ -23,10 +23,8 @@ impl SeatCall for Open {
 
     fn make(self, place: Place, book: &mut SeatBook) -> (Place, Result<u32, BookFault>) {
         let Open = self;
-        match book.open() {
-            Ok(session) => (Place::InSession(session), Ok(session)),
-            Err(fault) => (place, Err(fault)),
-        }
+        let answer = book.open();
+        (place.opened(&answer), answer)
     }
 
     ghost may_later = { λ _ few many state le may. may };
@@ -135,6 +133,8 @@ impl SeatCall for Begin {
             Ok(number) => (place.begun(), Ok(number)),
             Err(fault) => (place, Err(fault)),
         }
+        let answer = book.begin(level);
+        (place.begun(&answer), answer)
     }
 
     ghost may_later = { λ _ few many state le may. may };

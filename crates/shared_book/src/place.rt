@@ -1,6 +1,8 @@
 // Where the session of a book stands.
 ghost use Rattle.std.specs.Prelude.{◌≡◌};
-ghost use Rattle.shared_book.specs.Places.{session_at, place_begun, place_ended};
+ghost use Rattle.shared_book.specs.Places.{session_at, place_opened, place_begun, begun_if, place_ended};
+
+use history_core::BookFault;
 
 /// Where a session stands, with its number.
 #[derive(Clone, Copy, Debug, PartialEq, Eq)]
@@ -24,8 +26,28 @@ impl Place {
         }
     }
 
-    /// Where an open session stands once a transaction has begun.
-    pub fn begun(self) -> Place
+    /// Where a session stands once one was opened, unless that was refused.
+    pub fn opened(self, answer: &Result<u32, BookFault>) -> Place
+        ensures { result ≡ place_opened answer.now self }
+    {
+        match answer {
+            Ok(session) => Place::InSession(*session),
+            Err(_) => self,
+        }
+    }
+
+    /// Where an open session stands once a transaction has begun, unless that was refused.
+    pub fn begun(self, answer: &Result<u32, BookFault>) -> Place
+        ensures { result ≡ begun_if answer.now self }
+    {
+        match answer {
+            Ok(_) => self.in_transaction(),
+            Err(_) => self,
+        }
+    }
+
+    // Where an open session stands once a transaction has begun.
+    fn in_transaction(self) -> Place
         ensures { result ≡ place_begun self }
     {
         match self {

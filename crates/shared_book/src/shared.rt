@@ -25,11 +25,15 @@ pub struct Shared {
 }
 
 impl Model for Shared {
+    ghost use Rattle.std.specs.Coded.{codes};
+    ghost use Rattle.sql_tree.specs.contracts.typed_expr.TypedNode as typed_node;
     ghost use Rattle.turn_lock.specs.Passes.{LockValue};
     ghost use Rattle.shared_book.specs.declared.entry.Entry.{Entry};
     ghost use Rattle.shared_book.specs.Books.{StartsLegal};
 
     ghost Value = { LockValue Entry };
+
+    ghost coded = { Prim.hlevel (codes, typed_node.the_row.coded) };
 
     ghost view = { λ s. s.lock };
 
@@ -38,6 +42,7 @@ impl Model for Shared {
 
 impl Shared {
     /// A shared history that goes on from the store's, and the pass that has all parts. When out of memory, it gives the store back.
+    #[tactic(auto, using(crate::proofs::Found::legal_same))]
     pub fn new(alloc: Global, store: Store) -> Result<(Shared, Pass), Store>
         ensures start { IfOk result (λ made. made.0.start ≡ entries_of store) }
         ensures is { IfOk result (λ made. chronicle_of made.0.start ≡ store) }
@@ -82,6 +87,7 @@ impl Shared {
     }
 
     /// Gives the store, once all passes are joined into one. It takes no memory and doesn't wait.
+    #[tactic(auto, using(crate::proofs::Ending::finished))]
     pub fn finish(self, pass: Pass) -> Store
         requires lock { pass.lock ≡ self }
         requires parts { pass.parts ≡ all_parts }
