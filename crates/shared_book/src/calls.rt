@@ -129,10 +129,6 @@ impl SeatCall for Begin {
 
     fn make(self, place: Place, book: &mut SeatBook) -> (Place, Result<u32, BookFault>) {
         let Begin { level } = self;
-        match book.begin(level) {
-            Ok(number) => (place.begun(), Ok(number)),
-            Err(fault) => (place, Err(fault)),
-        }
         let answer = book.begin(level);
         (place.begun(&answer), answer)
     }
