@@ -5,3 +5,4 @@ pub mod Free
 pub mod Names
 pub mod One
 pub mod Plain
+pub mod OneCommand
