@@ -39,7 +39,7 @@ entry_of (Happened z t ∷ xs) e has = ⊎_elim
     let there = entry_of xs e later in (there.0, Contains-tail (Happened z t) (Happened e there.0) xs there.1))
     (Contains-cases z e (events_of xs) has)
 
-event_of : Entry → Event → Event
+abbrev event_of : Entry → Event → Event
 event_of (Start level initial) none = none
 event_of (Happened e t) none = e
 
@@ -135,3 +135,10 @@ finished lock pass history start legal closed =
           (subst (λ (n : ℕ). Any (HasKey key_of n) (lists_of pass)) (sym has.4)
           (any_back (HasEventOf session) (HasKey key_of session) (λ l there. has_entry session l there) (lists_of pass) any));
     }
+
+-- the history goes on from what the pass has seen
+pub goes_on_from : (lock : LockValue Entry) (pass : PassValue Entry) (history : Chronicle) → Closed key_of lock pass (entries_of history) →
+    IsPrefix (events_of pass.seen) history.events
+goes_on_from lock pass history closed =
+    (events_of closed.begins.0,
+    sym (events_join pass.seen closed.begins.0) ∙ ap events_of closed.begins.1 ∙ events_with history.events history.tables)

@@ -1,5 +1,6 @@
 // A history that many sessions share.
 ghost use Rattle.std.specs.Prelude.{◌≡◌, ◌-◌, ◌≤◌, IfOk, IfErr};
+ghost use mathlib.Core.List.{IsPrefix};
 ghost use Rattle.turn_lock.specs.Passes.{first_pass, split_off, SeesStart, Joined};
 ghost use Rattle.turn_lock.specs.Views.{all_parts};
 ghost use Rattle.shared_book.specs.Entries.{entries_of, key_of, chronicle_of, event_lists};
@@ -91,7 +92,8 @@ impl Shared {
     pub fn finish(self, pass: Pass) -> Store
         requires lock { pass.lock ≡ self }
         requires parts { pass.parts ≡ all_parts }
-        ensures { Finished (chronicle_of self.start) (event_lists pass) result }
+        ensures finished { Finished (chronicle_of self.start) (event_lists pass) result }
+        ensures seen { IsPrefix (chronicle_of pass.seen).events result.events }
     {
         let Shared { lock } = self;
         let store = lock.close(pass).into_store();
