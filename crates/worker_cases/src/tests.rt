@@ -71,9 +71,7 @@ fn failed_second(worker: &MemWorker) -> bool {
 
 // Whether nothing was served, since accepting failed at once.
 fn failed_first(worker: &MemWorker) -> bool {
-    worker.served.is_empty()
-        && were_sent(worker, &[])
-        && worker.fault == Some(HostFault::Failed)
+    worker.served.is_empty() && were_sent(worker, &[]) && worker.fault == Some(HostFault::Failed)
 }
 
 #[test]
