@@ -7,3 +7,4 @@ pub mod OneOpening
 pub mod Opens
 pub mod Joined
 pub mod OneHistory
+pub mod Sending
