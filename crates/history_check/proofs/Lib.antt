@@ -10,3 +10,4 @@ pub mod KeyLemmas
 pub mod EventLemmas
 pub mod Orderly
 pub mod TraceLaws
+pub mod Committed

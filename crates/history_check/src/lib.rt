@@ -19,6 +19,7 @@ mod seats;
 mod shape;
 mod sources;
 mod spelled;
+mod writers;
 
 pub use breach::{Breach, CheckFault};
 pub use events::check_events;

@@ -1,0 +1,36 @@
+// How the committed writers of each cell follow the events.
+ghost use Rattle.std.specs.Prelude.{◌<◌, ◌∷◌, ◌++◌, [], length, OnOk};
+ghost use Rattle.history_core.specs.Kept.{StandsForTxns};
+ghost use Rattle.order_test.specs.Settled.{IsSettled};
+ghost use Rattle.history_check.specs.Rules.{IsInShape};
+ghost use Rattle.history_check.specs.Notes.{AreWriters, IsRunningOwner};
+
+use crate::records::record_place;
+use cell_base::Memory;
+use cell_writers::{CellWriters, note_writes};
+use history_core::{Event, Txn};
+
+/// Notes the transaction that the event commits, if it commits one, at the cells that it wrote. `txns` are the records before the event.
+pub fn note_writers(
+    writers: &mut CellWriters,
+    txns: &[Txn],
+    before: &[Event],
+    event: &Event,
+    owner: Option<u32>,
+) -> Result<(), Memory>
+    requires writers { AreWriters before.now writers.old }
+    requires txns { StandsForTxns before.now txns.now }
+    requires settled { IsSettled before.now }
+    requires shape { IsInShape before.now event.now }
+    requires owner { IsRunningOwner before.now event.now owner }
+    requires few { length before.now < 4294967295 }
+    ensures { OnOk result (AreWriters (before.now ++ event.now ∷ []) writers.new) }
+{
+    match event {
+        Event::Commit { .. } => {
+            let at = record_place(txns, before, event, owner);
+            note_writes(writers, txns[at].buffer.writes(), at as u32 + 1)
+        }
+        _ => Ok(()),
+    }
+}
