@@ -172,7 +172,10 @@ fn has_later_writer(notes: &Notes, before: &[Event], cell: &Cell) -> bool
     requires notes { AreNotes before.now notes.now }
     ensures { IsTrue result ↔ HasLaterWriter before.now cell.now }
 {
-    !writers_at(&notes.writers, cell).is_empty()
+    if writers_at(&notes.writers, cell).is_empty() {
+        return false;
+    }
+    true
 }
 
 /// Whether the presence of a row is true from the start, or some transaction, or the pending one of the session, wrote it.

@@ -29,7 +29,8 @@ pub fn note_writers(
     match event {
         Event::Commit { .. } => {
             let at = record_place(txns, before, event, owner);
-            note_writes(writers, txns[at].buffer.writes(), at as u32 + 1)
+            let txn = &txns[at];
+            note_writes(writers, txn.buffer.writes(), at as u32 + 1)
         }
         _ => Ok(()),
     }

@@ -1,10 +1,11 @@
 -- The committed writers of each cell, listed session by session, as the transactions come one after another.
-use Rattle.std.proofs.Common.{◌≡◌, ℕ, ◌+◌, ◌<◌, ◌≤◌, List, [], length, get_or, set, Some, arith, refl, ap, sym, ◌∙◌, subst, inl, inr, ◌⊎◌}
+use Rattle.std.proofs.Common.{◌≡◌, ℕ, ◌+◌, ◌<◌, ◌≤◌, List, [], ◌∷◌, ◌++◌, length, get_or, set, Some, None, arith, refl, ap, sym, ◌∙◌, subst, inl, inr, ◌⊎◌}
 use Rattle.std.specs.List.{Contains, slice_get}
 use Rattle.std.specs.List.Sorted.{IsStrictlyIncreasing}
-use Rattle.std.proofs.lemmas.Bool.{cases_eq, cases_lt}
+use Rattle.std.proofs.lemmas.Bool.{cases_eq}
+use Rattle.std.proofs.lemmas.List.{length-set}
 use Rattle.std.proofs.lemmas.Option.{slice_get_within, slice_get_cases}
-use Rattle.txn_buffer.proofs.Lists.{slice_get-set_same, slice_get-set_other}
+use Rattle.txn_buffer.proofs.Lists.{slice_get-set_same, slice_get-set_other, slice_get_push_cases}
 use Rattle.cell_base.specs.declared.cell.Cell.{Cell}
 use Rattle.cell_base.specs.declared.value.Value.{Value}
 use Rattle.cell_writers.specs.declared.writers.CellWriters.{CellWriters}
@@ -134,4 +135,26 @@ txns_within events txns pasts stands are place txn is =
           let same : past.session ≡ txn.session = start_session events (place + 1) past.session txn.session started.0 record_of.place started.1 record_of.started in
           let below = of.within in
           omega arith
+    ]
+
+-- ---- what a call changed
+
+pub notes_as :
+    (old new : List CellWriters) (session : ℕ) (written writes : List (Cell × Value)) (number next : ℕ) → written ≡ writes → number ≡ next →
+    ChangesOne old new session (NotesWrites written number) → ChangesOne old new session (NotesWrites writes next)
+notes_as old new session written writes number next same count changes =
+    subst (λ (n : ℕ). ChangesOne old new session (NotesWrites writes n)) count
+    (subst (λ (ws : List (Cell × Value)). ChangesOne old new session (NotesWrites ws number)) same changes)
+
+pub changed_width : {Changes : CellWriters → CellWriters → Type 0} (old new : List CellWriters) (session : ℕ) → ChangesOne old new session Changes → length new ≡ length old
+changed_width old new session changes = ap length changes.set_to ∙ length-set old session changes.after
+
+pub empty_none : AreEmpty []
+empty_none session writers cell is = let none : None ≡ Some writers = is in cc
+
+pub empty_push : (lists : List CellWriters) (next : CellWriters) → ((cell : Cell) → numbers_at next cell ≡ []) → AreEmpty lists → AreEmpty (lists ++ next ∷ [])
+empty_push lists next none empty session writers cell is =
+    elim (slice_get_push_cases lists next session writers is) [
+      | inl before ↦ empty session writers cell before.1
+      | inr last ↦ subst (λ (w : CellWriters). numbers_at w cell ≡ []) last.1 (none cell)
     ]

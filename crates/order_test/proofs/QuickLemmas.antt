@@ -53,6 +53,21 @@ less_in_session events order keeps a b x y is_a is_b less same =
     less_unless (place_of order a) (place_of order b)
     (λ late. keeps a b record { ordered = ordered_from_records events a b x y is_a is_b less same; late = late })
 
+-- the session of a record is below the width
+pub session_within :
+    (events : List Event) (order : List ℕ) (txns : List Txn) (places : Places) → IsScene events order txns places → (width : ℕ) → AreTxnsWithin width txns → (number : ℕ) → 0 < number →
+    number ≤ begun events → (txn : Txn) → IsRecordOf events number txn → txn.session < width
+session_within events order txns places scene width within number positive bounded txn is =
+    let size = scene.records.count in
+    elim (slice_get_cases txns (number - 1)).1 [
+      | inr beyond ↦ let far = beyond.0 in absurd (omega arith)
+      | inl (found, near, row, same_value) ↦
+          let known = record_at events txns scene.records number (number - 1) found (omega arith) row in
+          let same : txn.session ≡ found.session = start_session events number txn.session found.session is.place known.place is.started known.started in
+          let inside = within (number - 1) found row in
+          omega arith
+    ]
+
 -- ---- a writer of a session up to the limit isn't late
 
 pub none_late :
@@ -166,19 +181,12 @@ pub past_clear :
     ((session : ℕ) → session < length lists → HasNoLate places.at.items (listed_at lists session cell) (slice_index past.tops.items session) from) →
     HasNoRival events order place (Read s cell from count word value) reader
 past_clear events order txns places scene keeps lists listed within s cell from count word value place reader read width past is_past has_none other rival =
-    let t = rival_txn events order txns places scene s cell from count word value place reader read other rival in
+    let bounds = rival_bounds events order place (Read s cell from count word value) reader other scene.holds read rival in
     let visible = rival.1.visible in
     clear_from events order txns places scene keeps lists listed within s cell from count word value place reader read width past is_past other
     (visible_is_causal events reader place other visible.level visible.sees)
-    (λ txn record_of. has_none txn.session (record_within txn record_of)) rival
-  where
-    record_within : (txn : Txn) → IsRecordOf events other txn → txn.session < length lists
-    record_within txn record_of =
-        let t = rival_txn events order txns places scene s cell from count word value place reader read other rival in
-        let known = record_at events txns scene.records other t.at t.txn t.number t.is in
-        let same : txn.session ≡ t.txn.session = start_session events other txn.session t.txn.session record_of.place known.place record_of.started known.started in
-        let inside = within t.at t.txn t.is in
-        omega arith
+    (λ txn record_of. has_none txn.session
+    (session_within events order txns places scene (length lists) within other bounds.0 bounds.1 txn record_of)) rival
 
 -- none of the reader's session
 pub own_clear :

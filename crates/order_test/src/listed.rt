@@ -17,7 +17,7 @@ fn no_lists(alloc: Global, width: usize) -> Result<Vec<CellWriters>, Memory>
     ensures empty { IfOk result (λ lists. AreEmpty lists.items) }
 {
     let mut lists = Vec::with_capacity(alloc, width)?;
-    for _ in 0..width {
+    for _at in 0..width {
         lists.push(new_writers(alloc))?;
     }
     Ok(lists)

@@ -1,0 +1,12 @@
+use Rattle.history_check.proofs.Committed.{writers_none}
+use Rattle.history_check.proofs.notes.no_notes.Goals as goal
+
+pub returns : goal.returns
+returns c = record {
+  settled = search rules;
+  sessions = search rules;
+  seats = search rules;
+  txns = search rules;
+  writers = writers_none c.new_writers.result c.new_writers.ensures;
+  tables = search rules;
+}
