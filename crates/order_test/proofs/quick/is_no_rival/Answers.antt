@@ -1,5 +1,4 @@
-use Rattle.std.proofs.Common.{arith, sym, ◌∙◌}
-use Rattle.std.proofs.lemmas.Bool.{false≢true}
+use Rattle.std.proofs.Common.{arith}
 use Rattle.order_test.proofs.SearchLemmas.{rival_bounds}
 use Rattle.order_test.proofs.quick.is_no_rival.Goals as goal
 

@@ -1,4 +1,4 @@
-use Rattle.std.proofs.Common.{ℕ, sym, subst}
+use Rattle.std.proofs.Common.{◌≡◌, ℕ, length, arith, sym, subst}
 use Rattle.std.proofs.lemmas.Result.{IfOk-weaker}
 use Rattle.order_test.specs.Listed.{AreTxnsWithin}
 use Rattle.order_test.proofs.ListedLemmas.{txns_within}
@@ -7,7 +7,8 @@ use Rattle.order_test.proofs.search.found_in.Goals as goal
 
 pub session_breach-requires-clause-within : goal.session_breach-requires-clause-within
 session_breach-requires-clause-within c =
-    subst (λ (width : ℕ). AreTxnsWithin width c.args.txns.now) (sym c.len.ensures)
+    let width : c.len.result ≡ length c.in_ok-pasts.pasts.last.items = let len = c.len.ensures in omega arith in
+    subst (λ (n : ℕ). AreTxnsWithin n c.args.txns.now) (sym width)
     (txns_within c.args.events.now c.args.txns.now c.in_ok-pasts.pasts c.requires.scene.records c.in_ok-pasts.ensures)
 
 pub found_behind-requires-clause-sessions : goal.found_behind-requires-clause-sessions

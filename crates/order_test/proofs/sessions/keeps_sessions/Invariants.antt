@@ -1,4 +1,4 @@
-use Rattle.std.proofs.Common.{◌≡◌, ℕ, length}
+use Rattle.std.proofs.Common.{◌≡◌, length}
 use Rattle.order_test.specs.Listed.{AreKeptUpTo}
 use Rattle.order_test.proofs.sessions.keeps_sessions.Given as goal
 
