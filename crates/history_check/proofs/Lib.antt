@@ -10,4 +10,3 @@ pub mod KeyLemmas
 pub mod EventLemmas
 pub mod Orderly
 pub mod TraceLaws
-pub mod Committed

@@ -1,16 +1,12 @@
 -- How what the judge has noted stands for the events so far.
-use Rattle.std.specs.Prelude.{◌≡◌, ◌<◌, ◌≤◌, ◌+◌, ◌↔◌, [], ℕ, Option, Some, false, List, Contains, length, slice_get}
+use Rattle.std.specs.Prelude.{◌≡◌, ◌<◌, ◌≤◌, ◌+◌, ◌↔◌, [], ℕ, Option, Some, false, List, length, slice_get}
 use Rattle.history_core.specs.declared.event.Event.{Event}
-use Rattle.cell_base.specs.declared.cell.Cell.{Cell}
 use Rattle.cell_base.specs.declared.level.Level.{Level}
 use Rattle.history_core.specs.declared.txn.Txn.{Txn}
 use Rattle.history_core.specs.declared.txn.TxnState.TheVariants.{Pending}
 use Rattle.history_core.specs.Events.{opened, defined, session_in}
 use Rattle.history_core.specs.Transactions.{IsPending}
 use Rattle.history_core.specs.Kept.{IsSessionOf, StandsForTxns, ChangesOne}
-use Rattle.history_core.specs.Relations.{Writes}
-use Rattle.cell_writers.specs.declared.writers.CellWriters.{CellWriters}
-use Rattle.cell_writers.specs.Writers.{numbers_at, AreAscending}
 use Rattle.order_test.specs.Settled.{IsSettled}
 use Rattle.history_check.specs.declared.seat.Seat.{Seat}
 use Rattle.history_check.specs.declared.notes.Notes.{Notes}
@@ -54,16 +50,10 @@ pub record IsFreshRecord (txn : Txn) (session : ℕ) (level : Level) : Type 0 wh
   pub nothing_seen : txn.seen ≡ []
   pub nothing_written : txn.buffer.writes ≡ []
 
--- at each cell stand, ascending, the transactions after the initial one that write it
-pub record AreWriters (events : List Event) (writers : CellWriters) : Type 0 where
-  pub ascending : AreAscending writers
-  pub exact : (cell : Cell) (number : ℕ) → Contains (numbers_at writers cell) number ↔ ((0 < number) × Writes events number cell)
-
 -- the notes stand for the events
 pub record AreNotes (events : List Event) (notes : Notes) : Type 0 where
   pub settled : IsSettled events
   pub sessions : AreOfSessions events
   pub seats : StandsForSeats events notes.seats.items
   pub txns : StandsForTxns events notes.txns.items
-  pub writers : AreWriters events notes.writers
   pub tables : notes.tables ≡ defined events

@@ -9,9 +9,8 @@ ghost use Rattle.history_check.specs.Keys.{IsAscending, IsListed, IsListedFirst,
 ghost use Rattle.history_check.specs.Notes.{AreNotes};
 
 use crate::notes::{Notes, count_begun, pending_in, txn_of};
-use crate::sources::{has_committed, holds, wrote_itself};
+use crate::sources::{has_committed, holds, is_writer, wrote_itself};
 use cell_base::{Cell, Key, Memory, Value};
-use cell_writers::writers_at;
 use history_core::Event;
 use std::alloc::Global;
 use std::cmp::Ordering;
@@ -170,12 +169,15 @@ fn covers_own(notes: &Notes, before: &[Event], session: u32, table: u32, keys: &
 /// Whether a transaction after the initial one writes the cell.
 fn has_later_writer(notes: &Notes, before: &[Event], cell: &Cell) -> bool
     requires notes { AreNotes before.now notes.now }
+    requires few { length before.now < 4294967295 }
     ensures { IsTrue result ↔ HasLaterWriter before.now cell.now }
 {
-    if writers_at(&notes.writers, cell).is_empty() {
-        return false;
+    for number in 1..count_begun(notes, before) + 1 {
+        if is_writer(notes, before, number, cell) {
+            return true;
+        }
     }
-    true
+    false
 }
 
 /// Whether the presence of a row is true from the start, or some transaction, or the pending one of the session, wrote it.

@@ -19,7 +19,6 @@ mod seats;
 mod shape;
 mod sources;
 mod spelled;
-mod writers;
 
 pub use breach::{Breach, CheckFault};
 pub use events::check_events;

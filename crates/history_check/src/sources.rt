@@ -10,7 +10,6 @@ ghost use Rattle.history_check.specs.Notes.{AreNotes};
 
 use crate::notes::{Notes, count_begun, pending_in, txn_of};
 use cell_base::{Cell, Value};
-use cell_writers::writers_at;
 use history_core::{Event, TxnState};
 
 /// Whether the transaction has written the cell, committed or not.
@@ -88,8 +87,13 @@ pub fn count_writers(notes: &Notes, before: &[Event], cell: &Cell) -> u32
     requires few { length before.now < 4294967295 }
     ensures { HasCandidates before.now cell.now result }
 {
-    let later = writers_at(&notes.writers, cell);
-    later.len() as u32 + 1
+    let mut count = 0;
+    for number in 0..count_begun(notes, before) + 1 {
+        if is_writer(notes, before, number, cell) {
+            count += 1;
+        }
+    }
+    count
 }
 
 /// Whether the initial state has the value at the cell.

@@ -4,8 +4,8 @@ use Rattle.history_check.proofs.Settled.{settled_push}
 use Rattle.history_check.proofs.NameLemmas.{defined-push, defined_few}
 use Rattle.history_check.proofs.noting.note.Goals as goal
 
-pub note_txn-requires-clause-owner : goal.note_txn-requires-clause-owner
-note_txn-requires-clause-owner c = rw c.session_of.ensures at c.pending_in-owner.ensures
+pub note_record-requires-clause-owner : goal.note_record-requires-clause-owner
+note_record-requires-clause-owner c = rw c.session_of.ensures at c.pending_in-owner.ensures
 
 pub overflow_add-notes : goal.overflow_add-notes
 overflow_add-notes c =
@@ -24,7 +24,6 @@ returns c =
       settled = settled_push c.args.before.now c.args.event.now c.requires.notes.settled c.requires.shape c.requires.source;
       sessions = sessions_push c.args.before.now c.args.event.now (next_session c.args.before.now c.args.event.now c.requires.notes.sessions c.requires.shape) c.requires.notes.sessions;
       seats = c.in_ok-note_seat.ensures;
-      txns = c.in_ok-note_txn.ensures.txns;
-      writers = c.in_ok-note_txn.ensures.writers;
+      txns = c.in_ok-note_record.ensures;
       tables = omega arith;
     }
