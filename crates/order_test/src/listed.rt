@@ -75,12 +75,7 @@ pub fn lists_of(alloc: Global, txns: &[Txn], width: usize) -> Result<Vec<CellWri
 }
 
 /// Of the numbers that are listed in the session at the cell the greatest up to the limit.
-pub fn last_listed(
-    lists: &[CellWriters],
-    session: usize,
-    cell: &Cell,
-    limit: u32,
-) -> Option<u32>
+pub fn last_listed(lists: &[CellWriters], session: usize, cell: &Cell, limit: u32) -> Option<u32>
     requires ascending { AreAllAscending lists.now }
     requires within { session < length lists.now }
     ensures some { IfSome result (IsLastUpTo (listed_at lists.now session cell.now) limit) }
