@@ -2,7 +2,7 @@ use Rattle.std.proofs.Common.{not, subst, sym, ap, ◌∙◌, ℕ}
 use Rattle.std.proofs.lemmas.Bool.{false≢true}
 use Rattle.order_test.specs.Unkept.{StandsBefore}
 use Rattle.order_test.proofs.SearchLemmas.{reader_number, no_rival_from, rival_from, some_of, none_of}
-use Rattle.order_test.proofs.search.is_rival.Goals as goal
+use Rattle.order_test.proofs.unmet.is_rival.Goals as goal
 
 pub sees-requires-clause-reader : goal.sees-requires-clause-reader
 sees-requires-clause-reader c = reader_number c.args.events.now c.args.place c.args.event.now c.args.reader c.requires.read
