@@ -1,5 +1,5 @@
 // A door in memory.
-ghost use Rattle.std.specs.Prelude.{◌≡◌, ◌<◌, ◌≤◌, ◌+◌, ◌↔◌, ◌∷◌, ◌++◌, [], Some, None, length, map, IfOk, IfSome, IsErr, IsErrOf, IsTrue, MatchOption, OnOk, vec_capacity};
+ghost use Rattle.std.specs.Prelude.{◌≡◌, ◌<◌, ◌≤◌, ◌+◌, ◌↔◌, ◌∷◌, ◌++◌, [], Some, None, length, IfOk, IfSome, IsErr, IsErrOf, IsTrue, MatchOption, OnOk, vec_capacity};
 ghost use Rattle.link_traits.specs.Memory.{FailsNext, mem_sight};
 ghost use Rattle.doors.specs.Passage.{CameIn, given_back, accept_failed};
 ghost use Rattle.doors.specs.MemDoors.{MemDoorState, mem_door, mem_passage, mem_door_asked, mem_door_entered, mem_door_failed, mem_door_returned};

@@ -1,9 +1,8 @@
 // A network in memory.
-ghost use Rattle.std.specs.Prelude.{◌≡◌, ◌<◌, ◌≤◌, ◌↔◌, ◌⊎◌, ◌++◌, ◌∷◌, Some, None, length, map, take, drop, All, IfOk, IfSome, IsErr, IsErrOf, IsTrue, OnOk, OnErr};
-ghost use Rattle.link_traits.specs.Memory.{FailsNext};
+ghost use Rattle.std.specs.Prelude.{◌≡◌, ◌<◌, ◌≤◌, ◌↔◌, Some, None, length, map, take, All, IfOk, IfSome, IsErr, IsErrOf, IsTrue, OnOk, OnErr};
 ghost use Rattle.doors.specs.Passage.{IsUnused};
 ghost use Rattle.doors.specs.Network.{doors_opened, open_failed, doors_returned};
-ghost use Rattle.doors.specs.MemDoors.{MemDoorState, mem_passage};
+ghost use Rattle.doors.specs.MemDoors.{mem_passage};
 ghost use Rattle.doors.specs.MemNetworks.{MemNetworkState, mem_network, mem_networked, mem_doors_asked, mem_doors_out, mem_doors_told, mem_doors_opened, mem_open_failed, mem_doors_returned, DoorsFail};
 
 use crate::counts::{count_one, is_planned};

@@ -1,7 +1,7 @@
 // A network over sockets.
 ghost use Rattle.std.specs.Prelude.{◌≡◌, ◌<◌, [], IfOk, IsErrOf, OnOk, map, replicate};
 ghost use Rattle.doors.specs.Network.{doors_returned};
-ghost use Rattle.doors.specs.TcpDoors.{TcpDoorState, TcpNetworkState, new_tcp_door, tcp_passage, tcp_networked, tcp_doors_opened, tcp_open_failed};
+ghost use Rattle.doors.specs.TcpDoors.{TcpNetworkState, new_tcp_door, tcp_passage, tcp_networked, tcp_doors_opened, tcp_open_failed};
 
 use crate::counts::count_one;
 use crate::network::Network;
