@@ -1,7 +1,7 @@
 // Doors and a network in memory.
-ghost use Rattle.std.specs.Prelude.{◌≡◌, ◌<◌, ◌≤◌, [], length, All, IfOk};
+ghost use Rattle.std.specs.Prelude.{◌<◌, All, IfOk};
 ghost use Rattle.doors.specs.Passage.{IsUnused};
-ghost use Rattle.doors.specs.MemDoors.{MemDoorState, mem_passage};
+ghost use Rattle.doors.specs.MemDoors.{mem_passage};
 
 use crate::echo::{refuses, serve_next};
 use cell_base::{Items, Memory, Text};

@@ -72,7 +72,7 @@ fn asks_to_stop_by_a_cancel_request(_rt: HostRuntime) -> Result<(), Fail> {
 fn serves_until_it_is_asked_to_stop(rt: HostRuntime) -> Result<(), Fail> {
     let mut network = TcpNetwork::new(&rt, rt.alloc());
     let anywhere = Text::from_bytes(rt.alloc(), b"127.0.0.1:0")?;
-    let mut doors = network.doors(&anywhere, 2)?;
+    let mut doors = network.doors(&anywhere, 1)?;
     let address = doors[0].local_addr()?;
     let text = text_of(rt.alloc(), address)?;
     let (served, answer) = join(
@@ -82,9 +82,8 @@ fn serves_until_it_is_asked_to_stop(rt: HostRuntime) -> Result<(), Fail> {
     );
     assert!(rt; answer? == [7, 8, 9]);
     assert!(rt; served == Some(2));
-    assert!(rt; serve_next(&mut doors[1]) == Ok(false));
-    network.doors_back(doors);
     assert!(rt; TcpStream::connect(&rt, address).is_err());
+    network.doors_back(doors);
     Ok(())
 }
 
@@ -93,6 +92,17 @@ fn fails_at_an_address_that_is_none(rt: HostRuntime) -> Result<(), Fail> {
     let mut network = TcpNetwork::new(&rt, rt.alloc());
     let address = Text::from_bytes(rt.alloc(), b"127.0.0.1:port")?;
     assert!(rt; refuses(&mut network, &address, 1));
+    Ok(())
+}
+
+#[test]
+fn stops_the_other_doors_of_its_socket(rt: HostRuntime) -> Result<(), Fail> {
+    let mut network = TcpNetwork::new(&rt, rt.alloc());
+    let anywhere = Text::from_bytes(rt.alloc(), b"127.0.0.1:0")?;
+    let mut doors = network.doors(&anywhere, 2)?;
+    doors[1].stop();
+    assert!(rt; serve_next(&mut doors[0]) == Ok(false));
+    network.doors_back(doors);
     Ok(())
 }
 
