@@ -139,6 +139,7 @@ finished lock pass history start legal closed =
 -- the history goes on from what the pass has seen
 pub goes_on_from : (lock : LockValue Entry) (pass : PassValue Entry) (history : Chronicle) → Closed key_of lock pass (entries_of history) →
     IsPrefix (events_of pass.seen) history.events
-goes_on_from lock pass history closed =
-    (events_of closed.begins.0,
-    sym (events_join pass.seen closed.begins.0) ∙ ap events_of closed.begins.1 ∙ events_with history.events history.tables)
+goes_on_from lock pass history closed = (
+  events_of closed.begins.0,
+  sym (events_join pass.seen closed.begins.0) ∙ ap events_of closed.begins.1 ∙ events_with history.events history.tables,
+)

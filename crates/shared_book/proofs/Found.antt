@@ -96,7 +96,7 @@ module _ (x y : Chronicle) (legal : IsLegalChronicle x) (legal_after : IsLegalCh
   pub grown : entries_of y ≡ entries_of x ++ with_tables adds.added adds.more
   grown =
       let told : with_tables y.events y.tables ≡ with_tables x.events x.tables ++ with_tables adds.added adds.more =
-          (λ i. with_tables (adds.seen i) (adds.tables i)) ∙ joined x.events adds.added x.tables adds.more (legal_tables x legal) in
+      (λ i. with_tables (adds.seen i) (adds.tables i)) ∙ joined x.events adds.added x.tables adds.more (legal_tables x legal) in
       λ i. Start (adds.level i) (adds.initial i) ∷ told i
 
   pub adds_at_most_one : AddsAtMostOne (entries_of x) (entries_of y)
@@ -107,7 +107,7 @@ module _ (x y : Chronicle) (legal : IsLegalChronicle x) (legal_after : IsLegalCh
   new_number e has opens =
       let at_end : y.events ≡ x.events ++ e ∷ [] = adds.seen ∙ ap (λ (l : List Event). x.events ++ l) (only_one adds.added e adds.few has) in
       let formed : IsFormed x.initial (x.events ++ e ∷ []) =
-          subst (λ (z : List (Cell × Value) × List Event). IsFormed z.0 z.1) (λ i. (adds.initial i, at_end i)) legal_after.legal.formed in
+      subst (λ (z : List (Cell × Value) × List Event). IsFormed z.0 z.1) (λ i. (adds.initial i, at_end i)) legal_after.legal.formed in
       let follows = (formed_back x.initial x.events e formed).1.follows in
       subst (λ (z : Event). Follows x.initial x.events z) opens follows
 
@@ -187,10 +187,12 @@ module _ (lock : LockValue Entry) (pass : PassValue Entry) (place : Place) (book
   -- what was asked before others added to the history may be asked still
   pub needs : (ask : ℕ → SessionState → Type 0) → ((few many : ℕ) (s : SessionState) → few ≤ many → ask few s → ask many s) →
       ask (length (tables_of pass.seen)) before → StandsIn state x.events × ask (length x.tables) state
-  needs ask later asked =
-      (stands, subst (λ (s : SessionState). ask (length x.tables) s) same_state
-      (later (length (tables_of pass.seen)) (length x.tables) before
-      (omega (arith, ap length tables_is, length-append (tables_of pass.seen) (tables_of rest))) asked))
+  needs ask later asked = (
+    stands,
+    subst (λ (s : SessionState). ask (length x.tables) s) same_state
+        (later (length (tables_of pass.seen)) (length x.tables) before
+        (omega (arith, ap length tables_is, length-append (tables_of pass.seen) (tables_of rest))) asked),
+  )
 
   module _ (y : Chronicle) (legal_after : IsLegalChronicle y) (mine ours : List Event) (then : SessionState)
       (adds : AddsOne (past_with x mine state) (past_with y ours then)) where
@@ -258,12 +260,12 @@ module _ (lock : LockValue Entry) (pass : PassValue Entry) (place : Place) (book
     past_is = λ i. record { seen = seen_is i; own = own_is i; state = state_at after ((seen_is i).events) }
 
     pub did : ((mine added : List Event) → LiesBetween (chronicle_of pass.seen) x y state added → does (past_with x mine state) answer (past_with y (mine ++ added) then) →
-            does (past_with (chronicle_of pass.seen) (events_of pass.own) state) answer (past_with y (events_of pass.own ++ added) then)) →
+        does (past_with (chronicle_of pass.seen) (events_of pass.own) state) answer (past_with y (events_of pass.own ++ added) then)) →
         does (past_of (record { pass = pass; state = before })) answer (past_of (record { pass = left; state = state_at after (events_of left.seen) }))
     did lift =
         let added = turned.adds.added in
         let found : does (past_with x turned.mine state) answer (past_with y (turned.mine ++ added) then) =
-            subst (λ (l : List Event). does (past_with x turned.mine state) answer (past_with y l then)) turned.adds.own turned.did in
+        subst (λ (l : List Event). does (past_with x turned.mine state) answer (past_with y l then)) turned.adds.own turned.did in
         let lifted = lift turned.mine added (lies y turned.legal_after turned.mine turned.ours then turned.adds) found in
         subst (λ (p : Past). does (past_of (record { pass = pass; state = before })) answer p) (sym past_is)
         (subst (λ (s : SessionState). does (past_with (chronicle_of pass.seen) (events_of pass.own) s) answer (past_with y (events_of pass.own ++ added) then)) (sym same_state) lifted)

@@ -43,7 +43,7 @@ pub fn look<R: Wait>(book: &mut SharedBook<'_, R>) -> Result<(), BookFault>
 {
     match book.look(0) {
         Ok(tables) => {
-            if tables.is_empty() {
+            if tables.len() == 0 {
                 Err(BookFault::Memory)
             } else {
                 Ok(())
@@ -66,7 +66,11 @@ pub fn begin<R: Wait>(book: &mut SharedBook<'_, R>) -> Result<(), BookFault>
 }
 
 /// Reads a cell before the first write.
-pub fn read<R: Wait>(book: &mut SharedBook<'_, R>, cell: &Cell, word: u32) -> Result<Value, BookFault>
+pub fn read<R: Wait>(
+    book: &mut SharedBook<'_, R>,
+    cell: &Cell,
+    word: u32,
+) -> Result<Value, BookFault>
     requires fresh { IsFresh (past_of book.old) }
     requires table { table_of cell.now ≡ 0 }
     ensures fresh { OnOk result (IsFresh (past_of book.new)) }
@@ -76,7 +80,11 @@ pub fn read<R: Wait>(book: &mut SharedBook<'_, R>, cell: &Cell, word: u32) -> Re
 }
 
 /// Writes a cell.
-pub fn write<R: Wait>(book: &mut SharedBook<'_, R>, cell: Cell, value: Value) -> Result<(), BookFault>
+pub fn write<R: Wait>(
+    book: &mut SharedBook<'_, R>,
+    cell: Cell,
+    value: Value,
+) -> Result<(), BookFault>
     requires busy { IsBusy (past_of book.old) }
     requires table { table_of cell ≡ 0 }
     requires storable { IsStorable value }

@@ -30,7 +30,11 @@ pub fn line(event: &Event) -> Line {
 
 /// Whether these are the events, in this order.
 pub fn are_lines(events: &[Event], want: &[Line]) -> bool {
-    events.len() == want.len() && events.iter().zip(want).all(|(event, wanted)| line(event) == *wanted)
+    events.len() == want.len()
+        && events
+            .iter()
+            .zip(want)
+            .all(|(event, wanted)| line(event) == *wanted)
 }
 
 /// The kind of an event of a session that opens, looks, writes in so many transactions and closes, by its place among the session's own.
