@@ -1,6 +1,6 @@
 // The command `serve`.
 ghost use Rattle.std.specs.Prelude.{◌≡◌, ◌≤◌, ◌++◌, ℕ, List, [], ◌∷◌, map, Some, IfOk, IfErr};
-ghost use Rattle.cell_base.specs.declared.level.Level.{Level as Served};
+ghost use Rattle.cell_base.specs.declared.level.Level.{Level as AtLevel};
 ghost use Rattle.link_traits.specs.declared.host.HostFault.{HostFault as Fault};
 ghost use Rattle.link_traits.specs.Host.{objects_out};
 ghost use Rattle.history_core.specs.Chronicle.{Chronicle};

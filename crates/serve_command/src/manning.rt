@@ -1,6 +1,6 @@
 // The workers of a server: each gets a door, a book and its words, and leaves them when it has ended.
 ghost use Rattle.std.specs.Prelude.{◌≡◌, ◌+◌, ◌<◌, ◌≤◌, ◌++◌, ℕ, List, [], All, IfOk, length, map, vec_len, vec_capacity};
-ghost use Rattle.cell_base.specs.declared.level.Level.{Level as Served};
+ghost use Rattle.cell_base.specs.declared.level.Level.{Level as AtLevel};
 ghost use Rattle.turn_lock.specs.Passes.{PassValue, split_off};
 ghost use Rattle.doors.specs.Passage.{Passage, IsUnused};
 ghost use Rattle.door_workers.specs.Visits.{events_of_visits};
@@ -99,7 +99,7 @@ pub fn leave<R: Wait, D: Door>(
     requires workers { All (MayLeave shared.now) workers.old.items }
     requires none { doors.old.items ≡ [] }
     requires capacity { vec_len workers.old ≤ vec_capacity doors.old }
-    ensures left { (level : Served) (start : PassValue Entry) (seed accept : ℕ) (opened : List Passage) →
+    ensures left { (level : AtLevel) (start : PassValue Entry) (seed accept : ℕ) (opened : List Passage) →
         past_of (fresh_book start) ≡ no_past level → start.kept ≡ [] → All IsUnused opened →
         HaveEnded D.passage level start seed accept 0 opened workers.old.items →
         (parts : List Part) × AreParts level seed accept 0 opened parts (map D.passage doors.new.items)

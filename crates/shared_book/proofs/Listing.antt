@@ -1,9 +1,7 @@
 -- Histories as lists of entries.
-use Rattle.std.proofs.Common.{◌≡◌, ◌≢◌, ℕ, zero, suc, ◌+◌, ◌<◌, ◌≤◌, ◌==◌, ◌||◌, eq-eqb, ne_eqb, Bool, true, false, cond, List, [], ◌∷◌, ◌++◌, length, drop, refl, ap, sym, ◌∙◌, subst, arith, append_assoc, Option, Some, None}
-use Rattle.std.specs.List.{filter, filter_map, cons_option, All, Any, Contains}
-use Rattle.std.proofs.lemmas.List.{append-nil, append_cancel_left}
+use Rattle.std.proofs.Common.{◌≡◌, ◌≢◌, ℕ, ◌<◌, ◌==◌, eq-eqb, Bool, true, false, cond, List, [], ◌∷◌, ◌++◌, length, refl, ap, sym, ◌∙◌, arith, append_assoc, Option, Some, None}
+use Rattle.std.specs.List.{filter, cons_option, All}
 use Rattle.std.proofs.lemmas.List.Elements.{All-nil, All-cons, filter-append}
-use mathlib.Core.List.{IsPrefix}
 use Rattle.sql_tree.specs.declared.table.Table.{Table}
 use Rattle.cell_base.specs.declared.level.Level.{Level}
 use Rattle.cell_base.specs.declared.cell.Cell.{Cell}
@@ -11,7 +9,7 @@ use Rattle.cell_base.specs.declared.value.Value.{Value}
 use Rattle.history_core.specs.declared.event.Event.{Event}
 use Rattle.history_core.specs.Events.{session_in, defined_name, names, defined}
 use Rattle.history_core.specs.Chronicle.{Chronicle, own_events}
-use Rattle.turn_lock.specs.Entries.{has_key, HasKey, with_key, IsComplete}
+use Rattle.turn_lock.specs.Entries.{HasKey, with_key, IsComplete}
 use Rattle.turn_lock.proofs.Keys.{no_more, complete_key}
 use Rattle.shared_book.specs.declared.entry.Entry.{Entry}
 use Rattle.shared_book.specs.declared.entry.Entry.TheVariants.{Start, Happened}

@@ -1,6 +1,6 @@
 -- Of each call of a book in a turn: that it adds one event or none, and where its session stands then.
-use Rattle.std.proofs.Common.{◌≡◌, ℕ, ◌⊎◌, ⊎_elim, List, [], ◌∷◌, ◌++◌, length, refl, ap, sym, ◌∙◌, subst, arith, inl, inr, Result, Ok, Err}
-use Rattle.std.specs.Prelude.{All, Contains, IfOk, OnOk, OnErr}
+use Rattle.std.proofs.Common.{◌≡◌, ℕ, ◌⊎◌, ⊎_elim, List, [], ◌∷◌, ◌++◌, refl, ap, sym, ◌∙◌, subst, arith, inl, inr, Result, Ok, Err}
+use Rattle.std.specs.Prelude.{IfOk, OnOk, OnErr}
 use Rattle.std.proofs.lemmas.List.{append-nil, append_cancel_left}
 use Rattle.std.proofs.lemmas.List.Elements.{All-nil, All-cons}
 use Rattle.cell_base.specs.declared.cell.Cell.{Cell}
@@ -12,7 +12,7 @@ use Rattle.history_core.specs.declared.fault.BookFault.{BookFault}
 use Rattle.history_core.specs.declared.fault.DefineAnswer.{DefineAnswer}
 use Rattle.history_core.specs.declared.fault.DefineAnswer.TheVariants.{Defined, Taken}
 use Rattle.history_core.specs.Events.{session_in}
-use Rattle.history_core.specs.Book.{Past, SessionState, no_session, in_session, pending, HasSession, IsIdle, IsInTransaction, session_of, writes_of, GoesOn, Adds, AnswersDefine}
+use Rattle.history_core.specs.Book.{Past, SessionState, no_session, in_session, pending, HasSession, IsIdle, IsInTransaction, session_of, GoesOn, Adds, AnswersDefine}
 use Rattle.valid_writes.specs.Owning.{OwnsAllThatComes}
 use Rattle.shared_book.specs.declared.place.Place.{Place}
 use Rattle.shared_book.specs.declared.place.Place.TheVariants.{NoSession, InSession, Pending}

@@ -1,5 +1,5 @@
 -- What one turn of a book does to the shared history.
-use Rattle.std.specs.Prelude.{◌≡◌, ◌≢◌, ◌≤◌, ◌⊎◌, ℕ, List, [], ◌++◌, length, All, Contains}
+use Rattle.std.specs.Prelude.{◌≡◌, ◌≢◌, ◌≤◌, ◌⊎◌, ℕ, List, ◌++◌, length, All, Contains}
 use Rattle.sql_tree.specs.declared.table.Table.{Table}
 use Rattle.history_core.specs.declared.event.Event.{Event}
 use Rattle.history_core.specs.declared.event.Event.TheVariants.{Open}
@@ -10,7 +10,7 @@ use Rattle.valid_writes.specs.Seats.{StandsIn}
 use Rattle.shared_book.specs.declared.entry.Entry.{Entry}
 use Rattle.shared_book.specs.declared.place.Place.{Place}
 use Rattle.shared_book.specs.Entries.{entries_of}
-use Rattle.shared_book.specs.Places.{IsAt, state_at}
+use Rattle.shared_book.specs.Places.{state_at}
 
 abbrev pub past_with : Chronicle → List Event → SessionState → Past
 past_with seen own state = record { seen = seen; own = own; state = state }

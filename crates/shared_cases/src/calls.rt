@@ -43,7 +43,7 @@ pub fn look<R: Wait>(book: &mut SharedBook<'_, R>) -> Result<(), BookFault>
 {
     match book.look(0) {
         Ok(tables) => {
-            if tables.is_empty() {
+            if tables.len() == 0 {
                 Err(BookFault::Memory)
             } else {
                 Ok(())

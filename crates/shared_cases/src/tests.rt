@@ -215,7 +215,7 @@ fn write_many<R: Wait>(book: &mut SharedBook<'_, R>, count: u32) -> Result<(), B
 /// A session that opens, looks, writes in so many transactions and closes. The answer has its number.
 fn work<R: Wait>(mut book: SharedBook<'_, R>, count: u32) -> Result<(Pass, u32), BookFault>
     requires { book.state ≡ no_session }
-    ensures { IfOk result (λ done. SamePass book.pass done.0) }
+    ensures { IfOk result (λ done. SamePass book.entry.pass done.0) }
 {
     let session = enter(&mut book)?;
     write_many(&mut book, count)?;

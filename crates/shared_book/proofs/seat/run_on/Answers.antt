@@ -1,6 +1,5 @@
 use Rattle.std.proofs.Common.{refl, subst, sym}
 use Rattle.history_core.specs.Book.{SessionState}
-use Rattle.history_core.specs.Chronicle.{Chronicle}
 use Rattle.shared_book.specs.Places.{IsAt}
 use Rattle.shared_book.proofs.Seating.{at_place, seat_open, seat_state, turned_is, turned_adds}
 use Rattle.shared_book.proofs.seat.run_on.Goals as goal

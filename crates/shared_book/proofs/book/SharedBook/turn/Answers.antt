@@ -1,6 +1,4 @@
-use Rattle.std.proofs.Common.{ℕ, List, subst, sym, ◌≤◌, length}
-use Rattle.history_core.specs.Book.{SessionState}
-use Rattle.history_core.specs.Chronicle.{Chronicle}
+use Rattle.std.proofs.Common.{List, subst, sym, length}
 use Rattle.turn_lock.specs.Passes.{MayFind}
 use Rattle.shared_book.specs.declared.entry.Entry.{Entry}
 use Rattle.shared_book.specs.Entries.{key_of, chronicle_of}

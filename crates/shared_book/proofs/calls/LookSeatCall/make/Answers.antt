@@ -1,4 +1,4 @@
-use Rattle.std.proofs.Common.{refl, ap}
+use Rattle.std.proofs.Common.{refl}
 use Rattle.history_core.specs.declared.event.Event.TheVariants as events
 use Rattle.shared_book.proofs.Making.{told_or_none}
 use Rattle.shared_book.proofs.calls.LookSeatCall.make.Goals as goal
