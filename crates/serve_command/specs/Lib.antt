@@ -1,4 +1,0 @@
-pub mod Parts
-pub mod Line
-pub mod Manning
-pub mod Serving
