@@ -1,4 +1,1 @@
-pub mod Digits
-pub mod Commas
-pub mod Words
 pub mod Alone

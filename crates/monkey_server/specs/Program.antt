@@ -14,7 +14,9 @@ use Rattle.choice_stream.specs.Choices.{DrawsFirst}
 use Rattle.host_calls.specs.Printing.{Printed}
 use Rattle.check_command.specs.Checks.{Checks}
 use Rattle.sim_command.specs.Simulations.{Simulates}
-use Rattle.monkey_server.specs.Command.{IsPipe, IsCheck, IsSim}
+use Rattle.command_line.specs.Commands.{IsCommandLine}
+use Rattle.command_line.specs.declared.reading.CommandLine.{CommandLine}
+use Rattle.command_line.specs.declared.reading.CommandLine.TheVariants as lines
 
 abbrev pub usage_line : List ℕ
 usage_line = codes "usage: monkeydb pipe LEVEL WORDS | serve [OPTIONS] | check PATH | sim LEVEL SEED SESSIONS QUERIES" ++ 10 ∷ []
@@ -73,18 +75,15 @@ Linkless before code after = (code ≡ 6) × (after ≡ call_failed (standard_li
 abbrev pub Pipes : Level → List ℕ → Hosted → ℕ → Hosted → Type 0
 Pipes level words before code after = Piped level words before code after ⊎ (Linkless before code after ⊎ Untouched before code after)
 
--- the words are no command
-pub record IsNoCommand (args : List (List ℕ)) : Type 0 where
-  pub no_pipe : (level : Level) (words : List ℕ) → ¬ (IsPipe args level words)
-  pub no_check : (path : List ℕ) → ¬ (IsCheck args path)
-  pub no_sim : (level : Level) (seed sessions queries : ℕ) → ¬ (IsSim args level seed sessions queries)
+-- what the program does for a command; `serve` isn't served yet
+abbrev pub Obeys : CommandLine → Hosted → ℕ → Hosted → Type 0
+Obeys (lines.Pipe pipe) before code after = Pipes pipe.level pipe.words before code after
+Obeys (lines.Serve options) before code after = Printed usage_line 2 before code after
+Obeys (lines.Check path) before code after = Checks path before code after
+Obeys (lines.Sim plan) before code after = Simulates plan.level plan.seed plan.sessions plan.queries plan.log before code after
+Obeys lines.Unknown before code after = Printed usage_line 2 before code after
 
--- what the program does with these words
+-- what the program does with these words: it obeys the command that they are, or memory ran out before it could
 abbrev pub Does : List (List ℕ) → Hosted → ℕ → Hosted → Type 0
 Does args before code after =
-    ((level : Level) × (words : List ℕ) × IsPipe args level words × Pipes level words before code after)
-    ⊎ (((path : List ℕ) × IsCheck args path × Checks path before code after)
-    ⊎ (((level : Level) × (seed : ℕ) × (sessions : ℕ) × (queries : ℕ) × IsSim args level seed sessions queries
-    × Simulates level seed sessions queries before code after)
-    ⊎ ((IsNoCommand args × Printed usage_line 2 before code after)
-    ⊎ Untouched before code after)))
+    ((line : CommandLine) × IsCommandLine args line × Obeys line before code after) ⊎ Untouched before code after

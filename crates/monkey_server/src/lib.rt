@@ -4,7 +4,6 @@
 //! `check PATH` checks the log of a file, `sim LEVEL SEED SESSIONS QUERIES` simulates sessions, other words print the usage line.
 #![tactic(auto)]
 
-mod command;
 mod run;
 
 pub use host_calls::Status;

@@ -1,18 +1,20 @@
 // The program.
-ghost use Rattle.std.specs.Prelude.{◌≡◌, IfOk};
+ghost use Rattle.std.specs.Prelude.{◌≡◌, ◌≤◌, ℕ, List, IfOk};
 ghost use Rattle.link_traits.specs.Host.{objects_out};
-ghost use Rattle.monkey_server.specs.Program.{no_past, status_of, ServesAlone, Pipes, Does};
+ghost use Rattle.sim_command.specs.Simulations.{Simulates};
+ghost use Rattle.command_line.specs.Commands.{IsCommandLine};
+ghost use Rattle.monkey_server.specs.Program.{no_past, status_of, ServesAlone, Pipes, Obeys, Does};
 ghost use Rattle.link_traits.specs.Traffic.{sight_of};
 
-use crate::command::{PipeCommand, check_path, command_of, sim_plan};
 use cell_base::{Items, Level, Memory, Text};
 use check_command::check_file;
 use choice_stream::ListWords;
+use command_line::{CommandLine, PipeCommand, SimPlan, read_command};
 use history_core::InitialState;
 use host_calls::{Status, print};
 use link_traits::{Host, HostFault, Link};
 use session_core::{End, Served, serve_link};
-use sim_command::simulate;
+use sim_command::{Plan, simulate};
 use std::alloc::Global;
 use valid_writes::{SeatBook, Store};
 
@@ -83,30 +85,59 @@ fn pipe<H: Host>(alloc: Global, host: &mut H, command: PipeCommand) -> Status
     status_for(served)
 }
 
+// Simulates many sessions.
+fn sim<H: Host>(alloc: Global, host: &mut H, wanted: &SimPlan) -> Status
+    requires sessions { wanted.now.sessions ≤ 64 }
+    requires queries { wanted.now.queries ≤ 200 }
+    requires none_out { objects_out (H.hosted host.old) ≡ 0 }
+    ensures simulates { Simulates wanted.now.level wanted.now.seed wanted.now.sessions wanted.now.queries wanted.now.log (H.hosted host.old) result.code (H.hosted host.new) }
+    ensures none_out { objects_out (H.hosted host.new) ≡ 0 }
+{
+    let plan = Plan {
+        level: wanted.level,
+        seed: wanted.seed,
+        sessions: wanted.sessions,
+        queries: wanted.queries,
+    };
+    simulate(alloc, host, plan, &wanted.log)
+}
+
+// Does what the command says.
+fn obey<H: Host>(alloc: Global, host: &mut H, line: CommandLine) -> Status
+    requires line { (args : List (List ℕ)) × IsCommandLine args line }
+    requires none_out { objects_out (H.hosted host.old) ≡ 0 }
+    ensures obeys { Obeys line (H.hosted host.old) result.code (H.hosted host.new) }
+    ensures none_out { objects_out (H.hosted host.new) ≡ 0 }
+{
+    match line {
+        CommandLine::Pipe(command) => pipe(alloc, host, command),
+        CommandLine::Check { path } => check_file(alloc, host, &path),
+        CommandLine::Sim(plan) => sim(alloc, host, &plan),
+        CommandLine::Serve(_) | CommandLine::Unknown => print(
+            host,
+            USAGE.as_bytes(),
+            Status { code: 2 },
+        ),
+    }
+}
+
 /// Does all that the program does with the words of its command line, its own name left out. `pipe LEVEL WORDS` serves one
 /// session over the host's standard link, at Read Committed (`rc`), Read Atomic (`ra`) or Causal Consistency (`cc`), with the numbers of
 /// WORDS as the choice words and 0 after them; `check PATH` reads the log of a file and prints `ok`, the first breach of its history, or why
-/// it is no log; `sim LEVEL SEED SESSIONS QUERIES` simulates sessions whose queries and choices are drawn from a seed, and prints a summary of
-/// their history; other words print the usage line.
+/// it is no log; `sim LEVEL SEED SESSIONS QUERIES` simulates sessions whose queries and choices are drawn from a seed, writes the log of their
+/// history with `--log PATH`, and prints a summary of it; `serve`, which isn't served yet, and other words print the usage line.
 ///
 /// The status is 0 where the session ended well or was a cancel request, for `ok`, and for a summary; 1 where its input was cut short or was no
 /// messages, where its start was refused, or where more bytes were wanted than are read, for a breach or a fault of a log, and where a
-/// simulation made 4,294,967,295 steps without coming to its end; 2 for the usage line;
-/// 3 where reading failed; 4 where writing failed; 5 where memory ran out; and 6 where the host counted that it gave no link or file.
+/// simulation made 4,294,967,295 steps without coming to its end; 2 for the usage line; 3 where reading failed; 4 where writing failed; 5 where
+/// memory ran out; and 6 where the host counted that it gave no link or file.
 pub fn monkey_main<H: Host>(alloc: Global, host: &mut H, words: &[Text]) -> Status
     requires { objects_out (H.hosted host.old) ≡ 0 }
     ensures does { Does words.now (H.hosted host.old) result.code (H.hosted host.new) }
     ensures none_out { objects_out (H.hosted host.new) ≡ 0 }
 {
-    if let Some(path) = check_path(words) {
-        return check_file(alloc, host, path);
-    }
-    if let Some(plan) = sim_plan(words) {
-        return simulate(alloc, host, plan);
-    }
-    match command_of(alloc, words) {
-        Ok(Some(command)) => pipe(alloc, host, command),
-        Ok(None) => print(host, USAGE.as_bytes(), Status { code: 2 }),
+    match read_command(alloc, words) {
+        Ok(line) => obey(alloc, host, line),
         Err(Memory) => Status { code: 5 },
     }
 }

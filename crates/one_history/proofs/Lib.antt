@@ -17,5 +17,4 @@ pub mod RequestStreams
 pub mod OneHistory
 pub mod Piped
 pub mod PipedRuns
-pub mod Commands
 pub mod ProgramRuns

@@ -4,10 +4,13 @@ use Rattle.std.specs.Prelude.{IfSome}
 use Rattle.cell_base.specs.declared.level.Level.{Level}
 use Rattle.link_traits.specs.Traffic.{Sight}
 use Rattle.link_traits.specs.Host.{Hosted}
-use Rattle.monkey_server.specs.Command.{IsPipe, IsCheck, IsSim}
-use Rattle.monkey_server.specs.Program.{Piped, Untouched, Pipes, Does}
+use Rattle.command_line.specs.Commands.{IsPipe}
+use Rattle.command_line.specs.declared.pipe.PipeCommand.{PipeCommand}
+use Rattle.command_line.specs.declared.reading.CommandLine.{CommandLine}
+use Rattle.command_line.specs.declared.reading.CommandLine.TheVariants as lines
+use Rattle.command_line.proofs.OneCommand.{one_command}
+use Rattle.monkey_server.specs.Program.{Piped, Untouched, Pipes, Obeys, Does}
 use Rattle.one_history.specs.Laws.{ProgramRunsAreAlike}
-use Rattle.one_history.proofs.Commands.{pipe_same}
 use Rattle.one_history.proofs.PipedRuns.{piped_runs}
 
 -- ---- a code below 2 tells that a session was served
@@ -23,31 +26,13 @@ piped_of level words before after code (inl piped) small = piped
 piped_of level words before after code (inr (inl linkless)) small = absurd (not_small code 6 linkless.0 (omega arith) small)
 piped_of level words before after code (inr (inr untouched)) small = absurd (untouched_large before after code untouched small)
 
--- no words are both commands
-no_check : (args : List (List ℕ)) (level : Level) (words path : List ℕ) → IsPipe args level words → IsCheck args path → ⊥
-no_check args level words path (list, is, lists) check =
-    let three : length args ≡ 3 = ap (λ (xs : List (List ℕ)). length xs) is in
-    let two : length args ≡ 2 = ap (λ (xs : List (List ℕ)). length xs) check in
-    omega (arith, three, two)
-
-no_sim : (args : List (List ℕ)) (level other : Level) (words : List ℕ) (seed sessions queries : ℕ) → IsPipe args level words →
-    IsSim args other seed sessions queries → ⊥
-no_sim args level other words seed sessions queries (list, is, lists) sim =
-    let three : length args ≡ 3 = ap (λ (xs : List (List ℕ)). length xs) is in
-    let five : length args ≡ 5 = ap (λ (xs : List (List ℕ)). length xs) sim.args_are in
-    omega (arith, three, five)
-
 served_of : (args : List (List ℕ)) (level : Level) (words : List ℕ) (before after : Hosted) (code : ℕ) → IsPipe args level words →
     Does args before code after → code < 2 → Piped level words before code after
-served_of args level words before after code is (inl (other, others, also, pipes)) small =
-    let same = pipe_same args other level others words also is in
-    subst (λ (l : Level). Piped l words before code after) same.0
-    (subst (λ (ws : List ℕ). Piped other ws before code after) same.1 (piped_of other others before after code pipes small))
-served_of args level words before after code is (inr (inl (path, check, checks))) small = absurd (no_check args level words path is check)
-served_of args level words before after code is (inr (inr (inl (l, seed, sessions, queries, sim, told)))) small =
-    absurd (no_sim args level l words seed sessions queries is sim)
-served_of args level words before after code is (inr (inr (inr (inl (never, printed))))) small = absurd (never.no_pipe level words is)
-served_of args level words before after code is (inr (inr (inr (inr untouched)))) small = absurd (untouched_large before after code untouched small)
+served_of args level words before after code is (inl (line, line_is, obeys)) small =
+    let pipe : PipeCommand = record { level = level; words = words } in
+    let same : line ≡ lines.Pipe pipe = one_command args line (lines.Pipe pipe) line_is is in
+    piped_of level words before after code (subst (λ (l : CommandLine). Obeys l before code after) same obeys).0 small
+served_of args level words before after code is (inr untouched) small = absurd (untouched_large before after code untouched small)
 
 -- ---- two runs
 

@@ -18,7 +18,7 @@ use Rattle.session_core.specs.Record.{IsValidRecord, events_of}
 use Rattle.choice_stream.specs.Choices.{DrawsFirst}
 use Rattle.link_traits.specs.Traffic.{Traffic, Sight}
 use Rattle.link_traits.specs.Host.{Hosted, link_returned}
-use Rattle.monkey_server.specs.Command.{IsPipe}
+use Rattle.command_line.specs.Commands.{IsPipe}
 use Rattle.monkey_server.specs.Program.{ServesAlone, Does}
 
 -- what a session is told last, by the way it ends

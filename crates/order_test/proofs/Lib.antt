@@ -7,3 +7,5 @@ pub mod RivalLemmas
 pub mod SearchLemmas
 pub mod UnkeptLaws
 pub mod Prefixed
+pub mod ListedLemmas
+pub mod QuickLemmas

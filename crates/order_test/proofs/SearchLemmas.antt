@@ -308,7 +308,7 @@ found_first events order place (unkept.Axiom event origin rival reader cell) bef
 
 -- ---- the whole order
 
-less_unless : (a b : ℕ) → ((a < b → ⊥) → ⊥) → a < b
+pub less_unless : (a b : ℕ) → ((a < b → ⊥) → ⊥) → a < b
 less_unless a b none = elim (cases_lt a b) [ inl less ↦ less | inr more ↦ absurd (none (λ less. absurd (omega arith))) ]
 
 pub meets_from_kept :

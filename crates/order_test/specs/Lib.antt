@@ -3,3 +3,4 @@ pub mod Settled
 pub mod Places
 pub mod Pasts
 pub mod Sights
+pub mod Listed

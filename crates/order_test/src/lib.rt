@@ -5,13 +5,16 @@
 #![tactic(auto)]
 
 mod laws;
+mod listed;
 mod pasts;
 mod places;
+mod quick;
 mod rivals;
 mod search;
 mod sessions;
 mod sight;
 mod unkept;
+mod unmet;
 
 pub use laws::order_laws;
 pub use search::first_unkept;

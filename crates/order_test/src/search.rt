@@ -3,56 +3,25 @@ ghost use Rattle.std.specs.Prelude.{◌≡◌, ◌≤◌, ◌<◌, ◌+◌, ◌�
 ghost use Rattle.history_core.specs.Events.{begun};
 ghost use Rattle.history_core.specs.Kept.{StandsForTxns};
 ghost use Rattle.order_test.specs.Settled.{IsOrderly};
-ghost use Rattle.order_test.specs.Unkept.{HoldsTransactions, KeepsSessions, IsFirstUnkept, IsFound};
+ghost use Rattle.order_test.specs.Unkept.{KeepsSessions, IsFirstOutOfSession, IsFound};
 ghost use Rattle.order_test.specs.Pasts.{ArePasts, IsReading};
 ghost use Rattle.order_test.specs.Sights.{IsScene, IsNumber, IsReadAt, IsRival, IsAxiomOf, IsFoundAt, IsFoundAmong, origin_of};
+ghost use Rattle.order_test.specs.Listed.{AreTxnsWithin, ListsCommitted};
 
 use crate::Unkept;
+use crate::listed::lists_of;
 use crate::pasts::{Pasts, pasts_of};
 use crate::places::{Places, places_of};
-use crate::rivals::{is_committed, is_reading, origin, rival_cell};
-use crate::sessions::{first_out_of_session, is_late, txn_of};
-use crate::sight::sees;
+use crate::quick::is_clear;
+use crate::rivals::{is_reading, origin, rival_cell};
+use crate::sessions::{first_out_of_session, is_late, keeps_sessions, txn_of};
+use crate::unmet::is_rival;
 use cell_base::Memory;
+use cell_writers::CellWriters;
 use history_core::{Event, Txn};
 use std::alloc::Global;
 
-/// Whether the read of the reader at the place sees the rival, which writes a cell of it and doesn't stand before its origin.
-fn is_rival(
-    events: &[Event],
-    order: &[u32],
-    txns: &[Txn],
-    places: &Places,
-    pasts: &Pasts,
-    place: usize,
-    event: &Event,
-    reader: u32,
-    rival: u32,
-) -> bool
-    requires scene { IsScene events.now order.now txns.now places.now }
-    requires pasts { ArePasts events.now pasts.now }
-    requires read { IsReadAt events.now place event.now reader }
-    requires rival { IsNumber events.now rival }
-    ensures { IsTrue result ↔ IsRival events.now order.now place (origin_of event.now) reader rival }
-{
-    let from = origin(event);
-    if rival == from {
-        return false;
-    }
-    if !is_late(events, order, txns, places, rival, from) {
-        return false;
-    }
-    let writer = txn_of(events, order, txns, places, rival);
-    if !is_committed(writer) {
-        return false;
-    }
-    if rival_cell(event, writer).is_none() {
-        return false;
-    }
-    sees(events, order, txns, places, pasts, reader, place, rival)
-}
-
-/// The first such rival.
+/// The first rival of the read: it writes a cell of it, is seen, and doesn't stand before its origin.
 fn first_rival(
     events: &[Event],
     order: &[u32],
@@ -122,12 +91,16 @@ fn found_of(
     txns: &[Txn],
     places: &Places,
     pasts: &Pasts,
+    lists: &[CellWriters],
     place: usize,
     event: &Event,
     reader: u32,
 ) -> Result<Option<Unkept>, Memory>
     requires scene { IsScene events.now order.now txns.now places.now }
     requires pasts { ArePasts events.now pasts.now }
+    requires sessions { KeepsSessions events.now order.now }
+    requires lists { ListsCommitted txns.now (length txns.now) lists.now }
+    requires txns_within { AreTxnsWithin (length lists.now) txns.now }
     requires orderly { IsOrderly events.now }
     requires read { IsReadAt events.now place event.now reader }
     requires reading { IsReading event.now }
@@ -141,6 +114,11 @@ fn found_of(
             origin: from,
             reader,
         }));
+    }
+    if is_clear(
+        events, order, txns, places, pasts, lists, place, event, reader,
+    ) {
+        return Ok(None);
     }
     match first_rival(events, order, txns, places, pasts, place, event, reader) {
         Some(rival) => {
@@ -161,10 +139,14 @@ fn found_at(
     txns: &[Txn],
     places: &Places,
     pasts: &Pasts,
+    lists: &[CellWriters],
     place: usize,
 ) -> Result<Option<Unkept>, Memory>
     requires scene { IsScene events.now order.now txns.now places.now }
     requires pasts { ArePasts events.now pasts.now }
+    requires sessions { KeepsSessions events.now order.now }
+    requires lists { ListsCommitted txns.now (length txns.now) lists.now }
+    requires txns_within { AreTxnsWithin (length lists.now) txns.now }
     requires orderly { IsOrderly events.now }
     requires within { place < length events.now }
     requires few { length events.now < 4294967296 }
@@ -176,7 +158,7 @@ fn found_at(
     }
     let reader = pasts.readers[place];
     found_of(
-        alloc, events, order, txns, places, pasts, place, event, reader,
+        alloc, events, order, txns, places, pasts, lists, place, event, reader,
     )
 }
 
@@ -188,20 +170,65 @@ fn found_among(
     txns: &[Txn],
     places: &Places,
     pasts: &Pasts,
+    lists: &[CellWriters],
 ) -> Result<Option<Unkept>, Memory>
     requires scene { IsScene events.now order.now txns.now places.now }
     requires pasts { ArePasts events.now pasts.now }
+    requires sessions { KeepsSessions events.now order.now }
+    requires lists { ListsCommitted txns.now (length txns.now) lists.now }
+    requires txns_within { AreTxnsWithin (length lists.now) txns.now }
     requires orderly { IsOrderly events.now }
     requires few { length events.now < 4294967296 }
     ensures { IfOk result (IsFoundAmong events.now order.now) }
 {
     for place in 0..events.len() {
-        match found_at(alloc, events, order, txns, places, pasts, place)? {
+        match found_at(alloc, events, order, txns, places, pasts, lists, place)? {
             Some(unkept) => return Ok(Some(unkept)),
             None => {}
         }
     }
     Ok(None)
+}
+
+/// The least pair that session order has, and the order hasn't. It is looked for only where one pass over the transactions finds that there is
+/// one. All sessions are below the width.
+fn session_breach(
+    alloc: Global,
+    events: &[Event],
+    order: &[u32],
+    txns: &[Txn],
+    places: &Places,
+    width: usize,
+) -> Result<Option<(u32, u32)>, Memory>
+    requires scene { IsScene events.now order.now txns.now places.now }
+    requires within { AreTxnsWithin width txns.now }
+    ensures some { IfOk result (λ found. IfSome found (λ pair. IsFirstOutOfSession events.now order.now pair.0 pair.1)) }
+    ensures none { IfOk result (λ found. IfNone found (KeepsSessions events.now order.now)) }
+{
+    if keeps_sessions(alloc, events, order, txns, places, width)? {
+        return Ok(None);
+    }
+    Ok(first_out_of_session(events, order, txns, places))
+}
+
+/// The first of the events of which the order, which keeps session order, doesn't keep what it asks.
+fn found_behind(
+    alloc: Global,
+    events: &[Event],
+    order: &[u32],
+    txns: &[Txn],
+    places: &Places,
+    pasts: &Pasts,
+) -> Result<Option<Unkept>, Memory>
+    requires scene { IsScene events.now order.now txns.now places.now }
+    requires pasts { ArePasts events.now pasts.now }
+    requires sessions { KeepsSessions events.now order.now }
+    requires orderly { IsOrderly events.now }
+    requires few { length events.now < 4294967296 }
+    ensures { IfOk result (IsFoundAmong events.now order.now) }
+{
+    let lists = lists_of(alloc, txns, pasts.last.len())?;
+    found_among(alloc, events, order, txns, places, pasts, &lists)
 }
 
 /// The first that the order doesn't keep, where it holds each transaction once and the initial one first.
@@ -217,11 +244,11 @@ fn found_in(
     requires few { length events.now < 4294967296 }
     ensures { IfOk result (IsFound events.now order.now) }
 {
-    if let Some((earlier, later)) = first_out_of_session(events, order, txns, places) {
-        return Ok(Some(Unkept::Session { earlier, later }));
-    }
     let pasts = pasts_of(alloc, events)?;
-    found_among(alloc, events, order, txns, places, &pasts)
+    match session_breach(alloc, events, order, txns, places, pasts.last.len())? {
+        Some((earlier, later)) => Ok(Some(Unkept::Session { earlier, later })),
+        None => found_behind(alloc, events, order, txns, places, &pasts),
+    }
 }
 
 /// The first that the order doesn't keep of the history: that it holds each transaction once and the initial one first, the order of each

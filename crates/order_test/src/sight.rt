@@ -87,7 +87,7 @@ fn precedes(
 }
 
 /// The causal past of the transaction.
-fn past_of<'a>(pasts: &'a Pasts, events: &[Event], number: u32) -> &'a Past
+pub fn past_of<'a>(pasts: &'a Pasts, events: &[Event], number: u32) -> &'a Past
     requires pasts { ArePasts events.now pasts.now }
     requires number { number ≤ begun events.now }
     ensures { IsPastOf events.now (length pasts.now.last.items) number result.now }
@@ -96,13 +96,13 @@ fn past_of<'a>(pasts: &'a Pasts, events: &[Event], number: u32) -> &'a Past
 }
 
 /// The last transaction of the session in the past.
-fn top_of(past: &Past, session: u32) -> u32
+pub fn top_of(past: &Past, session: usize) -> u32
     ensures { result ≡ slice_index past.now.tops.items session }
 {
-    if session as usize >= past.tops.len() {
+    if session >= past.tops.len() {
         return 0;
     }
-    past.tops[session as usize]
+    past.tops[session]
 }
 
 /// Whether the writer is in the causal past of the reader.
@@ -123,7 +123,7 @@ fn precedes_causally(
 {
     let session = txn_of(events, order, txns, places, writer).session;
     let past = past_of(pasts, events, reader);
-    top_of(past, session) >= writer
+    top_of(past, session as usize) >= writer
 }
 
 /// Whether the read of the reader at the place sees the writer, at the level of the reader.

@@ -1,13 +1,13 @@
 -- Simulations: runs of clients that are made of a seed, in an order that is drawn from it.
 use Rattle.std.specs.List.{remove}
-use Rattle.std.specs.Prelude.{◌≡◌, ◌<◌, ◌≤◌, ◌+◌, ◌%◌, ◌⊎◌, ℕ, zero, suc, List, [], ◌∷◌, ◌++◌, All, Some, length, slice_get, take, drop, false}
+use Rattle.std.specs.Prelude.{◌≡◌, ◌<◌, ◌≤◌, ◌+◌, ◌%◌, ◌⊎◌, ℕ, zero, suc, List, [], ◌∷◌, ◌++◌, All, Option, Some, length, slice_get, take, drop, false}
 use Rattle.cell_base.specs.declared.level.Level.{Level}
 use Rattle.rand_chacha.specs.ChaCha.{ChaCha}
 use Rattle.choice_stream.specs.Seeds.{Draws, stream_front}
 use Rattle.history_core.specs.Chronicle.{Chronicle}
 use Rattle.block_machine.specs.Script.{has_short}
 use Rattle.link_traits.specs.Host.{Hosted}
-use Rattle.host_calls.specs.Printing.{Printed}
+use Rattle.log_file.specs.Logging.{LogsAndPrints}
 use Rattle.history_summary.specs.Line.{IsSummary}
 use Rattle.session_hall.specs.declared.client.Client.{Client}
 use Rattle.session_hall.specs.declared.client.Stepped.{Stepped}
@@ -93,18 +93,18 @@ pub record IsCutOff (level : Level) (seed sessions queries : ℕ) : Type 0 where
   pub run : Runs level clients (at_first level) picks last
   pub many : length picks ≡ most_steps
 
--- the summary of a simulation was printed
-pub record Told (level : Level) (seed sessions queries : ℕ) (before : Hosted) (code : ℕ) (after : Hosted) : Type 0 where
+-- the log of a simulation was written, where one was asked for, and its summary was printed
+pub record Told (level : Level) (seed sessions queries : ℕ) (log : Option (List ℕ)) (before : Hosted) (code : ℕ) (after : Hosted) : Type 0 where
   pub history : Chronicle
   pub simulation : IsSimulation level seed sessions queries history
   pub line : List ℕ
   pub summary : IsSummary level seed history.events line
-  pub printed : Printed line 0 before code after
+  pub told : LogsAndPrints log history line before code after
 
--- `sim LEVEL SEED SESSIONS QUERIES`: memory ran out, in the simulation or in one of its sessions, and nothing was printed; the simulation was cut
--- off; or its summary was printed.
-abbrev pub Simulates : Level → ℕ → ℕ → ℕ → Hosted → ℕ → Hosted → Type 0
-Simulates level seed sessions queries before code after =
+-- `sim LEVEL SEED SESSIONS QUERIES`, with the path of a log or without: memory ran out, in the simulation or in one of its sessions, and nothing
+-- was printed; the simulation was cut off; or its log was written and its summary printed.
+abbrev pub Simulates : Level → ℕ → ℕ → ℕ → Option (List ℕ) → Hosted → ℕ → Hosted → Type 0
+Simulates level seed sessions queries log before code after =
     ((code ≡ 5) × (after ≡ before))
     ⊎ (((code ≡ 1) × (after ≡ before) × IsCutOff level seed sessions queries)
-    ⊎ Told level seed sessions queries before code after)
+    ⊎ Told level seed sessions queries log before code after)

@@ -3,7 +3,6 @@ ghost use Rattle.std.specs.Prelude.{◌≡◌, ◌<◌, ◌≤◌, ◌+◌, ℕ,
 ghost use Rattle.cell_base.specs.declared.level.Level.{Level as Served};
 ghost use Rattle.link_traits.specs.Host.{objects_out};
 ghost use Rattle.history_core.specs.Chronicle.{Chronicle};
-ghost use Rattle.history_summary.specs.Line.{IsSummary};
 ghost use Rattle.block_machine.specs.Script.{has_short};
 ghost use Rattle.session_hall.specs.Halls.{IsHall, clients_of};
 ghost use Rattle.session_hall.specs.declared.client.Client.{Client};
@@ -12,11 +11,12 @@ ghost use Rattle.sim_command.specs.Simulations.{numbers_from, IsSchedule, IsFron
 ghost use Rattle.sim_command.specs.Playing.{StandsAt, Goes, IsNewHall};
 
 use crate::playing::{SimFault, go_to_end, play};
-use cell_base::{Level, Memory};
+use cell_base::{Level, Memory, Text};
 use choice_stream::SeedWords;
 use history_summary::summary;
-use host_calls::{Status, print};
+use host_calls::Status;
 use link_traits::Host;
+use log_file::log_and_print;
 use session_hall::Hall;
 use sim_clients::sim_clients;
 use std::alloc::Global;
@@ -119,38 +119,25 @@ fn played(alloc: Global, plan: Plan) -> Result<Hall, SimFault>
     }
 }
 
-// The summary of the history.
-fn line_of(alloc: Global, plan: Plan) -> Result<Vec<u8>, SimFault>
-    requires queries { plan.queries ≤ 200 }
-    requires sessions { plan.sessions ≤ 64 }
-    ensures ok { IfOk result (λ line. (history : Chronicle) × IsSimulation plan.level plan.seed plan.sessions plan.queries history
-        × IsSummary plan.level plan.seed history.events line.items) }
-    ensures cut { IfErr result (λ e. e ≡ SimFault.Steps → IsCutOff plan.level plan.seed plan.sessions plan.queries) }
-{
-    let hall = match played(alloc, plan) {
-        Ok(hall) => hall,
-        Err(fault) => return Err(fault),
-    };
-    match summary(alloc, plan.level, plan.seed, hall.history()) {
-        Ok(line) => Ok(line),
-        Err(Memory) => Err(SimFault::Memory),
-    }
-}
-
-/// Simulates many sessions over one history and prints its summary.
+/// Simulates many sessions over one history, writes its log to the file of a path, where one is given, and prints its summary.
 ///
-/// The status is 0 where the line was written whole; 1 where 4,294,967,295 steps were made; 4 where a write failed; and 5 where memory ran out,
-/// also inside a session: then nothing is printed.
-pub fn simulate<H: Host>(alloc: Global, host: &mut H, plan: Plan) -> Status
+/// The status is 0 where all was written whole; 1 where 4,294,967,295 steps were made; 4 where a write failed; 5 where memory ran out,
+/// also inside a session: then no summary is printed; and 6 where the file couldn't be made. What is wrong with the log stands before what is
+/// wrong with the summary, which is printed all the same.
+pub fn simulate<H: Host>(alloc: Global, host: &mut H, plan: Plan, log: &Option<Text>) -> Status
     requires queries { plan.queries ≤ 200 }
     requires sessions { plan.sessions ≤ 64 }
     requires none_out { objects_out (H.hosted host.old) ≡ 0 }
-    ensures simulates { Simulates plan.level plan.seed plan.sessions plan.queries (H.hosted host.old) result.code (H.hosted host.new) }
+    ensures simulates { Simulates plan.level plan.seed plan.sessions plan.queries log.now (H.hosted host.old) result.code (H.hosted host.new) }
     ensures none_out { objects_out (H.hosted host.new) ≡ 0 }
 {
-    match line_of(alloc, plan) {
-        Ok(line) => print(host, &line, Status { code: 0 }),
-        Err(SimFault::Steps) => Status { code: 1 },
-        Err(SimFault::Memory) => Status { code: 5 },
+    let hall = match played(alloc, plan) {
+        Ok(hall) => hall,
+        Err(SimFault::Steps) => return Status { code: 1 },
+        Err(SimFault::Memory) => return Status { code: 5 },
+    };
+    match summary(alloc, plan.level, plan.seed, hall.history()) {
+        Ok(line) => log_and_print(alloc, host, log, hall.store(), &line),
+        Err(Memory) => Status { code: 5 },
     }
 }

@@ -1,0 +1,3 @@
+pub mod Visits
+pub mod Workers
+pub mod Pairs

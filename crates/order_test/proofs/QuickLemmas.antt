@@ -1,0 +1,311 @@
+-- What the lists of writers show of a read at once.
+use Rattle.std.proofs.Common.{◌≡◌, ◌≢◌, ℕ, ◌+◌, ◌-◌, ◌<◌, ◌≤◌, List, length, get_or, set, Some, None, arith, refl, ap, sym, ◌∙◌, subst, inl, inr, ◌⊎◌, Option, replicate}
+use Rattle.std.specs.List.{Contains, slice_get, slice_index, Any}
+use Rattle.std.proofs.lemmas.Bool.{cases_eq, cases_lt}
+use Rattle.std.proofs.lemmas.Option.{slice_get_within, slice_get_cases, slice_get_read}
+use Rattle.graph_base.specs.Order.{place_of}
+use Rattle.cell_base.specs.declared.level.Level.{Level}
+use Rattle.cell_base.specs.declared.level.Level.TheVariants.{Rc, Ra, Cc}
+use Rattle.cell_base.specs.declared.cell.Cell.{Cell}
+use Rattle.cell_base.specs.declared.value.Value.{Value}
+use Rattle.cell_writers.specs.declared.writers.CellWriters.{CellWriters}
+use Rattle.cell_writers.specs.Writers.{numbers_at, AreAscending, IsLastUpTo}
+use Rattle.history_core.specs.declared.event.Event.{Event}
+use Rattle.history_core.specs.declared.event.Event.TheVariants.{Read}
+use Rattle.history_core.specs.declared.txn.Txn.{Txn}
+use Rattle.history_core.specs.declared.txn.Seen.{Seen}
+use Rattle.history_core.specs.declared.txn.TxnState.TheVariants.{Committed}
+use Rattle.history_core.specs.Events.{begun}
+use Rattle.history_core.specs.Relations.{Gives, Writes, Precedes, PrecedesCausally, IsVisible, IsVisibleAt, ReadsFrom, IsSessionOrdered}
+use Rattle.history_core.specs.Transactions.{RunsAt}
+use Rattle.history_core.specs.Records.{IsRecordOf}
+use Rattle.history_core.proofs.Places.{start_session}
+use Rattle.saturation.specs.Views.{IsReadFrom}
+use Rattle.saturation.proofs.Chains.{chained_one}
+use Rattle.saturation.proofs.Sights.{none_from_record, writes_later, record_reads_from}
+use Rattle.order_test.specs.declared.places.Places.{Places}
+use Rattle.order_test.specs.declared.pasts.Past.{Past}
+use Rattle.order_test.specs.Unkept.{KeepsSessions, StandsBefore, IsUnmet}
+use Rattle.order_test.specs.Pasts.{IsPastOf}
+use Rattle.order_test.specs.Sights.{IsScene, IsReadAt, IsRival, origin_of}
+use Rattle.order_test.specs.Listed.{AreTxnsWithin, IsTxnOf, ListsCommitted, HasNoLate, HasNoRival, HasNoDirectRival, IsHarmless, AreHarmless, AreKeptUpTo, listed_at, numbers_in}
+use Rattle.order_test.proofs.SightLemmas.{record_at, ordered_from_records, records_from_ordered, out_bounds, visible_at}
+use Rattle.order_test.proofs.PastSteps.{at_set}
+use Rattle.order_test.proofs.SearchLemmas.{less_unless, rival_bounds}
+
+-- ---- what is seen precedes the reader
+
+direct_is_causal : (events : List Event) (a b : ℕ) → Precedes events a b → PrecedesCausally events a b
+direct_is_causal events a b p = chained_one (Precedes events) a b p
+
+visible_is_causal : (events : List Event) (reader place writer : ℕ) (level : Level) → IsVisibleAt level events reader place writer → PrecedesCausally events writer reader
+visible_is_causal events reader place writer Rc before =
+    direct_is_causal events writer reader (inr record { place = before.earlier; cell = before.cell; reads = before.reads })
+visible_is_causal events reader place writer Ra precedes = direct_is_causal events writer reader precedes
+visible_is_causal events reader place writer Cc causal = causal
+
+-- ---- the order in a session
+
+less_in_session :
+    (events : List Event) (order : List ℕ) → KeepsSessions events order → (a b : ℕ) (x y : Txn) → IsRecordOf events a x → IsRecordOf events b y → a < b → x.session ≡ y.session →
+    place_of order a < place_of order b
+less_in_session events order keeps a b x y is_a is_b less same =
+    less_unless (place_of order a) (place_of order b)
+    (λ late. keeps a b record { ordered = ordered_from_records events a b x y is_a is_b less same; late = late })
+
+-- the session of a record is below the width
+pub session_within :
+    (events : List Event) (order : List ℕ) (txns : List Txn) (places : Places) → IsScene events order txns places → (width : ℕ) → AreTxnsWithin width txns → (number : ℕ) → 0 < number →
+    number ≤ begun events → (txn : Txn) → IsRecordOf events number txn → txn.session < width
+session_within events order txns places scene width within number positive bounded txn is =
+    let size = scene.records.count in
+    elim (slice_get_cases txns (number - 1)).1 [
+      | inr beyond ↦ let far = beyond.0 in absurd (omega arith)
+      | inl (found, near, row, same_value) ↦
+          let known = record_at events txns scene.records number (number - 1) found (omega arith) row in
+          let same : txn.session ≡ found.session = start_session events number txn.session found.session is.place known.place is.started known.started in
+          let inside = within (number - 1) found row in
+          omega arith
+    ]
+
+-- ---- a writer of a session up to the limit isn't late
+
+pub none_late :
+    (events : List Event) (order : List ℕ) (txns : List Txn) (places : Places) → IsScene events order txns places → KeepsSessions events order → (lists : List CellWriters) →
+    ListsCommitted txns (length txns) lists → (writers : CellWriters) (cell : Cell) (limit from at : ℕ) (txn : Txn) → from ≤ begun events → slice_get txns at ≡ Some txn →
+    slice_get lists txn.session ≡ Some writers → HasNoLate places.at.items (numbers_at writers cell) limit from → at + 1 ≤ limit → (at + 1 ≡ from → ⊥) →
+    Writes events (at + 1) cell → StandsBefore order (at + 1) from
+none_late events order txns places scene keeps lists listed writers cell limit from at txn from_in is in_session has_none within other writes =
+    less_unless (place_of order (at + 1)) (place_of order from) (λ late.
+    let record_of = record_at events txns scene.records (at + 1) at txn refl is in
+    let wrote = writes_later events (at + 1) cell (omega arith) writes in
+    none_from_record events (at + 1) txn cell record_of (λ value member.
+    let there : Contains (numbers_at writers cell) (at + 1) =
+    listed.whole at txn writers cell value (slice_get_within txns at txn is) is (record_of.committed.1 wrote.0) member in_session in
+    late (elim has_none [
+      | inl none ↦ absurd (none (at + 1) there within)
+      | inr (last, is_last, stands) ↦ before_last last is_last stands (is_last.greatest (at + 1) there within)
+    ])) wrote.1)
+  where
+    before_last : (last : ℕ) → IsLastUpTo (numbers_at writers cell) limit last → (last ≡ from) ⊎ (slice_index places.at.items last < slice_index places.at.items from) → at + 1 ≤ last →
+        place_of order (at + 1) < place_of order from
+    before_last last is_last stands up =
+        let of = listed.sound txn.session writers cell last in_session is_last.is in
+        let number = of.number_is in
+        let below = of.below in
+        let count = scene.records.count in
+        let small : last ≤ begun events = omega arith in
+        let first : slice_index places.at.items last ≡ place_of order last = scene.places_are.each last (omega arith) in
+        let second : slice_index places.at.items from ≡ place_of order from = scene.places_are.each from (omega arith) in
+        let here = record_at events txns scene.records (at + 1) at txn refl is in
+        let there = record_at events txns scene.records last of.place of.txn of.number_is of.is in
+        elim (cases_eq (at + 1) last) [
+          | inl same ↦
+              let places_same : place_of order (at + 1) ≡ place_of order last = ap (λ (n : ℕ). place_of order n) same in
+              elim stands [
+                | inl source ↦ absurd (other (same ∙ source))
+                | inr less ↦ omega arith
+              ]
+          | inr apart ↦
+              let less = less_in_session events order keeps (at + 1) last txn of.txn here there (omega arith) (sym of.session_is) in
+              elim stands [
+                | inl source ↦ let places_same : place_of order last ≡ place_of order from = ap (λ (n : ℕ). place_of order n) source in omega arith
+                | inr behind ↦ omega arith
+              ]
+        ]
+
+-- ---- a rival of a read
+
+-- the record of a rival, and that it writes the cell of the read
+record IsRivalTxn (events : List Event) (order : List ℕ) (txns : List Txn) (cell : Cell) (from other : ℕ) : Type 0 where
+  at : ℕ
+  txn : Txn
+  number : at + 1 ≡ other
+  is : slice_get txns at ≡ Some txn
+  apart : other ≡ from → ⊥
+  writes : Writes events other cell
+  late : StandsBefore order other from → ⊥
+
+rival_txn :
+    (events : List Event) (order : List ℕ) (txns : List Txn) (places : Places) → IsScene events order txns places → (s : ℕ) (cell : Cell) (from count word : ℕ) (value : Value) (place reader : ℕ) →
+    IsReadAt events place (Read s cell from count word value) reader → (other : ℕ) → IsRival events order place from reader other → IsRivalTxn events order txns cell from other
+rival_txn events order txns places scene s cell from count word value place reader read other (of, unmet) =
+    let bounds = rival_bounds events order place (Read s cell from count word value) reader other scene.holds read (of, unmet) in
+    let low = bounds.0 in let high = bounds.1 in
+    let size = scene.records.count in
+    let both : Some unmet.reads.event ≡ Some (Read s cell from count word value) = sym unmet.reads.of_reader.is ∙ read.of.is in
+    let same : unmet.reads.event ≡ Read s cell from count word value = cc in
+    let gives : Gives (Read s cell from count word value) of from = subst (λ (e : Event). Gives e of from) same unmet.reads.gives in
+    elim (slice_get_cases txns (other - 1)).1 [
+      | inr beyond ↦ let far = beyond.0 in absurd (omega arith)
+      | inl (txn, near, row, same_value) ↦ record {
+        at = other - 1;
+        txn = txn;
+        number = omega arith;
+        is = row;
+        apart = unmet.other;
+        writes = subst (λ (c : Cell). Writes events other c) (sym gives.0) unmet.writes;
+        late = unmet.late;
+      }
+    ]
+
+-- none that precedes the reader causally, where no session up to its last one in the past has a late writer
+pub clear_from :
+    (events : List Event) (order : List ℕ) (txns : List Txn) (places : Places) → IsScene events order txns places → KeepsSessions events order → (lists : List CellWriters) →
+    ListsCommitted txns (length txns) lists → AreTxnsWithin (length lists) txns → (s : ℕ) (cell : Cell) (from count word : ℕ) (value : Value) (place reader : ℕ) →
+    IsReadAt events place (Read s cell from count word value) reader → (width : ℕ) (past : Past) → IsPastOf events width reader past → (other : ℕ) →
+    PrecedesCausally events other reader →
+    ((txn : Txn) → IsRecordOf events other txn → HasNoLate places.at.items (listed_at lists txn.session cell) (slice_index past.tops.items txn.session) from) →
+    IsRival events order place from reader other → ⊥
+clear_from events order txns places scene keeps lists listed within s cell from count word value place reader read width past is_past other causal has_none rival =
+    let t = rival_txn events order txns places scene s cell from count word value place reader read other rival in
+    let record_of = record_at events txns scene.records other t.at t.txn t.number t.is in
+    let up : other ≤ slice_index past.tops.items t.txn.session = (is_past.exact t.txn.session other record_of.place record_of.started).1 causal in
+    let inside = within t.at t.txn t.is in
+    elim (slice_get_cases lists t.txn.session).1 [
+      | inr beyond ↦ let far = beyond.0 in absurd (omega arith)
+      | inl (writers, near, row, same_value) ↦
+          let none : HasNoLate places.at.items (numbers_at writers cell) (slice_index past.tops.items t.txn.session) from =
+          subst (λ (ns : List ℕ). HasNoLate places.at.items ns (slice_index past.tops.items t.txn.session) from) (ap (λ (o : Option CellWriters). numbers_in o cell) row)
+          (has_none t.txn record_of) in
+          let number = t.number in
+          t.late (subst (λ (n : ℕ). StandsBefore order n from) t.number
+          (none_late events order txns places scene keeps lists listed writers cell (slice_index past.tops.items t.txn.session) from t.at t.txn read.from t.is row none (omega arith)
+          (λ same. t.apart (sym t.number ∙ same)) (subst (λ (n : ℕ). Writes events n cell) (sym t.number) t.writes)))
+    ]
+
+pub past_clear :
+    (events : List Event) (order : List ℕ) (txns : List Txn) (places : Places) → IsScene events order txns places → KeepsSessions events order → (lists : List CellWriters) →
+    ListsCommitted txns (length txns) lists → AreTxnsWithin (length lists) txns → (s : ℕ) (cell : Cell) (from count word : ℕ) (value : Value) (place reader : ℕ) →
+    IsReadAt events place (Read s cell from count word value) reader → (width : ℕ) (past : Past) → IsPastOf events width reader past →
+    ((session : ℕ) → session < length lists → HasNoLate places.at.items (listed_at lists session cell) (slice_index past.tops.items session) from) →
+    HasNoRival events order place (Read s cell from count word value) reader
+past_clear events order txns places scene keeps lists listed within s cell from count word value place reader read width past is_past has_none other rival =
+    let bounds = rival_bounds events order place (Read s cell from count word value) reader other scene.holds read rival in
+    let visible = rival.1.visible in
+    clear_from events order txns places scene keeps lists listed within s cell from count word value place reader read width past is_past other
+    (visible_is_causal events reader place other visible.level visible.sees)
+    (λ txn record_of. has_none txn.session
+    (session_within events order txns places scene (length lists) within other bounds.0 bounds.1 txn record_of)) rival
+
+-- none of the reader's session
+pub own_clear :
+    (events : List Event) (order : List ℕ) (txns : List Txn) (places : Places) → IsScene events order txns places → KeepsSessions events order → (lists : List CellWriters) →
+    ListsCommitted txns (length txns) lists → AreTxnsWithin (length lists) txns → (s : ℕ) (cell : Cell) (from count word : ℕ) (value : Value) (place reader : ℕ) →
+    IsReadAt events place (Read s cell from count word value) reader → (width : ℕ) (past : Past) → IsPastOf events width reader past → (own : Txn) → IsRecordOf events reader own →
+    HasNoLate places.at.items (listed_at lists own.session cell) (slice_index past.tops.items own.session) from →
+    (other : ℕ) → IsSessionOrdered events other reader → IsRival events order place from reader other → ⊥
+own_clear events order txns places scene keeps lists listed within s cell from count word value place reader read width past is_past own own_is has_none other ordered rival =
+    let bounds = rival_bounds events order place (Read s cell from count word value) reader other scene.holds read rival in
+    clear_from events order txns places scene keeps lists listed within s cell from count word value place reader read width past is_past other
+    (direct_is_causal events other reader (inl ordered))
+    (λ txn record_of.
+    subst (λ (n : ℕ). HasNoLate places.at.items (listed_at lists n cell) (slice_index past.tops.items n) from)
+    (sym (records_from_ordered events other reader txn own bounds.0 record_of own_is ordered)) has_none)
+    rival
+
+-- ---- sources
+
+pub harmless_step :
+    (events : List Event) (order : List ℕ) (place : ℕ) (event : Event) (reader n : ℕ) (all : List Seen) (seen : Seen) → slice_get all n ≡ Some seen →
+    IsHarmless events order place event reader seen → AreHarmless events order place event reader n all → AreHarmless events order place event reader (n + 1) all
+harmless_step events order place event reader n all seen is here before at other below at_is =
+    elim (cases_eq at n) [
+      | inr apart ↦ before at other (omega arith) at_is
+      | inl same ↦
+          let both : Some other ≡ Some seen = sym at_is ∙ ap (λ (k : ℕ). slice_get all k) same ∙ is in
+          let one : other ≡ seen = cc in
+          subst (λ (x : Seen). IsHarmless events order place event reader x) (sym one) here
+    ]
+
+pub sources_clear :
+    (events : List Event) (order : List ℕ) (txns : List Txn) (places : Places) → IsScene events order txns places → (place : ℕ) (event : Event) (reader : ℕ) →
+    IsReadAt events place event reader → (txn : Txn) → IsRecordOf events reader txn → AreHarmless events order place event reader (length txn.seen) txn.seen →
+    (other : ℕ) → ReadsFrom events other reader → IsRival events order place (origin_of event) reader other → ⊥
+sources_clear events order txns places scene place event reader read txn is all other from rival =
+    let bounds = rival_bounds events order place event reader other scene.holds read rival in
+    let any = record_reads_from events reader other txn bounds.0 is from in
+    all any.0 any.1 any.2 (slice_get_read txn.seen (length txn.seen) any.0 any.1 refl any.2 (sym any.3)) other any.4 rival
+
+-- ---- by levels
+
+pub clear_at_rc :
+    (events : List Event) (order : List ℕ) (place : ℕ) (event : Event) (reader : ℕ) (txn : Txn) → IsRecordOf events reader txn → txn.level ≡ Rc →
+    ((other : ℕ) → ReadsFrom events other reader → IsRival events order place (origin_of event) reader other → ⊥) → HasNoRival events order place event reader
+clear_at_rc events order place event reader txn is level none other rival =
+    let runs : RunsAt events reader Rc = subst (λ (l : Level). RunsAt events reader l) level is.level in
+    let before = (visible_at events reader place other Rc runs).1 rival.1.visible in
+    none other record { place = before.earlier; cell = before.cell; reads = before.reads } rival
+
+pub clear_at_ra :
+    (events : List Event) (order : List ℕ) (place : ℕ) (event : Event) (reader : ℕ) (txn : Txn) → IsRecordOf events reader txn → txn.level ≡ Ra →
+    HasNoDirectRival events order place event reader → HasNoRival events order place event reader
+clear_at_ra events order place event reader txn is level none other rival =
+    let runs : RunsAt events reader Ra = subst (λ (l : Level). RunsAt events reader l) level is.level in
+    none other ((visible_at events reader place other Ra runs).1 rival.1.visible) rival
+
+-- ---- session order in one pass
+
+pub kept_none : (order : List ℕ) (txns : List Txn) (width : ℕ) → AreKeptUpTo order txns 0 (replicate {A = ℕ} width 0)
+kept_none order txns width = record {
+  last = λ place txn below. absurd (omega arith);
+  kept = λ i j first second less below. absurd (omega arith);
+}
+
+pub kept_place :
+    (order : List ℕ) (txns : List Txn) (n : ℕ) (behind : List ℕ) (txn : Txn) (at : ℕ) → slice_get txns n ≡ Some txn → at ≡ place_of order (n + 1) → txn.session < length behind →
+    get_or behind txn.session 0 < at → AreKeptUpTo order txns n behind → AreKeptUpTo order txns (n + 1) (set behind txn.session at)
+kept_place order txns n behind txn at is at_is within above before = record {
+  last = λ place other below other_is. elim (cases_eq place n) [
+    | inl same ↦
+        let both : Some other ≡ Some txn = sym other_is ∙ ap (λ (k : ℕ). slice_get txns k) same ∙ is in
+        let one : other ≡ txn = cc in
+        let sessions : other.session ≡ txn.session = ap (λ (t : Txn). t.session) one in
+        let number : place_of order (place + 1) ≡ place_of order (n + 1) = ap (λ (k : ℕ). place_of order (k + 1)) same in
+        elim (at_set behind txn.session at other.session within) [ inl here ↦ let now = here.1 in omega arith | inr there ↦ absurd (there.0 sessions) ]
+    | inr apart ↦
+        let old : place_of order (place + 1) ≤ get_or behind other.session 0 = before.last place other (omega arith) other_is in
+        elim (at_set behind txn.session at other.session within) [
+          | inl here ↦
+              let now = here.1 in
+              let values : get_or behind other.session 0 ≡ get_or behind txn.session 0 = ap (λ (k : ℕ). get_or behind k 0) here.0 in
+              omega arith
+          | inr there ↦ let now = there.1 in omega arith
+        ]
+  ];
+  kept = λ i j first second less below first_is second_is same. elim (cases_eq j n) [
+    | inl now ↦
+        let both : Some second ≡ Some txn = sym second_is ∙ ap (λ (k : ℕ). slice_get txns k) now ∙ is in
+        let one : second ≡ txn = cc in
+        let sessions : first.session ≡ txn.session = same ∙ ap (λ (t : Txn). t.session) one in
+        let old : place_of order (i + 1) ≤ get_or behind first.session 0 = before.last i first (omega arith) first_is in
+        let values : get_or behind first.session 0 ≡ get_or behind txn.session 0 = ap (λ (k : ℕ). get_or behind k 0) sessions in
+        let number : place_of order (j + 1) ≡ place_of order (n + 1) = ap (λ (k : ℕ). place_of order (k + 1)) now in
+        omega arith
+    | inr apart ↦ before.kept i j first second less (omega arith) first_is second_is same
+  ];
+}
+
+pub sessions_kept :
+    (events : List Event) (order : List ℕ) (txns : List Txn) (places : Places) → IsScene events order txns places → (n : ℕ) (behind : List ℕ) → length txns ≤ n →
+    AreKeptUpTo order txns n behind → KeepsSessions events order
+sessions_kept events order txns places scene n behind all are a b out =
+    let bounds = out_bounds events order scene.holds a b out in
+    let low = bounds.0 in let less = bounds.1 in let high = bounds.2 in
+    let size = scene.records.count in
+    elim (slice_get_cases txns (a - 1)).1 [
+      | inr beyond ↦ let far = beyond.0 in absurd (omega arith)
+      | inl (first, near_a, first_is, same_a) ↦ elim (slice_get_cases txns (b - 1)).1 [
+        | inr beyond ↦ let far = beyond.0 in absurd (omega arith)
+        | inl (second, near_b, second_is, same_b) ↦
+            let number_a : a - 1 + 1 ≡ a = omega arith in
+            let number_b : b - 1 + 1 ≡ b = omega arith in
+            let record_a = record_at events txns scene.records a (a - 1) first number_a first_is in
+            let record_b = record_at events txns scene.records b (b - 1) second number_b second_is in
+            let kept : place_of order (a - 1 + 1) < place_of order (b - 1 + 1) =
+            are.kept (a - 1) (b - 1) first second (omega arith) (omega arith) first_is second_is (records_from_ordered events a b first second low record_a record_b out.ordered) in
+            let place_a : place_of order (a - 1 + 1) ≡ place_of order a = ap (λ (k : ℕ). place_of order k) number_a in
+            let place_b : place_of order (b - 1 + 1) ≡ place_of order b = ap (λ (k : ℕ). place_of order k) number_b in
+            out.late (omega arith)
+      ]
+    ]

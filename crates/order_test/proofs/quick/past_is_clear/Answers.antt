@@ -1,0 +1,18 @@
+use Rattle.std.proofs.Common.{length, sym, subst}
+use Rattle.history_core.specs.declared.event.Event.{Event}
+use Rattle.order_test.specs.Listed.{HasNoRival}
+use Rattle.order_test.specs.Sights.{IsReadAt}
+use Rattle.order_test.proofs.SearchLemmas.{reader_number}
+use Rattle.order_test.proofs.QuickLemmas.{past_clear}
+use Rattle.order_test.proofs.quick.past_is_clear.Goals as goal
+
+pub past_of-requires-clause-number : goal.past_of-requires-clause-number
+past_of-requires-clause-number c = (reader_number c.args.events.now c.args.place c.args.event.now c.args.reader c.requires.read).1
+
+pub returns-in-Read : goal.returns-in-Read
+returns-in-Read c = λ h.
+    subst (λ (e : Event). HasNoRival c.args.events.now c.args.order.now c.args.place e c.args.reader) (sym c.in-Read.is)
+    (past_clear c.args.events.now c.args.order.now c.args.txns.now c.args.places.now c.requires.scene c.requires.sessions c.args.lists.now c.requires.lists c.requires.within
+    _ c.in-Read.cell c.in-Read.source _ _ _ c.args.place c.args.reader
+    (subst (λ (e : Event). IsReadAt c.args.events.now c.args.place e c.args.reader) c.in-Read.is c.requires.read)
+    (length c.args.pasts.now.last.items) c.past_of.result.now c.past_of.ensures (c.past_has_none.ensures h))

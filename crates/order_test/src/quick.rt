@@ -1,0 +1,300 @@
+// What is seen at once of a read: that it has no rival. Where that isn't seen, a search decides.
+ghost use Rattle.std.specs.Prelude.{◌<◌, ℕ, IsTrue, length, slice_index};
+ghost use Rattle.history_core.specs.Relations.{IsSessionOrdered, ReadsFrom};
+ghost use Rattle.order_test.specs.Unkept.{KeepsSessions};
+ghost use Rattle.order_test.specs.Pasts.{ArePasts};
+ghost use Rattle.order_test.specs.Sights.{IsScene, IsReadAt, IsRival, origin_of};
+ghost use Rattle.order_test.specs.Listed.{AreAllAscending, AreTxnsWithin, ListsCommitted, HasNoLate, HasNoRival, HasNoDirectRival, IsHarmless, AreHarmless, listed_at};
+
+use crate::listed::last_listed;
+use crate::pasts::{Past, Pasts};
+use crate::places::Places;
+use crate::sessions::txn_of;
+use crate::sight::{past_of, top_of};
+use crate::unmet::is_rival;
+use cell_base::{Cell, Level};
+use cell_writers::CellWriters;
+use history_core::{Event, Seen, Txn};
+
+/// Whether both have places, and the first stands before the second.
+fn stands_before(places: &Places, first: u32, second: u32) -> bool
+    ensures { IsTrue result → slice_index places.now.at.items first < slice_index places.now.at.items second }
+{
+    if first as usize >= places.at.len() {
+        return false;
+    }
+    if second as usize >= places.at.len() {
+        return false;
+    }
+    places.at[first as usize] < places.at[second as usize]
+}
+
+/// Whether the last writer of the cell in the session up to the limit is the source or stands before it.
+fn session_has_none(
+    places: &Places,
+    lists: &[CellWriters],
+    session: usize,
+    cell: &Cell,
+    limit: u32,
+    from: u32,
+) -> bool
+    requires ascending { AreAllAscending lists.now }
+    requires within { session < length lists.now }
+    ensures { IsTrue result → HasNoLate places.now.at.items (listed_at lists.now session cell.now) limit from }
+{
+    match last_listed(lists, session, cell, limit) {
+        Some(last) => last == from || stands_before(places, last, from),
+        None => true,
+    }
+}
+
+/// The same of all sessions, each up to its last transaction in the past.
+fn past_has_none(
+    places: &Places,
+    lists: &[CellWriters],
+    past: &Past,
+    cell: &Cell,
+    from: u32,
+) -> bool
+    requires ascending { AreAllAscending lists.now }
+    ensures { IsTrue result → (session : ℕ) → session < length lists.now →
+        HasNoLate places.now.at.items (listed_at lists.now session cell.now) (slice_index past.now.tops.items session) from }
+{
+    for session in 0..lists.len() {
+        if !session_has_none(places, lists, session, cell, top_of(past, session), from) {
+            return false;
+        }
+    }
+    true
+}
+
+/// Whether in each session the last writer of the cell in the reader's causal past is the source or stands before it.
+fn past_is_clear(
+    events: &[Event],
+    order: &[u32],
+    txns: &[Txn],
+    places: &Places,
+    pasts: &Pasts,
+    lists: &[CellWriters],
+    place: usize,
+    event: &Event,
+    reader: u32,
+) -> bool
+    requires scene { IsScene events.now order.now txns.now places.now }
+    requires pasts { ArePasts events.now pasts.now }
+    requires sessions { KeepsSessions events.now order.now }
+    requires lists { ListsCommitted txns.now (length txns.now) lists.now }
+    requires within { AreTxnsWithin (length lists.now) txns.now }
+    requires read { IsReadAt events.now place event.now reader }
+    ensures { IsTrue result → HasNoRival events.now order.now place event.now reader }
+{
+    match event {
+        Event::Read { cell, source, .. } => {
+            past_has_none(places, lists, past_of(pasts, events, reader), cell, *source)
+        }
+        _ => false,
+    }
+}
+
+/// Whether the last writer of the cell in the reader's session before the reader is the source or stands before it.
+fn own_is_clear(
+    events: &[Event],
+    order: &[u32],
+    txns: &[Txn],
+    places: &Places,
+    pasts: &Pasts,
+    lists: &[CellWriters],
+    place: usize,
+    event: &Event,
+    reader: u32,
+) -> bool
+    requires scene { IsScene events.now order.now txns.now places.now }
+    requires pasts { ArePasts events.now pasts.now }
+    requires sessions { KeepsSessions events.now order.now }
+    requires lists { ListsCommitted txns.now (length txns.now) lists.now }
+    requires within { AreTxnsWithin (length lists.now) txns.now }
+    requires read { IsReadAt events.now place event.now reader }
+    ensures { IsTrue result → (other : ℕ) → IsSessionOrdered events.now other reader → ¬ IsRival events.now order.now place (origin_of event.now) reader other }
+{
+    let session = txn_of(events, order, txns, places, reader).session as usize;
+    let limit = top_of(past_of(pasts, events, reader), session);
+    match event {
+        Event::Read { cell, source, .. } => {
+            session_has_none(places, lists, session, cell, limit, *source)
+        }
+        _ => false,
+    }
+}
+
+/// Whether the number is that of no rival.
+fn is_no_rival(
+    events: &[Event],
+    order: &[u32],
+    txns: &[Txn],
+    places: &Places,
+    pasts: &Pasts,
+    place: usize,
+    event: &Event,
+    reader: u32,
+    number: u32,
+) -> bool
+    requires scene { IsScene events.now order.now txns.now places.now }
+    requires pasts { ArePasts events.now pasts.now }
+    requires read { IsReadAt events.now place event.now reader }
+    ensures { IsTrue result → ¬ IsRival events.now order.now place (origin_of event.now) reader number }
+{
+    if number == 0 {
+        return true;
+    }
+    if number as usize > txns.len() {
+        return true;
+    }
+    !is_rival(
+        events, order, txns, places, pasts, place, event, reader, number,
+    )
+}
+
+/// Whether this wasn't read from a rival.
+fn is_harmless(
+    events: &[Event],
+    order: &[u32],
+    txns: &[Txn],
+    places: &Places,
+    pasts: &Pasts,
+    place: usize,
+    event: &Event,
+    reader: u32,
+    seen: &Seen,
+) -> bool
+    requires scene { IsScene events.now order.now txns.now places.now }
+    requires pasts { ArePasts events.now pasts.now }
+    requires read { IsReadAt events.now place event.now reader }
+    ensures { IsTrue result → IsHarmless events.now order.now place event.now reader seen.now }
+{
+    match seen {
+        Seen::Read { source, .. } => is_no_rival(
+            events, order, txns, places, pasts, place, event, reader, *source,
+        ),
+        Seen::Scan { .. } => true,
+    }
+}
+
+/// Whether none of these was read from a rival.
+fn all_are_harmless(
+    events: &[Event],
+    order: &[u32],
+    txns: &[Txn],
+    places: &Places,
+    pasts: &Pasts,
+    place: usize,
+    event: &Event,
+    reader: u32,
+    all: &[Seen],
+) -> bool
+    requires scene { IsScene events.now order.now txns.now places.now }
+    requires pasts { ArePasts events.now pasts.now }
+    requires read { IsReadAt events.now place event.now reader }
+    ensures { IsTrue result → AreHarmless events.now order.now place event.now reader (length all.now) all.now }
+{
+    for at in 0..all.len() {
+        if !is_harmless(
+            events, order, txns, places, pasts, place, event, reader, &all[at],
+        ) {
+            return false;
+        }
+    }
+    true
+}
+
+/// Whether the reader has read from no rival.
+fn sources_are_clear(
+    events: &[Event],
+    order: &[u32],
+    txns: &[Txn],
+    places: &Places,
+    pasts: &Pasts,
+    place: usize,
+    event: &Event,
+    reader: u32,
+) -> bool
+    requires scene { IsScene events.now order.now txns.now places.now }
+    requires pasts { ArePasts events.now pasts.now }
+    requires read { IsReadAt events.now place event.now reader }
+    ensures { IsTrue result → (other : ℕ) → ReadsFrom events.now other reader → ¬ IsRival events.now order.now place (origin_of event.now) reader other }
+{
+    let txn = txn_of(events, order, txns, places, reader);
+    all_are_harmless(
+        events,
+        order,
+        txns,
+        places,
+        pasts,
+        place,
+        event,
+        reader,
+        txn.seen.as_slice(),
+    )
+}
+
+/// Whether none that directly precedes the reader, in its session or as a source, is a rival.
+fn is_clear_directly(
+    events: &[Event],
+    order: &[u32],
+    txns: &[Txn],
+    places: &Places,
+    pasts: &Pasts,
+    lists: &[CellWriters],
+    place: usize,
+    event: &Event,
+    reader: u32,
+) -> bool
+    requires scene { IsScene events.now order.now txns.now places.now }
+    requires pasts { ArePasts events.now pasts.now }
+    requires sessions { KeepsSessions events.now order.now }
+    requires lists { ListsCommitted txns.now (length txns.now) lists.now }
+    requires within { AreTxnsWithin (length lists.now) txns.now }
+    requires read { IsReadAt events.now place event.now reader }
+    ensures { IsTrue result → HasNoDirectRival events.now order.now place event.now reader }
+{
+    if !own_is_clear(
+        events, order, txns, places, pasts, lists, place, event, reader,
+    ) {
+        return false;
+    }
+    sources_are_clear(events, order, txns, places, pasts, place, event, reader)
+}
+
+/// Whether it is seen at once that the read has no rival, whatever its level: its causal past has none that is late, or at a lower level
+/// neither its sources nor its session have one.
+pub fn is_clear(
+    events: &[Event],
+    order: &[u32],
+    txns: &[Txn],
+    places: &Places,
+    pasts: &Pasts,
+    lists: &[CellWriters],
+    place: usize,
+    event: &Event,
+    reader: u32,
+) -> bool
+    requires scene { IsScene events.now order.now txns.now places.now }
+    requires pasts { ArePasts events.now pasts.now }
+    requires sessions { KeepsSessions events.now order.now }
+    requires lists { ListsCommitted txns.now (length txns.now) lists.now }
+    requires within { AreTxnsWithin (length lists.now) txns.now }
+    requires read { IsReadAt events.now place event.now reader }
+    ensures { IsTrue result → HasNoRival events.now order.now place event.now reader }
+{
+    if past_is_clear(
+        events, order, txns, places, pasts, lists, place, event, reader,
+    ) {
+        return true;
+    }
+    match txn_of(events, order, txns, places, reader).level {
+        Level::Rc => sources_are_clear(events, order, txns, places, pasts, place, event, reader),
+        Level::Ra => is_clear_directly(
+            events, order, txns, places, pasts, lists, place, event, reader,
+        ),
+        Level::Cc => false,
+    }
+}

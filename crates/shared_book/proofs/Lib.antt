@@ -1,0 +1,6 @@
+pub mod Listing
+pub mod Sessions
+pub mod Found
+pub mod Ending
+pub mod Making
+pub mod Seating

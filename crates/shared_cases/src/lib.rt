@@ -1,0 +1,13 @@
+//! Tests of books on one shared history: two in one thread, whose calls take turns by hand, with every event of the final history.
+//!
+//! The contracts say what a call adds and not that memory is left. The crate has nothing but tests.
+#![tactic(auto)]
+
+#[cfg(test)]
+mod calls;
+#[cfg(test)]
+mod lines;
+#[cfg(test)]
+mod table;
+#[cfg(test)]
+mod tests;

@@ -1,0 +1,188 @@
+// Two books on one history, whose calls take turns in one thread.
+ghost use Rattle.std.specs.Prelude.{◌≡◌, ◌+◌, ◌≤◌, IfOk, OnOk};
+ghost use Rattle.sound_table.specs.Sound.{IsSound};
+ghost use Rattle.history_core.specs.Book.{no_session, IsIdle};
+ghost use Rattle.turn_lock.specs.Views.{all_parts};
+ghost use Rattle.shared_book.specs.Books.{past_of};
+ghost use Rattle.shared_cases.specs.SessionStates.{IsReady, IsFresh, IsBusy, SamePass};
+
+use crate::calls::{begin, close, commit, define, look, open, read, write};
+use crate::lines::are_lines;
+use crate::table::{field, presence, table};
+use cell_base::{Level, Value};
+use history_core::{Book, BookFault, InitialState};
+use shared_book::{Shared, SharedBook};
+use sql_tree::Table;
+use std::alloc::Global;
+use std::sync::Wait;
+use valid_writes::Store;
+
+/// Session 1 opens (1), defines the table (2) and looks (3).
+fn set_up<R: Wait>(book: &mut SharedBook<'_, R>, table: &Table) -> Result<(), BookFault>
+    requires none { book.old.state ≡ no_session }
+    requires sound { IsSound table.now }
+    ensures ready { OnOk result (IsReady (past_of book.new)) }
+    ensures pass { SamePass book.old.pass book.new.pass }
+{
+    match open(book) {
+        Ok(_) => define_and_look(book, table),
+        Err(fault) => Err(fault),
+    }
+}
+
+fn define_and_look<R: Wait>(book: &mut SharedBook<'_, R>, table: &Table) -> Result<(), BookFault>
+    requires idle { IsIdle book.old.state }
+    requires sound { IsSound table.now }
+    ensures ready { OnOk result (IsReady (past_of book.new)) }
+    ensures pass { SamePass book.old.pass book.new.pass }
+{
+    define(book, table)?;
+    look(book)
+}
+
+/// A session opens and looks. The answer is its number.
+fn enter<R: Wait>(book: &mut SharedBook<'_, R>) -> Result<u32, BookFault>
+    requires { book.old.state ≡ no_session }
+    ensures ready { OnOk result (IsReady (past_of book.new)) }
+    ensures pass { SamePass book.old.pass book.new.pass }
+{
+    let session = open(book)?;
+    look(book)?;
+    Ok(session)
+}
+
+/// A transaction begins and writes the row of key 1.
+fn write_row<R: Wait>(book: &mut SharedBook<'_, R>) -> Result<(), BookFault>
+    requires { IsReady (past_of book.old) }
+    ensures busy { OnOk result (IsBusy (past_of book.new)) }
+    ensures pass { SamePass book.old.pass book.new.pass }
+{
+    begin(book)?;
+    write(book, presence(), Value::Flag(true))?;
+    write(book, field(), Value::Int(10))
+}
+
+/// A transaction begins and reads whether the row is there.
+fn read_row<R: Wait>(book: &mut SharedBook<'_, R>, word: u32) -> Result<bool, BookFault>
+    requires { IsReady (past_of book.old) }
+    ensures fresh { OnOk result (IsFresh (past_of book.new)) }
+    ensures pass { SamePass book.old.pass book.new.pass }
+{
+    begin(book)?;
+    read_on(book, word)
+}
+
+/// Reads whether the row is there.
+fn read_on<R: Wait>(book: &mut SharedBook<'_, R>, word: u32) -> Result<bool, BookFault>
+    requires { IsFresh (past_of book.old) }
+    ensures fresh { OnOk result (IsFresh (past_of book.new)) }
+    ensures pass { SamePass book.old.pass book.new.pass }
+{
+    match read(book, &presence(), word) {
+        Ok(value) => Ok(value.is_same(&Value::Flag(true))),
+        Err(fault) => Err(fault),
+    }
+}
+
+/// Session 1 writes the row (6 to 8). Session 2 begins and finds none (9, 10: 0). Session 1 commits (11). Now session 2 is offered both, and
+/// takes the row (12: 0 1); it is offered the row alone (13: 1).
+fn interleave<R: Wait>(
+    first: &mut SharedBook<'_, R>,
+    second: &mut SharedBook<'_, R>,
+) -> Result<[bool; 3], BookFault>
+    requires { IsReady (past_of first.old) × IsReady (past_of second.old) }
+    ensures first { OnOk result (IsReady (past_of first.new)) }
+    ensures second { OnOk result (IsFresh (past_of second.new)) }
+    ensures pass { SamePass first.old.pass first.new.pass × SamePass second.old.pass second.new.pass }
+{
+    write_row(first)?;
+    let before = read_row(second, 1)?;
+    commit(first);
+    let after = read_on(second, 1)?;
+    let again = read_on(second, 0)?;
+    Ok([before, after, again])
+}
+
+/// Session 2 commits (14) and begins anew (15). It is offered both again, takes that there is no row (16: 0 1), and commits (17).
+fn read_anew<R: Wait>(book: &mut SharedBook<'_, R>) -> Result<bool, BookFault>
+    requires { IsFresh (past_of book.old) }
+    ensures ready { OnOk result (IsReady (past_of book.new)) }
+    ensures pass { SamePass book.old.pass book.new.pass }
+{
+    end(book);
+    let found = read_row(book, 0)?;
+    end(book);
+    Ok(found)
+}
+
+/// Commits a transaction that has written nothing.
+fn end<R: Wait>(book: &mut SharedBook<'_, R>)
+    requires { IsFresh (past_of book.old) }
+    ensures ready { IsReady (past_of book.new) }
+    ensures pass { SamePass book.old.pass book.new.pass }
+{
+    commit(book);
+}
+
+/// Both sessions, whose calls take turns. The answers are whether each read found the row.
+fn play<R: Wait>(
+    first: &mut SharedBook<'_, R>,
+    second: &mut SharedBook<'_, R>,
+    table: &Table,
+) -> Result<[bool; 4], BookFault>
+    requires none { (first.old.state ≡ no_session) × (second.old.state ≡ no_session) }
+    requires sound { IsSound table.now }
+    ensures none { OnOk result ((first.new.state ≡ no_session) × (second.new.state ≡ no_session)) }
+    ensures pass { SamePass first.old.pass first.new.pass × SamePass second.old.pass second.new.pass }
+{
+    set_up(first, table)?;
+    enter(second)?;
+    let [before, after, again] = interleave(first, second)?;
+    let anew = read_anew(second)?;
+    close(first);
+    close(second);
+    Ok([before, after, again, anew])
+}
+
+/// Both sessions on one shared history, and the store that it leaves.
+fn play_on<R: Wait>(rt: &R, alloc: Global, store: Store) -> Result<(Store, [bool; 4]), BookFault> {
+    let (shared, mut pass) = Shared::new(alloc, store).map_err(|_| BookFault::Memory)?;
+    let other = shared.split(&mut pass);
+    let mut first = shared.book(rt, pass);
+    let mut second = shared.book(rt, other);
+    let found = play(&mut first, &mut second, &table(alloc)?)?;
+    let mut pass = first.into_pass();
+    shared.join(&mut pass, second.into_pass());
+    Ok((shared.finish(pass), found))
+}
+
+#[test]
+fn two_books_take_turns(rt: HostRuntime) -> Result<(), BookFault> {
+    let alloc = rt.alloc();
+    let store = Store::new(alloc, Level::Rc, InitialState::empty(alloc))?;
+    let (store, found) = play_on(&rt, alloc, store)?;
+    assert_eq!(&rt; found, [false, true, true, false]);
+    let want = [
+        (b'o', 1, 0, 0),
+        (b'd', 1, 0, 0),
+        (b'l', 1, 1, 0),
+        (b'o', 2, 0, 0),
+        (b'l', 2, 1, 0),
+        (b'b', 1, 0, 0),
+        (b'w', 1, 0, 0),
+        (b'w', 1, 0, 0),
+        (b'b', 2, 0, 0),
+        (b'r', 2, 0, 1),
+        (b'c', 1, 0, 0),
+        (b'r', 2, 1, 2),
+        (b'r', 2, 1, 1),
+        (b'c', 2, 0, 0),
+        (b'b', 2, 0, 0),
+        (b'r', 2, 0, 2),
+        (b'c', 2, 0, 0),
+        (b'x', 1, 0, 0),
+        (b'x', 2, 0, 0),
+    ];
+    assert!(&rt; are_lines(store.history().events(), want.as_slice()));
+    Ok(())
+}
