@@ -5,6 +5,7 @@ ghost use Rattle.link_traits.specs.Hosts.{mem_hosted};
 
 use cell_base::{Items, Level, Memory, Text};
 use choice_stream::ListWords;
+use doors::MemNetwork;
 use history_core::InitialState;
 use link_traits::{MemHost, MemLink, MemPlan, MemReturned, MemSink};
 use monkey_server::monkey_main;
@@ -46,6 +47,11 @@ fn host(alloc: Global, link: MemLink) -> Result<MemHost, Memory>
     Ok(MemHost::new(alloc, Some(link), nothing, out, fails, opened, made))
 }
 
+// A network that has no doors.
+fn no_network(alloc: Global) -> MemNetwork {
+    MemNetwork::new(alloc, Vec::new(alloc), Items::new(alloc))
+}
+
 fn text(alloc: Global, bytes: &[u8]) -> Result<Text, Memory> {
     match Text::from_bytes(alloc, bytes) {
         Ok(text) => Ok(text),
@@ -55,7 +61,7 @@ fn text(alloc: Global, bytes: &[u8]) -> Result<Text, Memory> {
 
 // Whether `pipe LEVEL LIST` ends with this status and has sent these bytes, for an input that comes in pieces of this length.
 pub fn answers_at(
-    alloc: Global,
+    rt: &HostRuntime,
     level: &[u8],
     list: &[u8],
     input: &[u8],
@@ -65,6 +71,7 @@ pub fn answers_at(
 ) -> Result<bool, Memory>
     requires { 0 < piece }
 {
+    let alloc = rt.alloc();
     let link = link(alloc, input, piece)?;
     let mut host = host(alloc, link)?;
     let words = [
@@ -72,7 +79,8 @@ pub fn answers_at(
         text(alloc, level)?,
         text(alloc, list)?,
     ];
-    let status = monkey_main(alloc, &mut host, words.as_slice());
+    let mut network = no_network(alloc);
+    let status = monkey_main(rt, alloc, &mut host, &mut network, words.as_slice());
     Ok(match host.back() {
         [MemReturned::Link(link)] => status.code == code && link.written() == sent,
         _ => false,
@@ -81,7 +89,7 @@ pub fn answers_at(
 
 // The same for `pipe rc LIST`.
 pub fn answers(
-    alloc: Global,
+    rt: &HostRuntime,
     list: &[u8],
     input: &[u8],
     piece: u32,
@@ -90,11 +98,12 @@ pub fn answers(
 ) -> Result<bool, Memory>
     requires { 0 < piece }
 {
-    answers_at(alloc, b"rc", list, input, piece, code, sent)
+    answers_at(rt, b"rc", list, input, piece, code, sent)
 }
 
 // Whether `pipe LEVEL LIST` ends with status 2, takes no link, and prints these bytes.
-pub fn prints(alloc: Global, level: &[u8], list: &[u8], line: &[u8]) -> Result<bool, Memory> {
+pub fn prints(rt: &HostRuntime, level: &[u8], list: &[u8], line: &[u8]) -> Result<bool, Memory> {
+    let alloc = rt.alloc();
     let link = link(alloc, b"", 64)?;
     let mut host = host(alloc, link)?;
     let words = [
@@ -102,7 +111,8 @@ pub fn prints(alloc: Global, level: &[u8], list: &[u8], line: &[u8]) -> Result<b
         text(alloc, level)?,
         text(alloc, list)?,
     ];
-    let status = monkey_main(alloc, &mut host, words.as_slice());
+    let mut network = no_network(alloc);
+    let status = monkey_main(rt, alloc, &mut host, &mut network, words.as_slice());
     Ok(match host.output() {
         Some(out) => status.code == 2 && host.back().is_empty() && out.written() == line,
         None => false,

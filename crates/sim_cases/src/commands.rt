@@ -4,6 +4,7 @@ ghost use Rattle.link_traits.specs.Host.{objects_out};
 ghost use Rattle.link_traits.specs.Hosts.{mem_hosted};
 
 use cell_base::{Items, Memory, Text};
+use doors::MemNetwork;
 use link_traits::{HostFile, MemHost, MemPlan, MemSink};
 use monkey_server::monkey_main;
 use std::alloc::Global;
@@ -55,10 +56,12 @@ fn words_of(alloc: Global, line: &[u8]) -> Result<Vec<Text>, Memory> {
 }
 
 // What a command prints, where it ends with this status.
-fn printed(alloc: Global, line: &[u8], code: u8) -> Result<Option<Vec<u8>>, Memory> {
+fn printed(rt: &HostRuntime, line: &[u8], code: u8) -> Result<Option<Vec<u8>>, Memory> {
+    let alloc = rt.alloc();
     let mut host = host(alloc)?;
+    let mut network = MemNetwork::new(alloc, Vec::new(alloc), Items::new(alloc));
     let words = words_of(alloc, line)?;
-    let status = monkey_main(alloc, &mut host, words.as_slice());
+    let status = monkey_main(rt, alloc, &mut host, &mut network, words.as_slice());
     Ok(match host.output() {
         Some(out) if status.code == code => Some(Vec::from_slice(alloc, out.written())?),
         _ => None,
@@ -66,17 +69,17 @@ fn printed(alloc: Global, line: &[u8], code: u8) -> Result<Option<Vec<u8>>, Memo
 }
 
 // Whether a command prints this line, and ends with this status.
-fn prints(alloc: Global, line: &[u8], code: u8, wanted: &[u8]) -> Result<bool, Memory> {
-    Ok(match printed(alloc, line, code)? {
+fn prints(rt: &HostRuntime, line: &[u8], code: u8, wanted: &[u8]) -> Result<bool, Memory> {
+    Ok(match printed(rt, line, code)? {
         Some(out) => out.as_slice() == wanted,
         None => false,
     })
 }
 
 // Whether a simulation prints a line with this beginning, and the same line again.
-fn repeats(alloc: Global, line: &[u8], beginning: &[u8]) -> Result<bool, Memory> {
-    let first = printed(alloc, line, 0)?;
-    let second = printed(alloc, line, 0)?;
+fn repeats(rt: &HostRuntime, line: &[u8], beginning: &[u8]) -> Result<bool, Memory> {
+    let first = printed(rt, line, 0)?;
+    let second = printed(rt, line, 0)?;
     Ok(match (first, second) {
         (Some(first), Some(second)) => {
             first.as_slice() == second.as_slice() && first.as_slice().starts_with(beginning)
@@ -87,24 +90,11 @@ fn repeats(alloc: Global, line: &[u8], beginning: &[u8]) -> Result<bool, Memory>
 
 #[test]
 fn simulates_again(rt: HostRuntime) -> Result<(), Fail> {
-    let alloc = rt.alloc();
+    assert!(rt; repeats(&rt, b"sim cc 7 4 20", b"sim cc 7 sessions 5 transactions ")?);
+    assert!(rt; repeats(&rt, b"sim cc 7 8 100", b"sim cc 7 sessions 9 transactions ")?);
     assert!(rt;
         repeats(
-            alloc,
-            b"sim cc 7 4 20",
-            b"sim cc 7 sessions 5 transactions "
-        )?
-    );
-    assert!(rt;
-        repeats(
-            alloc,
-            b"sim cc 7 8 100",
-            b"sim cc 7 sessions 9 transactions "
-        )?
-    );
-    assert!(rt;
-        repeats(
-            alloc,
+            &rt,
             b"sim rc 007 01 1",
             b"sim rc 7 sessions 2 transactions "
         )?
@@ -131,15 +121,14 @@ const NO_COMMANDS: &[&str] = &[
 #[test]
 fn refuses_what_is_no_command(rt: HostRuntime) -> Result<(), Fail> {
     for line in NO_COMMANDS {
-        assert!(rt; prints(rt.alloc(), line.as_bytes(), 2, USAGE)?);
+        assert!(rt; prints(&rt, line.as_bytes(), 2, USAGE)?);
     }
     Ok(())
 }
 
 #[test]
 fn checks_a_log(rt: HostRuntime) -> Result<(), Fail> {
-    let alloc = rt.alloc();
-    assert!(rt; prints(alloc, b"check log", 0, b"ok\n")?);
-    assert!(rt; prints(alloc, b"check logs", 6, b"")?);
+    assert!(rt; prints(&rt, b"check log", 0, b"ok\n")?);
+    assert!(rt; prints(&rt, b"check logs", 6, b"")?);
     Ok(())
 }
