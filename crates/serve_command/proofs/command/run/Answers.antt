@@ -21,7 +21,7 @@ use Rattle.serve_command.proofs.Fronts.{written_back, length_of_map}
 use Rattle.serve_command.proofs.command.run.Goals as goal
 
 pub serve_doors-requires-send-B : goal.serve_doors-requires-send-B
-serve_doors-requires-send-B g c κs within = param_send 1 _ (book_send _ g.row.R (c.type_bounds.sync-R.shared))
+serve_doors-requires-send-B g c κs within = param_send 1 _ (book_send _ g.row.R c.type_bounds.sync-R)
 
 pub serve_doors-requires-clause-ready : goal.serve_doors-requires-clause-ready
 serve_doors-requires-clause-ready g c κs within =
