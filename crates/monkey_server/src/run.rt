@@ -3,7 +3,8 @@ ghost use Rattle.std.specs.Prelude.{◌≡◌, ◌≤◌, ℕ, List, IfOk};
 ghost use Rattle.link_traits.specs.Host.{objects_out};
 ghost use Rattle.sim_command.specs.Simulations.{Simulates};
 ghost use Rattle.command_line.specs.Commands.{IsCommandLine};
-ghost use Rattle.monkey_server.specs.Program.{no_past, status_of, ServesAlone, Pipes, Obeys, Does};
+ghost use Rattle.host_calls.specs.Printing.{Printed};
+ghost use Rattle.monkey_server.specs.Program.{no_past, usage_line, status_of, ServesAlone, Pipes, Obeys, Does};
 ghost use Rattle.link_traits.specs.Traffic.{sight_of};
 
 use cell_base::{Items, Level, Memory, Text};
@@ -106,7 +107,17 @@ fn sim<H: Host>(alloc: Global, host: &mut H, wanted: &SimPlan) -> Status
     simulate(alloc, host, plan, &wanted.log)
 }
 
+// Prints the usage line.
+fn print_usage<H: Host>(host: &mut H) -> Status
+    requires none_out { objects_out (H.hosted host.old) ≡ 0 }
+    ensures printed { Printed usage_line 2 (H.hosted host.old) result.code (H.hosted host.new) }
+    ensures none_out { objects_out (H.hosted host.new) ≡ 0 }
+{
+    print(host, USAGE.as_bytes(), Status { code: 2 })
+}
+
 // Does what the command says.
+#[tactic(auto, using(crate::proofs::Bounds::serve_bounded))]
 fn obey<R: Threads + Wait + Eprint + Sync, H: Host, N: Network>(
     rt: &R,
     alloc: Global,
@@ -124,7 +135,7 @@ fn obey<R: Threads + Wait + Eprint + Sync, H: Host, N: Network>(
         CommandLine::Serve(options) => serve(rt, alloc, host, network, &options),
         CommandLine::Check { path } => check_file(alloc, host, &path),
         CommandLine::Sim(plan) => sim(alloc, host, &plan),
-        CommandLine::Unknown => print(host, USAGE.as_bytes(), Status { code: 2 }),
+        CommandLine::Unknown => print_usage(host),
     }
 }
 

@@ -1,4 +1,5 @@
-use denote.Param.Send.{param_send}
+use denote.Param.Send.{sendable}
+use denote.Param.SendFields.{declared_send}
 use Rattle.std.proofs.Common.{◌≡◌, ◌++◌, ◌∷◌, ℕ, List, [], length, map, vec_len, refl, sym, ◌∙◌, ap, subst}
 use Rattle.std.specs.Prelude.{All, ◌+◌, ◌≤◌, vec_capacity}
 use Rattle.std.proofs.lemmas.List.Elements.{All-map}
@@ -21,7 +22,7 @@ use Rattle.serve_command.proofs.Fronts.{written_back, length_of_map}
 use Rattle.serve_command.proofs.command.run.Goals as goal
 
 pub serve_doors-requires-send-B : goal.serve_doors-requires-send-B
-serve_doors-requires-send-B g c κs within = param_send 1 _ (book_send _ g.row.R c.type_bounds.sync-R)
+serve_doors-requires-send-B g c κs within = let shared = c.type_bounds.sync-R in search (sendable, declared_send, book_send) depth 20
 
 pub serve_doors-requires-clause-ready : goal.serve_doors-requires-clause-ready
 serve_doors-requires-clause-ready g c κs within =
