@@ -49,7 +49,7 @@ fn host(alloc: Global, link: MemLink) -> Result<MemHost, Memory>
 
 // A network that has no doors.
 fn no_network(alloc: Global) -> MemNetwork {
-    MemNetwork::new(alloc, Vec::new(alloc), Items::new(alloc))
+    MemNetwork::new(alloc, Vec::new(alloc), Vec::new(alloc))
 }
 
 fn text(alloc: Global, bytes: &[u8]) -> Result<Text, Memory> {

@@ -59,7 +59,7 @@ fn words_of(alloc: Global, line: &[u8]) -> Result<Vec<Text>, Memory> {
 fn printed(rt: &HostRuntime, line: &[u8], code: u8) -> Result<Option<Vec<u8>>, Memory> {
     let alloc = rt.alloc();
     let mut host = host(alloc)?;
-    let mut network = MemNetwork::new(alloc, Vec::new(alloc), Items::new(alloc));
+    let mut network = MemNetwork::new(alloc, Vec::new(alloc), Vec::new(alloc));
     let words = words_of(alloc, line)?;
     let status = monkey_main(rt, alloc, &mut host, &mut network, words.as_slice());
     Ok(match host.output() {
