@@ -11,6 +11,8 @@ use link_traits::{MemHost, MemLink, MemPlan, MemReturned, MemSink};
 use monkey_server::monkey_main;
 use session_core::serve_link;
 use std::alloc::Global;
+use std::sync::Wait;
+use std::thread::Threads;
 use valid_writes::Store;
 
 fn plan(alloc: Global, piece: u32) -> MemPlan
@@ -60,8 +62,9 @@ fn text(alloc: Global, bytes: &[u8]) -> Result<Text, Memory> {
 }
 
 // Whether `pipe LEVEL LIST` ends with this status and has sent these bytes, for an input that comes in pieces of this length.
-pub fn answers_at(
-    rt: &HostRuntime,
+pub fn answers_at<R: Threads + Wait + Eprint + Sync>(
+    rt: &R,
+    alloc: Global,
     level: &[u8],
     list: &[u8],
     input: &[u8],
@@ -71,7 +74,6 @@ pub fn answers_at(
 ) -> Result<bool, Memory>
     requires { 0 < piece }
 {
-    let alloc = rt.alloc();
     let link = link(alloc, input, piece)?;
     let mut host = host(alloc, link)?;
     let words = [
@@ -88,8 +90,9 @@ pub fn answers_at(
 }
 
 // The same for `pipe rc LIST`.
-pub fn answers(
-    rt: &HostRuntime,
+pub fn answers<R: Threads + Wait + Eprint + Sync>(
+    rt: &R,
+    alloc: Global,
     list: &[u8],
     input: &[u8],
     piece: u32,
@@ -98,12 +101,17 @@ pub fn answers(
 ) -> Result<bool, Memory>
     requires { 0 < piece }
 {
-    answers_at(rt, b"rc", list, input, piece, code, sent)
+    answers_at(rt, alloc, b"rc", list, input, piece, code, sent)
 }
 
 // Whether `pipe LEVEL LIST` ends with status 2, takes no link, and prints these bytes.
-pub fn prints(rt: &HostRuntime, level: &[u8], list: &[u8], line: &[u8]) -> Result<bool, Memory> {
-    let alloc = rt.alloc();
+pub fn prints<R: Threads + Wait + Eprint + Sync>(
+    rt: &R,
+    alloc: Global,
+    level: &[u8],
+    list: &[u8],
+    line: &[u8],
+) -> Result<bool, Memory> {
     let link = link(alloc, b"", 64)?;
     let mut host = host(alloc, link)?;
     let words = [
