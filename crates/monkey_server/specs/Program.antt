@@ -17,6 +17,8 @@ use Rattle.sim_command.specs.Simulations.{Simulates}
 use Rattle.command_line.specs.Commands.{IsCommandLine}
 use Rattle.command_line.specs.declared.reading.CommandLine.{CommandLine}
 use Rattle.command_line.specs.declared.reading.CommandLine.TheVariants as lines
+use Rattle.doors.specs.Network.{Networked}
+use Rattle.serve_command.specs.Serving.{Serves as Serving}
 
 abbrev pub usage_line : List ℕ
 usage_line = codes "usage: monkeydb pipe LEVEL WORDS | serve [OPTIONS] | check PATH | sim LEVEL SEED SESSIONS QUERIES" ++ 10 ∷ []
@@ -75,15 +77,17 @@ Linkless before code after = (code ≡ 6) × (after ≡ call_failed (standard_li
 abbrev pub Pipes : Level → List ℕ → Hosted → ℕ → Hosted → Type 0
 Pipes level words before code after = Piped level words before code after ⊎ (Linkless before code after ⊎ Untouched before code after)
 
--- what the program does for a command; `serve` isn't served yet
-abbrev pub Obeys : CommandLine → Hosted → ℕ → Hosted → Type 0
-Obeys (lines.Pipe pipe) before code after = Pipes pipe.level pipe.words before code after
-Obeys (lines.Serve options) before code after = Printed usage_line 2 before code after
-Obeys (lines.Check path) before code after = Checks path before code after
-Obeys (lines.Sim plan) before code after = Simulates plan.level plan.seed plan.sessions plan.queries plan.log before code after
-Obeys lines.Unknown before code after = Printed usage_line 2 before code after
+-- what the program does for a command: only `serve` uses the network
+abbrev pub Obeys : CommandLine → Networked → Hosted → ℕ → Networked → Hosted → Type 0
+Obeys (lines.Pipe pipe) network before code network_after after = Pipes pipe.level pipe.words before code after × (network_after ≡ network)
+Obeys (lines.Serve options) network before code network_after after = Serving options network before code network_after after
+Obeys (lines.Check path) network before code network_after after = Checks path before code after × (network_after ≡ network)
+Obeys (lines.Sim plan) network before code network_after after =
+    Simulates plan.level plan.seed plan.sessions plan.queries plan.log before code after × (network_after ≡ network)
+Obeys lines.Unknown network before code network_after after = Printed usage_line 2 before code after × (network_after ≡ network)
 
 -- what the program does with these words: it obeys the command that they are, or memory ran out before it could
-abbrev pub Does : List (List ℕ) → Hosted → ℕ → Hosted → Type 0
-Does args before code after =
-    ((line : CommandLine) × IsCommandLine args line × Obeys line before code after) ⊎ Untouched before code after
+abbrev pub Does : List (List ℕ) → Networked → Hosted → ℕ → Networked → Hosted → Type 0
+Does args network before code network_after after =
+    ((line : CommandLine) × IsCommandLine args line × Obeys line network before code network_after after)
+    ⊎ (Untouched before code after × (network_after ≡ network))

@@ -3,19 +3,24 @@ ghost use Rattle.std.specs.Prelude.{◌≡◌, ◌≤◌, ℕ, List, IfOk};
 ghost use Rattle.link_traits.specs.Host.{objects_out};
 ghost use Rattle.sim_command.specs.Simulations.{Simulates};
 ghost use Rattle.command_line.specs.Commands.{IsCommandLine};
-ghost use Rattle.monkey_server.specs.Program.{no_past, status_of, ServesAlone, Pipes, Obeys, Does};
+ghost use Rattle.host_calls.specs.Printing.{Printed};
+ghost use Rattle.monkey_server.specs.Program.{no_past, usage_line, status_of, ServesAlone, Pipes, Obeys, Does};
 ghost use Rattle.link_traits.specs.Traffic.{sight_of};
 
 use cell_base::{Items, Level, Memory, Text};
 use check_command::check_file;
 use choice_stream::ListWords;
 use command_line::{CommandLine, PipeCommand, SimPlan, read_command};
+use doors::Network;
 use history_core::InitialState;
 use host_calls::{Status, print};
 use link_traits::{Host, HostFault, Link};
+use serve_command::serve;
 use session_core::{End, Served, serve_link};
 use sim_command::{Plan, simulate};
 use std::alloc::Global;
+use std::sync::Wait;
+use std::thread::Threads;
 use valid_writes::{SeatBook, Store};
 
 const USAGE: &str =
@@ -102,42 +107,63 @@ fn sim<H: Host>(alloc: Global, host: &mut H, wanted: &SimPlan) -> Status
     simulate(alloc, host, plan, &wanted.log)
 }
 
+// Prints the usage line.
+fn print_usage<H: Host>(host: &mut H) -> Status
+    requires none_out { objects_out (H.hosted host.old) ≡ 0 }
+    ensures printed { Printed usage_line 2 (H.hosted host.old) result.code (H.hosted host.new) }
+    ensures none_out { objects_out (H.hosted host.new) ≡ 0 }
+{
+    print(host, USAGE.as_bytes(), Status { code: 2 })
+}
+
 // Does what the command says.
-fn obey<H: Host>(alloc: Global, host: &mut H, line: CommandLine) -> Status
+#[tactic(auto, using(crate::proofs::Bounds::serve_bounded))]
+fn obey<R: Threads + Wait + Eprint + Sync, H: Host, N: Network>(
+    rt: &R,
+    alloc: Global,
+    host: &mut H,
+    network: &mut N,
+    line: CommandLine,
+) -> Status
     requires line { (args : List (List ℕ)) × IsCommandLine args line }
     requires none_out { objects_out (H.hosted host.old) ≡ 0 }
-    ensures obeys { Obeys line (H.hosted host.old) result.code (H.hosted host.new) }
+    ensures obeys { Obeys line (N.networked network.old) (H.hosted host.old) result.code (N.networked network.new) (H.hosted host.new) }
     ensures none_out { objects_out (H.hosted host.new) ≡ 0 }
 {
     match line {
         CommandLine::Pipe(command) => pipe(alloc, host, command),
+        CommandLine::Serve(options) => serve(rt, alloc, host, network, &options),
         CommandLine::Check { path } => check_file(alloc, host, &path),
         CommandLine::Sim(plan) => sim(alloc, host, &plan),
-        CommandLine::Serve(_) | CommandLine::Unknown => print(
-            host,
-            USAGE.as_bytes(),
-            Status { code: 2 },
-        ),
+        CommandLine::Unknown => print_usage(host),
     }
 }
 
 /// Does all that the program does with the words of its command line, its own name left out. `pipe LEVEL WORDS` serves one
 /// session over the host's standard link, at Read Committed (`rc`), Read Atomic (`ra`) or Causal Consistency (`cc`), with the numbers of
-/// WORDS as the choice words and 0 after them; `check PATH` reads the log of a file and prints `ok`, the first breach of its history, or why
-/// it is no log; `sim LEVEL SEED SESSIONS QUERIES` simulates sessions whose queries and choices are drawn from a seed, writes the log of their
-/// history with `--log PATH`, and prints a summary of it; `serve`, which isn't served yet, and other words print the usage line.
+/// WORDS as the choice words and 0 after them; `serve` serves the links that come in at an address of the network, each as a session over one
+/// history; `check PATH` reads the log of a file and prints `ok`, the first breach of its history, or why it is no log; `sim LEVEL SEED SESSIONS
+/// QUERIES` simulates sessions whose queries and choices are drawn from a seed, and prints a summary of their history; other words print the
+/// usage line.
 ///
-/// The status is 0 where the session ended well or was a cancel request, for `ok`, and for a summary; 1 where its input was cut short or was no
-/// messages, where its start was refused, or where more bytes were wanted than are read, for a breach or a fault of a log, and where a
-/// simulation made 4,294,967,295 steps without coming to its end; 2 for the usage line; 3 where reading failed; 4 where writing failed; 5 where
-/// memory ran out; and 6 where the host counted that it gave no link or file.
-pub fn monkey_main<H: Host>(alloc: Global, host: &mut H, words: &[Text]) -> Status
+/// The status is 0 where the session ended well or was a cancel request, for a server that ended, for `ok`, and for a summary; 1 where its input
+/// was cut short or was no messages, where its start was refused, or where more bytes were wanted than are read, for a breach or a fault of a log,
+/// and where a simulation made 4,294,967,295 steps without coming to its end; 2 for the usage line; 3 where reading failed; 4 where writing
+/// failed; 5 where memory ran out; and 6 where the host counted that it gave no link or file, or the network that it opened no doors, or where
+/// accepting a link failed.
+pub fn monkey_main<R: Threads + Wait + Eprint + Sync, H: Host, N: Network>(
+    rt: &R,
+    alloc: Global,
+    host: &mut H,
+    network: &mut N,
+    words: &[Text],
+) -> Status
     requires { objects_out (H.hosted host.old) ≡ 0 }
-    ensures does { Does words.now (H.hosted host.old) result.code (H.hosted host.new) }
+    ensures does { Does words.now (N.networked network.old) (H.hosted host.old) result.code (N.networked network.new) (H.hosted host.new) }
     ensures none_out { objects_out (H.hosted host.new) ≡ 0 }
 {
     match read_command(alloc, words) {
-        Ok(line) => obey(alloc, host, line),
+        Ok(line) => obey(rt, alloc, host, network, line),
         Err(Memory) => Status { code: 5 },
     }
 }

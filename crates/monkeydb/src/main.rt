@@ -5,6 +5,7 @@ ghost use Rattle.std.specs.Prelude.{◌≡◌, ◌≢◌};
 ghost use Rattle.std.specs.IoError.{error_kind};
 
 use cell_base::{Text, TextFault};
+use doors::TcpNetwork;
 use link_traits::StdHost;
 use monkey_server::{Status, monkey_main};
 use std::io::ErrorKind;
@@ -56,11 +57,13 @@ fn words_of(rt: &HostRuntime) -> Result<Vec<Text>, WordsFault> {
 }
 
 fn main(rt: HostRuntime) -> ExitCode {
-    let mut host = StdHost::new(rt.alloc(), &rt, rt.stdin(), rt.stdout());
+    let alloc = rt.alloc();
+    let mut host = StdHost::new(alloc, &rt, rt.stdin(), rt.stdout());
+    let mut network = TcpNetwork::new(&rt, alloc);
     let status = match words_of(&rt) {
-        Ok(words) => monkey_main(rt.alloc(), &mut host, &words),
+        Ok(words) => monkey_main(&rt, alloc, &mut host, &mut network, &words),
         // Words that aren't text are none that the program knows.
-        Err(WordsFault::NotText) => monkey_main(rt.alloc(), &mut host, &[]),
+        Err(WordsFault::NotText) => monkey_main(&rt, alloc, &mut host, &mut network, &[]),
         Err(WordsFault::Memory) => NO_MEMORY,
     };
     ExitCode::from(status.code)

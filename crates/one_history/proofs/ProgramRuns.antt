@@ -4,6 +4,7 @@ use Rattle.std.specs.Prelude.{IfSome}
 use Rattle.cell_base.specs.declared.level.Level.{Level}
 use Rattle.link_traits.specs.Traffic.{Sight}
 use Rattle.link_traits.specs.Host.{Hosted}
+use Rattle.doors.specs.Network.{Networked}
 use Rattle.command_line.specs.Commands.{IsPipe}
 use Rattle.command_line.specs.declared.pipe.PipeCommand.{PipeCommand}
 use Rattle.command_line.specs.declared.reading.CommandLine.{CommandLine}
@@ -26,13 +27,13 @@ piped_of level words before after code (inl piped) small = piped
 piped_of level words before after code (inr (inl linkless)) small = absurd (not_small code 6 linkless.0 (omega arith) small)
 piped_of level words before after code (inr (inr untouched)) small = absurd (untouched_large before after code untouched small)
 
-served_of : (args : List (List ℕ)) (level : Level) (words : List ℕ) (before after : Hosted) (code : ℕ) → IsPipe args level words →
-    Does args before code after → code < 2 → Piped level words before code after
-served_of args level words before after code is (inl (line, line_is, obeys)) small =
+served_of : (args : List (List ℕ)) (level : Level) (words : List ℕ) (network left : Networked) (before after : Hosted) (code : ℕ) → IsPipe args level words →
+    Does args network before code left after → code < 2 → Piped level words before code after
+served_of args level words network left before after code is (inl (line, line_is, obeys)) small =
     let pipe : PipeCommand = record { level = level; words = words } in
     let same : line ≡ lines.Pipe pipe = one_command args line (lines.Pipe pipe) line_is is in
-    piped_of level words before after code (subst (λ (l : CommandLine). Obeys l before code after) same obeys).0 small
-served_of args level words before after code is (inr untouched) small = absurd (untouched_large before after code untouched small)
+    piped_of level words before after code (subst (λ (l : CommandLine). Obeys l network before code left after) same obeys).0 small
+served_of args level words network left before after code is (inr untouched) small = absurd (untouched_large before after code untouched.0 small)
 
 -- ---- two runs
 
@@ -41,9 +42,9 @@ given_is : (told : Option Sight) (given next : Sight) → told ≡ Some next →
 given_is told given next is same = subst (λ (o : Option Sight). IfSome o (λ (s : Sight). given ≡ s)) is same
 
 pub program_runs : ProgramRunsAreAlike
-program_runs args level words before after then later code status input output pipe does also offers offer small smaller =
-    let a : Piped level words before code after = served_of args level words before after code pipe does small in
-    let b : Piped level words then status later = served_of args level words then later status pipe also smaller in
+program_runs args level words network left other right before after then later code status input output pipe does also offers offer small smaller =
+    let a : Piped level words before code after = served_of args level words network left before after code pipe does small in
+    let b : Piped level words then status later = served_of args level words other right then later status pipe also smaller in
     let is =
     piped_runs level words before after then later code status offers.traffic offer.traffic a b
     (ap (λ (s : Sight). s.traffic) (given_is before.next_link a.given offers.next offers.next_is a.told) ∙ offers.traffic_is)

@@ -18,6 +18,7 @@ use Rattle.session_core.specs.Record.{IsValidRecord, events_of}
 use Rattle.choice_stream.specs.Choices.{DrawsFirst}
 use Rattle.link_traits.specs.Traffic.{Traffic, Sight}
 use Rattle.link_traits.specs.Host.{Hosted, link_returned}
+use Rattle.doors.specs.Network.{Networked}
 use Rattle.command_line.specs.Commands.{IsPipe}
 use Rattle.monkey_server.specs.Program.{ServesAlone, Does}
 
@@ -125,11 +126,12 @@ pub record CameBack (before after : Hosted) (written : List ℕ) : Type 0 where
   pub traffic_is : link.traffic ≡ Some traffic
   pub written_is : traffic.written ≡ written
 
--- Two runs of the program with the same words `pipe LEVEL WORDS`, in any two hosts that tell beforehand links with the same input. Where the
+-- Two runs of the program with the same words `pipe LEVEL WORDS`, at any two networks, in any two hosts that tell beforehand links with the same input. Where the
 -- status of each is 0 or 1, the two have the same status, and the same bytes stand on the links that came back.
 abbrev pub ProgramRunsAreAlike : Type 0
 ProgramRunsAreAlike =
-    (args : List (List ℕ)) (level : Level) (words : List ℕ) (before after then later : Hosted) (code status : ℕ) (input output : List ℕ) →
-    IsPipe args level words → Does args before code after → Does args then status later → Offers before input output → Offers then input output →
+    (args : List (List ℕ)) (level : Level) (words : List ℕ) (network left other right : Networked) (before after then later : Hosted) (code status : ℕ)
+    (input output : List ℕ) →
+    IsPipe args level words → Does args network before code left after → Does args other then status right later → Offers before input output → Offers then input output →
     code < 2 → status < 2 →
     (code ≡ status) × ((written : List ℕ) × CameBack before after written × CameBack then later written)

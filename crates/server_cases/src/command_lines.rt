@@ -2,7 +2,9 @@
 use crate::hosts::{answers, answers_at, prints};
 use cell_base::Memory;
 use std::alloc::Global;
+use std::sync::Wait;
 use std::test::Fail;
+use std::thread::Threads;
 
 // A startup, a table, a key inserted twice, a read of its row, and the end. The second word is drawn where the second INSERT asks
 // whether the key is there: an even one finds the state before all transactions. The third is drawn where the SELECT asks the same,
@@ -26,25 +28,30 @@ const USAGE: &[u8] =
     b"usage: monkeydb pipe LEVEL WORDS | serve [OPTIONS] | check PATH | sim LEVEL SEED SESSIONS QUERIES\n";
 
 // Whether a session with this list is sent these bytes.
-fn takes(alloc: Global, list: &[u8], sent: &[u8]) -> Result<bool, Memory> {
-    answers(alloc, list, TWO_ROWS, 64, 0, sent)
+fn takes<R: Threads + Wait + Eprint + Sync>(
+    rt: &R,
+    alloc: Global,
+    list: &[u8],
+    sent: &[u8],
+) -> Result<bool, Memory> {
+    answers(rt, alloc, list, TWO_ROWS, 64, 0, sent)
 }
 
 #[test]
 fn takes_numbers_with_commas(rt: HostRuntime) -> Result<(), Fail> {
     let alloc = rt.alloc();
     // 7, and then 0
-    assert!(rt; takes(alloc, b"7", NONE)?);
+    assert!(rt; takes(&rt, alloc, b"7", NONE)?);
     // 7 and 8, and then 0
-    assert!(rt; takes(alloc, b"007,8", NONE)?);
+    assert!(rt; takes(&rt, alloc, b"007,8", NONE)?);
     // the third word is 1
-    assert!(rt; takes(alloc, b"4294967295,0,1", TEN)?);
+    assert!(rt; takes(&rt, alloc, b"4294967295,0,1", TEN)?);
     // 7 is 1 modulo 3, and 8 is 2
-    assert!(rt; takes(alloc, b"0,0,7", TEN)?);
-    assert!(rt; takes(alloc, b"0,0,008", ELEVEN)?);
+    assert!(rt; takes(&rt, alloc, b"0,0,7", TEN)?);
+    assert!(rt; takes(&rt, alloc, b"0,0,008", ELEVEN)?);
     // 4294967295 is 0 modulo 3, and 1 modulo 2
-    assert!(rt; takes(alloc, b"0,0,4294967295", NONE)?);
-    assert!(rt; takes(alloc, b"0,0,1,4294967295", ELEVEN)?);
+    assert!(rt; takes(&rt, alloc, b"0,0,4294967295", NONE)?);
+    assert!(rt; takes(&rt, alloc, b"0,0,1,4294967295", ELEVEN)?);
     Ok(())
 }
 
@@ -53,45 +60,54 @@ fn takes_numbers_with_commas(rt: HostRuntime) -> Result<(), Fail> {
 #[test]
 fn takes_levels(rt: HostRuntime) -> Result<(), Fail> {
     let alloc = rt.alloc();
-    assert!(rt; answers_at(alloc, b"ra", b"0", TWO_ROWS, 64, 0, TAKEN)?);
-    assert!(rt; answers_at(alloc, b"cc", b"7,8,9", TWO_ROWS, 64, 0, TAKEN)?);
-    assert!(rt; answers_at(alloc, b"rc", b"7", TWO_ROWS, 64, 0, NONE)?);
+    assert!(rt; answers_at(&rt, alloc, b"ra", b"0", TWO_ROWS, 64, 0, TAKEN)?);
+    assert!(rt; answers_at(&rt, alloc, b"cc", b"7,8,9", TWO_ROWS, 64, 0, TAKEN)?);
+    assert!(rt; answers_at(&rt, alloc, b"rc", b"7", TWO_ROWS, 64, 0, NONE)?);
     Ok(())
 }
 
 // Whether `pipe LEVEL LIST` is no command.
-fn refuses_at(alloc: Global, level: &[u8], list: &[u8]) -> Result<bool, Memory> {
-    prints(alloc, level, list, USAGE)
+fn refuses_at<R: Threads + Wait + Eprint + Sync>(
+    rt: &R,
+    alloc: Global,
+    level: &[u8],
+    list: &[u8],
+) -> Result<bool, Memory> {
+    prints(rt, alloc, level, list, USAGE)
 }
 
 #[test]
 fn refuses_other_levels(rt: HostRuntime) -> Result<(), Fail> {
     let alloc = rt.alloc();
-    assert!(rt; refuses_at(alloc, b"", b"1")?);
-    assert!(rt; refuses_at(alloc, b"RC", b"1")?);
-    assert!(rt; refuses_at(alloc, b"si", b"1")?);
-    assert!(rt; refuses_at(alloc, b"rcc", b"1")?);
-    assert!(rt; refuses_at(alloc, b"default", b"1")?);
-    assert!(rt; refuses_at(alloc, b"cc", b"1,")?);
+    assert!(rt; refuses_at(&rt, alloc, b"", b"1")?);
+    assert!(rt; refuses_at(&rt, alloc, b"RC", b"1")?);
+    assert!(rt; refuses_at(&rt, alloc, b"si", b"1")?);
+    assert!(rt; refuses_at(&rt, alloc, b"rcc", b"1")?);
+    assert!(rt; refuses_at(&rt, alloc, b"default", b"1")?);
+    assert!(rt; refuses_at(&rt, alloc, b"cc", b"1,")?);
     Ok(())
 }
 
 // Whether `pipe rc LIST` is no command.
-fn refuses(alloc: Global, list: &[u8]) -> Result<bool, Memory> {
-    refuses_at(alloc, b"rc", list)
+fn refuses<R: Threads + Wait + Eprint + Sync>(
+    rt: &R,
+    alloc: Global,
+    list: &[u8],
+) -> Result<bool, Memory> {
+    refuses_at(rt, alloc, b"rc", list)
 }
 
 #[test]
 fn refuses_other_texts(rt: HostRuntime) -> Result<(), Fail> {
     let alloc = rt.alloc();
-    assert!(rt; refuses(alloc, b"")?);
-    assert!(rt; refuses(alloc, b"1,")?);
-    assert!(rt; refuses(alloc, b",1")?);
-    assert!(rt; refuses(alloc, b"1,,2")?);
-    assert!(rt; refuses(alloc, b"1, 2")?);
-    assert!(rt; refuses(alloc, b"+1")?);
-    assert!(rt; refuses(alloc, b"-1")?);
-    assert!(rt; refuses(alloc, b"1a")?);
-    assert!(rt; refuses(alloc, b"4294967296")?);
+    assert!(rt; refuses(&rt, alloc, b"")?);
+    assert!(rt; refuses(&rt, alloc, b"1,")?);
+    assert!(rt; refuses(&rt, alloc, b",1")?);
+    assert!(rt; refuses(&rt, alloc, b"1,,2")?);
+    assert!(rt; refuses(&rt, alloc, b"1, 2")?);
+    assert!(rt; refuses(&rt, alloc, b"+1")?);
+    assert!(rt; refuses(&rt, alloc, b"-1")?);
+    assert!(rt; refuses(&rt, alloc, b"1a")?);
+    assert!(rt; refuses(&rt, alloc, b"4294967296")?);
     Ok(())
 }

@@ -5,11 +5,14 @@ ghost use Rattle.link_traits.specs.Hosts.{mem_hosted};
 
 use cell_base::{Items, Level, Memory, Text};
 use choice_stream::ListWords;
+use doors::MemNetwork;
 use history_core::InitialState;
 use link_traits::{MemHost, MemLink, MemPlan, MemReturned, MemSink};
 use monkey_server::monkey_main;
 use session_core::serve_link;
 use std::alloc::Global;
+use std::sync::Wait;
+use std::thread::Threads;
 use valid_writes::Store;
 
 fn plan(alloc: Global, piece: u32) -> MemPlan
@@ -46,6 +49,11 @@ fn host(alloc: Global, link: MemLink) -> Result<MemHost, Memory>
     Ok(MemHost::new(alloc, Some(link), nothing, out, fails, opened, made))
 }
 
+// A network that has no doors.
+fn no_network(alloc: Global) -> MemNetwork {
+    MemNetwork::new(alloc, Vec::new(alloc), Vec::new(alloc))
+}
+
 fn text(alloc: Global, bytes: &[u8]) -> Result<Text, Memory> {
     match Text::from_bytes(alloc, bytes) {
         Ok(text) => Ok(text),
@@ -54,7 +62,8 @@ fn text(alloc: Global, bytes: &[u8]) -> Result<Text, Memory> {
 }
 
 // Whether `pipe LEVEL LIST` ends with this status and has sent these bytes, for an input that comes in pieces of this length.
-pub fn answers_at(
+pub fn answers_at<R: Threads + Wait + Eprint + Sync>(
+    rt: &R,
     alloc: Global,
     level: &[u8],
     list: &[u8],
@@ -72,7 +81,8 @@ pub fn answers_at(
         text(alloc, level)?,
         text(alloc, list)?,
     ];
-    let status = monkey_main(alloc, &mut host, words.as_slice());
+    let mut network = no_network(alloc);
+    let status = monkey_main(rt, alloc, &mut host, &mut network, words.as_slice());
     Ok(match host.back() {
         [MemReturned::Link(link)] => status.code == code && link.written() == sent,
         _ => false,
@@ -80,7 +90,8 @@ pub fn answers_at(
 }
 
 // The same for `pipe rc LIST`.
-pub fn answers(
+pub fn answers<R: Threads + Wait + Eprint + Sync>(
+    rt: &R,
     alloc: Global,
     list: &[u8],
     input: &[u8],
@@ -90,11 +101,17 @@ pub fn answers(
 ) -> Result<bool, Memory>
     requires { 0 < piece }
 {
-    answers_at(alloc, b"rc", list, input, piece, code, sent)
+    answers_at(rt, alloc, b"rc", list, input, piece, code, sent)
 }
 
 // Whether `pipe LEVEL LIST` ends with status 2, takes no link, and prints these bytes.
-pub fn prints(alloc: Global, level: &[u8], list: &[u8], line: &[u8]) -> Result<bool, Memory> {
+pub fn prints<R: Threads + Wait + Eprint + Sync>(
+    rt: &R,
+    alloc: Global,
+    level: &[u8],
+    list: &[u8],
+    line: &[u8],
+) -> Result<bool, Memory> {
     let link = link(alloc, b"", 64)?;
     let mut host = host(alloc, link)?;
     let words = [
@@ -102,7 +119,8 @@ pub fn prints(alloc: Global, level: &[u8], list: &[u8], line: &[u8]) -> Result<b
         text(alloc, level)?,
         text(alloc, list)?,
     ];
-    let status = monkey_main(alloc, &mut host, words.as_slice());
+    let mut network = no_network(alloc);
+    let status = monkey_main(rt, alloc, &mut host, &mut network, words.as_slice());
     Ok(match host.output() {
         Some(out) => status.code == 2 && host.back().is_empty() && out.written() == line,
         None => false,

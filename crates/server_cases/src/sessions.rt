@@ -46,16 +46,16 @@ const JUDGED: &[u8] =
 fn serves_sessions(rt: HostRuntime) -> Result<(), Fail> {
     let alloc = rt.alloc();
     for piece in 1..200 {
-        assert!(rt; answers(alloc, b"1,0,2", ROW, piece, 0, MISSED)?);
-        assert!(rt; answers(alloc, b"1,1,2", ROW, piece, 0, FOUND)?);
-        assert!(rt; answers(alloc, b"0", NO_TABLE, piece, 0, ERRORS)?);
+        assert!(rt; answers(&rt, alloc, b"1,0,2", ROW, piece, 0, MISSED)?);
+        assert!(rt; answers(&rt, alloc, b"1,1,2", ROW, piece, 0, FOUND)?);
+        assert!(rt; answers(&rt, alloc, b"0", NO_TABLE, piece, 0, ERRORS)?);
     }
-    assert!(rt; answers(alloc, b"0,0", ROW, 7, 0, MISSED)?);
-    assert!(rt; answers(alloc, b"0,1,7", ROW, 7, 0, FOUND)?);
-    assert!(rt; answers(alloc, b"0", NO_USER, 7, 1, REFUSED)?);
-    assert!(rt; answers(alloc, b"0,1", TWICE, 7, 0, TAKEN)?);
-    assert!(rt; answers(alloc, b"0", READ, 7, 0, UNREAD)?);
-    assert!(rt; answers(alloc, b"0", TYPED, 7, 0, JUDGED)?);
+    assert!(rt; answers(&rt, alloc, b"0,0", ROW, 7, 0, MISSED)?);
+    assert!(rt; answers(&rt, alloc, b"0,1,7", ROW, 7, 0, FOUND)?);
+    assert!(rt; answers(&rt, alloc, b"0", NO_USER, 7, 1, REFUSED)?);
+    assert!(rt; answers(&rt, alloc, b"0,1", TWICE, 7, 0, TAKEN)?);
+    assert!(rt; answers(&rt, alloc, b"0", READ, 7, 0, UNREAD)?);
+    assert!(rt; answers(&rt, alloc, b"0", TYPED, 7, 0, JUDGED)?);
     Ok(())
 }
 

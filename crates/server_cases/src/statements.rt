@@ -3,7 +3,9 @@
 use crate::hosts::{answers, events};
 use cell_base::Memory;
 use std::alloc::Global;
+use std::sync::Wait;
 use std::test::Fail;
+use std::thread::Threads;
 
 // A table, a row, an update of the row, and a read of it.
 const UPDATE: &[u8] =
@@ -40,9 +42,15 @@ const ANSWERS: &[u8] =
 const ONES: &[u8] = b"1,1,1,1,1,1,1,1,1,1,1,1,1,1,1,1,1,1,1,1,1,1,1,1,1,1,1,1,1,1,1";
 
 // Whether `pipe rc LIST` ends well and has sent these bytes, for an input that comes in pieces of several lengths.
-fn serves(alloc: Global, list: &[u8], input: &[u8], sent: &[u8]) -> Result<bool, Memory> {
+fn serves<R: Threads + Wait + Eprint + Sync>(
+    rt: &R,
+    alloc: Global,
+    list: &[u8],
+    input: &[u8],
+    sent: &[u8],
+) -> Result<bool, Memory> {
     for piece in [1, 7, 64] {
-        if !answers(alloc, list, input, piece, 0, sent)? {
+        if !answers(rt, alloc, list, input, piece, 0, sent)? {
             return Ok(false);
         }
     }
@@ -50,39 +58,51 @@ fn serves(alloc: Global, list: &[u8], input: &[u8], sent: &[u8]) -> Result<bool,
 }
 
 // Each session has a function of its own, so that a proof that runs over several holds none of their bytes.
-fn finds_the_old_value(alloc: Global) -> Result<bool, Memory> {
-    Ok(serves(alloc, b"0,1,1,0", UPDATE, OLD)? && events(alloc, &[0, 1, 1, 0], UPDATE)? == 19)
+fn finds_the_old_value<R: Threads + Wait + Eprint + Sync>(
+    rt: &R,
+    alloc: Global,
+) -> Result<bool, Memory> {
+    Ok(serves(rt, alloc, b"0,1,1,0", UPDATE, OLD)? && events(alloc, &[0, 1, 1, 0], UPDATE)? == 19)
 }
 
-fn finds_the_new_value(alloc: Global) -> Result<bool, Memory> {
-    Ok(serves(alloc, b"0,1,1,1", UPDATE, NEW)? && events(alloc, &[0, 1, 1, 1], UPDATE)? == 19)
+fn finds_the_new_value<R: Threads + Wait + Eprint + Sync>(
+    rt: &R,
+    alloc: Global,
+) -> Result<bool, Memory> {
+    Ok(serves(rt, alloc, b"0,1,1,1", UPDATE, NEW)? && events(alloc, &[0, 1, 1, 1], UPDATE)? == 19)
 }
 
-fn calculates(alloc: Global) -> Result<bool, Memory> {
-    Ok(serves(alloc, b"0", ARITHMETIC, RESULTS)? && events(alloc, &[0], ARITHMETIC)? == 2)
+fn calculates<R: Threads + Wait + Eprint + Sync>(rt: &R, alloc: Global) -> Result<bool, Memory> {
+    Ok(serves(rt, alloc, b"0", ARITHMETIC, RESULTS)? && events(alloc, &[0], ARITHMETIC)? == 2)
 }
 
-fn orders_and_totals(alloc: Global) -> Result<bool, Memory> {
-    Ok(serves(alloc, ONES, TOTALS, ROWS)? && events(alloc, &[1; 31], TOTALS)? == 66)
+fn orders_and_totals<R: Threads + Wait + Eprint + Sync>(
+    rt: &R,
+    alloc: Global,
+) -> Result<bool, Memory> {
+    Ok(serves(rt, alloc, ONES, TOTALS, ROWS)? && events(alloc, &[1; 31], TOTALS)? == 66)
 }
 
-fn defines_and_converts(alloc: Global) -> Result<bool, Memory> {
-    Ok(serves(alloc, b"0", DEFINITIONS, ANSWERS)? && events(alloc, &[0], DEFINITIONS)? == 21)
+fn defines_and_converts<R: Threads + Wait + Eprint + Sync>(
+    rt: &R,
+    alloc: Global,
+) -> Result<bool, Memory> {
+    Ok(serves(rt, alloc, b"0", DEFINITIONS, ANSWERS)? && events(alloc, &[0], DEFINITIONS)? == 21)
 }
 
 #[test]
 fn serves_updates(rt: HostRuntime) -> Result<(), Fail> {
     let alloc = rt.alloc();
-    assert!(rt; finds_the_old_value(alloc)?);
-    assert!(rt; finds_the_new_value(alloc)?);
+    assert!(rt; finds_the_old_value(&rt, alloc)?);
+    assert!(rt; finds_the_new_value(&rt, alloc)?);
     Ok(())
 }
 
 #[test]
 fn serves_statements(rt: HostRuntime) -> Result<(), Fail> {
     let alloc = rt.alloc();
-    assert!(rt; calculates(alloc)?);
-    assert!(rt; orders_and_totals(alloc)?);
-    assert!(rt; defines_and_converts(alloc)?);
+    assert!(rt; calculates(&rt, alloc)?);
+    assert!(rt; orders_and_totals(&rt, alloc)?);
+    assert!(rt; defines_and_converts(&rt, alloc)?);
     Ok(())
 }

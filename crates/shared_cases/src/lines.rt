@@ -36,3 +36,37 @@ pub fn are_lines(events: &[Event], want: &[Line]) -> bool {
             .zip(want)
             .all(|(event, wanted)| line(event) == *wanted)
 }
+
+/// The kind of an event of a session that opens, looks, writes in so many transactions and closes, by its place among the session's own.
+fn wanted(place: u32, count: u32) -> u8 {
+    if place == 0 {
+        return b'o';
+    }
+    if place == 1 {
+        return b'l';
+    }
+    let step = place.wrapping_sub(2);
+    if step / 3 >= count {
+        return b'x';
+    }
+    match step % 3 {
+        0 => b'b',
+        1 => b'w',
+        _ => b'c',
+    }
+}
+
+/// Whether the events of the session are those of one that opens, looks, writes in so many transactions and closes, in order.
+pub fn is_whole(events: &[Event], session: u32, count: u32) -> bool {
+    let mut place = 0u32;
+    for event in events {
+        let said = line(event);
+        if said.1 == session {
+            if said.0 != wanted(place, count) {
+                return false;
+            }
+            place = place.wrapping_add(1);
+        }
+    }
+    place == count.wrapping_mul(3).wrapping_add(3)
+}

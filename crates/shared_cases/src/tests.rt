@@ -1,4 +1,4 @@
-// Two books on one history, whose calls take turns in one thread.
+// Two books on one history: in one thread by turns, and in two threads.
 ghost use Rattle.std.specs.Prelude.{◌≡◌, ◌+◌, ◌≤◌, IfOk, OnOk};
 ghost use Rattle.sound_table.specs.Sound.{IsSound};
 ghost use Rattle.history_core.specs.Book.{no_session, IsIdle};
@@ -7,14 +7,15 @@ ghost use Rattle.shared_book.specs.Books.{past_of};
 ghost use Rattle.shared_cases.specs.SessionStates.{IsReady, IsFresh, IsBusy, SamePass};
 
 use crate::calls::{begin, close, commit, define, look, open, read, write};
-use crate::lines::are_lines;
+use crate::lines::{are_lines, is_whole};
 use crate::table::{field, presence, table};
 use cell_base::{Level, Value};
 use history_core::{Book, BookFault, InitialState};
-use shared_book::{Shared, SharedBook};
+use shared_book::{Pass, Shared, SharedBook};
 use sql_tree::Table;
 use std::alloc::Global;
 use std::sync::Wait;
+use std::thread::{Threads, join};
 use valid_writes::Store;
 
 /// Session 1 opens (1), defines the table (2) and looks (3).
@@ -184,5 +185,78 @@ fn two_books_take_turns(rt: HostRuntime) -> Result<(), BookFault> {
         (b'x', 2, 0, 0),
     ];
     assert!(&rt; are_lines(store.history().events(), want.as_slice()));
+    Ok(())
+}
+
+/// A transaction that writes.
+fn write_alone<R: Wait>(book: &mut SharedBook<'_, R>) -> Result<(), BookFault>
+    requires { IsReady (past_of book.old) }
+    ensures ready { OnOk result (IsReady (past_of book.new)) }
+    ensures pass { SamePass book.old.pass book.new.pass }
+{
+    begin(book)?;
+    write(book, presence(), Value::Flag(true))?;
+    commit(book);
+    Ok(())
+}
+
+/// So many of them.
+fn write_many<R: Wait>(book: &mut SharedBook<'_, R>, count: u32) -> Result<(), BookFault>
+    requires { IsReady (past_of book.old) }
+    ensures ready { OnOk result (IsReady (past_of book.new)) }
+    ensures pass { SamePass book.old.pass book.new.pass }
+{
+    for _ in 0..count {
+        write_alone(book)?;
+    }
+    Ok(())
+}
+
+/// A session that opens, looks, writes in so many transactions and closes. The answer has its number.
+fn work<R: Wait>(mut book: SharedBook<'_, R>, count: u32) -> Result<(Pass, u32), BookFault>
+    requires { book.state ≡ no_session }
+    ensures { IfOk result (λ done. SamePass book.entry.pass done.0) }
+{
+    let session = enter(&mut book)?;
+    write_many(&mut book, count)?;
+    close(&mut book);
+    Ok((book.into_pass(), session))
+}
+
+/// Two workers in two threads. The answer is the store and their sessions.
+fn work_in_two<R: Threads + Wait + Sync>(
+    rt: &R,
+    alloc: Global,
+    store: Store,
+    count: u32,
+) -> Result<(Store, u32, u32), BookFault> {
+    let (shared, mut pass) = Shared::new(alloc, store).map_err(|_| BookFault::Memory)?;
+    let other = shared.split(&mut pass);
+    let first = shared.book(rt, pass);
+    let second = shared.book(rt, other);
+    let (one, two) = join(rt, || work(first, count), || work(second, count));
+    let (mut pass, a) = one?;
+    let (other, b) = two?;
+    shared.join(&mut pass, other);
+    Ok((shared.finish(pass), a, b))
+}
+
+/// A store in which session 1 has defined the table.
+fn prepared(alloc: Global) -> Result<Store, BookFault> {
+    let mut book = Store::new(alloc, Level::Rc, InitialState::empty(alloc))?.seat(None);
+    book.open()?;
+    book.define(&table(alloc)?)?;
+    Ok(book.into_store())
+}
+
+#[test]
+fn two_threads_commit_fifty_each(rt: HostRuntime) -> Result<(), BookFault> {
+    let alloc = rt.alloc();
+    let (store, a, b) = work_in_two(&rt, alloc, prepared(alloc)?, 50)?;
+    let events = store.history().events();
+    assert!(&rt; (a == 2 && b == 3) || (a == 3 && b == 2));
+    assert_eq!(&rt; events.len(), 308);
+    assert!(&rt; is_whole(events, 2, 50));
+    assert!(&rt; is_whole(events, 3, 50));
     Ok(())
 }

@@ -4,10 +4,13 @@ ghost use Rattle.link_traits.specs.Host.{objects_out};
 ghost use Rattle.link_traits.specs.Hosts.{mem_hosted};
 
 use cell_base::{Items, Memory, Text};
+use doors::MemNetwork;
 use link_traits::{HostFile, MemHost, MemPlan, MemSink};
 use monkey_server::monkey_main;
 use std::alloc::Global;
+use std::sync::Wait;
 use std::test::Fail;
+use std::thread::Threads;
 
 const USAGE: &[u8] =
     b"usage: monkeydb pipe LEVEL WORDS | serve [OPTIONS] | check PATH | sim LEVEL SEED SESSIONS QUERIES\n";
@@ -55,10 +58,16 @@ fn words_of(alloc: Global, line: &[u8]) -> Result<Vec<Text>, Memory> {
 }
 
 // What a command prints, where it ends with this status.
-fn printed(alloc: Global, line: &[u8], code: u8) -> Result<Option<Vec<u8>>, Memory> {
+fn printed<R: Threads + Wait + Eprint + Sync>(
+    rt: &R,
+    alloc: Global,
+    line: &[u8],
+    code: u8,
+) -> Result<Option<Vec<u8>>, Memory> {
     let mut host = host(alloc)?;
+    let mut network = MemNetwork::new(alloc, Vec::new(alloc), Vec::new(alloc));
     let words = words_of(alloc, line)?;
-    let status = monkey_main(alloc, &mut host, words.as_slice());
+    let status = monkey_main(rt, alloc, &mut host, &mut network, words.as_slice());
     Ok(match host.output() {
         Some(out) if status.code == code => Some(Vec::from_slice(alloc, out.written())?),
         _ => None,
@@ -66,17 +75,28 @@ fn printed(alloc: Global, line: &[u8], code: u8) -> Result<Option<Vec<u8>>, Memo
 }
 
 // Whether a command prints this line, and ends with this status.
-fn prints(alloc: Global, line: &[u8], code: u8, wanted: &[u8]) -> Result<bool, Memory> {
-    Ok(match printed(alloc, line, code)? {
+fn prints<R: Threads + Wait + Eprint + Sync>(
+    rt: &R,
+    alloc: Global,
+    line: &[u8],
+    code: u8,
+    wanted: &[u8],
+) -> Result<bool, Memory> {
+    Ok(match printed(rt, alloc, line, code)? {
         Some(out) => out.as_slice() == wanted,
         None => false,
     })
 }
 
 // Whether a simulation prints a line with this beginning, and the same line again.
-fn repeats(alloc: Global, line: &[u8], beginning: &[u8]) -> Result<bool, Memory> {
-    let first = printed(alloc, line, 0)?;
-    let second = printed(alloc, line, 0)?;
+fn repeats<R: Threads + Wait + Eprint + Sync>(
+    rt: &R,
+    alloc: Global,
+    line: &[u8],
+    beginning: &[u8],
+) -> Result<bool, Memory> {
+    let first = printed(rt, alloc, line, 0)?;
+    let second = printed(rt, alloc, line, 0)?;
     Ok(match (first, second) {
         (Some(first), Some(second)) => {
             first.as_slice() == second.as_slice() && first.as_slice().starts_with(beginning)
@@ -88,22 +108,11 @@ fn repeats(alloc: Global, line: &[u8], beginning: &[u8]) -> Result<bool, Memory>
 #[test]
 fn simulates_again(rt: HostRuntime) -> Result<(), Fail> {
     let alloc = rt.alloc();
+    assert!(rt; repeats(&rt, b"sim cc 7 4 20", b"sim cc 7 sessions 5 transactions ")?);
+    assert!(rt; repeats(&rt, b"sim cc 7 8 100", b"sim cc 7 sessions 9 transactions ")?);
     assert!(rt;
         repeats(
-            alloc,
-            b"sim cc 7 4 20",
-            b"sim cc 7 sessions 5 transactions "
-        )?
-    );
-    assert!(rt;
-        repeats(
-            alloc,
-            b"sim cc 7 8 100",
-            b"sim cc 7 sessions 9 transactions "
-        )?
-    );
-    assert!(rt;
-        repeats(
+            &rt,
             alloc,
             b"sim rc 007 01 1",
             b"sim rc 7 sessions 2 transactions "
@@ -130,8 +139,9 @@ const NO_COMMANDS: &[&str] = &[
 
 #[test]
 fn refuses_what_is_no_command(rt: HostRuntime) -> Result<(), Fail> {
+    let alloc = rt.alloc();
     for line in NO_COMMANDS {
-        assert!(rt; prints(rt.alloc(), line.as_bytes(), 2, USAGE)?);
+        assert!(rt; prints(&rt, alloc, line.as_bytes(), 2, USAGE)?);
     }
     Ok(())
 }
@@ -139,7 +149,7 @@ fn refuses_what_is_no_command(rt: HostRuntime) -> Result<(), Fail> {
 #[test]
 fn checks_a_log(rt: HostRuntime) -> Result<(), Fail> {
     let alloc = rt.alloc();
-    assert!(rt; prints(alloc, b"check log", 0, b"ok\n")?);
-    assert!(rt; prints(alloc, b"check logs", 6, b"")?);
+    assert!(rt; prints(&rt, alloc, b"check log", 0, b"ok\n")?);
+    assert!(rt; prints(&rt, alloc, b"check logs", 6, b"")?);
     Ok(())
 }

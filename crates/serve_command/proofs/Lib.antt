@@ -1,0 +1,10 @@
+pub mod Pairs
+pub mod Ended
+pub mod Leaving
+pub mod Somewhere
+pub mod OwnEvents
+pub mod OneOpening
+pub mod Opens
+pub mod Joined
+pub mod OneHistory
+pub mod Fronts

@@ -1,0 +1,4 @@
+pub mod Parts
+pub mod Line
+pub mod Manning
+pub mod Serving

@@ -1,0 +1,159 @@
+// The command `serve`.
+ghost use Rattle.std.specs.Prelude.{◌≡◌, ◌≤◌, ◌++◌, ℕ, List, [], ◌∷◌, map, Some, IfOk, IfErr};
+ghost use Rattle.cell_base.specs.declared.level.Level.{Level as AtLevel};
+ghost use Rattle.link_traits.specs.declared.host.HostFault.{HostFault as Fault};
+ghost use Rattle.link_traits.specs.Host.{objects_out};
+ghost use Rattle.history_core.specs.Chronicle.{Chronicle};
+ghost use Rattle.turn_lock.specs.Passes.{first_pass};
+ghost use Rattle.turn_lock.specs.Views.{all_parts};
+ghost use Rattle.doors.specs.Network.{open_failed};
+ghost use Rattle.shared_book.specs.Books.{HasSeenLegal};
+ghost use Rattle.shared_book.specs.Entries.{chronicle_of, event_lists};
+ghost use Rattle.serve_command.specs.Parts.{empty_history};
+ghost use Rattle.serve_command.specs.Serving.{status_of, Ran, Ends, Serves};
+
+use crate::line::line_of;
+use crate::manning::{leave, man, rooms};
+use cell_base::{Level, Memory};
+use command_line::{Progress as Verbosity, ServeOptions};
+use door_workers::{Progress, serve_doors};
+use doors::Network;
+use history_core::InitialState;
+use host_calls::Status;
+use link_traits::{Host, HostFault};
+use log_file::log_and_print;
+use shared_book::{Pass, Shared};
+use std::alloc::Global;
+use std::sync::Wait;
+use std::thread::Threads;
+use valid_writes::Store;
+
+// The word of a level.
+fn word_of(level: Level) -> &'static str {
+    match level {
+        Level::Rc => "rc",
+        Level::Ra => "ra",
+        Level::Cc => "cc",
+    }
+}
+
+// Whether lines on standard error tell of each link.
+fn progress_of(options: &ServeOptions) -> Progress {
+    match options.progress {
+        Verbosity::Told => Progress::Told,
+        Verbosity::Quiet => Progress::Silent,
+    }
+}
+
+// Tells where the server listens.
+fn tell_start<R: Eprint>(rt: &R, options: &ServeOptions) {
+    if progress_of(options) == Progress::Told {
+        let (listen, level) = (options.listen.as_str(), word_of(options.level));
+        let (seed, workers) = (options.seed, options.workers);
+        let _ = eprintln!(rt;
+            "listening at {listen}, level {level}, seed {seed}, {workers} connections at once"
+        );
+    }
+}
+
+// Opens the doors, serves the links that come in by them until all workers have ended, and gives the doors back. Answers the workers' fault, if
+// they have one.
+fn run<R: Threads + Wait + Eprint + Sync, N: Network>(
+    rt: &R,
+    alloc: Global,
+    network: &mut N,
+    shared: &Shared,
+    pass: &mut Pass,
+    options: &ServeOptions,
+) -> Result<Option<HostFault>, HostFault>
+    requires workers { options.now.workers ≤ 64 }
+    requires pass { pass.old ≡ first_pass shared.now }
+    requires start { chronicle_of shared.now.start ≡ empty_history options.now.level }
+    ensures ok { IfOk result (λ fault. Ran options.now (N.networked network.old) (event_lists pass.new) fault (N.networked network.new)) }
+    ensures failed { IfErr result (λ fault. fault ≡ HostFault.Failed → N.networked network.new ≡ open_failed options.now.listen options.now.workers (N.networked network.old)) }
+    ensures memory { IfErr result (λ fault. fault ≡ HostFault.Memory → N.networked network.new ≡ N.networked network.old) }
+    ensures lock { IfOk result (λ fault. pass.new.lock ≡ shared.now) }
+    ensures parts { IfOk result (λ fault. pass.new.parts ≡ all_parts) }
+{
+    let mut rooms = rooms(alloc, options.workers, options.accept)?;
+    let mut workers = Vec::with_capacity(alloc, options.workers as usize)?;
+    let mut doors = match network.doors(&options.listen, options.workers) {
+        Ok(doors) => doors,
+        Err(fault) => {
+            workers.destroy_empty();
+            return Err(fault);
+        }
+    };
+    tell_start(rt, options);
+    man(
+        rt,
+        shared,
+        pass,
+        options,
+        &mut doors,
+        &mut rooms,
+        &mut workers,
+    );
+    serve_doors(rt, alloc, options.level, progress_of(options), &mut workers);
+    let fault = leave(shared, pass, &mut workers, &mut doors);
+    workers.destroy_empty();
+    network.doors_back(doors);
+    Ok(fault)
+}
+
+// Writes the log, where one is asked for, and prints the line.
+fn end<H: Host>(alloc: Global, host: &mut H, options: &ServeOptions, store: &Store) -> Status
+    requires none_out { objects_out (H.hosted host.old) ≡ 0 }
+    ensures ends { Ends options.now store.now (H.hosted host.old) result.code (H.hosted host.new) }
+    ensures none_out { objects_out (H.hosted host.new) ≡ 0 }
+{
+    match line_of(alloc, store.history()) {
+        Ok(line) => log_and_print(alloc, host, &options.log, store, &line),
+        Err(Memory) => Status { code: 5 },
+    }
+}
+
+// The status of a server whose workers have this fault, if they have one, and which ended with that status.
+fn status_after(fault: Option<HostFault>, status: Status) -> Status
+    ensures { result.code ≡ status_of fault status.code }
+{
+    match fault {
+        None => status,
+        Some(HostFault::Memory) => Status { code: 5 },
+        Some(HostFault::Failed) => Status { code: 6 },
+    }
+}
+
+/// Serves the links that come in at an address, each as a session over one history, until each worker has accepted as many links as it may or no
+/// more come; then writes the log of the history, where one is asked for, and prints how many sessions, transactions and events there were.
+///
+/// The status is 0 where all was written whole; 4 where a write failed; 5 where memory ran out, at a worker's accept or at the end; and 6 where no
+/// doors were opened, accepting a link failed, or the file of the log couldn't be made. A link that fails, or whose session runs out of memory,
+/// changes no status.
+pub fn serve<R: Threads + Wait + Eprint + Sync, H: Host, N: Network>(
+    rt: &R,
+    alloc: Global,
+    host: &mut H,
+    network: &mut N,
+    options: &ServeOptions,
+) -> Status
+    requires workers { options.now.workers ≤ 64 }
+    requires none_out { objects_out (H.hosted host.old) ≡ 0 }
+    ensures serves { Serves options.now (N.networked network.old) (H.hosted host.old) result.code (N.networked network.new) (H.hosted host.new) }
+    ensures none_out { objects_out (H.hosted host.new) ≡ 0 }
+{
+    let Ok(store) = Store::new(alloc, options.level, InitialState::empty(alloc)) else {
+        return Status { code: 5 };
+    };
+    let Ok((shared, mut pass)) = Shared::new(alloc, store) else {
+        return Status { code: 5 };
+    };
+    let fault = match run(rt, alloc, network, &shared, &mut pass, options) {
+        Ok(fault) => fault,
+        Err(HostFault::Failed) => return Status { code: 6 },
+        Err(HostFault::Memory) => return Status { code: 5 },
+    };
+    let store = shared.finish(pass);
+    let status = end(alloc, host, options, &store);
+    status_after(fault, status)
+}
