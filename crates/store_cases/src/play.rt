@@ -103,7 +103,10 @@ fn go_on(store: Store, session: u32, call: Call) -> Result<Store, Stop> {
         return Err(unlike(&store));
     }
     let mut book = busy_seat(store, session)?;
-    if !has_table(&book) || !act(&mut book, call)? {
+    if !has_table(&book) {
+        return Err(misplaced(&book.into_store()));
+    }
+    if !act(&mut book, call)? {
         return Err(unlike(&book.into_store()));
     }
     Ok(book.into_store())

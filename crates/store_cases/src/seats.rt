@@ -79,5 +79,5 @@ pub fn busy_seat(store: Store, session: u32) -> Result<SeatBook, Stop>
 pub fn has_table(book: &SeatBook) -> bool
     ensures { IsTrue result ↔ HasTable book.now 0 }
 {
-    !book.history().tables().is_empty()
+    0 < book.history().tables().len()
 }

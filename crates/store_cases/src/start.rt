@@ -38,10 +38,15 @@ fn initial(alloc: Global, has_rows: bool) -> Result<InitialState, Stop> {
     if !has_rows {
         return Ok(InitialState::empty(alloc));
     }
-    match InitialState::new(vec![in alloc; table(alloc)?]?.as_slice(), two_rows(alloc)?) {
+    match InitialState::new(tables(alloc)?.as_slice(), two_rows(alloc)?) {
         Some(initial) => Ok(initial),
         None => Err(Stop::Room),
     }
+}
+
+fn tables(alloc: Global) -> Result<Vec<Table>, Stop> {
+    let table = table(alloc)?;
+    Ok(vec![in alloc; table]?)
 }
 
 fn two_rows(alloc: Global) -> Result<Vec<(Cell, Value)>, Stop> {

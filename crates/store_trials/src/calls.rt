@@ -48,7 +48,10 @@ pub fn go_on(store: Store, session: u32, call: Call) -> Result<Store, Stop> {
 /// Makes the call, which is to be refused since the load has no room for it.
 pub fn is_refused(store: Store, session: u32, call: Call) -> Result<Store, Stop> {
     let mut book = busy_seat(store, session)?;
-    if !has_table(&book) || act(&mut book, call) != Err(BookFault::Full(Limit::Load)) {
+    if !has_table(&book) {
+        return Err(misplaced(&book.into_store()));
+    }
+    if act(&mut book, call) != Err(BookFault::Full(Limit::Load)) {
         return Err(misplaced(&book.into_store()));
     }
     Ok(book.into_store())

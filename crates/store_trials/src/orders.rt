@@ -1,6 +1,6 @@
 // The writes that a read may take, found by trying each order of all transactions.
 use crate::cells::Spot;
-use crate::plain::{Given, MOST, Plain, plain_of};
+use crate::plain::{Given, Plain, SIZE, plain_of};
 use crate::stop::Stop;
 use cell_base::Level;
 use history_core::Event;
@@ -15,7 +15,7 @@ pub fn plain_offer(
 ) -> Result<Vec<u32>, Stop> {
     let mut plain = plain_of(alloc, events)?;
     let mut offer = Vec::new(alloc);
-    for source in 0..=MOST {
+    for source in 0..SIZE {
         if plain.is_writer(source, spot)
             && may_read(alloc, &mut plain, events.len(), session, spot, source)?
         {
@@ -57,7 +57,7 @@ fn order_of(alloc: Global, number: u32) -> Result<Vec<u32>, Stop> {
     let mut left = vec![in alloc; 1, 2, 3, 4, 5, 6]?;
     let mut order = vec![in alloc; 0]?;
     let mut rest = number;
-    for count in [6, 5, 4, 3, 2, 1] {
+    for count in (1..SIZE).rev() {
         let place = (rest % count) as usize;
         rest /= count;
         if place < left.len() {
@@ -82,7 +82,7 @@ fn demanded(alloc: Global, plain: &Plain) -> Result<Vec<(u32, u32)>, Stop> {
     let mut pairs = preceding(alloc, plain)?;
     let causal = causal(alloc, plain)?;
     for read in &plain.reads {
-        for writer in 0..=MOST {
+        for writer in 0..SIZE {
             if is_demanded(plain, &causal, *read, writer) {
                 pairs.push((writer, read.source))?;
             }
@@ -94,8 +94,8 @@ fn demanded(alloc: Global, plain: &Plain) -> Result<Vec<(u32, u32)>, Stop> {
 /// The pairs of which the first precedes the second.
 fn preceding(alloc: Global, plain: &Plain) -> Result<Vec<(u32, u32)>, Stop> {
     let mut pairs = Vec::new(alloc);
-    for first in 0..=MOST {
-        for second in 0..=MOST {
+    for first in 0..SIZE {
+        for second in 0..SIZE {
             if plain.precedes(first, second) {
                 pairs.push((first, second))?;
             }

@@ -9,6 +9,9 @@ use std::alloc::Global;
 /// How many transactions may have begun: as many orders as there are of these are tried.
 pub const MOST: u32 = 6;
 
+/// These and the initial one.
+pub const SIZE: u32 = 7;
+
 /// A transaction.
 #[derive(Clone, Copy)]
 pub struct Txn {
@@ -138,7 +141,7 @@ impl Plain {
     /// The last transaction of the session, and 0 where it has begun none.
     fn last_of(&self, session: u32) -> u32 {
         let mut last = 0;
-        for number in 1..=MOST {
+        for number in 1..SIZE {
             if self.is_in(number, session) {
                 last = number;
             }

@@ -136,16 +136,33 @@ fn compare(
     run: &mut Run,
 ) -> Result<(), Stop> {
     run.reads = run.reads.saturating_add(1);
-    let offered = by_pairs(alloc, store, session, spot, run)?;
-    if store.history().begun() <= MOST
-        && plain_offer(alloc, store.history().events(), session, spot)? != offered
-    {
-        return Err(Stop::Unlike(store.history().next_number()));
+    let by_pairs = by_pairs(alloc, store, session, spot, run)?;
+    if offer(store, session, spot)? != by_pairs {
+        return Err(unlike(store));
+    }
+    if store.history().begun() > MOST {
+        return Ok(());
+    }
+    if plain_offer(alloc, store.history().events(), session, spot)? != by_pairs {
+        return Err(unlike(store));
     }
     Ok(())
 }
 
-/// What the store offers, where the forced pairs permit just this.
+/// Something else was offered than was expected.
+fn unlike(store: &Store) -> Stop {
+    Stop::Unlike(store.history().next_number())
+}
+
+/// The writes that the pending transaction of the session may read next.
+fn offer(store: &Store, session: u32, spot: Spot) -> Result<Vec<u32>, Stop> {
+    match store.history().pending(session) {
+        Some(_) => Ok(store.offer(session, &spot.cell())?),
+        None => Err(misplaced(store)),
+    }
+}
+
+/// The same by the forced pairs.
 fn by_pairs(
     alloc: Global,
     store: &Store,
@@ -153,16 +170,12 @@ fn by_pairs(
     spot: Spot,
     run: &mut Run,
 ) -> Result<Vec<u32>, Stop> {
-    let graph = forced(alloc, store.history())?;
-    if store.history().pending(session).is_none() {
-        return Err(misplaced(store));
+    let history = store.history();
+    let graph = forced(alloc, history)?;
+    match history.pending(session) {
+        Some(_) => permitted(alloc, history, &graph, session, &spot.cell(), run),
+        None => Err(misplaced(store)),
     }
-    let cell = spot.cell();
-    let offered = store.offer(session, &cell)?;
-    if permitted(alloc, store.history(), &graph, session, &cell, run)? != offered {
-        return Err(Stop::Unlike(store.history().next_number()));
-    }
-    Ok(offered)
 }
 
 /// The candidates with which the forced pairs have no cycle.
