@@ -115,6 +115,9 @@ writers_commit events sound s k txn old new pending is are rises gains = record 
   );
 }
   where
+    apart : (t : ℕ) (x : Cell) (v : Value) (u : ℕ) → Write t x v ≡ Commit u → ⊥
+    apart t x v u same = cc
+
     -- what has written at a commit had written before
     wrote : (number : ℕ) (cell : Cell) → 0 < number → Writes (events ++ Commit s ∷ []) number cell → HasWritten events number cell
     wrote number cell positive (inl initial) = absurd (omega arith)
@@ -123,9 +126,6 @@ writers_commit events sound s k txn old new pending is are rises gains = record 
           | inl before ↦ record { place = own.1.place; session = own.1.session; value = own.1.value; write = before }
           | inr new ↦ let other : Write own.1.session cell own.1.value ≡ Commit s = sym new.1 in absurd (apart own.1.session cell own.1.value s other)
         ]
-
-    apart : (t : ℕ) (x : Cell) (v : Value) (u : ℕ) → Write t x v ≡ Commit u → ⊥
-    apart t x v u same = cc
 
 -- ---- how many there are
 
@@ -162,7 +162,10 @@ candidates_of events cell writers are = (
     rises zero within = positive 0 (omega arith)
     rises (suc k) within =
         let step : get_or numbers k 0 < get_or numbers (k + 1) 0 = are.ascending cell k (omega arith) in
-        step
+        let low : get_or (0 ∷ numbers) (suc k) 0 ≡ get_or numbers k 0 = refl in
+        let next : suc k + 1 ≡ suc (k + 1) = omega arith in
+        let high : get_or (0 ∷ numbers) (suc k + 1) 0 ≡ get_or numbers (k + 1) 0 = ap (λ (i : ℕ). get_or (0 ∷ numbers) i 0) next in
+        omega arith
 
     in_list : (number : ℕ) → (i : ℕ) × (i < length (0 ∷ numbers)) × (get_or (0 ∷ numbers) i 0 ≡ number) → Writes events number cell
     in_list number (zero, within, is) = inl (sym is)

@@ -8,7 +8,7 @@ returns-then-is_empty c =
     let none : length c.writers_at.result.now ≡ 0 = eqb-true (length c.writers_at.result.now) 0 (sym c.is_empty.ensures ∙ c.if-is_empty.true) in
     let same = ap (λ (ns : List ℕ). length ns) c.writers_at.ensures in (
       λ h. absurd (false≢true h),
-      λ has. let some = no_later c.args.before.now c.args.cell.now c.args.notes.now.writers c.requires.writers has in absurd (omega arith),
+      λ has. let some = no_later c.args.before.now c.args.cell.now c.args.notes.now.writers c.requires.notes.writers has in absurd (omega arith),
     )
 
 pub returns : goal.returns
@@ -16,7 +16,7 @@ returns c =
     let same = ap (λ (ns : List ℕ). length ns) c.writers_at.ensures in (
       λ h. elim (cases_eq (length c.writers_at.result.now) 0) [
         | inl none ↦ absurd (false≢true (sym c.if-is_empty.false ∙ c.is_empty.ensures ∙ eq-eqb (length c.writers_at.result.now) 0 none))
-        | inr some ↦ later_writer c.args.before.now c.args.cell.now c.args.notes.now.writers c.requires.writers (omega arith)
+        | inr some ↦ later_writer c.args.before.now c.args.cell.now c.args.notes.now.writers c.requires.notes.writers (omega arith)
       ],
       λ has. refl,
     )

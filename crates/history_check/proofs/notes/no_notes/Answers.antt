@@ -1,3 +1,4 @@
+use Rattle.std.proofs.Common.{rules}
 use Rattle.history_check.proofs.Committed.{writers_none}
 use Rattle.history_check.proofs.notes.no_notes.Goals as goal
 
