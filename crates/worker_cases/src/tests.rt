@@ -1,89 +1,91 @@
 // Two workers, each in a thread.
 use crate::bytes::{FOUND, MISSED, NO_USER, READ, READ_FOUND, REFUSED, ROW};
-use crate::working::{MemWorker, events, run_two, were_sent, worker};
-use doors::Door;
+use crate::working::{Case, run_two};
+use cell_base::SqlState;
 use link_traits::HostFault;
 use session_core::{End, Served};
 use std::test::Fail;
 
-// What became of a session that had memory.
-fn served(session: Option<u32>, end: End) -> Served {
-    Served {
-        session,
-        end,
-        short: false,
-    }
-}
+const ENDED: Served = Served {
+    session: Some(1),
+    end: End::Terminated,
+    short: false,
+};
 
-// Whether the first session found its row, and the second one found it, too; whether two more links were refused and ended, and then none came.
-fn served_all(worker: &MemWorker) -> bool {
-    let outcomes = [
-        served(Some(1), End::Terminated),
-        served(Some(2), End::Closed),
-    ];
-    worker.served.as_slice() == outcomes.as_slice()
-        && were_sent(worker, &[FOUND, READ_FOUND])
-        && events(worker) == 21
-        && worker.fault.is_none()
-}
+const CLOSED: Served = Served {
+    session: Some(2),
+    end: End::Closed,
+    short: false,
+};
 
-// Whether one session missed its row, and the next link wasn't accepted.
-fn served_one(worker: &MemWorker) -> bool {
-    let outcomes = [served(Some(1), End::Terminated)];
-    worker.served.as_slice() == outcomes.as_slice()
-        && were_sent(worker, &[MISSED])
-        && events(worker) == 13
-        && worker.fault.is_none()
-}
+const UNNAMED: Served = Served {
+    session: None,
+    end: End::Refused(SqlState::S28000),
+    short: false,
+};
 
-// Whether the next link of the worker's door has this input, of which nothing was read.
-fn is_next(worker: &mut MemWorker, input: &[u8]) -> bool {
-    match worker.door.accept() {
-        Ok(Some(link)) => link.left() == input && link.written().is_empty(),
-        _ => false,
-    }
-}
+// The second link finds the row of the first, and then none comes.
+const SERVES_ALL: Case = Case {
+    inputs: &[ROW, READ],
+    fails: &[],
+    words: &[1, 1, 2, 1, 2],
+    accept: 3,
+    served: &[ENDED, CLOSED],
+    sent: &[FOUND, READ_FOUND],
+    events: 21,
+    fault: None,
+    next: None,
+};
+
+// The second link isn't accepted.
+const SERVES_ONE: Case = Case {
+    inputs: &[ROW, READ],
+    fails: &[],
+    words: &[1, 0, 2],
+    accept: 1,
+    served: &[ENDED],
+    sent: &[MISSED],
+    events: 13,
+    fault: None,
+    next: Some(READ),
+};
+
+// A start is refused, and then accepting fails.
+const FAILS_LATER: Case = Case {
+    inputs: &[NO_USER, ROW],
+    fails: &[2],
+    words: &[],
+    accept: 9,
+    served: &[UNNAMED],
+    sent: &[REFUSED],
+    events: 0,
+    fault: Some(HostFault::Failed),
+    next: Some(ROW),
+};
+
+// Accepting fails at once.
+const FAILS_AT_ONCE: Case = Case {
+    inputs: &[ROW],
+    fails: &[1],
+    words: &[],
+    accept: 9,
+    served: &[],
+    sent: &[],
+    events: 0,
+    fault: Some(HostFault::Failed),
+    next: Some(ROW),
+};
 
 #[test]
 fn two_workers_serve_their_links(rt: HostRuntime) -> Result<(), Fail> {
-    let alloc = rt.alloc();
-    let first = worker(alloc, &[ROW, READ], &[], &[1, 1, 2, 1, 2], 3)?;
-    let second = worker(alloc, &[ROW, READ], &[], &[1, 0, 2], 1)?;
-    let (first, mut second) = run_two(&rt, alloc, first, second);
-    assert!(rt; served_all(&first));
-    assert!(rt; served_one(&second));
-    assert!(rt; is_next(&mut second, READ));
+    let did = run_two(&rt, rt.alloc(), &SERVES_ALL, &SERVES_ONE)?;
+    assert_eq!(rt; did, (true, true));
     Ok(())
-}
-
-// Whether a refused start was served, and accepting failed then.
-fn failed_second(worker: &MemWorker) -> bool {
-    match worker.served.as_slice() {
-        [one] => {
-            one.session.is_none()
-                && were_sent(worker, &[REFUSED])
-                && events(worker) == 0
-                && worker.fault == Some(HostFault::Failed)
-        }
-        _ => false,
-    }
-}
-
-// Whether nothing was served, since accepting failed at once.
-fn failed_first(worker: &MemWorker) -> bool {
-    worker.served.is_empty()
-        && were_sent(worker, &[])
-        && worker.fault == Some(HostFault::Failed)
 }
 
 #[test]
 fn a_fault_of_accepting_is_kept(rt: HostRuntime) -> Result<(), Fail> {
-    let alloc = rt.alloc();
-    let first = worker(alloc, &[NO_USER, ROW], &[2], &[], 9)?;
-    let second = worker(alloc, &[ROW], &[1], &[], 9)?;
-    let (mut first, second) = run_two(&rt, alloc, first, second);
-    assert!(rt; failed_second(&first));
-    assert!(rt; failed_first(&second));
-    assert!(rt; is_next(&mut first, ROW));
+    let did = run_two(&rt, rt.alloc(), &FAILS_LATER, &FAILS_AT_ONCE)?;
+    assert_eq!(rt; did, (true, true));
     Ok(())
 }
