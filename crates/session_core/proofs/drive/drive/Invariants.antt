@@ -8,8 +8,8 @@ use Rattle.session_core.specs.Serve.{Scene, scene_of}
 use Rattle.session_core.specs.Running.{Ran, Sits}
 use Rattle.session_core.proofs.drive.drive.Given as goal
 
-abbrev pub invariant-loop-session : goal.invariant-loop-session
-invariant-loop-session g l = record {
+abbrev pub invariant-loop : goal.invariant-loop
+invariant-loop g l = record {
   ran : (level : Level) (before : Scene _) (many : ℕ) →
       Ran g.W.Words.gives level before l.initial.session (scene_of (g.B.Book.past l.initial.book) l.initial.words
       (sight_of g.L.Sides.traffic g.L.Sides.read_faults g.L.Sides.write_faults l.initial.link)) many →
@@ -21,5 +21,5 @@ invariant-loop-session g l = record {
   stays : g.B.Book.stays l.initial.book l.book;
 }
 
-abbrev pub decreases-loop-session : goal.decreases-loop-session
-decreases-loop-session g l = work_of l.session
+abbrev pub decreases-loop : goal.decreases-loop
+decreases-loop g l = work_of l.session

@@ -8,8 +8,8 @@ use Rattle.session_core.specs.Serve.{Scene, scene_of}
 use Rattle.session_core.specs.Running.{Ran, Sits}
 use Rattle.session_core.proofs.drive.run_on.Given as goal
 
-abbrev pub invariant-loop-session : goal.invariant-loop-session
-invariant-loop-session g l = record {
+abbrev pub invariant-loop : goal.invariant-loop
+invariant-loop g l = record {
   ran : (level : Level) (before : Scene _) (seen : Sight) (many : ℕ) →
       Ran g.W.Words.gives level before l.initial.session (scene_of (g.B.Book.past l.initial.book) l.initial.words seen) many →
       Ran g.W.Words.gives level before l.session (scene_of (g.B.Book.past l.book) l.words seen) many;
@@ -22,5 +22,5 @@ invariant-loop-session g l = record {
   stays : g.B.Book.stays l.initial.book l.book;
 }
 
-abbrev pub decreases-loop-session : goal.decreases-loop-session
-decreases-loop-session g l = left_at l.session.stage l.session.runner
+abbrev pub decreases-loop : goal.decreases-loop
+decreases-loop g l = left_at l.session.stage l.session.runner

@@ -3,8 +3,8 @@ use Rattle.session_hall.proofs.Going.{around_gone, goes_alone, goes_then, legal_
 use Rattle.session_hall.proofs.Turning.{alone_same}
 use Rattle.session_hall.proofs.asking.leave.Goals as goal
 
-pub loop-store-init : goal.loop-store-init
-loop-store-init c = record {
+pub loop-init : goal.loop-init
+loop-init c = record {
   attending = c.requires.attending;
   unsent = c.requires.unsent;
   goes = λ history is. (
@@ -15,22 +15,22 @@ loop-store-init c = record {
   end = refl;
 }
 
-pub loop-store-preserved : goal.loop-store-preserved
-loop-store-preserved c =
-    let (here, is, legal, attending) = c.loop-store.invariant.attending in
+pub loop-preserved : goal.loop-preserved
+loop-preserved c =
+    let (here, is, legal, attending) = c.loop.invariant.attending in
     let (many, went) = c.ask_next.ensures.goes here is in
     record {
-      attending = around_gone c.loop-store.store c.loop-store.seat here many c.ask_next.new.store c.ask_next.new.seat attending went;
+      attending = around_gone c.loop.store c.loop.seat here many c.ask_next.new.store c.ask_next.new.seat attending went;
       unsent = c.ask_next.ensures.unsent;
       goes = λ history at_first.
-          let (before, first) = c.loop-store.invariant.goes history at_first in
+          let (before, first) = c.loop.invariant.goes history at_first in
           let (next, second) = c.ask_next.ensures.goes first.now first.store in
-          (before + next, goes_then history c.args.seat.now c.loop-store.seat c.ask_next.new.seat before next c.loop-store.store c.ask_next.new.store first second);
-      end = c.ask_next.ensures.end ∙ c.loop-store.invariant.end;
+          (before + next, goes_then history c.args.seat.now c.loop.seat c.ask_next.new.seat before next c.loop.store c.ask_next.new.store first second);
+      end = c.ask_next.ensures.end ∙ c.loop.invariant.end;
     }
 
 pub returns-clause-goes : goal.returns-clause-goes
 returns-clause-goes c = λ history at_first.
-    let (before, first) = c.loop-store.invariant.goes history at_first in
+    let (before, first) = c.loop.invariant.goes history at_first in
     let (next, second) = c.ask_next.ensures.goes first.now first.store in
-    (before + next, goes_then history c.args.seat.now c.loop-store.seat c.ask_next.new.seat before next c.loop-store.store c.ask_next.new.store first second)
+    (before + next, goes_then history c.args.seat.now c.loop.seat c.ask_next.new.seat before next c.loop.store c.ask_next.new.store first second)
