@@ -15,7 +15,7 @@ pub record Networked : Type 0 where
   pub calls : List DoorsCall
   -- the doors of each call that came back, in order, each as it came back
   pub back : List (List Passage)
-  -- the number of doors that are out
+  -- the number of calls whose doors are out
   pub lent : ℕ
   -- how often opening failed
   pub faults : ℕ
@@ -26,7 +26,7 @@ pub record Networked : Type 0 where
 abbrev pub doors_opened : List ℕ → List Passage → Option (List Passage) → Networked → Networked
 doors_opened address doors next network = record network {
   calls = network.calls ++ record { address = address; number = length doors; doors = Some doors } ∷ [];
-  lent = network.lent + length doors;
+  lent = network.lent + 1;
   to_open = next;
 }
 
@@ -37,9 +37,9 @@ open_failed address number network = record network {
   faults = counted network.faults;
 }
 
--- these doors came back
+-- the doors of a call came back
 abbrev pub doors_returned : List Passage → Networked → Networked
 doors_returned doors network = record network {
   back = network.back ++ doors ∷ [];
-  lent = network.lent - length doors;
+  lent = network.lent - 1;
 }

@@ -1,5 +1,5 @@
 // What doors are opened at.
-ghost use Rattle.std.specs.Prelude.{◌≡◌, ◌≤◌, ℕ, Some, length, map, take, All, IfOk, IfSome, IsErrOf};
+ghost use Rattle.std.specs.Prelude.{◌≡◌, ◌<◌, ℕ, Some, length, map, take, All, IfOk, IfSome, IsErrOf};
 ghost use Rattle.doors.specs.Passage.{IsUnused};
 ghost use Rattle.doors.specs.Network.{Networked, doors_opened, open_failed, doors_returned};
 
@@ -27,6 +27,6 @@ pub trait Network {
 
     /// Takes the doors of a call back. Takes no memory.
     fn doors_back(&mut self, doors: Vec<Self::Door>)
-        requires { length doors.items ≤ (networked self.old).lent }
+        requires { 0 < (networked self.old).lent }
         ensures { networked self.new ≡ doors_returned (map Self.Door.passage doors.items) (networked self.old) };
 }
