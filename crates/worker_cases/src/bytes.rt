@@ -13,8 +13,7 @@ pub const FOUND: &[u8] =
     b"R\0\0\0\x08\0\0\0\0S\0\0\0\x18server_version\014.0\0S\0\0\0\x19server_encoding\0UTF8\0S\0\0\0\x19client_encoding\0UTF8\0S\0\0\0\x17DateStyle\0ISO, MDY\0S\0\0\0\x19integer_datetimes\0on\0S\0\0\0#standard_conforming_strings\0on\0K\0\0\0\x0c\0\0\0\x01\0\0\0\0Z\0\0\0\x05IC\0\0\0\x11CREATE TABLE\0Z\0\0\0\x05IC\0\0\0\x0fINSERT 0 1\0Z\0\0\0\x05IT\0\0\0\x1a\0\x01v\0\0\0\0\0\0\0\0\0\0\x14\0\x08\xff\xff\xff\xff\0\0D\0\0\0\x0c\0\x01\0\0\0\x0210C\0\0\0\x0dSELECT 1\0Z\0\0\0\x05I";
 
 /// A startup, a read of the row, and the input's end.
-pub const READ: &[u8] =
-    b"\0\0\0\x10\0\x03\0\0user\0a\0\0Q\0\0\0 SELECT v FROM t WHERE k = 1\0";
+pub const READ: &[u8] = b"\0\0\0\x10\0\x03\0\0user\0a\0\0Q\0\0\0 SELECT v FROM t WHERE k = 1\0";
 
 /// What session 2 is sent where its read finds the row.
 pub const READ_FOUND: &[u8] =
