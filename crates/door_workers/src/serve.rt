@@ -43,13 +43,7 @@ fn serve_visit<B: Book, D: Door, W: Words>(
     ensures accept { worker.new.accept ≡ worker.old.accept }
     ensures fault { worker.new.fault ≡ worker.old.fault }
 {
-    let served = serve_link(
-        alloc,
-        level,
-        &mut worker.book,
-        &mut link,
-        &mut worker.words,
-    );
+    let served = serve_link(alloc, level, &mut worker.book, &mut link, &mut worker.words);
     worker.door.done(link);
     worker.served.push_reserved(served);
     served
