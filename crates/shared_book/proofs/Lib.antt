@@ -4,3 +4,4 @@ pub mod Found
 pub mod Ending
 pub mod Making
 pub mod Seating
+pub mod Sending
