@@ -108,8 +108,22 @@ fn repeats<R: Threads + Wait + Eprint + Sync>(
 #[test]
 fn simulates_again(rt: HostRuntime) -> Result<(), Fail> {
     let alloc = rt.alloc();
-    assert!(rt; repeats(&rt, b"sim cc 7 4 20", b"sim cc 7 sessions 5 transactions ")?);
-    assert!(rt; repeats(&rt, b"sim cc 7 8 100", b"sim cc 7 sessions 9 transactions ")?);
+    assert!(rt;
+        repeats(
+            &rt,
+            alloc,
+            b"sim cc 7 4 20",
+            b"sim cc 7 sessions 5 transactions "
+        )?
+    );
+    assert!(rt;
+        repeats(
+            &rt,
+            alloc,
+            b"sim cc 7 8 100",
+            b"sim cc 7 sessions 9 transactions "
+        )?
+    );
     assert!(rt;
         repeats(
             &rt,
