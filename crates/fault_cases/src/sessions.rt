@@ -1,0 +1,103 @@
+// A client that begins a block, served over a link that may fail, and what came of it.
+ghost use Rattle.std.specs.Prelude.{◌≡◌, ◌<◌, IfOk};
+ghost use Rattle.history_core.specs.Book.{no_session};
+
+use cell_base::{Items, Level, Memory};
+use choice_stream::ListWords;
+use history_core::{Event, InitialState};
+use link_traits::{MemLink, MemPlan};
+use session_core::{End, Served, serve_link};
+use std::alloc::Global;
+use std::test::Fail;
+use valid_writes::{SeatBook, Store};
+
+/// A startup of the user `a`, of 16 bytes, and the query `BEGIN`, of 11 bytes. The startup is answered by 191 bytes, the query by its tag,
+/// of 11 bytes, and by ReadyForQuery, of 6.
+pub const CLIENT: &[u8] = b"\0\0\0\x10\0\x03\0\0user\0a\0\0Q\0\0\0\x0aBEGIN\0";
+
+/// What became of a session and of its history.
+#[derive(Clone, Copy, Debug, PartialEq, Eq)]
+pub struct Ended {
+    pub end: End,
+    /// The number of the session that was opened.
+    pub session: Option<u32>,
+    pub events: Events,
+    /// How many bytes were sent.
+    pub sent: usize,
+}
+
+/// Which events a history has.
+#[derive(Clone, Copy, Debug, PartialEq, Eq)]
+pub enum Events {
+    None,
+    /// Open and Close.
+    Idle,
+    /// Open, Begin, Rollback, Close.
+    RolledBack,
+    Other,
+}
+
+// A side whose calls move at most so many bytes. The calls of these numbers, from 1 on, fail.
+fn plan(alloc: Global, fails: &[u64]) -> Result<MemPlan, Memory>
+    ensures { IfOk result (λ plan. plan.piece ≡ 10000) }
+{
+    Ok(MemPlan {
+        piece: 10_000,
+        fails: Items::from_slice(alloc, fails)?,
+        bytes: 10_000,
+        reads: 100,
+    })
+}
+
+/// A link whose first read gives this whole input and whose writes take all that they are given, but for the calls that fail.
+pub fn link(alloc: Global, input: &[u8], reads: &[u64], writes: &[u64]) -> Result<MemLink, Memory> {
+    MemLink::new(
+        alloc,
+        Vec::from_slice(alloc, input)?,
+        plan(alloc, reads)?,
+        plan(alloc, writes)?,
+    )
+}
+
+/// The book of a new history without a row.
+pub fn new_book(alloc: Global) -> Result<SeatBook, Memory>
+    ensures { IfOk result (λ book. book.state ≡ no_session) }
+{
+    Ok(Store::new(alloc, Level::Rc, InitialState::empty(alloc))?.seat(None))
+}
+
+// Which events these are.
+fn events_of(events: &[Event]) -> Events {
+    match events {
+        [] => Events::None,
+        [Event::Open { session: 1 }, Event::Close { session: 1 }] => Events::Idle,
+        [
+            Event::Open { session: 1 },
+            Event::Begin {
+                session: 1,
+                level: Level::Rc,
+            },
+            Event::Rollback { session: 1 },
+            Event::Close { session: 1 },
+        ] => Events::RolledBack,
+        _ => Events::Other,
+    }
+}
+
+/// Serves the client of this input over a new history.
+pub fn ended(alloc: Global, input: &[u8], reads: &[u64], writes: &[u64]) -> Result<Ended, Fail> {
+    let mut link = link(alloc, input, reads, writes)?;
+    let mut book = new_book(alloc)?;
+    let mut words = ListWords::new(Items::new(alloc));
+    let Served {
+        session,
+        end,
+        short: _,
+    } = serve_link(alloc, Level::Rc, &mut book, &mut link, &mut words);
+    Ok(Ended {
+        end,
+        session,
+        events: events_of(book.history().events()),
+        sent: link.written().len(),
+    })
+}
