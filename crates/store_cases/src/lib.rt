@@ -1,0 +1,21 @@
+//! Tests of stores: worked histories of one session and of several over the books of a store, with each offer, word, source and value found by
+//! hand.
+//!
+//! No clause says that memory is left, and a definition could say something else than its reader thinks. The crate has nothing but
+//! tests, so that `valid_writes` is proved once.
+#![tactic(auto)]
+
+#[cfg(test)]
+mod cells;
+#[cfg(test)]
+mod courses;
+#[cfg(test)]
+mod play;
+#[cfg(test)]
+mod seats;
+#[cfg(test)]
+mod start;
+#[cfg(test)]
+mod stop;
+#[cfg(test)]
+mod worked;

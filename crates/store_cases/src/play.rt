@@ -1,0 +1,216 @@
+// Calls of several sessions in order, each with what it is offered and what it tells.
+ghost use Rattle.history_core.specs.Book.{IsInTransaction, HasTable};
+
+use crate::cells::{Spot, are_integers};
+use crate::seats::{busy_seat, has_table, idle_seat, misplaced};
+use crate::start::stage;
+use crate::stop::Stop;
+use cell_base::Level;
+use history_core::{Book, BookFault, Event};
+use std::alloc::Global;
+use valid_writes::{SeatBook, Store};
+
+/// A call, with what is expected of it. A number that a cell has is read as `Spot::value` says.
+#[derive(Clone, Copy)]
+pub enum Call {
+    /// Starts a transaction at the served level.
+    Begin,
+    /// Starts a transaction at the level.
+    At(Level),
+    /// A scan of the table, which lists these keys.
+    Scan(&'static [i64]),
+    /// A read of the cell, which is offered these writes, by the word, and gives the number.
+    Read(Spot, &'static [u32], u32, i64),
+    /// A read of what the transaction has written to the cell, which gives the number.
+    Own(Spot, i64),
+    /// A write of the number.
+    Write(Spot, i64),
+    /// A commit.
+    Commit,
+    /// A rollback.
+    RollBack,
+}
+
+/// Calls in order, each in its session.
+pub type Calls = &'static [(u32, Call)];
+
+/// A course of calls over a new store, in which five sessions are open.
+#[derive(Clone, Copy)]
+pub struct Course {
+    /// The levels at which it goes so.
+    pub levels: &'static [Level],
+    /// Whether the rows 1 with 10 and 2 with 20 are there from the start.
+    pub has_rows: bool,
+    /// What goes before.
+    pub before: Calls,
+    /// What it is about.
+    pub calls: Calls,
+}
+
+/// Plays the courses; the first call that isn't answered as its course says ends it.
+pub fn hold(alloc: Global, courses: &[Course]) -> Result<(), Stop> {
+    for course in courses {
+        hold_one(alloc, course)?;
+    }
+    Ok(())
+}
+
+/// Plays the course at each of its levels.
+fn hold_one(alloc: Global, course: &Course) -> Result<(), Stop> {
+    for level in course.levels {
+        play(alloc, *level, course)?;
+    }
+    Ok(())
+}
+
+/// The store after the course.
+pub fn play(alloc: Global, level: Level, course: &Course) -> Result<Store, Stop> {
+    let store = stage(alloc, level, course.has_rows)?;
+    let store = play_all(store, course.before)?;
+    play_all(store, course.calls)
+}
+
+/// Makes the calls.
+fn play_all(store: Store, calls: Calls) -> Result<Store, Stop> {
+    let mut store = store;
+    for (session, call) in calls {
+        store = play_one(store, *session, *call)?;
+    }
+    Ok(store)
+}
+
+/// Makes one call.
+fn play_one(store: Store, session: u32, call: Call) -> Result<Store, Stop> {
+    match call {
+        Call::Begin => {
+            let level = store.history().level();
+            begin(store, session, level)
+        }
+        Call::At(level) => begin(store, session, level),
+        _ => go_on(store, session, call),
+    }
+}
+
+fn begin(store: Store, session: u32, level: Level) -> Result<Store, Stop> {
+    let mut book = idle_seat(store, session)?;
+    book.begin(level)?;
+    Ok(book.into_store())
+}
+
+/// Makes a call in the pending transaction.
+fn go_on(store: Store, session: u32, call: Call) -> Result<Store, Stop> {
+    if !is_offered(&store, session, call)? {
+        return Err(unlike(&store));
+    }
+    let mut book = busy_seat(store, session)?;
+    if !has_table(&book) {
+        return Err(misplaced(&book.into_store()));
+    }
+    if !act(&mut book, call)? {
+        return Err(unlike(&book.into_store()));
+    }
+    Ok(book.into_store())
+}
+
+/// Something else came than was expected.
+fn unlike(store: &Store) -> Stop {
+    Stop::Unlike(store.history().next_number())
+}
+
+/// Whether a read is offered what it says; other calls are offered nothing.
+fn is_offered(store: &Store, session: u32, call: Call) -> Result<bool, Stop> {
+    match call {
+        Call::Read(spot, want, _, _) => offers(store, session, spot, want),
+        _ => Ok(true),
+    }
+}
+
+/// Whether the pending transaction of the session may read just these writes next.
+fn offers(store: &Store, session: u32, spot: Spot, want: &[u32]) -> Result<bool, Stop> {
+    match store.history().pending(session) {
+        Some(_) => Ok(store.offer(session, &spot.cell())?.as_slice() == want),
+        None => Err(misplaced(store)),
+    }
+}
+
+/// Makes the call, and tells whether it gave what it is to give.
+fn act(book: &mut SeatBook, call: Call) -> Result<bool, BookFault>
+    requires pending { IsInTransaction book.old.state }
+    requires table { HasTable book.old 0 }
+{
+    match call {
+        Call::Scan(want) => Ok(are_integers(book.scan(0)?.as_slice(), want)),
+        Call::Read(spot, offered, word, number) => read(book, spot, offered, word, number),
+        Call::Own(spot, number) => own(book, spot, number),
+        Call::Write(spot, number) => {
+            book.write(spot.cell(), spot.written(number))?;
+            Ok(true)
+        }
+        Call::Commit => {
+            book.commit();
+            Ok(true)
+        }
+        Call::RollBack => {
+            book.rollback();
+            Ok(true)
+        }
+        Call::Begin => Ok(false),
+        Call::At(_) => Ok(false),
+    }
+}
+
+/// Reads the cell by the word. No where the transaction has written it, or something else is told.
+fn read(
+    book: &mut SeatBook,
+    spot: Spot,
+    offered: &[u32],
+    word: u32,
+    number: i64,
+) -> Result<bool, BookFault>
+    requires pending { IsInTransaction book.old.state }
+    requires table { HasTable book.old 0 }
+{
+    let cell = spot.cell();
+    if book.wrote(&cell) {
+        return Ok(false);
+    }
+    let value = book.read(&cell, word)?;
+    Ok(value.is_same(&spot.value(number)) && is_told(book, offered, word))
+}
+
+/// Reads what the transaction has written to the cell. No where it hasn't, or another value is told.
+fn own(book: &mut SeatBook, spot: Spot, number: i64) -> Result<bool, BookFault>
+    requires { IsInTransaction book.old.state }
+{
+    let cell = spot.cell();
+    if !book.wrote(&cell) {
+        return Ok(false);
+    }
+    let value = book.own(&cell)?;
+    Ok(value.is_same(&spot.value(number)))
+}
+
+/// Whether the last event is a read that takes the one of the offered writes that the word picks.
+fn is_told(book: &SeatBook, offered: &[u32], by: u32) -> bool {
+    match book.history().events().last() {
+        Some(
+            Event::Read {
+                source,
+                count,
+                word,
+                ..
+            },
+        ) => {
+            *count as usize == offered.len() && *word == by && picked(offered, by) == Some(*source)
+        }
+        _ => false,
+    }
+}
+
+/// The write that the word picks.
+fn picked(offered: &[u32], word: u32) -> Option<u32> {
+    if offered.is_empty() {
+        return None;
+    }
+    offered.get(word as usize % offered.len()).copied()
+}

@@ -1,0 +1,112 @@
+// The courses, each by what it shows.
+use crate::courses::{
+    A_PART, AFTER_A_SCAN, CAUSE_SEEN, CAUSE_UNSEEN, COMMITTED_AND_OWN, FIRST_ROW_UPDATED,
+    FIRST_ROWS, FIRST_ROWS_LISTED, FREE, INTEGERS, LAST_WRITE, LONE_SESSION, LOST_UPDATE, MISSED,
+    NEVER_BACK, NEW_VALUE, NEW_VALUE_ALONE, NEWER_LATER, NO_PART, NO_ROLLED_BACK_ROW, NULLS,
+    OLD_VALUE, ONE_ORDER, OWN_LEVEL, OWN_ROW, PRESENCES, ROLLED_BACK_FREE, ROLLED_BACK_READ,
+    SCAN_KEPT, SCAN_OVERTAKEN, SECOND_SESSION, SEEN, TAKEN, THIRD_WRITER,
+};
+use crate::play::{hold, play};
+use crate::stop::Stop;
+use cell_base::Level;
+use saturation::forced;
+use std::alloc::Global;
+use std::test::Fail;
+use valid_writes::Store;
+
+#[test]
+fn a_session_misses_or_sees_its_own_row(rt: HostRuntime) -> Result<(), Stop> {
+    hold(rt.alloc(), &[MISSED, SEEN])
+}
+
+#[test]
+fn an_old_value_is_read_at_read_committed_alone(rt: HostRuntime) -> Result<(), Stop> {
+    hold(rt.alloc(), &[OLD_VALUE, NEW_VALUE, NEW_VALUE_ALONE])
+}
+
+#[test]
+fn a_transaction_reads_its_own_writes(rt: HostRuntime) -> Result<(), Stop> {
+    hold(rt.alloc(), &[OWN_ROW, LAST_WRITE])
+}
+
+#[test]
+fn a_key_is_found_taken_or_free(rt: HostRuntime) -> Result<(), Stop> {
+    hold(rt.alloc(), &[TAKEN, FREE])
+}
+
+#[test]
+fn an_update_is_lost(rt: HostRuntime) -> Result<(), Stop> {
+    hold(rt.alloc(), &[LOST_UPDATE])
+}
+
+#[test]
+fn a_read_is_fractured_at_read_committed_alone(rt: HostRuntime) -> Result<(), Stop> {
+    hold(rt.alloc(), &[NO_PART, A_PART])
+}
+
+#[test]
+fn a_transaction_goes_forward_alone(rt: HostRuntime) -> Result<(), Stop> {
+    hold(rt.alloc(), &[NEVER_BACK, NEWER_LATER, THIRD_WRITER])
+}
+
+#[test]
+fn a_cause_is_seen_by_the_level_of_the_reader(rt: HostRuntime) -> Result<(), Stop> {
+    hold(rt.alloc(), &[CAUSE_UNSEEN, CAUSE_SEEN, OWN_LEVEL])
+}
+
+#[test]
+fn a_scan_counts_as_reads(rt: HostRuntime) -> Result<(), Stop> {
+    hold(rt.alloc(), &[SCAN_KEPT, SCAN_OVERTAKEN, AFTER_A_SCAN])
+}
+
+#[test]
+fn what_was_rolled_back_is_no_write_but_a_read(rt: HostRuntime) -> Result<(), Stop> {
+    hold(
+        rt.alloc(),
+        &[ROLLED_BACK_READ, ROLLED_BACK_FREE, NO_ROLLED_BACK_ROW],
+    )
+}
+
+#[test]
+fn a_scan_lists_rows_in_order(rt: HostRuntime) -> Result<(), Stop> {
+    hold(rt.alloc(), &[COMMITTED_AND_OWN, PRESENCES, INTEGERS, NULLS])
+}
+
+#[test]
+fn rows_are_there_from_the_start(rt: HostRuntime) -> Result<(), Stop> {
+    hold(
+        rt.alloc(),
+        &[FIRST_ROWS, FIRST_ROWS_LISTED, FIRST_ROW_UPDATED],
+    )
+}
+
+#[test]
+fn levels_mix(rt: HostRuntime) -> Result<(), Stop> {
+    hold(rt.alloc(), &[LONE_SESSION, SECOND_SESSION])
+}
+
+/// The least order has the writer that was read from before the reader.
+#[test]
+fn a_fractured_read_has_an_order(rt: HostRuntime) -> Result<(), Fail> {
+    let store = play(rt.alloc(), Level::Rc, &A_PART)?;
+    assert_eq!(&rt; store.order()?.as_slice(), [0, 2, 1].as_slice());
+    Ok(())
+}
+
+/// All sessions agree on an order of two writers, once one has read from both.
+#[test]
+fn two_writers_have_one_order(rt: HostRuntime) -> Result<(), Fail> {
+    let store = play(rt.alloc(), Level::Rc, &ONE_ORDER)?;
+    assert_eq!(&rt; forces(rt.alloc(), &store, 2, 3)?, true);
+    Ok(())
+}
+
+/// Whether the history forces the pair.
+fn forces(alloc: Global, store: &Store, before: u32, after: u32) -> Result<bool, Stop> {
+    let graph = forced(alloc, store.history())?;
+    let is_forced = graph
+        .edges
+        .iter()
+        .any(|edge| edge.before == before && edge.after == after);
+    Ok(is_forced)
+}

@@ -1,0 +1,151 @@
+// The writes that a read may take, found by trying each order of all transactions.
+use crate::cells::Spot;
+use crate::plain::{Given, Plain, SIZE, plain_of};
+use crate::stop::Stop;
+use cell_base::Level;
+use history_core::Event;
+use std::alloc::Global;
+
+/// The writes that the session's transaction may read next, where at most six transactions have begun.
+pub fn plain_offer(
+    alloc: Global,
+    events: &[Event],
+    session: u32,
+    spot: Spot,
+) -> Result<Vec<u32>, Stop> {
+    let mut plain = plain_of(alloc, events)?;
+    let mut offer = Vec::new(alloc);
+    for source in 0..SIZE {
+        if plain.is_writer(source, spot)
+            && may_read(alloc, &mut plain, events.len(), session, spot, source)?
+        {
+            offer.push(source)?;
+        }
+    }
+    Ok(offer)
+}
+
+/// Whether some order meets the history with one more read.
+fn may_read(
+    alloc: Global,
+    plain: &mut Plain,
+    place: usize,
+    session: u32,
+    spot: Spot,
+    source: u32,
+) -> Result<bool, Stop> {
+    plain.read(session, place, spot, source)?;
+    let is_met = some_order_meets(alloc, plain)?;
+    plain.reads.pop();
+    Ok(is_met)
+}
+
+/// Whether some order of all transactions, the initial one first, has all pairs.
+fn some_order_meets(alloc: Global, plain: &Plain) -> Result<bool, Stop> {
+    let pairs = demanded(alloc, plain)?;
+    for number in 0..720 {
+        let order = order_of(alloc, number)?;
+        if pairs.iter().all(|(a, b)| stands_before(&order, *a, *b)) {
+            return Ok(true);
+        }
+    }
+    Ok(false)
+}
+
+/// The order of that number, of the 720 of six transactions behind the initial one. Those that haven't begun stand in no pair.
+fn order_of(alloc: Global, number: u32) -> Result<Vec<u32>, Stop> {
+    let mut left = vec![in alloc; 1, 2, 3, 4, 5, 6]?;
+    let mut order = vec![in alloc; 0]?;
+    let mut rest = number;
+    for count in (1..SIZE).rev() {
+        let place = (rest % count) as usize;
+        rest /= count;
+        if place < left.len() {
+            order.push(left.swap_remove(place))?;
+        }
+    }
+    Ok(order)
+}
+
+/// Whether the first stands before the second.
+fn stands_before(order: &[u32], first: u32, second: u32) -> bool {
+    let first = order.iter().position(|number| *number == first);
+    let second = order.iter().position(|number| *number == second);
+    match (first, second) {
+        (Some(first), Some(second)) => first < second,
+        _ => false,
+    }
+}
+
+/// Session order, who reads from whom, and for each read each other writer of its cell that it sees, before its source.
+fn demanded(alloc: Global, plain: &Plain) -> Result<Vec<(u32, u32)>, Stop> {
+    let mut pairs = preceding(alloc, plain)?;
+    let causal = causal(alloc, plain)?;
+    for read in &plain.reads {
+        for writer in 0..SIZE {
+            if is_demanded(plain, &causal, *read, writer) {
+                pairs.push((writer, read.source))?;
+            }
+        }
+    }
+    Ok(pairs)
+}
+
+/// The pairs of which the first precedes the second.
+fn preceding(alloc: Global, plain: &Plain) -> Result<Vec<(u32, u32)>, Stop> {
+    let mut pairs = Vec::new(alloc);
+    for first in 0..SIZE {
+        for second in 0..SIZE {
+            if plain.precedes(first, second) {
+                pairs.push((first, second))?;
+            }
+        }
+    }
+    Ok(pairs)
+}
+
+/// The pairs of which a chain of preceding transactions leads from the first to the second.
+fn causal(alloc: Global, plain: &Plain) -> Result<Vec<(u32, u32)>, Stop> {
+    let steps = preceding(alloc, plain)?;
+    let mut pairs = preceding(alloc, plain)?;
+    for place in 0..49 {
+        if let Some((first, middle)) = pairs.get(place).copied() {
+            go_further(&mut pairs, &steps, first, middle)?;
+        }
+    }
+    Ok(pairs)
+}
+
+/// Adds the pairs of the first and each that the middle precedes.
+fn go_further(
+    pairs: &mut Vec<(u32, u32)>,
+    steps: &[(u32, u32)],
+    first: u32,
+    middle: u32,
+) -> Result<(), Stop> {
+    for (from, second) in steps {
+        if *from == middle && !pairs.contains(&(first, *second)) {
+            pairs.push((first, *second))?;
+        }
+    }
+    Ok(())
+}
+
+/// Whether the writer is another than the read's source, and the read sees it.
+fn is_demanded(plain: &Plain, causal: &[(u32, u32)], read: Given, writer: u32) -> bool {
+    writer != read.source && plain.is_writer(writer, read.spot) && sees(plain, causal, read, writer)
+}
+
+/// Whether the level of its transaction lets the read see the writer: at Read Committed, where an earlier read of the transaction was from it.
+fn sees(plain: &Plain, causal: &[(u32, u32)], read: Given, writer: u32) -> bool {
+    let Some(txn) = plain.txns.get(read.reader as usize) else {
+        return false;
+    };
+    match txn.level {
+        Level::Rc => plain.reads.iter().any(|other| {
+            other.reader == read.reader && other.place < read.place && other.source == writer
+        }),
+        Level::Ra => plain.precedes(writer, read.reader),
+        Level::Cc => causal.contains(&(writer, read.reader)),
+    }
+}

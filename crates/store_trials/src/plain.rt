@@ -1,0 +1,183 @@
+// What the events of a history say: its transactions, and what each wrote and read. Nothing of the store, and of the crates that decide for it,
+// is used.
+use crate::cells::Spot;
+use crate::stop::Stop;
+use cell_base::{Cell, Items, Key, Level};
+use history_core::Event;
+use std::alloc::Global;
+
+/// How many transactions may have begun: as many orders as there are of these are tried.
+pub const MOST: u32 = 6;
+
+/// These and the initial one.
+pub const SIZE: u32 = 7;
+
+/// A transaction.
+#[derive(Clone, Copy)]
+pub struct Txn {
+    pub session: u32,
+    pub level: Level,
+    pub is_committed: bool,
+}
+
+/// An external read of a transaction, at the place of its event.
+#[derive(Clone, Copy)]
+pub struct Given {
+    pub reader: u32,
+    pub place: usize,
+    pub spot: Spot,
+    pub source: u32,
+}
+
+/// The transactions by their numbers, what each wrote, committed or not, and what each read.
+#[derive(Drop)]
+pub struct Plain {
+    pub txns: Vec<Txn>,
+    pub writes: Vec<(u32, Spot)>,
+    pub reads: Vec<Given>,
+}
+
+/// What the events say.
+pub fn plain_of(alloc: Global, events: &[Event]) -> Result<Plain, Stop> {
+    let mut plain = Plain {
+        txns: Vec::new(alloc),
+        writes: Vec::new(alloc),
+        reads: Vec::new(alloc),
+    };
+    plain.begin(0, Level::Cc)?;
+    plain.commit(0);
+    for (place, event) in events.iter().enumerate() {
+        plain.note(place, event)?;
+    }
+    Ok(plain)
+}
+
+/// The cell's place in the tests' table; all keys are integers there.
+fn spot_of(cell: &Cell) -> Spot {
+    match cell {
+        Cell::Presence(_, key) => Spot::Presence(integer(key)),
+        Cell::Field(_, key, _) => Spot::Field(integer(key)),
+    }
+}
+
+fn integer(key: &Key) -> i64 {
+    match key {
+        Key::Int(n) => *n,
+        Key::Text(_) => 0,
+    }
+}
+
+impl Plain {
+    /// Notes what the event at the place says.
+    fn note(&mut self, place: usize, event: &Event) -> Result<(), Stop> {
+        match event {
+            Event::Begin { session, level } => self.begin(*session, *level),
+            Event::Commit { session } => {
+                self.commit(*session);
+                Ok(())
+            }
+            Event::Write { session, cell, .. } => self.write(*session, spot_of(cell)),
+            Event::Read {
+                session,
+                cell,
+                source,
+                ..
+            } => self.read(*session, place, spot_of(cell), *source),
+            Event::Scan { session, keys, .. } => self.scan(*session, place, keys),
+            _ => Ok(()),
+        }
+    }
+
+    fn begin(&mut self, session: u32, level: Level) -> Result<(), Stop> {
+        self.txns.push(Txn {
+            session,
+            level,
+            is_committed: false,
+        })?;
+        Ok(())
+    }
+
+    fn commit(&mut self, session: u32) {
+        let number = self.last_of(session);
+        if let Some(txn) = self.txns.get_mut(number as usize) {
+            txn.is_committed = true;
+        }
+    }
+
+    fn write(&mut self, session: u32, spot: Spot) -> Result<(), Stop> {
+        let writer = self.last_of(session);
+        self.writes.push((writer, spot))?;
+        Ok(())
+    }
+
+    /// Notes an external read of the session's last transaction.
+    pub fn read(
+        &mut self,
+        session: u32,
+        place: usize,
+        spot: Spot,
+        source: u32,
+    ) -> Result<(), Stop> {
+        let reader = self.last_of(session);
+        self.reads.push(Given {
+            reader,
+            place,
+            spot,
+            source,
+        })?;
+        Ok(())
+    }
+
+    /// A scan reads the presence of each key that it doesn't list from the initial transaction.
+    fn scan(&mut self, session: u32, place: usize, keys: &Items<Key>) -> Result<(), Stop> {
+        for key in [1, 2] {
+            if !keys.as_slice().iter().any(|listed| integer(listed) == key) {
+                self.read(session, place, Spot::Presence(key), 0)?;
+            }
+        }
+        Ok(())
+    }
+
+    /// The last transaction of the session, and 0 where it has begun none.
+    fn last_of(&self, session: u32) -> u32 {
+        let mut last = 0;
+        for number in 1..SIZE {
+            if self.is_in(number, session) {
+                last = number;
+            }
+        }
+        last
+    }
+
+    fn is_in(&self, number: u32, session: u32) -> bool {
+        match self.txns.get(number as usize) {
+            Some(txn) => txn.session == session,
+            None => false,
+        }
+    }
+
+    /// Whether the transaction is the initial one, or a committed one that writes the cell.
+    pub fn is_writer(&self, number: u32, spot: Spot) -> bool {
+        match self.txns.get(number as usize) {
+            Some(txn) => number == 0 || txn.is_committed && self.writes.contains(&(number, spot)),
+            None => false,
+        }
+    }
+
+    /// Whether the first stands before the second in session order, or the second has read from it.
+    pub fn precedes(&self, first: u32, second: u32) -> bool {
+        match (
+            self.txns.get(first as usize),
+            self.txns.get(second as usize),
+        ) {
+            (Some(a), Some(b)) => {
+                first < second && (first == 0 || a.session == b.session)
+                    || self
+                        .reads
+                        .iter()
+                        .any(|read| read.reader == second && read.source == first)
+            }
+            _ => false,
+        }
+    }
+}

@@ -1,0 +1,73 @@
+// A store whose first session has made the table.
+ghost use Rattle.std.specs.Prelude.{◌≡◌, IfOk};
+ghost use Rattle.sound_table.specs.Sound.{IsSound};
+
+use crate::stop::Stop;
+use cell_base::{Items, Level, Memory, SqlType, Text, Value};
+use history_core::{Book, InitialState};
+use sql_tree::{Column, Table};
+use std::alloc::Global;
+use valid_writes::Store;
+
+/// A store in which so many sessions are open, and the first one has made the table `t`.
+pub fn stage(alloc: Global, sessions: u32) -> Result<Store, Stop> {
+    let mut store = with_table(
+        alloc,
+        Store::new(alloc, Level::Cc, InitialState::empty(alloc))?,
+    )?;
+    for _ in 1..sessions {
+        store = open(store)?;
+    }
+    Ok(store)
+}
+
+fn with_table(alloc: Global, store: Store) -> Result<Store, Stop> {
+    let table = table(alloc)?;
+    let mut book = store.seat(None);
+    book.open()?;
+    book.define(&table)?;
+    Ok(book.into_store())
+}
+
+/// Opens the next session.
+pub fn open(store: Store) -> Result<Store, Stop> {
+    let mut book = store.seat(None);
+    book.open()?;
+    Ok(book.into_store())
+}
+
+/// The table of `CREATE TABLE t (k bigint PRIMARY KEY, v bigint)`.
+#[tactic(auto, using(sound_table::proofs::Example::sound))]
+fn table(alloc: Global) -> Result<Table, Memory>
+    ensures { IfOk result IsSound }
+{
+    let mut columns = Items::new(alloc);
+    columns.push(column(text(alloc, b"k")?, true))?;
+    columns.push(column(text(alloc, b"v")?, false))?;
+    Ok(Table {
+        name: text(alloc, b"t")?,
+        columns,
+        key: 0,
+        checks: Items::new(alloc),
+    })
+}
+
+fn column(name: Text, not_null: bool) -> Column
+    ensures { result ≡ record { name = name; kind = SqlType.Bigint; not_null = not_null; default = Value.Null } }
+{
+    Column {
+        name,
+        kind: SqlType::Bigint,
+        not_null,
+        default: Value::Null,
+    }
+}
+
+fn text(alloc: Global, bytes: &[u8]) -> Result<Text, Memory>
+    ensures { IfOk result (λ text. text ≡ bytes.now) }
+{
+    match Text::from_bytes(alloc, bytes) {
+        Ok(text) => Ok(text),
+        Err(_) => Err(Memory),
+    }
+}
