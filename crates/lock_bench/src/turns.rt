@@ -72,6 +72,7 @@ fn in_many<R: Threads + Wait + Sync>(
         rt,
         ||
             requires { (pass.lock ≡ lock.now) × (rest < pass.parts) }
+            ensures { (result.lock ≡ pass.lock) × (result.parts ≡ pass.parts) }
         { in_many(rt, lock, pass, rest, turns) },
         || in_one(rt, lock, other, turns),
     );
