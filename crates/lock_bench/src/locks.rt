@@ -1,5 +1,4 @@
 //! Threads that lock a mutex of std.
-use crate::crowd::Crowd;
 use std::sync::{Mutex, Wait};
 use std::thread::{Threads, join};
 
@@ -10,21 +9,24 @@ fn in_one<R: Wait>(rt: &R, tally: &Mutex<u64>, locks: u32) {
     }
 }
 
-fn in_two<R: Threads + Wait + Sync>(rt: &R, tally: &Mutex<u64>, locks: u32) {
-    join(rt, || in_one(rt, tally, locks), || in_one(rt, tally, locks));
-}
-
-fn in_four<R: Threads + Wait + Sync>(rt: &R, tally: &Mutex<u64>, locks: u32) {
-    join(rt, || in_two(rt, tally, locks), || in_two(rt, tally, locks));
+// So many further threads, and this one.
+#[cycle(locking)]
+fn in_many<R: Threads + Wait + Sync>(rt: &R, tally: &Mutex<u64>, further: u32, locks: u32) {
+    if further == 0 {
+        in_one(rt, tally, locks);
+        return;
+    }
+    let rest = further - 1;
+    join(
+        rt,
+        || in_one(rt, tally, locks),
+        || in_many(rt, tally, rest, locks),
+    );
 }
 
 /// Each thread locks the mutex that many times, and the answer is how many were counted.
-pub fn count_locks<R: Threads + Wait + Sync>(rt: &R, crowd: Crowd, locks: u32) -> u64 {
+pub fn count_locks<R: Threads + Wait + Sync>(rt: &R, threads: u32, locks: u32) -> u64 {
     let tally = Mutex::new(0u64);
-    match crowd {
-        Crowd::One => in_one(rt, &tally, locks),
-        Crowd::Two => in_two(rt, &tally, locks),
-        Crowd::Four => in_four(rt, &tally, locks),
-    }
+    in_many(rt, &tally, threads.saturating_sub(1), locks);
     tally.into_inner()
 }

@@ -1,8 +1,7 @@
 //! Threads that take turns at a turn lock.
-ghost use Rattle.std.specs.Prelude.{◌≡◌, ◌≤◌};
+ghost use Rattle.std.specs.Prelude.{◌≡◌, ◌<◌};
 ghost use Rattle.turn_lock.specs.Passes.{PassValue};
 
-use crate::crowd::Crowd;
 use std::alloc::Global;
 use std::sync::Wait;
 use std::thread::{Threads, join};
@@ -52,46 +51,30 @@ fn in_one<R: Wait>(rt: &R, lock: &TurnLock<Tally>, mut pass: Pass<Tally>, turns:
     pass
 }
 
-fn in_two<R: Threads + Wait + Sync>(
+// So many further threads, and this one.
+#[cycle(turning)]
+fn in_many<R: Threads + Wait + Sync>(
     rt: &R,
     lock: &TurnLock<Tally>,
     mut pass: Pass<Tally>,
+    further: u32,
     turns: u32,
 ) -> Pass<Tally>
-    requires { (pass.lock ≡ lock.now) × (2 ≤ pass.parts) }
+    requires { (pass.lock ≡ lock.now) × (further < pass.parts) }
     ensures { (result.lock ≡ pass.lock) × (result.parts ≡ pass.parts) }
 {
+    if further == 0 {
+        return in_one(rt, lock, pass, turns);
+    }
+    let rest = further - 1;
     let other = lock.split(&mut pass);
     let (mut pass, other) = join(
         rt,
-        || in_one(rt, lock, pass, turns),
+        ||
+            requires { (pass.lock ≡ lock.now) × (rest < pass.parts) }
+            ensures { (result.lock ≡ pass.lock) × (result.parts ≡ pass.parts) }
+        { in_many(rt, lock, pass, rest, turns) },
         || in_one(rt, lock, other, turns),
-    );
-    lock.join(&mut pass, other);
-    pass
-}
-
-fn in_four<R: Threads + Wait + Sync>(
-    rt: &R,
-    lock: &TurnLock<Tally>,
-    mut pass: Pass<Tally>,
-    turns: u32,
-) -> Pass<Tally>
-    requires { (pass.lock ≡ lock.now) × (4 ≤ pass.parts) }
-    ensures { (result.lock ≡ pass.lock) × (result.parts ≡ pass.parts) }
-{
-    let mut other = lock.split(&mut pass);
-    // A second part, since the other pass will be split too.
-    let part = lock.split(&mut pass);
-    lock.join(&mut other, part);
-    let (mut pass, other) = join(
-        rt,
-        ||
-            requires { (pass.lock ≡ lock.now) × (2 ≤ pass.parts) }
-        { in_two(rt, lock, pass, turns) },
-        ||
-            requires { (other.lock ≡ lock.now) × (2 ≤ other.parts) }
-        { in_two(rt, lock, other, turns) },
     );
     lock.join(&mut pass, other);
     pass
@@ -101,14 +84,11 @@ fn in_four<R: Threads + Wait + Sync>(
 pub fn count_turns<R: Threads + Wait + Sync>(
     rt: &R,
     alloc: Global,
-    crowd: Crowd,
+    threads: u32,
     turns: u32,
 ) -> Option<u64> {
     let (lock, pass) = TurnLock::new(alloc, Tally { count: 0 }).ok()?;
-    let pass = match crowd {
-        Crowd::One => in_one(rt, &lock, pass, turns),
-        Crowd::Two => in_two(rt, &lock, pass, turns),
-        Crowd::Four => in_four(rt, &lock, pass, turns),
-    };
+    let further = threads.saturating_sub(1);
+    let pass = in_many(rt, &lock, pass, further, turns);
     Some(lock.close(pass).count)
 }

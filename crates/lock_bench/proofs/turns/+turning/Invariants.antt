@@ -1,0 +1,8 @@
+use Rattle.std.proofs.Common.{◌+◌, ◌*◌}
+use Rattle.lock_bench.proofs.turns.+turning.Given as goal
+
+abbrev pub decreases-join+arg2 : goal.decreases-join+arg2
+decreases-join+arg2 g l = l.rest * 2 + 1
+
+abbrev pub decreases-in_many : goal.decreases-in_many
+decreases-in_many g l = l.further * 2
