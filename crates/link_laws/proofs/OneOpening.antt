@@ -1,26 +1,17 @@
 -- A session asks its opening once, nothing before it and nothing behind its close.
-use Rattle.std.proofs.Common.{◌≡◌, inl, inr, ◌⊎◌, true, false, ℕ, List, [], ◌∷◌, ◌++◌, All, Option, Some, None, Ok, length, refl, sym, ◌∙◌, ap, subst}
+use Rattle.std.proofs.Common.{◌≡◌, inl, inr, ◌⊎◌, false, ℕ, List, [], ◌∷◌, All, Option, Some, None, length, refl, sym, ◌∙◌, ap, subst}
 use Rattle.std.proofs.lemmas.List.Elements.{All-nil, All-cons}
-use Rattle.cell_base.specs.declared.cell.Cell.{Cell}
-use Rattle.cell_base.specs.declared.key.Key.{Key}
 use Rattle.cell_base.specs.declared.level.Level.{Level}
-use Rattle.cell_base.specs.declared.value.Value.{Value}
-use Rattle.sql_tree.specs.declared.statement.Statement.{Statement}
-use Rattle.sql_tree.specs.declared.table.Table.{Table}
-use Rattle.sql_tree.specs.declared.typed.Typed.{Typed}
-use Rattle.typing_rules.specs.Typed.{typed}
-use Rattle.statement_course.specs.declared.demand.Outcome.{Outcome}
-use Rattle.statement_course.specs.Course.{Course}
 use Rattle.history_core.specs.declared.event.Event.{Event}
 use Rattle.history_core.specs.declared.event.Event.TheVariants.{Open}
 use Rattle.history_core.specs.declared.fault.BookFault.{BookFault}
 use Rattle.history_core.specs.declared.fault.BookFault.TheVariants as faults
 use Rattle.history_core.specs.declared.fault.DefineAnswer.TheVariants as defines
 use Rattle.history_core.specs.Events.{session_in, is_open_event}
-use Rattle.history_core.specs.Book.{Past, SessionState, no_session, session_of}
+use Rattle.history_core.specs.Book.{Past, SessionState, session_of}
 use Rattle.block_machine.specs.Calls.{Call}
 use Rattle.block_machine.specs.Calls as calls
-use Rattle.block_machine.specs.Knowledge.{Knowledge, at_start}
+use Rattle.block_machine.specs.Knowledge.{at_start}
 use Rattle.block_machine.specs.Script.{Entry, did, refused, short, unsent, stop, Said, Next}
 use Rattle.block_machine.specs.declared.call.Answer.{Answer}
 use Rattle.block_machine.specs.declared.call.Answer.TheVariants as answers
@@ -28,8 +19,8 @@ use Rattle.session_core.specs.declared.phase.Phase.TheVariants as phases
 use Rattle.session_core.specs.Requests.{Requests}
 use Rattle.session_core.specs.Told.{told, opened_after, opened_from, opened_in}
 use Rattle.session_core.specs.Record.{Happens, Declines, may_be_refused, StateAfter, IsValidRecord, events_of}
-use Rattle.link_laws.specs.Openings.{BeginsWithOpening, AreOfOneSession}
-use Rattle.link_laws.proofs.Rules.{Rules, Obeys, AreFit, Asked}
+use Rattle.link_laws.specs.Openings.{AreOfOneSession}
+use Rattle.link_laws.proofs.Rules.{Rules, Obeys, AreFit}
 use Rattle.link_laws.proofs.SessionsKept.{session_keeps}
 
 -- no session was opened yet, one is open, or it was closed

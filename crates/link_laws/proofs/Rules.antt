@@ -1,6 +1,6 @@
 -- Rules for the calls of a session, and scripts that keep them. A state says what came before; a rule says which calls it allows, and the
 -- answer to a call leads to the next state.
-use Rattle.std.proofs.Common.{◌≡◌, inl, inr, ◌⊎◌, Bool, true, false, cond, ℕ, List, [], ◌∷◌, ◌++◌, length, refl, sym, ◌∙◌, ap, append_assoc, ◌==◌, Ok}
+use Rattle.std.proofs.Common.{◌≡◌, Bool, true, false, cond, ℕ, List, [], ◌∷◌, ◌++◌, length, sym, ◌∙◌, append_assoc, ◌==◌, Ok}
 use Rattle.std.proofs.lemmas.List.{append-nil}
 use Rattle.cell_base.specs.declared.cell.Cell.{Cell}
 use Rattle.cell_base.specs.declared.key.Key.{Key}

@@ -1,19 +1,15 @@
 -- What a session is told keeps to the rules.
-use Rattle.std.proofs.Common.{Bool, true, false, ℕ, List, [], ◌∷◌, length}
-use Rattle.cell_base.specs.declared.level.Level.{Level}
+use Rattle.std.proofs.Common.{true, false, ℕ, List, [], ◌∷◌, length}
 use Rattle.cell_base.specs.declared.sql_state.SqlState.{SqlState}
 use Rattle.cell_base.specs.declared.sql_state.SqlState.TheVariants as states
-use Rattle.history_core.specs.declared.fault.BookFault.{BookFault}
 use Rattle.pg_framing.specs.declared.replies.TransactionState.{TransactionState}
 use Rattle.pg_framing.specs.declared.replies.TransactionState.TheVariants as block_states
 use Rattle.block_machine.specs.Calls as calls
-use Rattle.block_machine.specs.Knowledge.{Knowledge, at_start}
+use Rattle.block_machine.specs.Knowledge.{Knowledge}
 use Rattle.block_machine.specs.Script.{Entry, did, refused, short, unsent, stop, Said, Script}
-use Rattle.block_machine.specs.Messages as messages_told
-use Rattle.block_machine.specs.Messages.{Outside, owed_between, block_at}
+use Rattle.block_machine.specs.Messages.{owed_between, block_at}
 use Rattle.block_machine.specs.declared.block.Owed.{Owed}
 use Rattle.block_machine.specs.declared.block.Owed.TheVariants as owes
-use Rattle.block_machine.specs.declared.call.Answer.{Answer}
 use Rattle.block_machine.specs.declared.call.Answer.TheVariants as answers
 use Rattle.block_machine.specs.declared.end.End.{End}
 use Rattle.block_machine.specs.declared.end.End.TheVariants as ends
@@ -25,7 +21,7 @@ use Rattle.session_core.specs.Replies.{no_encryption, startup_reply, fatal_reply
 use Rattle.session_core.specs.Told as told
 use Rattle.session_core.specs.Told.{outside_of, owed_by, stop_end, refusal_end}
 use Rattle.link_laws.proofs.Rules.{Rules, AreFit, Asked, Keeps, none_asked, past_stop, lost_keeps, ask_keeps, tell_keeps, short_keeps, opened_keeps}
-use Rattle.link_laws.proofs.StatementsKept.{Surrounds, may_fail, fails}
+use Rattle.link_laws.proofs.StatementsKept.{may_fail, fails}
 use Rattle.link_laws.proofs.MessagesKept.{Encloses, readied, message}
 
 -- ---- ends

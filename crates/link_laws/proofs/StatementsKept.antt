@@ -33,9 +33,8 @@ use Rattle.block_machine.specs.declared.block.Block.{Block}
 use Rattle.block_machine.specs.declared.block.Block.TheVariants.{Implicit, Regular, Failed}
 use Rattle.block_machine.specs.declared.block.Owed.{Owed}
 use Rattle.block_machine.specs.declared.block.Owed.TheVariants as owes
-use Rattle.block_machine.specs.declared.call.Answer.{Answer}
 use Rattle.block_machine.specs.declared.call.Answer.TheVariants as answers
-use Rattle.link_laws.proofs.Rules.{Rules, Breaks, Allows, AreFit, Keeps, lost_keeps, ask_keeps, tell_keeps, short_keeps, looked_keeps, defined_keeps, begun_keeps, listed_keeps, found_keeps, written_keeps, shown_keeps}
+use Rattle.link_laws.proofs.Rules.{Rules, Breaks, AreFit, Keeps, lost_keeps, ask_keeps, tell_keeps, short_keeps, looked_keeps, defined_keeps, begun_keeps, listed_keeps, found_keeps, written_keeps, shown_keeps}
 
 -- what stands around a statement keeps to the rules
 pub record Surrounds (r : Rules) (around : Around) : Type 0 where

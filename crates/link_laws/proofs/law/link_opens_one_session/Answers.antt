@@ -1,4 +1,4 @@
-use Rattle.std.proofs.Common.{◌≡◌, sym, subst, Option, ℕ}
+use Rattle.std.proofs.Common.{sym, subst, Option, ℕ}
 use Rattle.session_core.specs.Record.{events_of}
 use Rattle.link_laws.specs.Openings.{AreOfOneSession}
 use Rattle.link_laws.proofs.OneOpening.{one_session}
