@@ -52,7 +52,7 @@ IsWithin within = Unit {0}
 IsWithin late = ⊥
 
 abbrev pub once : Rules
-once = record { State = Stage; may = MayAsk; next = goes_to; Fresh = IsEarly; Calm = λ s k. IsWithin s; Runs = λ s k c. IsWithin s }
+once = record { State = Stage; may = MayAsk; next = goes_to; Fresh = λ s k. IsEarly s; Calm = λ s k. IsWithin s; Runs = λ s k c. IsWithin s }
 
 -- neither the opening of the session nor its close
 abbrev pub IsPlain : Call → Type 0

@@ -29,8 +29,8 @@ pub record Rules : Type 1 where
   pub may : State → Call → Type 0
   -- where its answer leads
   pub next : State → Call → Answer → State
-  -- no session was opened yet
-  pub Fresh : State → Type 0
+  -- no session was opened yet, where this is known
+  pub Fresh : State → Knowledge → Type 0
   -- between two statements, where this is known
   pub Calm : State → Knowledge → Type 0
   -- in a statement, of which this is left, where this is known
@@ -46,7 +46,7 @@ Allows r s k c = r.may s c × ((a : Answer) → r.Calm (r.next s c a) k)
 
 -- what the rules have to say of the calls that scripts make
 pub record AreFit (r : Rules) : Type 0 where
-  pub opens : (s : r.State) (k : Knowledge) → r.Fresh s → r.may s calls.Open × ((session : ℕ) → r.Calm (r.next s calls.Open (answers.Opened session)) k)
+  pub opens : (s : r.State) (k : Knowledge) → r.Fresh s k → r.may s calls.Open × ((session : ℕ) → r.Calm (r.next s calls.Open (answers.Opened session)) k)
   pub closes : (s : r.State) (k : Knowledge) → r.Calm s k → r.may s calls.Close
   pub looks : (s : r.State) (k : Knowledge) → r.Calm s k → Allows r s k (calls.Look (length k.tables))
   pub looked : (s : r.State) (k : Knowledge) (tables : List Table) → r.Calm s k →

@@ -66,7 +66,7 @@ broken_keeps r fit s owed known calm = ending_keeps r fit s owed ends.WriteFault
 -- ---- where a session stands between two messages
 
 abbrev pub Stands : (r : Rules) → r.State → Knowledge → Phase → Type 0
-Stands r s k phases.Startup = r.Fresh s
+Stands r s k phases.Startup = r.Fresh s k
 Stands r s k (phases.Normal state) = r.Calm s k
 Stands r s k (phases.Discarding state) = r.Calm s k
 
@@ -88,7 +88,7 @@ tells_startup r fit s session rest known calm keeps =
     short_keeps r s true _ _ (closing_keeps r fit s ends.Memory known calm)
     (tell_keeps r s (startup_reply session) (told.broken owes.Close) rest (broken_keeps r fit s owes.Close known calm) keeps)
 
-opens : (r : Rules) → AreFit r → (s : r.State) (rest : Script) (known : Knowledge) → r.Fresh s → ((t : r.State) → r.Calm t known → Keeps r t rest) →
+opens : (r : Rules) → AreFit r → (s : r.State) (rest : Script) (known : Knowledge) → r.Fresh s known → ((t : r.State) → r.Calm t known → Keeps r t rest) →
     Keeps r s (told.opens rest)
 opens r fit s rest known fresh keeps =
     let asks = fit.opens s known fresh in
@@ -98,7 +98,7 @@ opens r fit s rest known fresh keeps =
     (keeps (r.next s calls.Open (answers.Opened session)) (asks.1 session)))
     (λ why. closed_keeps r (r.next s calls.Open (answers.Refused why)) (refusal_end why)))
 
-starting : (r : Rules) → AreFit r → (asked : Request) (s : r.State) (known : Knowledge) (rest : Phase → Knowledge → Script) → GoesOn r rest → r.Fresh s →
+starting : (r : Rules) → AreFit r → (asked : Request) (s : r.State) (known : Knowledge) (rest : Phase → Knowledge → Script) → GoesOn r rest → r.Fresh s known →
     Keeps r s (told.starting asked known rest)
 starting r fit encryption s known rest on fresh =
     tell_keeps r s no_encryption (told.broken owes.Nothing) (rest phases.Startup known) (closed_keeps r s ends.WriteFault) (on s phases.Startup known fresh)

@@ -1,5 +1,5 @@
 -- What a typed statement says of tables, columns and rows fits the tables.
-use Rattle.std.proofs.Common.{◌≡◌, ◌≢◌, ℕ, zero, suc, ◌+◌, ◌<◌, ◌≤◌, ◌==◌, Bool, true, false, List, [], ◌∷◌, ◌++◌, map, length, Option, Some, Ok, Err, subst, not, ◌&&◌, arith, refl, sym, ap, ◌∙◌}
+use Rattle.std.proofs.Common.{◌≡◌, ℕ, zero, suc, ◌+◌, ◌<◌, ◌==◌, Bool, true, false, List, [], ◌∷◌, ◌++◌, map, length, Option, Some, Ok, Err, subst, not, ◌&&◌, arith, refl, ap, ◌∙◌}
 use Rattle.std.specs.Prelude.{slice_get, unwrap_or}
 use Rattle.std.specs.Str.{bytes_eq}
 use Rattle.std.specs.List.{list_any, AllByRecursion}
@@ -29,7 +29,7 @@ use Rattle.typing_rules.specs.Assignment.{assigned}
 use Rattle.typing_rules.specs.Changes.{own_source, filter_of, assigned_from, set_values, update_reads, typed_update, typed_delete}
 use Rattle.typing_rules.specs.Insert.{listed_from, row_targets, has_lengths, cells, value_at, typed_row, typed_insert}
 use Rattle.typing_rules.specs.Mentions.{numbers_from, kept, columns_where, in_filter}
-use Rattle.typing_rules.specs.Outcome.{Outcome, and_then, all_of}
+use Rattle.typing_rules.specs.Outcome.{and_then, all_of}
 use Rattle.typing_rules.specs.Select as typing
 use Rattle.typing_rules.specs.Sound.{Holds}
 use Rattle.typing_rules.specs.Tables.{Numbered, Target, table_from, table_named, numbered_from, all_targets}

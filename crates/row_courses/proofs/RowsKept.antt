@@ -1,5 +1,5 @@
 -- The course of a typed statement keeps rows whole.
-use Rattle.std.proofs.Common.{◌≡◌, inl, inr, ◌⊎◌, ℕ, ◌+◌, ◌<◌, ◌==◌, Bool, true, false, cond, List, [], ◌∷◌, ◌++◌, length, map, Option, Some, None, Ok, Err, refl, sym, ap, subst, ◌∙◌, arith}
+use Rattle.std.proofs.Common.{◌≡◌, inl, inr, ℕ, ◌+◌, ◌==◌, Bool, true, false, cond, List, [], ◌∷◌, ◌++◌, length, map, Option, Some, None, Ok, Err, refl, sym, ap, subst, arith}
 use Rattle.std.specs.Prelude.{slice_get, Contains}
 use Rattle.std.specs.List.{list_any, AllByRecursion}
 use Rattle.std.proofs.lemmas.Bool.{cond_both}
@@ -8,7 +8,6 @@ use Rattle.cell_base.specs.declared.cell.Cell.{Cell}
 use Rattle.cell_base.specs.declared.cell.Cell.TheVariants.{Presence, Field}
 use Rattle.cell_base.specs.declared.key.Key.{Key}
 use Rattle.cell_base.specs.declared.value.Value.{Value}
-use Rattle.cell_base.specs.declared.value.Value.TheVariants.{Flag}
 use Rattle.sql_tree.specs.declared.table.Column.{Column}
 use Rattle.sql_tree.specs.declared.table.Table.{Table}
 use Rattle.sql_tree.specs.declared.typed.Typed.TheVariants.{Select, Insert, Change}
@@ -29,9 +28,8 @@ use Rattle.statement_course.specs.Statements.{parts_of_select, course_of_select,
 use Rattle.statement_course.specs.Writing.{write_all, read_presences, insert_rows, fields_of, inserts, updates_of, updates, deletes}
 use Rattle.statement_course.specs.declared.demand.Outcome.{Outcome}
 use Rattle.statement_course.specs.declared.demand.Outcome.TheVariants.{Updated, Deleted, Inserted}
-use Rattle.whole_rows.specs.Rows.{IsField}
-use Rattle.row_courses.specs.Rows.{fields_from, fields_in, fields_of_row, shown_after, MayAsk, MayWrite, owed_after, KeepsWhole, StatementKeepsRows}
-use Rattle.row_courses.proofs.Fits.{AreFields, ColumnsFit, SelectFits, ChangeFits, IsWide, InsertFits, RowFits, rows_fit, TypedFits, fits}
+use Rattle.row_courses.specs.Rows.{fields_from, fields_in, shown_after, KeepsWhole, StatementKeepsRows}
+use Rattle.row_courses.proofs.Fits.{AreFields, ColumnsFit, SelectFits, ChangeFits, InsertFits, RowFits, rows_fit, fits}
 
 -- ---- what is read
 
