@@ -1,0 +1,5 @@
+pub mod Rules
+pub mod StatementsKept
+pub mod MessagesKept
+pub mod SessionsKept
+pub mod OneOpening
