@@ -1,0 +1,4 @@
+pub mod Pictured
+pub mod Scanning
+pub mod Targets
+pub mod Answering

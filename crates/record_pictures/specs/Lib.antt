@@ -1,0 +1,5 @@
+pub mod Runs
+pub mod Pictures
+pub mod Scans
+pub mod Writes
+pub mod Laws

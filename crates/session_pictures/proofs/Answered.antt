@@ -1,0 +1,145 @@
+-- What each call of a cell was answered stands in the history, and the keys of a scan are different.
+use Rattle.std.proofs.Common.{◌≡◌, ℕ, inl, inr, ◌⊎◌, List, [], ◌∷◌, ◌++◌, length, Some, refl, sym, ap, subst, ◌∙◌, append_assoc}
+use Rattle.std.specs.Prelude.{⊤, slice_get, take}
+use Rattle.std.proofs.lemmas.List.{append-nil}
+use Rattle.cell_base.specs.declared.cell.Cell.{Cell}
+use Rattle.cell_base.specs.declared.key.Key.{Key}
+use Rattle.cell_base.specs.declared.value.Value.{Value}
+use Rattle.history_core.specs.declared.event.Event.{Event}
+use Rattle.history_core.specs.declared.event.Event.TheVariants.{Scan}
+use Rattle.history_core.specs.declared.fault.BookFault.{BookFault}
+use Rattle.history_core.specs.declared.fault.BookFault.TheVariants as faults
+use Rattle.history_core.specs.declared.fault.DefineAnswer.TheVariants as defined
+use Rattle.history_core.specs.Book.{Past, Adds, session_of}
+use Rattle.history_core.specs.Legal.{IsFormed, Follows}
+use Rattle.block_machine.specs.Calls.{Call}
+use Rattle.block_machine.specs.Calls as calls
+use Rattle.block_machine.specs.Script.{Entry, did, refused, short, unsent, stop}
+use Rattle.block_machine.specs.declared.call.Answer.{Answer}
+use Rattle.block_machine.specs.declared.call.Answer.TheVariants as answers
+use Rattle.session_core.specs.Record.{Happens, Declines, ReadsBack, ReadsFrom}
+use Rattle.statement_course.specs.Laws.{AreDistinct}
+use Rattle.record_pictures.specs.Runs.{lists, finds, puts}
+use Rattle.session_pictures.specs.Acts.{IsEventOf}
+use Rattle.session_pictures.specs.Laws.{IsAnswered}
+use Rattle.session_pictures.proofs.KeyOrder.{ascending_distinct}
+
+-- ---- the history goes on
+
+abbrev Extends : Past → Past → Type 0
+Extends p q = (further : List Event) × (q.seen.events ≡ p.seen.events ++ further)
+
+extends_on : (p m q : Past) → Extends p m → Extends m q → Extends p q
+extends_on p m q one other =
+    (one.0 ++ other.0, other.1 ∙ ap (λ (events : List Event). events ++ other.0) one.1 ∙ append_assoc p.seen.events one.0 other.0)
+
+happens_adds : (p : Past) (c : Call) (a : Answer) (e : Event) (q : Past) → Happens p c a e q → Adds p e q
+happens_adds p calls.Open (answers.Opened s) e q h = h.1
+happens_adds p calls.Close answers.Closed e q h = h.1
+happens_adds p (calls.Look known) (answers.Looked tables) e q h = subst (λ (x : Event). Adds p x q) (sym h.0) h.1.adds
+happens_adds p (calls.Define t) (answers.Defined (defined.Defined n)) e q h = subst (λ (x : Event). Adds p x q) (sym h.0) h.1.3
+happens_adds p (calls.Define t) (answers.Defined (defined.Taken n)) e q h = subst (λ (x : Event). Adds p x q) (sym h.0) h.1.2
+happens_adds p (calls.Begin level) (answers.Begun n) e q h = h.1
+happens_adds p (calls.Scan table) (answers.Listed keys) e q h = h.1
+happens_adds p (calls.Touch cell) (answers.Found value) e q h = h.1
+happens_adds p (calls.Write cell value) answers.Written e q h = h.1
+happens_adds p calls.Commit answers.Committed e q h = h.1
+happens_adds p calls.Rollback answers.RolledBack e q h = h.1
+happens_adds p calls.Show (answers.Shown n) e q h = h.1
+happens_adds p _ _ e q h = absurd h
+
+adds_extends : (p : Past) (e : Event) (q : Past) → Adds p e q → Extends p q
+adds_extends p e q adds = (adds.others ++ e ∷ [], adds.seen ∙ append_assoc p.seen.events adds.others (e ∷ []))
+
+declines_extends : (p : Past) (c : Call) (why : BookFault) (q : Past) → Declines p c why q → Extends p q
+declines_extends p c (faults.Full limit) q h = (h.1.others, h.1.seen)
+declines_extends p c faults.Memory q h = (h.1.others, h.1.seen)
+
+extends_to : (p : Past) (cs : List Call) (es : List Entry) (q : Past) → IsAnswered p cs es q → Extends p q
+extends_to p [] [] q l = ([], ap (λ (x : Past). x.seen.events) l.0 ∙ sym (append-nil p.seen.events))
+extends_to p (c ∷ cs) [] q l = absurd l
+extends_to p [] (did a e ∷ es) q l = absurd l
+extends_to p [] (refused why ∷ es) q l = absurd l
+extends_to p [] (short final n ∷ es) q l = extends_to p [] es q l
+extends_to p [] (unsent n ∷ es) q l = extends_to p [] es q l
+extends_to p [] (stop cause ∷ es) q l = extends_to p [] es q l
+extends_to p (c ∷ cs) (did a e ∷ es) q l =
+    extends_on p l.0 q (adds_extends p e l.0 (happens_adds p c a e l.0 l.2)) (extends_to l.0 cs es q l.4)
+extends_to p (c ∷ cs) (refused why ∷ es) q l = extends_on p l.0 q (declines_extends p c why l.0 l.2) (extends_to l.0 cs es q l.4)
+extends_to p (c ∷ cs) (short final n ∷ es) q l = extends_to p (c ∷ cs) es q l
+extends_to p (c ∷ cs) (unsent n ∷ es) q l = extends_to p (c ∷ cs) es q l
+extends_to p (c ∷ cs) (stop cause ∷ es) q l = extends_to p (c ∷ cs) es q l
+
+-- ---- an event of the history fits what came before it
+
+at_place : (front : List Event) (e : Event) (further : List Event) → slice_get ((front ++ e ∷ []) ++ further) (length front) ≡ Some e
+at_place [] e further = refl
+at_place (x ∷ xs) e further = at_place xs e further
+
+fits : (initial : List (Cell × Value)) (p m q : Past) (e : Event) → Adds p e m → Extends m q → IsFormed initial q.seen.events
+    → (before : List Event) × Follows initial before e
+fits initial p m q e adds further formed =
+    let front = p.seen.events ++ adds.others in
+    let whole : q.seen.events ≡ (front ++ e ∷ []) ++ further.0 = further.1 ∙ ap (λ (events : List Event). events ++ further.0) adds.seen in
+    let place = length front in
+    let there : slice_get q.seen.events place ≡ Some e = ap (λ (events : List Event). slice_get events place) whole ∙ at_place front e further.0 in
+    (take place q.seen.events, (formed place e there).follows)
+
+-- ---- calls of cells
+
+-- what an answer to a call of a cell comes with
+abbrev pub IsGood : Call → Answer → Event → Type 0
+IsGood (calls.Scan table) (answers.Listed keys) e = AreDistinct keys × IsEventOf (lists table keys) e
+IsGood (calls.Touch cell) (answers.Found value) e = IsEventOf (finds cell value) e
+IsGood (calls.Write cell value) answers.Written e = IsEventOf (puts cell value) e
+IsGood _ _ e = ⊤
+
+scan_good : (initial : List (Cell × Value)) (session table : ℕ) (keys : List Key) (e : Event) → e ≡ Scan session table keys
+    → (before : List Event) × Follows initial before e → AreDistinct keys × IsEventOf (lists table keys) e
+scan_good initial session table keys e is there =
+    let follows = subst (λ (x : Event). Follows initial there.0 x) is there.1 in (
+      ascending_distinct keys follows.2.ascending,
+      subst (λ (x : Event). IsEventOf (lists table keys) x) (sym is) (refl, refl),
+    )
+
+read_good : (p : Past) (cell : Cell) (value : Value) (e : Event) → ReadsBack p cell value e ⊎ ReadsFrom p cell value e → IsEventOf (finds cell value) e
+read_good p cell value e (inl back) = subst (λ (x : Event). IsEventOf (finds cell value) x) (sym back.event_is) (refl, refl)
+read_good p cell value e (inr from) = subst (λ (x : Event). IsEventOf (finds cell value) x) (sym from.event_is) (refl, refl)
+
+is_good : (initial : List (Cell × Value)) (p m q : Past) (c : Call) (a : Answer) (e : Event) → Happens p c a e m → Extends m q
+    → IsFormed initial q.seen.events → IsGood c a e
+is_good initial p m q (calls.Scan table) (answers.Listed keys) e h further formed =
+    scan_good initial (session_of p.state) table keys e h.0 (fits initial p m q e h.1 further formed)
+is_good initial p m q (calls.Touch cell) (answers.Found value) e h further formed = read_good p cell value e h.0
+is_good initial p m q (calls.Write cell value) answers.Written e h further formed =
+    subst (λ (x : Event). IsEventOf (puts cell value) x) (sym h.0) (refl, refl)
+is_good initial p m q _ _ e h further formed = tt
+
+-- ---- the whole record
+
+-- of each call of a cell that was answered
+abbrev pub AreGood : List Call → List Entry → Type 0
+AreGood cs [] = ⊤
+AreGood cs (short final n ∷ es) = AreGood cs es
+AreGood cs (unsent n ∷ es) = AreGood cs es
+AreGood cs (stop cause ∷ es) = AreGood cs es
+AreGood [] (did a e ∷ es) = ⊥
+AreGood [] (refused why ∷ es) = ⊥
+AreGood (c ∷ cs) (did a e ∷ es) = IsGood c a e × AreGood cs es
+AreGood (c ∷ cs) (refused why ∷ es) = AreGood cs es
+
+pub are_good : (initial : List (Cell × Value)) (p : Past) (cs : List Call) (es : List Entry) (q : Past) → IsAnswered p cs es q
+    → IsFormed initial q.seen.events → AreGood cs es
+are_good initial p [] [] q l formed = tt
+are_good initial p (c ∷ cs) [] q l formed = tt
+are_good initial p [] (did a e ∷ es) q l formed = absurd l
+are_good initial p [] (refused why ∷ es) q l formed = absurd l
+are_good initial p [] (short final n ∷ es) q l formed = are_good initial p [] es q l formed
+are_good initial p [] (unsent n ∷ es) q l formed = are_good initial p [] es q l formed
+are_good initial p [] (stop cause ∷ es) q l formed = are_good initial p [] es q l formed
+are_good initial p (c ∷ cs) (did a e ∷ es) q l formed =
+    (is_good initial p l.0 q c a e l.2 (extends_to l.0 cs es q l.4) formed, are_good initial l.0 cs es q l.4 formed)
+are_good initial p (c ∷ cs) (refused why ∷ es) q l formed = are_good initial l.0 cs es q l.4 formed
+are_good initial p (c ∷ cs) (short final n ∷ es) q l formed = are_good initial p (c ∷ cs) es q l formed
+are_good initial p (c ∷ cs) (unsent n ∷ es) q l formed = are_good initial p (c ∷ cs) es q l formed
+are_good initial p (c ∷ cs) (stop cause ∷ es) q l formed = are_good initial p (c ∷ cs) es q l formed

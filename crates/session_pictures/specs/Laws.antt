@@ -1,0 +1,81 @@
+-- Each statement that a session ran was answered over one picture.
+use Rattle.std.specs.Prelude.{◌≡◌, ⊤, List, [], ◌++◌}
+use Rattle.std.specs.List.{AllByRecursion}
+use Rattle.cell_base.specs.declared.level.Level.{Level}
+use Rattle.history_core.specs.Book.{Past}
+use Rattle.history_core.specs.Legal.{IsFormed}
+use Rattle.sql_tree.specs.declared.statement.Statement.{Statement}
+use Rattle.statement_course.specs.Statements.{course_of}
+use Rattle.block_machine.specs.Calls.{Call}
+use Rattle.block_machine.specs.Script.{Entry, Said, Next, more, call, ended, astray}
+use Rattle.block_machine.specs.declared.message.Message.TheVariants as messages
+use Rattle.session_core.specs.Record.{IsValidRecord}
+use Rattle.session_core.specs.Requests.{Request, query, Requests, asks, partial, faulty, unread}
+use Rattle.session_core.specs.Told.{told}
+use Rattle.record_pictures.specs.Runs.{ListsOnce}
+use Rattle.record_pictures.specs.Pictures.{Picture, IsOver}
+use Rattle.session_pictures.specs.Acts.{Run, Act, runs, AreEvents, bytes_of, calls_of, entries_of}
+use Rattle.session_pictures.specs.Transcripts.{IsTranscript}
+
+-- ---- what a client asks
+
+abbrev pub statements_in : Request → List Statement
+statements_in (query (messages.Statements xs)) = xs
+statements_in _ = []
+
+-- the statements of all query messages, in order
+abbrev pub statements_of : Requests → List Statement
+statements_of (asks asked requests) = statements_in asked ++ statements_of requests
+statements_of (partial rest) = []
+statements_of (faulty fault) = []
+statements_of unread = []
+
+-- ---- a session's transcript
+
+-- the whole record was taken, but where it has an entry that doesn't belong there
+abbrev pub IsWhole : Next → List Entry → Type 0
+IsWhole astray rest = ⊤
+IsWhole more rest = rest ≡ []
+IsWhole (call c) rest = rest ≡ []
+IsWhole (ended end) rest = rest ≡ []
+
+-- Acts that hold what was said and the record, in order, and are a transcript of a session that is asked these statements.
+pub record Transcript (asked : List Statement) (entries : List Entry) (said : Said) (next : Next) : Type 0 where
+  pub acts : List Act
+  pub rest : List Entry
+  pub entries_are : entries ≡ entries_of acts ++ rest
+  pub bytes_are : said.bytes ≡ bytes_of acts
+  pub calls_are : said.calls ≡ calls_of acts
+  pub whole : IsWhole next rest
+  pub is : IsTranscript asked acts next
+
+-- what a session says and asks by its record has a transcript
+abbrev pub SessionHasTranscript : Type 0
+SessionHasTranscript =
+    (level : Level) (requests : Requests) (entries : List Entry) (said : Said) (next : Next)
+    → told level requests entries ≡ (said, next) → Transcript (statements_of requests) entries said next
+
+-- ---- a session whose calls a book answered
+
+-- The entries are what came of these calls, one after another, from one past of the book on to another, whatever words the reads drew.
+abbrev pub IsAnswered : Past → List Call → List Entry → Past → Type 0
+IsAnswered p asked entries q = IsValidRecord {W = Unit {0}} (λ before word after. ⊤) p tt asked entries q tt
+
+-- a statement that ran: its entries hold the events of its steps, each scan lists a key once, and one picture shows all that it read
+pub record HasOnePicture (r : Run) : Type 0 where
+  pub events : AreEvents r.steps r.entries
+  pub once : AllByRecursion ListsOnce r.steps
+  pub picture : Picture
+  pub over : IsOver picture (course_of r.tables r.typed) r.steps r.left
+
+abbrev pub RanOverPicture : Act → Type 0
+RanOverPicture (runs r) = HasOnePicture r
+RanOverPicture _ = ⊤
+
+-- Where a book answered the calls of a session, and each event of the history at the end fits what came before it: each statement that
+-- ran did so over one picture.
+abbrev pub EachStatementHasOnePicture : Type 0
+EachStatementHasOnePicture =
+    (level : Level) (requests : Requests) (entries : List Entry) (said : Said) (next : Next) (p q : Past)
+    → told level requests entries ≡ (said, next) → IsAnswered p said.calls entries q → IsFormed q.seen.initial q.seen.events
+    → (t : Transcript (statements_of requests) entries said next) × AllByRecursion RanOverPicture t.acts

@@ -1,0 +1,14 @@
+// What holds of the definitions.
+ghost use Rattle.session_pictures.specs.Laws.{EachStatementHasOnePicture, SessionHasTranscript};
+
+/// What a session says and asks by its record has a transcript: each call of a cell that was answered is a step of a statement of
+/// the client, and behind each statement that ran to its end it was told what the statement came to.
+pub fn session_has_transcript()
+    ensures { SessionHasTranscript }
+{}
+
+/// Where a book answered the session's calls over a history whose events fit what came before them, each statement of the transcript
+/// ran over one picture.
+pub fn each_statement_has_one_picture()
+    ensures { EachStatementHasOnePicture }
+{}
