@@ -47,7 +47,7 @@ pub record Transcript (asked : List Statement) (entries : List Entry) (said : Sa
   pub bytes_are : said.bytes ≡ bytes_of acts
   pub calls_are : said.calls ≡ calls_of acts
   pub whole : IsWhole next rest
-  pub is : IsTranscript asked acts next
+  pub is : IsTranscript [] asked acts next
 
 -- what a session says and asks by its record has a transcript
 abbrev pub SessionHasTranscript : Type 0
