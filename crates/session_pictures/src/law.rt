@@ -1,5 +1,7 @@
 // What holds of the definitions.
-ghost use Rattle.session_pictures.specs.Laws.{EachStatementHasOnePicture, SessionHasTranscript};
+ghost use Rattle.session_pictures.specs.Laws.{EachStatementHasOnePicture, ServedStatementsHavePictures, SessionHasTranscript};
+
+use link_traits::Words;
 
 /// What a session says and asks by its record has a transcript: each call of a cell that was answered is a step of a statement of
 /// the client, and behind each statement that ran to its end it was told what the statement came to.
@@ -11,4 +13,9 @@ pub fn session_has_transcript()
 /// ran over one picture.
 pub fn each_statement_has_one_picture()
     ensures { EachStatementHasOnePicture }
+{}
+
+/// So did each statement of a session that was served over a link.
+pub fn served_statements_have_pictures<W: Words>()
+    ensures { ServedStatementsHavePictures W.gives }
 {}
