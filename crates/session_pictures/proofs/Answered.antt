@@ -18,12 +18,41 @@ use Rattle.block_machine.specs.Calls as calls
 use Rattle.block_machine.specs.Script.{Entry, did, refused, short, unsent, stop}
 use Rattle.block_machine.specs.declared.call.Answer.{Answer}
 use Rattle.block_machine.specs.declared.call.Answer.TheVariants as answers
-use Rattle.session_core.specs.Record.{Happens, Declines, ReadsBack, ReadsFrom}
+use Rattle.session_core.specs.Record.{Happens, Declines, Draws, IsValidRecord, ReadsBack, ReadsFrom}
 use Rattle.statement_course.specs.Laws.{AreDistinct}
 use Rattle.record_pictures.specs.Runs.{lists, finds, puts}
 use Rattle.session_pictures.specs.Acts.{IsEventOf}
-use Rattle.session_pictures.specs.Laws.{IsAnswered}
 use Rattle.session_pictures.proofs.KeyOrder.{ascending_distinct}
+
+-- ---- whatever words were drawn
+
+-- the entries are what came of these calls, one after another, from one past of the book on to another
+abbrev pub IsAnswered : Past → List Call → List Entry → Past → Type 0
+IsAnswered p asked entries q = IsValidRecord {W = Unit {0}} (λ before word after. ⊤) p tt asked entries q tt
+
+any_draws : {W : Type 0} (gives : W → ℕ → W → Type 0) (p : Past) (v : W) (c : Call) (entry : Entry) (u : W) → Draws gives p v c entry u
+    → Draws {W = Unit {0}} (λ before word after. ⊤) p tt c entry tt
+any_draws gives p v (calls.Touch cell) entry u (inl back) = inl (back.0, refl)
+any_draws gives p v (calls.Touch cell) entry u (inr drawn) = inr (drawn.0, (drawn.1.0, tt, drawn.1.2))
+any_draws gives p v _ entry u same = refl
+
+-- the record is valid, whatever words its reads drew
+pub any_words : {W : Type 0} (gives : W → ℕ → W → Type 0) (p : Past) (v : W) (cs : List Call) (es : List Entry) (q : Past) (w : W)
+    → IsValidRecord gives p v cs es q w → IsAnswered p cs es q
+any_words gives p v [] [] q w l = (l.0, refl)
+any_words gives p v (c ∷ cs) [] q w l = absurd l
+any_words gives p v [] (did a e ∷ es) q w l = absurd l
+any_words gives p v [] (refused why ∷ es) q w l = absurd l
+any_words gives p v [] (short final n ∷ es) q w l = any_words gives p v [] es q w l
+any_words gives p v [] (unsent n ∷ es) q w l = any_words gives p v [] es q w l
+any_words gives p v [] (stop cause ∷ es) q w l = any_words gives p v [] es q w l
+any_words gives p v (c ∷ cs) (did a e ∷ es) q w l =
+    (l.0, tt, l.2, any_draws gives p v c (did a e) l.1 l.3, any_words gives l.0 l.1 cs es q w l.4, l.5)
+any_words gives p v (c ∷ cs) (refused why ∷ es) q w l =
+    (l.0, tt, l.2, any_draws gives p v c (refused why) l.1 l.3, any_words gives l.0 l.1 cs es q w l.4)
+any_words gives p v (c ∷ cs) (short final n ∷ es) q w l = any_words gives p v (c ∷ cs) es q w l
+any_words gives p v (c ∷ cs) (unsent n ∷ es) q w l = any_words gives p v (c ∷ cs) es q w l
+any_words gives p v (c ∷ cs) (stop cause ∷ es) q w l = any_words gives p v (c ∷ cs) es q w l
 
 -- ---- the history goes on
 

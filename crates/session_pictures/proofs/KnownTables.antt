@@ -1,11 +1,10 @@
 -- The tables over which a statement runs are the first ones of the history.
-use Rattle.std.proofs.Common.{◌≡◌, ◌⊎◌, inl, inr, ℕ, suc, List, [], ◌∷◌, ◌++◌, length, map, refl, sym, ap, subst, ◌∙◌, append_assoc}
+use Rattle.std.proofs.Common.{◌≡◌, ◌⊎◌, inl, inr, ℕ, List, [], ◌∷◌, ◌++◌, length, map, refl, sym, ap, subst, ◌∙◌, append_assoc}
 use Rattle.std.specs.Prelude.{⊤}
 use Rattle.std.specs.List.{AllByRecursion}
 use Rattle.std.proofs.lemmas.List.{append-nil}
 use Rattle.history_core.specs.declared.event.Event.{Event}
 use Rattle.history_core.specs.declared.fault.BookFault.{BookFault}
-use Rattle.history_core.specs.declared.fault.Limit.{Limit}
 use Rattle.history_core.specs.Book.{Past, AnswersTables}
 use Rattle.sql_tree.specs.declared.statement.Statement.{Statement}
 use Rattle.sql_tree.specs.declared.table.Table.{Table}
@@ -14,13 +13,12 @@ use Rattle.block_machine.specs.Calls as calls
 use Rattle.block_machine.specs.Script.{Entry, did, refused, short, unsent, stop, Next}
 use Rattle.block_machine.specs.declared.call.Answer.{Answer}
 use Rattle.block_machine.specs.declared.call.Answer.TheVariants as answers
-use Rattle.block_machine.specs.declared.end.Stop.{Stop}
 use Rattle.session_core.specs.Record.{Happens}
 use Rattle.record_pictures.specs.Runs.{Step}
 use Rattle.session_pictures.specs.Acts.{Run, Act, tells, asks, meets, runs, call_of, AreAnswers, calls_of, entries_of}
 use Rattle.session_pictures.specs.Transcripts.{IsNote, Learns, IsTranscript}
-use Rattle.session_pictures.specs.Laws.{IsAnswered, AreFirst}
-use Rattle.session_pictures.proofs.Answered.{Extends, happens_extends, declines_extends, extends_to}
+use Rattle.session_pictures.specs.Laws.{AreFirst}
+use Rattle.session_pictures.proofs.Answered.{IsAnswered, Extends, happens_extends, declines_extends, extends_to}
 
 -- ---- first tables
 

@@ -1,23 +1,24 @@
 -- Each statement that ran did so over one picture.
-use Rattle.std.proofs.Common.{ℕ, inl, inr, List, [], ◌∷◌, ◌++◌, map, refl, subst, append_assoc}
-use Rattle.std.specs.Prelude.{⊤}
+use Rattle.std.proofs.Common.{ℕ, List, [], ◌∷◌, ◌++◌, ◌≡◌, map, refl, subst, append_assoc}
 use Rattle.std.specs.List.{AllByRecursion}
 use Rattle.history_core.specs.declared.event.Event.{Event}
 use Rattle.sql_tree.specs.declared.statement.Statement.{Statement}
 use Rattle.sql_tree.specs.declared.table.Table.{Table}
 use Rattle.block_machine.specs.Calls.{Call}
-use Rattle.block_machine.specs.Calls as calls
-use Rattle.block_machine.specs.Script.{Entry, did, refused, short, unsent, stop, Next, ended}
+use Rattle.block_machine.specs.Script.{Entry, did, refused, short, unsent, stop, Said, Next, ended}
 use Rattle.block_machine.specs.declared.call.Answer.{Answer}
 use Rattle.history_core.specs.Book.{Past}
-use Rattle.session_core.specs.Record.{Draws, IsValidRecord}
+use Rattle.history_core.specs.Legal.{IsFormed}
+use Rattle.cell_base.specs.declared.level.Level.{Level}
+use Rattle.session_core.specs.Requests.{Requests}
+use Rattle.session_core.specs.Told.{told}
 use Rattle.record_pictures.specs.Runs.{Step, lists, finds, puts, ListsOnce}
 use Rattle.record_pictures.specs.Laws.{IsRun}
 use Rattle.record_pictures.proofs.Answering.{run_pictured}
 use Rattle.session_pictures.specs.Acts.{Run, Act, tells, asks, meets, runs, call_of, answer_of, AreAnswers, IsEventOf, AreEvents, calls_of, entries_of}
 use Rattle.session_pictures.specs.Transcripts.{IsStatementRun, IsTranscript}
-use Rattle.session_pictures.specs.Laws.{statements_of, IsAnswered, AreFirst, HasOnePicture, RanOverPicture, EachStatementHasOnePicture, ServedStatementsHavePictures}
-use Rattle.session_pictures.proofs.Answered.{IsGood, AreGood, are_good}
+use Rattle.session_pictures.specs.Laws.{statements_of, Transcript, AreFirst, HasOnePicture, RanOverPicture, EachStatementHasOnePicture, ServedStatementsHavePictures}
+use Rattle.session_pictures.proofs.Answered.{IsAnswered, any_words, IsGood, AreGood, are_good}
 use Rattle.session_pictures.proofs.KnownTables.{RunsOverFirst, runs_over_first}
 use Rattle.session_pictures.proofs.Sessions.{session_transcript}
 
@@ -66,8 +67,10 @@ acts_shown tables known asked (runs r ∷ acts) next rest is h f =
         (subst (λ (es : List Entry). AreGood (map call_of r.steps ++ calls_of acts) es) (append_assoc r.entries (entries_of acts) rest) h) in
     (run_shown tables known r is.3 f.0 parts.0 parts.1, acts_shown tables known is.1 acts next rest is.5 parts.2 f.1)
 
-pub each_over_one_picture : EachStatementHasOnePicture
-each_over_one_picture level requests entries said next p q is answered formed =
+answered_over_one_picture : (level : Level) (requests : Requests) (entries : List Entry) (said : Said) (next : Next) (p q : Past)
+    → told level requests entries ≡ (said, next) → IsAnswered p said.calls entries q → IsFormed q.seen.initial q.seen.events
+    → (t : Transcript (statements_of requests) entries said next) × AllByRecursion (RanOverPicture q.seen.tables) t.acts
+answered_over_one_picture level requests entries said next p q is answered formed =
     let t = session_transcript level requests entries said next is in
     let record_is = subst (λ (cs : List Call). IsAnswered p cs (entries_of t.acts ++ t.rest) q) t.calls_are
         (subst (λ (es : List Entry). IsAnswered p said.calls es q) t.entries_are answered) in
@@ -75,34 +78,11 @@ each_over_one_picture level requests entries said next p q is answered formed =
     let good = are_good q.seen.initial p (calls_of t.acts) (entries_of t.acts ++ t.rest) q record_is formed in
     (t, acts_shown q.seen.tables [] (statements_of requests) t.acts next t.rest t.is good first)
 
--- ---- a session that was served
-
-any_draws : {W : Type 0} (gives : W → ℕ → W → Type 0) (p : Past) (v : W) (c : Call) (entry : Entry) (u : W) → Draws gives p v c entry u
-    → Draws {W = Unit {0}} (λ before word after. ⊤) p tt c entry tt
-any_draws gives p v (calls.Touch cell) entry u (inl back) = inl (back.0, refl)
-any_draws gives p v (calls.Touch cell) entry u (inr drawn) = inr (drawn.0, (drawn.1.0, tt, drawn.1.2))
-any_draws gives p v _ entry u same = refl
-
--- the record is valid, whatever words its reads drew
-any_words : {W : Type 0} (gives : W → ℕ → W → Type 0) (p : Past) (v : W) (cs : List Call) (es : List Entry) (q : Past) (w : W)
-    → IsValidRecord gives p v cs es q w → IsAnswered p cs es q
-any_words gives p v [] [] q w l = (l.0, refl)
-any_words gives p v (c ∷ cs) [] q w l = absurd l
-any_words gives p v [] (did a e ∷ es) q w l = absurd l
-any_words gives p v [] (refused why ∷ es) q w l = absurd l
-any_words gives p v [] (short final n ∷ es) q w l = any_words gives p v [] es q w l
-any_words gives p v [] (unsent n ∷ es) q w l = any_words gives p v [] es q w l
-any_words gives p v [] (stop cause ∷ es) q w l = any_words gives p v [] es q w l
-any_words gives p v (c ∷ cs) (did a e ∷ es) q w l =
-    (l.0, tt, l.2, any_draws gives p v c (did a e) l.1 l.3, any_words gives l.0 l.1 cs es q w l.4, l.5)
-any_words gives p v (c ∷ cs) (refused why ∷ es) q w l =
-    (l.0, tt, l.2, any_draws gives p v c (refused why) l.1 l.3, any_words gives l.0 l.1 cs es q w l.4)
-any_words gives p v (c ∷ cs) (short final n ∷ es) q w l = any_words gives p v (c ∷ cs) es q w l
-any_words gives p v (c ∷ cs) (unsent n ∷ es) q w l = any_words gives p v (c ∷ cs) es q w l
-any_words gives p v (c ∷ cs) (stop cause ∷ es) q w l = any_words gives p v (c ∷ cs) es q w l
+pub each_over_one_picture : {W : Type 0} (gives : W → ℕ → W → Type 0) → EachStatementHasOnePicture gives
+each_over_one_picture gives level requests entries said next p v q w is valid formed =
+    answered_over_one_picture level requests entries said next p q is (any_words gives p v said.calls entries q w valid) formed
 
 pub served_over_pictures : {W : Type 0} (gives : W → ℕ → W → Type 0) → ServedStatementsHavePictures gives
 served_over_pictures gives level before outcome after account s legal =
-    each_over_one_picture level s.requests account.entries (record { bytes = account.sent; calls = account.calls }) (ended outcome.end)
-    before.past after.past s.told_is
-    (any_words gives before.past before.words account.calls account.entries after.past after.words s.valid) legal.legal.formed
+    each_over_one_picture gives level s.requests account.entries (record { bytes = account.sent; calls = account.calls }) (ended outcome.end)
+    before.past before.words after.past after.words s.told_is s.valid legal.legal.formed

@@ -7,7 +7,6 @@ use Rattle.history_core.specs.Chronicle.{IsLegalChronicle}
 use Rattle.history_core.specs.Legal.{IsFormed}
 use Rattle.sql_tree.specs.declared.statement.Statement.{Statement}
 use Rattle.sql_tree.specs.declared.table.Table.{Table}
-use Rattle.block_machine.specs.Calls.{Call}
 use Rattle.block_machine.specs.Script.{Entry, Said, Next, more, call, ended, astray}
 use Rattle.block_machine.specs.declared.message.Message.TheVariants as messages
 use Rattle.session_core.specs.Record.{IsValidRecord}
@@ -58,11 +57,7 @@ SessionHasTranscript =
     (level : Level) (requests : Requests) (entries : List Entry) (said : Said) (next : Next)
     → told level requests entries ≡ (said, next) → Transcript (statements_of requests) entries said next
 
--- ---- a session whose calls a book answered
-
--- The entries are what came of these calls, one after another, from one past of the book on to another, whatever words the reads drew.
-abbrev pub IsAnswered : Past → List Call → List Entry → Past → Type 0
-IsAnswered p asked entries q = IsValidRecord {W = Unit {0}} (λ before word after. ⊤) p tt asked entries q tt
+-- ---- statements over pictures
 
 -- these tables are the first ones
 abbrev pub AreFirst : List Table → List Table → Type 0
@@ -80,15 +75,15 @@ abbrev pub RanOverPicture : List Table → Act → Type 0
 RanOverPicture tables (runs r) = HasOnePicture tables r
 RanOverPicture tables _ = ⊤
 
--- Where a book answered the calls of a session, and each event of the history at the end fits what came before it: each statement that
+-- Where a session's record is valid, and each event of the history at its end fits what came before it: each statement that the session
 -- ran did so over one picture.
-abbrev pub EachStatementHasOnePicture : Type 0
-EachStatementHasOnePicture =
-    (level : Level) (requests : Requests) (entries : List Entry) (said : Said) (next : Next) (p q : Past)
-    → told level requests entries ≡ (said, next) → IsAnswered p said.calls entries q → IsFormed q.seen.initial q.seen.events
+abbrev pub EachStatementHasOnePicture : {W : Type 0} → (W → ℕ → W → Type 0) → Type 0
+EachStatementHasOnePicture {W} gives =
+    (level : Level) (requests : Requests) (entries : List Entry) (said : Said) (next : Next) (p : Past) (v : W) (q : Past) (w : W)
+    → told level requests entries ≡ (said, next) → IsValidRecord gives p v said.calls entries q w → IsFormed q.seen.initial q.seen.events
     → (t : Transcript (statements_of requests) entries said next) × AllByRecursion (RanOverPicture q.seen.tables) t.acts
 
--- So did each statement of a session that was served over a link, where the history at its end is legal.
+-- So did each statement of a session that was served over a link, where the history at the end is legal.
 abbrev pub ServedStatementsHavePictures : {W : Type 0} → (W → ℕ → W → Type 0) → Type 0
 ServedStatementsHavePictures {W} gives =
     (level : Level) (before : Scene W) (outcome : Served) (after : Scene W) (account : Account)

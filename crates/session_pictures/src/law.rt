@@ -9,10 +9,10 @@ pub fn session_has_transcript()
     ensures { SessionHasTranscript }
 {}
 
-/// Where a book answered the session's calls over a history whose events fit what came before them, each statement of the transcript
-/// ran over one picture.
-pub fn each_statement_has_one_picture()
-    ensures { EachStatementHasOnePicture }
+/// Where a session's record is valid, whatever the words of its reads are drawn from, and each event of the history at its end fits
+/// what came before it, each statement of the transcript ran over one picture.
+pub fn each_statement_has_one_picture<W: Words>()
+    ensures { EachStatementHasOnePicture W.gives }
 {}
 
 /// So did each statement of a session that was served over a link.
