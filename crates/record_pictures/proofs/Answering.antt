@@ -96,8 +96,8 @@ select_means : (p : Picture) (tables : List Table) (select : TypedSelect) (steps
 select_means p tables select steps outcome over =
     let parts = parts_in_order tables select in
     let same = same_end (map demand_of steps) (flat_map (asks_part p.listed p.value) parts) outcome
-        (rows_outcome select (selected select (picture_of p.listed p.value parts)))
-        (sym over.demands ∙ select_answers p.listed p.value tables select) in
+    (rows_outcome select (selected select (picture_of p.listed p.value parts)))
+    (sym over.demands ∙ select_answers p.listed p.value tables select) in
     record { asked = same.0; came = same.1 }
 
 change_means : (p : Picture) (tables : List Table) (change : TypedChange) (steps : List Step) (outcome : Outcome) → HasTable tables change.table
@@ -107,9 +107,9 @@ change_means p tables change steps outcome there over =
     let made = changes_of there.0 change (shown_rows p.listed p.value part) in
     let asked = asks_part p.listed p.value part in
     let same = same_end (map demand_of steps) (asked ++ change_writes change made) outcome (change_outcome change made)
-        (sym over.demands ∙ (change_answers p.listed p.value tables change there.0 there.1
-        ∙ (ap (λ ds. asked ++ ds) (changes_end change made)
-        ∙ sym (append_assoc asked (change_writes change made) (Reply (change_outcome change made) ∷ []))))) in
+    (sym over.demands ∙ (change_answers p.listed p.value tables change there.0 there.1
+    ∙ (ap (λ ds. asked ++ ds) (changes_end change made)
+    ∙ sym (append_assoc asked (change_writes change made) (Reply (change_outcome change made) ∷ []))))) in
     record { table = there.0; table_is = there.1; asked = same.0; came = same.1 }
 
 insert_means : (p : Picture) (tables : List Table) (insert : TypedInsert) (steps : List Step) (outcome : Outcome) → HasTable tables insert.table
@@ -117,7 +117,7 @@ insert_means : (p : Picture) (tables : List Table) (insert : TypedInsert) (steps
 insert_means p tables insert steps outcome there over =
     let rows = rows_to_insert there.0 insert.rows in
     let same = same_end (map demand_of steps) (insert_asks p.value insert.table there.0 rows) outcome (insert_outcome p.value insert.table rows)
-        (sym over.demands ∙ (insert_answers p.listed p.value tables insert there.0 there.1 ∙ inserts_end p.value insert.table there.0 rows)) in
+    (sym over.demands ∙ (insert_answers p.listed p.value tables insert there.0 there.1 ∙ inserts_end p.value insert.table there.0 rows)) in
     record { table = there.0; table_is = there.1; asked = same.0; came = same.1 }
 
 run_means : (p : Picture) (tables : List Table) (t : Typed) (steps : List Step) (left : Course) → IsRun tables t steps left

@@ -64,7 +64,7 @@ acts_shown tables known asked (meets (unsent n) ∷ acts) next rest is h f = (tt
 acts_shown tables known asked (meets (stop cause) ∷ acts) next rest is h f = (tt, acts_shown tables known asked acts next rest is.1 h f.1)
 acts_shown tables known asked (runs r ∷ acts) next rest is h f =
     let parts = steps_good r.steps r.entries (calls_of acts) (entries_of acts ++ rest) is.3.answered
-        (subst (λ (es : List Entry). AreGood (map call_of r.steps ++ calls_of acts) es) (append_assoc r.entries (entries_of acts) rest) h) in
+    (subst (λ (es : List Entry). AreGood (map call_of r.steps ++ calls_of acts) es) (append_assoc r.entries (entries_of acts) rest) h) in
     (run_shown tables known r is.3 f.0 parts.0 parts.1, acts_shown tables known is.1 acts next rest is.5 parts.2 f.1)
 
 answered_over_one_picture : (level : Level) (requests : Requests) (entries : List Entry) (said : Said) (next : Next) (p q : Past)
@@ -73,7 +73,7 @@ answered_over_one_picture : (level : Level) (requests : Requests) (entries : Lis
 answered_over_one_picture level requests entries said next p q is answered formed =
     let t = session_transcript level requests entries said next is in
     let record_is = subst (λ (cs : List Call). IsAnswered p cs (entries_of t.acts ++ t.rest) q) t.calls_are
-        (subst (λ (es : List Entry). IsAnswered p said.calls es q) t.entries_are answered) in
+    (subst (λ (es : List Entry). IsAnswered p said.calls es q) t.entries_are answered) in
     let first = runs_over_first [] (statements_of requests) t.acts next t.rest p q t.is record_is (p.seen.tables, refl) in
     let good = are_good q.seen.initial p (calls_of t.acts) (entries_of t.acts ++ t.rest) q record_is formed in
     (t, acts_shown q.seen.tables [] (statements_of requests) t.acts next t.rest t.is good first)

@@ -245,8 +245,12 @@ concluded asked statement tables t description outcome block known around over t
       calls_are = c.0.calls_are;
       whole = c.0.whole;
       is = (
-        [], asked, refl, record { over = over; types = types; ran = sym is; answered = tt },
-        finished outcome c.0.acts (concludes description outcome block known around said entries).1 c.1, c.0.is,
+        [],
+        asked,
+        refl,
+        record { over = over; types = types; ran = sym is; answered = tt },
+        finished outcome c.0.acts (concludes description outcome block known around said entries).1 c.1,
+        c.0.is,
       );
     }
 
