@@ -1,5 +1,5 @@
 -- A statement that runs: its steps, what is left of its course, and what comes behind.
-use Rattle.std.proofs.Common.{◌≡◌, ◌⊎◌, ◌==◌, true, false, List, [], ◌∷◌, ◌++◌, length, map, refl, sym, ap, ◌∙◌, append_assoc, Ok}
+use Rattle.std.proofs.Common.{◌≡◌, ◌⊎◌, ◌==◌, true, false, List, [], ◌∷◌, ◌++◌, length, map, refl, sym, subst, ap, ◌∙◌, append_assoc, Ok}
 use Rattle.std.proofs.lemmas.Bool.{cond_both}
 use Rattle.cell_base.specs.declared.sql_state.SqlState.TheVariants as states
 use Rattle.history_core.specs.declared.event.Event.{Event}
@@ -12,6 +12,7 @@ use Rattle.statement_course.specs.declared.demand.Outcome.{Outcome}
 use Rattle.statement_course.specs.Course.{Course, scan, touch, write, done, first_demand}
 use Rattle.statement_course.specs.Statements.{course_of}
 use Rattle.outcome_replies.specs.declared.description.RowDescription.{RowDescription}
+use Rattle.outcome_replies.specs.declared.description.RowDescription.TheVariants as described
 use Rattle.block_machine.specs.Calls.{Call, asks_cells, call_for}
 use Rattle.block_machine.specs.Calls as calls
 use Rattle.block_machine.specs.Knowledge.{Knowledge}
@@ -213,12 +214,13 @@ progress asked description (done outcome) block known around h said entries =
 -- ---- the statement
 
 -- a statement that runs over these tables
-pub runs_traced : (asked : List Statement) (statement : Statement) (tables : List Table) (t : Typed) (description : RowDescription) (block : Block)
+pub runs_traced : (asked : List Statement) (statement : Statement) (tables : List Table) (t : Typed) (description : RowDescription) (as_told : description ≡ described.Told) (block : Block)
     (known : Knowledge) (around : Around)
     → (tables ≡ known.tables) ⊎ (tables ≡ []) → typed tables statement ≡ Ok t → AroundTraced asked around → Traced known.tables (statement ∷ asked) (runs_script description (course_of tables t) block known around)
-runs_traced asked statement tables t description block known around over types h said entries =
+runs_traced asked statement tables t description as_told block known around over types h said entries =
     let p = progress asked description (course_of tables t) block known around h said entries in
-    let r : Run = record { description = description; statement = statement; tables = tables; typed = t; steps = p.steps; entries = p.taken; left = p.left } in
+    let next = (runs_script description (course_of tables t) block known around said entries).1 in
+    let r : Run = record { statement = statement; tables = tables; typed = t; steps = p.steps; entries = p.taken; left = p.left } in
     record {
       acts = runs r ∷ p.acts;
       rest = p.rest;
@@ -226,17 +228,25 @@ runs_traced asked statement tables t description block known around over types h
       bytes_are = p.bytes_are;
       calls_are = p.calls_are;
       whole = p.whole;
-      is = ([], asked, refl, record { over = over; types = types; ran = p.ran; answered = p.answered }, p.ends, p.is);
+      is = (
+        [],
+        asked,
+        refl,
+        record { over = over; types = types; ran = p.ran; answered = p.answered },
+        subst (λ (d : RowDescription). Ends d p.left p.acts next) as_told p.ends,
+        p.is,
+      );
     }
 
 -- one that asks for nothing
-concluded : (asked : List Statement) (statement : Statement) (tables : List Table) (t : Typed) (description : RowDescription) (outcome : Outcome) (block : Block)
+concluded : (asked : List Statement) (statement : Statement) (tables : List Table) (t : Typed) (description : RowDescription) (as_told : description ≡ described.Told) (outcome : Outcome) (block : Block)
     (known : Knowledge) (around : Around)
     → (tables ≡ known.tables) ⊎ (tables ≡ []) → typed tables statement ≡ Ok t → course_of tables t ≡ done outcome → AroundTraced asked around
     → Traced known.tables (statement ∷ asked) (concludes description outcome block known around)
-concluded asked statement tables t description outcome block known around over types is h said entries =
+concluded asked statement tables t description as_told outcome block known around over types is h said entries =
     let c = concludes_answers asked description outcome block known around h said entries in
-    let r : Run = record { description = description; statement = statement; tables = tables; typed = t; steps = []; entries = []; left = done outcome } in
+    let next = (concludes description outcome block known around said entries).1 in
+    let r : Run = record { statement = statement; tables = tables; typed = t; steps = []; entries = []; left = done outcome } in
     record {
       acts = runs r ∷ c.0.acts;
       rest = c.0.rest;
@@ -249,17 +259,17 @@ concluded asked statement tables t description outcome block known around over t
         asked,
         refl,
         record { over = over; types = types; ran = sym is; answered = tt },
-        finished outcome c.0.acts (concludes description outcome block known around said entries).1 c.1,
+        subst (λ (d : RowDescription). Ends d (done outcome) c.0.acts next) as_told (finished outcome c.0.acts next c.1),
         c.0.is,
       );
     }
 
-pub at_once_traced : (asked : List Statement) (statement : Statement) (tables : List Table) (t : Typed) (description : RowDescription) (course : Course) (block : Block)
+pub at_once_traced : (asked : List Statement) (statement : Statement) (tables : List Table) (t : Typed) (description : RowDescription) (as_told : description ≡ described.Told) (course : Course) (block : Block)
     (known : Knowledge) (around : Around)
     → (tables ≡ known.tables) ⊎ (tables ≡ []) → typed tables statement ≡ Ok t → course_of tables t ≡ course → AroundTraced asked around
     → Traced known.tables (statement ∷ asked) (at_once description course block known around)
-at_once_traced asked statement tables t description (done outcome) block known around over types is h =
-    concluded asked statement tables t description outcome block known around over types is h
-at_once_traced asked statement tables t description (scan table next) block known around over types is h = lost_traced known.tables (statement ∷ asked)
-at_once_traced asked statement tables t description (touch cell next) block known around over types is h = lost_traced known.tables (statement ∷ asked)
-at_once_traced asked statement tables t description (write cell value next) block known around over types is h = lost_traced known.tables (statement ∷ asked)
+at_once_traced asked statement tables t description as_told (done outcome) block known around over types is h =
+    concluded asked statement tables t description as_told outcome block known around over types is h
+at_once_traced asked statement tables t description as_told (scan table next) block known around over types is h = lost_traced known.tables (statement ∷ asked)
+at_once_traced asked statement tables t description as_told (touch cell next) block known around over types is h = lost_traced known.tables (statement ∷ asked)
+at_once_traced asked statement tables t description as_told (write cell value next) block known around over types is h = lost_traced known.tables (statement ∷ asked)

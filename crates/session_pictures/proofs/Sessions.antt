@@ -65,7 +65,7 @@ statements_traced : (asked : List Statement) (xs : List Statement) (block : Bloc
     → Traced known.tables (xs ++ asked) (statements xs block known outside)
 statements_traced asked [] block known outside h = finishes_traced asked ready_told.Told block known outside h
 statements_traced asked (s ∷ later) block known outside h =
-    told_of_traced (later ++ asked) s described.Told block known _ (record {
+    told_of_traced (later ++ asked) s described.Told refl block known _ (record {
       succeeded = λ b k. statements_traced asked later b k outside h;
       failed = λ state k. skips k.tables later asked (readied state k outside) (readied_traced asked state k outside h);
       broken = λ shown owed. skips shown later asked (outside.broken owed) (h.broken shown owed);

@@ -17,6 +17,7 @@ use Rattle.typing_rules.specs.Building.{built}
 use Rattle.typing_rules.specs.Typed.{typed}
 use Rattle.statement_course.specs.Statements.{course_of}
 use Rattle.outcome_replies.specs.declared.description.RowDescription.{RowDescription}
+use Rattle.outcome_replies.specs.declared.description.RowDescription.TheVariants as described
 use Rattle.block_machine.specs.Calls as calls
 use Rattle.block_machine.specs.Knowledge.{Knowledge, with_tables, with_level}
 use Rattle.block_machine.specs.Settings.{is_own, history_name, level_name, chosen_level, value_of}
@@ -128,112 +129,112 @@ shows_traced asked description name block known around h said entries =
 
 -- ---- statements on tables, with what comes behind them
 
-continues_traced : (asked : List Statement) (s : Statement) (tables : List Table) (t : Typed) (description : RowDescription) (block : Block) (known : Knowledge) (around : Around)
+continues_traced : (asked : List Statement) (s : Statement) (tables : List Table) (t : Typed) (description : RowDescription) (as_told : description ≡ described.Told) (block : Block) (known : Knowledge) (around : Around)
     → (tables ≡ known.tables) ⊎ (tables ≡ []) → typed tables s ≡ Ok t → AroundTraced asked around → Traced known.tables (s ∷ asked) (continues description (course_of tables t) block known around)
-continues_traced asked s tables t description block known around over types h =
+continues_traced asked s tables t description as_told block known around over types h =
     short_in_traced (s ∷ asked) block known around (runs_script description (course_of tables t) block known around) (around_skips (s ∷ []) asked around h)
-    (runs_traced asked s tables t description block known around over types h)
+    (runs_traced asked s tables t description as_told block known around over types h)
 
-begins_traced : (asked : List Statement) (s : Statement) (tables : List Table) (t : Typed) (description : RowDescription) (block : Block) (known : Knowledge) (around : Around)
+begins_traced : (asked : List Statement) (s : Statement) (tables : List Table) (t : Typed) (description : RowDescription) (as_told : description ≡ described.Told) (block : Block) (known : Knowledge) (around : Around)
     → (tables ≡ known.tables) ⊎ (tables ≡ []) → typed tables s ≡ Ok t → AroundTraced asked around → Traced known.tables (s ∷ asked) (begins description (course_of tables t) block known around)
-begins_traced asked s tables t description (Implicit false) known around over types h =
+begins_traced asked s tables t description as_told (Implicit false) known around over types h =
     ask_traced known.tables (s ∷ asked) (calls.Begin known.level) _ (λ a e. tt) (λ entry. refl) (λ a. begun_traced known.tables (s ∷ asked) a _ _
-    (continues_traced asked s tables t description (Implicit true) known around over types h)
+    (continues_traced asked s tables t description as_told (Implicit true) known around over types h)
     (λ why. declined_traced (s ∷ asked) (Implicit false) known around why (around_skips (s ∷ []) asked around h)))
-begins_traced asked s tables t description (Implicit true) known around over types h = runs_traced asked s tables t description (Implicit true) known around over types h
-begins_traced asked s tables t description Regular known around over types h = runs_traced asked s tables t description Regular known around over types h
-begins_traced asked s tables t description Failed known around over types h =
+begins_traced asked s tables t description as_told (Implicit true) known around over types h = runs_traced asked s tables t description as_told (Implicit true) known around over types h
+begins_traced asked s tables t description as_told Regular known around over types h = runs_traced asked s tables t description as_told Regular known around over types h
+begins_traced asked s tables t description as_told Failed known around over types h =
     fails_traced (s ∷ asked) states.S25P02 Failed known around (around_skips (s ∷ []) asked around h)
 
-judged_traced : (asked : List Statement) (s : Statement) (known : Knowledge) (made : Result Typed) (description : RowDescription) (block : Block) (around : Around)
+judged_traced : (asked : List Statement) (s : Statement) (known : Knowledge) (made : Result Typed) (description : RowDescription) (as_told : description ≡ described.Told) (block : Block) (around : Around)
     → typed known.tables s ≡ made → AroundTraced asked around → Traced known.tables (s ∷ asked) (judged description made block known around)
-judged_traced asked s known (Ok t) description block around types h = begins_traced asked s known.tables t description block known around (inl refl) types h
-judged_traced asked s known (Err code) description block around types h =
+judged_traced asked s known (Ok t) description as_told block around types h = begins_traced asked s known.tables t description as_told block known around (inl refl) types h
+judged_traced asked s known (Err code) description as_told block around types h =
     fails_traced (s ∷ asked) code block known around (around_skips (s ∷ []) asked around h)
 
-typed_over_traced : (asked : List Statement) (s : Statement) (description : RowDescription) (block : Block) (known : Knowledge) (tables : List Table) (around : Around)
+typed_over_traced : (asked : List Statement) (s : Statement) (description : RowDescription) (as_told : description ≡ described.Told) (block : Block) (known : Knowledge) (tables : List Table) (around : Around)
     → AroundTraced asked around → (said : Said) (entries : List Entry)
     → Trace known.tables (s ∷ asked) said entries (typed_over description s block known tables around said entries)
     ⊎ Trace (known.tables ++ tables) (s ∷ asked) said entries (typed_over description s block known tables around said entries)
-typed_over_traced asked s description block known tables around h =
+typed_over_traced asked s description as_told block known tables around h =
     either_traced known.tables (known.tables ++ tables) (s ∷ asked) (fails states.S53200 block known around)
     (judged description (typed (known.tables ++ tables) s) block (with_tables known tables) around)
     (fails_traced (s ∷ asked) states.S53200 block known around (around_skips (s ∷ []) asked around h))
-    (judged_traced asked s (with_tables known tables) (typed (known.tables ++ tables) s) description block around refl h)
+    (judged_traced asked s (with_tables known tables) (typed (known.tables ++ tables) s) description as_told block around refl h)
 
-looks_traced : (asked : List Statement) (s : Statement) (description : RowDescription) (block : Block) (known : Knowledge) (around : Around)
+looks_traced : (asked : List Statement) (s : Statement) (description : RowDescription) (as_told : description ≡ described.Told) (block : Block) (known : Knowledge) (around : Around)
     → AroundTraced asked around → Traced known.tables (s ∷ asked) (looks description s block known around)
-looks_traced asked s description block known around h said [] =
+looks_traced asked s description as_told block known around h said [] =
     nothing known.tables (s ∷ asked) said (call (calls.Look (length known.tables))) [] refl
-looks_traced asked s description block known around h said (did (answers.Looked tables) e ∷ entries) =
+looks_traced asked s description as_told block known around h said (did (answers.Looked tables) e ∷ entries) =
     let c = calls.Look (length known.tables) in
     let now = with_call said c in
     let result = typed_over description s block known tables around now entries in
-    elim (typed_over_traced asked s description block known tables around h now entries) [
+    elim (typed_over_traced asked s description as_told block known tables around h now entries) [
       | inl t ↦ asks_first known.tables known.tables (s ∷ asked) said c (did (answers.Looked tables) e) entries result tt (refl, inr refl) t
       | inr t ↦ asks_first known.tables (known.tables ++ tables) (s ∷ asked) said c (did (answers.Looked tables) e) entries result tt (refl, inl refl) t
     ]
-looks_traced asked s description block known around h said (did (answers.Refused why) e ∷ entries) =
+looks_traced asked s description as_told block known around h said (did (answers.Refused why) e ∷ entries) =
     let c = calls.Look (length known.tables) in
     let now = with_call said c in
     asks_first known.tables known.tables (s ∷ asked) said c (did (answers.Refused why) e) entries (declined block known around why now entries) tt refl
     (declined_traced (s ∷ asked) block known around why (around_skips (s ∷ []) asked around h) now entries)
-looks_traced asked s description block known around h said (did a e ∷ entries) =
+looks_traced asked s description as_told block known around h said (did a e ∷ entries) =
     let c = calls.Look (length known.tables) in
     let now = with_call said c in
     asks_first known.tables known.tables (s ∷ asked) said c (did a e) entries (now, astray) tt refl (nothing known.tables (s ∷ asked) now astray entries tt)
-looks_traced asked s description block known around h said (refused why ∷ entries) =
+looks_traced asked s description as_told block known around h said (refused why ∷ entries) =
     let c = calls.Look (length known.tables) in
     let now = with_call said c in
     asks_first known.tables known.tables (s ∷ asked) said c (refused why) entries (declined block known around why now entries) tt refl
     (declined_traced (s ∷ asked) block known around why (around_skips (s ∷ []) asked around h) now entries)
-looks_traced asked s description block known around h said (short final n ∷ entries) = nothing known.tables (s ∷ asked) said astray (short final n ∷ entries) tt
-looks_traced asked s description block known around h said (unsent n ∷ entries) = nothing known.tables (s ∷ asked) said astray (unsent n ∷ entries) tt
-looks_traced asked s description block known around h said (stop cause ∷ entries) = nothing known.tables (s ∷ asked) said astray (stop cause ∷ entries) tt
+looks_traced asked s description as_told block known around h said (short final n ∷ entries) = nothing known.tables (s ∷ asked) said astray (short final n ∷ entries) tt
+looks_traced asked s description as_told block known around h said (unsent n ∷ entries) = nothing known.tables (s ∷ asked) said astray (unsent n ∷ entries) tt
+looks_traced asked s description as_told block known around h said (stop cause ∷ entries) = nothing known.tables (s ∷ asked) said astray (stop cause ∷ entries) tt
 
-prepares_traced : (asked : List Statement) (s : Statement) (description : RowDescription) (block : Block) (known : Knowledge) (around : Around)
+prepares_traced : (asked : List Statement) (s : Statement) (description : RowDescription) (as_told : description ≡ described.Told) (block : Block) (known : Knowledge) (around : Around)
     → AroundTraced asked around → Traced known.tables (s ∷ asked) (prepares description s block known around)
-prepares_traced asked s description block known around h =
+prepares_traced asked s description as_told block known around h =
     short_in_traced (s ∷ asked) block known around (looks description s block known around) (around_skips (s ∷ []) asked around h)
-    (looks_traced asked s description block known around h)
+    (looks_traced asked s description as_told block known around h)
 
-judged_at_once_traced : (asked : List Statement) (s : Statement) (made : Result Typed) (description : RowDescription) (block : Block) (known : Knowledge) (around : Around)
+judged_at_once_traced : (asked : List Statement) (s : Statement) (made : Result Typed) (description : RowDescription) (as_told : description ≡ described.Told) (block : Block) (known : Knowledge) (around : Around)
     → typed [] s ≡ made → AroundTraced asked around → Traced known.tables (s ∷ asked) (judged_at_once description made block known around)
-judged_at_once_traced asked s (Ok t) description block known around types h =
-    at_once_traced asked s [] t description (course_of [] t) block known around (inr refl) types refl h
-judged_at_once_traced asked s (Err code) description block known around types h =
+judged_at_once_traced asked s (Ok t) description as_told block known around types h =
+    at_once_traced asked s [] t description as_told (course_of [] t) block known around (inr refl) types refl h
+judged_at_once_traced asked s (Err code) description as_told block known around types h =
     fails_traced (s ∷ asked) code block known around (around_skips (s ∷ []) asked around h)
 
-selects_traced : (asked : List Statement) (s : Statement) (from : List TableRef) (description : RowDescription) (block : Block) (known : Knowledge) (around : Around)
+selects_traced : (asked : List Statement) (s : Statement) (from : List TableRef) (description : RowDescription) (as_told : description ≡ described.Told) (block : Block) (known : Knowledge) (around : Around)
     → AroundTraced asked around → Traced known.tables (s ∷ asked) (selects description from s block known around)
-selects_traced asked s [] description block known around h =
+selects_traced asked s [] description as_told block known around h =
     short_in_traced (s ∷ asked) block known around (judged_at_once description (typed [] s) block known around) (around_skips (s ∷ []) asked around h)
-    (judged_at_once_traced asked s (typed [] s) description block known around refl h)
-selects_traced asked s (entry ∷ more) description block known around h = prepares_traced asked s description block known around h
+    (judged_at_once_traced asked s (typed [] s) description as_told block known around refl h)
+selects_traced asked s (entry ∷ more) description as_told block known around h = prepares_traced asked s description as_told block known around h
 
 -- ---- all of them
 
-performs_traced : (asked : List Statement) (s : Statement) (description : RowDescription) (block : Block) (known : Knowledge) (around : Around)
+performs_traced : (asked : List Statement) (s : Statement) (description : RowDescription) (as_told : description ≡ described.Told) (block : Block) (known : Knowledge) (around : Around)
     → AroundTraced asked around → Traced known.tables (s ∷ asked) (performs description s block known around)
-performs_traced asked (tree.Select select) description block known around h =
-    selects_traced asked (tree.Select select) select.from description block known around h
-performs_traced asked (tree.Insert insert) description block known around h = prepares_traced asked (tree.Insert insert) description block known around h
-performs_traced asked (tree.Update update) description block known around h = prepares_traced asked (tree.Update update) description block known around h
-performs_traced asked (tree.Delete delete) description block known around h = prepares_traced asked (tree.Delete delete) description block known around h
-performs_traced asked (tree.Create create) description block known around h =
+performs_traced asked (tree.Select select) description as_told block known around h =
+    selects_traced asked (tree.Select select) select.from description as_told block known around h
+performs_traced asked (tree.Insert insert) description as_told block known around h = prepares_traced asked (tree.Insert insert) description as_told block known around h
+performs_traced asked (tree.Update update) description as_told block known around h = prepares_traced asked (tree.Update update) description as_told block known around h
+performs_traced asked (tree.Delete delete) description as_told block known around h = prepares_traced asked (tree.Delete delete) description as_told block known around h
+performs_traced asked (tree.Create create) description as_told block known around h =
     skips known.tables (tree.Create create ∷ []) asked (unless_short_in block known around (defines (built create) block known around))
     (short_in_traced asked block known around (defines (built create) block known around) h (defines_traced asked (built create) block known around h))
-performs_traced asked (tree.Begin start) description block known around h =
+performs_traced asked (tree.Begin start) description as_told block known around h =
     skips known.tables (tree.Begin start ∷ []) asked (starts start block known around) (starts_traced asked start block known around h)
-performs_traced asked tree.Commit description block known around h =
+performs_traced asked tree.Commit description as_told block known around h =
     skips known.tables (tree.Commit ∷ []) asked (commits block known around) (commits_traced asked block known around h)
-performs_traced asked tree.Rollback description block known around h =
+performs_traced asked tree.Rollback description as_told block known around h =
     skips known.tables (tree.Rollback ∷ []) asked (rolls_back block known around) (rolls_back_traced asked block known around h)
-performs_traced asked (tree.Set name values) description block known around h =
+performs_traced asked (tree.Set name values) description as_told block known around h =
     skips known.tables (tree.Set name values ∷ []) asked (sets name values block known around) (sets_traced asked name values block known around h)
-performs_traced asked tree.SetModes description block known around h =
+performs_traced asked tree.SetModes description as_told block known around h =
     skips known.tables (tree.SetModes ∷ []) asked (succeeds set_reply block known around) (succeeds_traced asked set_reply block known around h)
-performs_traced asked (tree.Show name) description block known around h =
+performs_traced asked (tree.Show name) description as_told block known around h =
     skips known.tables (tree.Show name ∷ []) asked (shows description name block known around) (shows_traced asked description name block known around h)
 
 in_failed_traced : (asked : List Statement) (s : Statement) (known : Knowledge) (around : Around) → AroundTraced asked around → Traced known.tables asked (in_failed s known around)
@@ -242,8 +243,8 @@ in_failed_traced asked tree.Rollback known around h = rolls_back_traced asked Fa
 in_failed_traced asked _ known around h = fails_traced asked states.S25P02 Failed known around h
 
 -- a statement, with those that may follow it
-pub told_of_traced : (asked : List Statement) (s : Statement) (description : RowDescription) (block : Block) (known : Knowledge) (around : Around)
+pub told_of_traced : (asked : List Statement) (s : Statement) (description : RowDescription) (as_told : description ≡ described.Told) (block : Block) (known : Knowledge) (around : Around)
     → AroundTraced asked around → Traced known.tables (s ∷ asked) (told_of description s block known around)
-told_of_traced asked s description (Implicit pending) known around h = performs_traced asked s description (Implicit pending) known around h
-told_of_traced asked s description Regular known around h = performs_traced asked s description Regular known around h
-told_of_traced asked s description Failed known around h = skips known.tables (s ∷ []) asked (in_failed s known around) (in_failed_traced asked s known around h)
+told_of_traced asked s description as_told (Implicit pending) known around h = performs_traced asked s description as_told (Implicit pending) known around h
+told_of_traced asked s description as_told Regular known around h = performs_traced asked s description as_told Regular known around h
+told_of_traced asked s description as_told Failed known around h = skips known.tables (s ∷ []) asked (in_failed s known around) (in_failed_traced asked s known around h)

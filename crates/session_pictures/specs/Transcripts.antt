@@ -12,6 +12,7 @@ use Rattle.statement_course.specs.Course.{Course, done, first_demand}
 use Rattle.statement_course.specs.Statements.{course_of}
 use Rattle.outcome_replies.specs.Replies.{outcome_reply}
 use Rattle.outcome_replies.specs.declared.description.RowDescription.{RowDescription}
+use Rattle.outcome_replies.specs.declared.description.RowDescription.TheVariants as described
 use Rattle.block_machine.specs.Calls.{Call, asks_cells, call_for}
 use Rattle.block_machine.specs.Calls as calls
 use Rattle.block_machine.specs.Script.{Entry, did, refused, short, unsent, stop, Next, call, astray}
@@ -92,7 +93,7 @@ Learns known (calls.Look number) (did (answers.Looked tables) event) after = (nu
 Learns known _ _ after = after ≡ known
 
 -- The acts of a session that knows these tables and is asked these statements: those that ran are some of them, in order, and each ended as
--- above.
+-- above. Rows are told with their RowDescription.
 abbrev pub IsTranscript : List Table → List Statement → List Act → Next → Type 0
 IsTranscript known asked [] next = ⊤
 IsTranscript known asked (tells bytes ∷ acts) next = IsTranscript known asked acts next
@@ -101,4 +102,4 @@ IsTranscript known asked (asks c entry ∷ acts) next =
 IsTranscript known asked (meets entry ∷ acts) next = IsNote entry × IsTranscript known asked acts next
 IsTranscript known asked (runs r ∷ acts) next =
     (skipped : List Statement) × (later : List Statement) × (asked ≡ skipped ++ r.statement ∷ later)
-    × IsStatementRun known r × Ends r.description r.left acts next × IsTranscript known later acts next
+    × IsStatementRun known r × Ends described.Told r.left acts next × IsTranscript known later acts next
