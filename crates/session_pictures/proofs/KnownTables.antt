@@ -98,11 +98,11 @@ abbrev pub RunsOverFirst : List Table → Act → Type 0
 RunsOverFirst tables (runs r) = AreFirst r.tables tables
 RunsOverFirst tables _ = ⊤
 
-over_first : (known : List Table) (r : Run) (p q : Past) → (r.tables ≡ known) ⊎ (r.tables ≡ []) → AreFirst known p.seen.tables → Extends p q
+over_first : (known : List Table) (r : Run) (p q : Past) → (r.tables ≡ known) ⊎ ((r.tables ≡ []) × (r.steps ≡ [])) → AreFirst known p.seen.tables → Extends p q
     → AreFirst r.tables q.seen.tables
 over_first known r p q (inl same) first extends =
     subst (λ (xs : List Table). AreFirst xs q.seen.tables) (sym same) (first_later known p q first extends)
-over_first known r p q (inr none) first extends = subst (λ (xs : List Table). AreFirst xs q.seen.tables) (sym none) (q.seen.tables, refl)
+over_first known r p q (inr none) first extends = subst (λ (xs : List Table). AreFirst xs q.seen.tables) (sym none.0) (q.seen.tables, refl)
 
 pub runs_over_first : (known : List Table) (asked : List Statement) (acts : List Act) (next : Next) (rest : List Entry) (p q : Past)
     → IsTranscript known asked acts next → IsAnswered p (calls_of acts) (entries_of acts ++ rest) q → AreFirst known p.seen.tables

@@ -1,5 +1,5 @@
 -- A statement that runs: its steps, what is left of its course, and what comes behind.
-use Rattle.std.proofs.Common.{◌≡◌, ◌⊎◌, ◌==◌, true, false, List, [], ◌∷◌, ◌++◌, length, map, refl, sym, subst, ap, ◌∙◌, append_assoc, Ok}
+use Rattle.std.proofs.Common.{◌≡◌, inl, inr, ◌==◌, true, false, List, [], ◌∷◌, ◌++◌, length, map, refl, sym, subst, ap, ◌∙◌, append_assoc, Ok}
 use Rattle.std.proofs.lemmas.Bool.{cond_both}
 use Rattle.cell_base.specs.declared.sql_state.SqlState.TheVariants as states
 use Rattle.history_core.specs.declared.event.Event.{Event}
@@ -216,7 +216,7 @@ progress asked description (done outcome) block known around h said entries =
 -- a statement that runs over these tables
 pub runs_traced : (asked : List Statement) (statement : Statement) (tables : List Table) (t : Typed) (description : RowDescription) (as_told : description ≡ described.Told) (block : Block)
     (known : Knowledge) (around : Around)
-    → (tables ≡ known.tables) ⊎ (tables ≡ []) → typed tables statement ≡ Ok t → AroundTraced asked around → Traced known.tables (statement ∷ asked) (runs_script description (course_of tables t) block known around)
+    → tables ≡ known.tables → typed tables statement ≡ Ok t → AroundTraced asked around → Traced known.tables (statement ∷ asked) (runs_script description (course_of tables t) block known around)
 runs_traced asked statement tables t description as_told block known around over types h said entries =
     let p = progress asked description (course_of tables t) block known around h said entries in
     let next = (runs_script description (course_of tables t) block known around said entries).1 in
@@ -232,7 +232,7 @@ runs_traced asked statement tables t description as_told block known around over
         [],
         asked,
         refl,
-        record { over = over; types = types; ran = p.ran; answered = p.answered },
+        record { over = inl over; types = types; ran = p.ran; answered = p.answered },
         subst (λ (d : RowDescription). Ends d p.left p.acts next) as_told p.ends,
         p.is,
       );
@@ -241,7 +241,7 @@ runs_traced asked statement tables t description as_told block known around over
 -- one that asks for nothing
 concluded : (asked : List Statement) (statement : Statement) (tables : List Table) (t : Typed) (description : RowDescription) (as_told : description ≡ described.Told) (outcome : Outcome) (block : Block)
     (known : Knowledge) (around : Around)
-    → (tables ≡ known.tables) ⊎ (tables ≡ []) → typed tables statement ≡ Ok t → course_of tables t ≡ done outcome → AroundTraced asked around
+    → tables ≡ [] → typed tables statement ≡ Ok t → course_of tables t ≡ done outcome → AroundTraced asked around
     → Traced known.tables (statement ∷ asked) (concludes description outcome block known around)
 concluded asked statement tables t description as_told outcome block known around over types is h said entries =
     let c = concludes_answers asked description outcome block known around h said entries in
@@ -258,7 +258,7 @@ concluded asked statement tables t description as_told outcome block known aroun
         [],
         asked,
         refl,
-        record { over = over; types = types; ran = sym is; answered = tt },
+        record { over = inr (over, refl); types = types; ran = sym is; answered = tt },
         subst (λ (d : RowDescription). Ends d (done outcome) c.0.acts next) as_told (finished outcome c.0.acts next c.1),
         c.0.is,
       );
@@ -266,7 +266,7 @@ concluded asked statement tables t description as_told outcome block known aroun
 
 pub at_once_traced : (asked : List Statement) (statement : Statement) (tables : List Table) (t : Typed) (description : RowDescription) (as_told : description ≡ described.Told) (course : Course) (block : Block)
     (known : Knowledge) (around : Around)
-    → (tables ≡ known.tables) ⊎ (tables ≡ []) → typed tables statement ≡ Ok t → course_of tables t ≡ course → AroundTraced asked around
+    → tables ≡ [] → typed tables statement ≡ Ok t → course_of tables t ≡ course → AroundTraced asked around
     → Traced known.tables (statement ∷ asked) (at_once description course block known around)
 at_once_traced asked statement tables t description as_told (done outcome) block known around over types is h =
     concluded asked statement tables t description as_told outcome block known around over types is h

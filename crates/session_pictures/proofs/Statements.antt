@@ -130,13 +130,13 @@ shows_traced asked description name block known around h said entries =
 -- ---- statements on tables, with what comes behind them
 
 continues_traced : (asked : List Statement) (s : Statement) (tables : List Table) (t : Typed) (description : RowDescription) (as_told : description ≡ described.Told) (block : Block) (known : Knowledge) (around : Around)
-    → (tables ≡ known.tables) ⊎ (tables ≡ []) → typed tables s ≡ Ok t → AroundTraced asked around → Traced known.tables (s ∷ asked) (continues description (course_of tables t) block known around)
+    → tables ≡ known.tables → typed tables s ≡ Ok t → AroundTraced asked around → Traced known.tables (s ∷ asked) (continues description (course_of tables t) block known around)
 continues_traced asked s tables t description as_told block known around over types h =
     short_in_traced (s ∷ asked) block known around (runs_script description (course_of tables t) block known around) (around_skips (s ∷ []) asked around h)
     (runs_traced asked s tables t description as_told block known around over types h)
 
 begins_traced : (asked : List Statement) (s : Statement) (tables : List Table) (t : Typed) (description : RowDescription) (as_told : description ≡ described.Told) (block : Block) (known : Knowledge) (around : Around)
-    → (tables ≡ known.tables) ⊎ (tables ≡ []) → typed tables s ≡ Ok t → AroundTraced asked around → Traced known.tables (s ∷ asked) (begins description (course_of tables t) block known around)
+    → tables ≡ known.tables → typed tables s ≡ Ok t → AroundTraced asked around → Traced known.tables (s ∷ asked) (begins description (course_of tables t) block known around)
 begins_traced asked s tables t description as_told (Implicit false) known around over types h =
     ask_traced known.tables (s ∷ asked) (calls.Begin known.level) _ (λ a e. tt) (λ entry. refl) (λ a. begun_traced known.tables (s ∷ asked) a _ _
     (continues_traced asked s tables t description as_told (Implicit true) known around over types h)
@@ -148,7 +148,7 @@ begins_traced asked s tables t description as_told Failed known around over type
 
 judged_traced : (asked : List Statement) (s : Statement) (known : Knowledge) (made : Result Typed) (description : RowDescription) (as_told : description ≡ described.Told) (block : Block) (around : Around)
     → typed known.tables s ≡ made → AroundTraced asked around → Traced known.tables (s ∷ asked) (judged description made block known around)
-judged_traced asked s known (Ok t) description as_told block around types h = begins_traced asked s known.tables t description as_told block known around (inl refl) types h
+judged_traced asked s known (Ok t) description as_told block around types h = begins_traced asked s known.tables t description as_told block known around refl types h
 judged_traced asked s known (Err code) description as_told block around types h =
     fails_traced (s ∷ asked) code block known around (around_skips (s ∷ []) asked around h)
 
@@ -201,7 +201,7 @@ prepares_traced asked s description as_told block known around h =
 judged_at_once_traced : (asked : List Statement) (s : Statement) (made : Result Typed) (description : RowDescription) (as_told : description ≡ described.Told) (block : Block) (known : Knowledge) (around : Around)
     → typed [] s ≡ made → AroundTraced asked around → Traced known.tables (s ∷ asked) (judged_at_once description made block known around)
 judged_at_once_traced asked s (Ok t) description as_told block known around types h =
-    at_once_traced asked s [] t description as_told (course_of [] t) block known around (inr refl) types refl h
+    at_once_traced asked s [] t description as_told (course_of [] t) block known around refl types refl h
 judged_at_once_traced asked s (Err code) description as_told block known around types h =
     fails_traced (s ∷ asked) code block known around (around_skips (s ∷ []) asked around h)
 

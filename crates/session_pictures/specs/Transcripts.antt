@@ -63,7 +63,7 @@ pub data Ends (description : RowDescription) : Course → List Act → Next → 
 -- A statement's course, over the tables that the session knows, made the demands and got the answers that the entries hold. A SELECT
 -- without FROM is typed over no table, and asks for nothing.
 pub record IsStatementRun (known : List Table) (r : Run) : Type 0 where
-  pub over : (r.tables ≡ known) ⊎ (r.tables ≡ [])
+  pub over : (r.tables ≡ known) ⊎ ((r.tables ≡ []) × (r.steps ≡ []))
   pub types : typed r.tables r.statement ≡ Ok r.typed
   pub ran : Ran (course_of r.tables r.typed) r.steps r.left
   pub answered : AreAnswers r.steps r.entries
