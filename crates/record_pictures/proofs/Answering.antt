@@ -7,8 +7,11 @@ use Rattle.cell_base.specs.declared.cell.Cell.TheVariants.{Presence}
 use Rattle.cell_base.specs.declared.sql_state.SqlState.TheVariants.{S0A000, S23505}
 use Rattle.cell_base.specs.declared.value.Value.{Value}
 use Rattle.sql_tree.specs.declared.table.Table.{Table}
+use Rattle.sql_tree.specs.declared.typed.Typed.{Typed}
 use Rattle.sql_tree.specs.declared.typed.Typed.TheVariants.{Select, Insert, Change}
 use Rattle.sql_tree.specs.declared.typed.TypedChange.{TypedChange}
+use Rattle.sql_tree.specs.declared.typed.TypedInsert.{TypedInsert}
+use Rattle.sql_tree.specs.declared.typed.TypedSelect.{TypedSelect}
 use Rattle.typing_rules.specs.Outcome.{Outcome as Result}
 use Rattle.row_meaning.specs.Pictures.{TableRow}
 use Rattle.row_meaning.specs.Changes.{changes_of}
@@ -19,19 +22,20 @@ use Rattle.statement_course.specs.declared.demand.Demand.{Demand}
 use Rattle.statement_course.specs.declared.demand.Demand.TheVariants.{Scan, Touch, Write, Reply}
 use Rattle.statement_course.specs.declared.demand.Outcome.{Outcome}
 use Rattle.statement_course.specs.declared.demand.Outcome.TheVariants as outcomes
-use Rattle.statement_course.specs.Course.{done}
+use Rattle.statement_course.specs.Course.{Course, done}
 use Rattle.statement_course.specs.Statements.{rows_outcome, part_of_change, course_of}
 use Rattle.course_laws.proofs.TouchesOnce.{touches_once}
 use Rattle.picture_laws.specs.Shown.{parts_in_order, shown_rows, picture_of}
 use Rattle.picture_laws.specs.Asked.{asks_part, writes_changes, writes_row, writes_new, inserts_rows}
 use Rattle.picture_laws.proofs.Selecting.{select_answers}
 use Rattle.picture_laws.proofs.Changing.{change_answers, insert_answers}
-use Rattle.record_pictures.specs.Runs.{demand_of}
+use Rattle.record_pictures.specs.Runs.{Step, demand_of}
+use Rattle.record_pictures.specs.Pictures.{Picture, IsOver}
 use Rattle.record_pictures.specs.Writes.{change_writes, change_outcome, has_any, insert_asks, insert_outcome}
-use Rattle.record_pictures.specs.Laws.{RunHasPicture, SelectRunAnswersPicture, ChangeRunAnswersPicture, InsertRunAnswersRows}
+use Rattle.record_pictures.specs.Laws.{IsRun, Selected, Changed, Inserted, Means, RunHasPicture}
 use Rattle.record_pictures.proofs.Pictured.{has_picture}
 use Rattle.record_pictures.proofs.Scanning.{scans_once}
-use Rattle.record_pictures.proofs.Targets.{insert_has_table, change_has_table}
+use Rattle.record_pictures.proofs.Targets.{HasTable, insert_has_table, change_has_table}
 
 -- ---- demands with their last one
 
@@ -87,40 +91,45 @@ inserts_end value number table (Ok rows) =
 
 -- ---- the laws
 
-pub run_pictured : RunHasPicture
-run_pictured tables t steps left run =
-    has_picture (course_of tables t) steps left (scans_once tables t) (touches_once tables run.statement t run.types) run.ran run.once
-
-pub select_ran : SelectRunAnswersPicture
-select_ran tables select steps outcome run =
-    let found = run_pictured tables (Select select) steps (done outcome) run in
-    let p = found.0 in
+select_means : (p : Picture) (tables : List Table) (select : TypedSelect) (steps : List Step) (outcome : Outcome)
+    → IsOver p (course_of tables (Select select)) steps (done outcome) → Selected p tables select steps outcome
+select_means p tables select steps outcome over =
     let parts = parts_in_order tables select in
     let same = same_end (map demand_of steps) (flat_map (asks_part p.listed p.value) parts) outcome
     (rows_outcome select (selected select (picture_of p.listed p.value parts)))
-    (sym found.1.demands ∙ select_answers p.listed p.value tables select) in
-    record { picture = p; shown = found.1.shown; asked = same.0; came = same.1 }
+    (sym over.demands ∙ select_answers p.listed p.value tables select) in
+    record { asked = same.0; came = same.1 }
 
-pub change_ran : ChangeRunAnswersPicture
-change_ran tables change steps outcome run =
-    let found = run_pictured tables (Change change) steps (done outcome) run in
-    let p = found.0 in
-    let there = change_has_table tables run.statement change run.types in
+change_means : (p : Picture) (tables : List Table) (change : TypedChange) (steps : List Step) (outcome : Outcome) → HasTable tables change.table
+    → IsOver p (course_of tables (Change change)) steps (done outcome) → Changed p tables change steps outcome
+change_means p tables change steps outcome there over =
     let part = part_of_change there.0 change in
     let made = changes_of there.0 change (shown_rows p.listed p.value part) in
     let asked = asks_part p.listed p.value part in
     let same = same_end (map demand_of steps) (asked ++ change_writes change made) outcome (change_outcome change made)
-    (sym found.1.demands ∙ (change_answers p.listed p.value tables change there.0 there.1
+    (sym over.demands ∙ (change_answers p.listed p.value tables change there.0 there.1
     ∙ (ap (λ ds. asked ++ ds) (changes_end change made)
     ∙ sym (append_assoc asked (change_writes change made) (Reply (change_outcome change made) ∷ []))))) in
-    record { picture = p; shown = found.1.shown; table = there.0; table_is = there.1; asked = same.0; came = same.1 }
+    record { table = there.0; table_is = there.1; asked = same.0; came = same.1 }
 
-pub insert_ran : InsertRunAnswersRows
-insert_ran tables insert steps outcome run =
-    let found = run_pictured tables (Insert insert) steps (done outcome) run in
-    let p = found.0 in
-    let there = insert_has_table tables run.statement insert run.types in
+insert_means : (p : Picture) (tables : List Table) (insert : TypedInsert) (steps : List Step) (outcome : Outcome) → HasTable tables insert.table
+    → IsOver p (course_of tables (Insert insert)) steps (done outcome) → Inserted p tables insert steps outcome
+insert_means p tables insert steps outcome there over =
     let rows = rows_to_insert there.0 insert.rows in
     let same = same_end (map demand_of steps) (insert_asks p.value insert.table there.0 rows) outcome (insert_outcome p.value insert.table rows)
-    (sym found.1.demands ∙ (insert_answers p.listed p.value tables insert there.0 there.1 ∙ inserts_end p.value insert.table there.0 rows)) in
-    record { picture = p; shown = found.1.shown; table = there.0; table_is = there.1; asked = same.0; came = same.1 }
+    (sym over.demands ∙ (insert_answers p.listed p.value tables insert there.0 there.1 ∙ inserts_end p.value insert.table there.0 rows)) in
+    record { table = there.0; table_is = there.1; asked = same.0; came = same.1 }
+
+run_means : (p : Picture) (tables : List Table) (t : Typed) (steps : List Step) (left : Course) → IsRun tables t steps left
+    → IsOver p (course_of tables t) steps left → Means p tables t steps left
+run_means p tables (Select select) steps (done outcome) run over = select_means p tables select steps outcome over
+run_means p tables (Insert insert) steps (done outcome) run over =
+    insert_means p tables insert steps outcome (insert_has_table tables run.statement insert run.types) over
+run_means p tables (Change change) steps (done outcome) run over =
+    change_means p tables change steps outcome (change_has_table tables run.statement change run.types) over
+run_means p tables t steps _ run over = tt
+
+pub run_pictured : RunHasPicture
+run_pictured tables t steps left run =
+    let found = has_picture (course_of tables t) steps left (scans_once tables t) (touches_once tables run.statement t run.types) run.ran run.once in
+    record { picture = found.0; over = found.1; means = run_means found.0 tables t steps left run found.1 }

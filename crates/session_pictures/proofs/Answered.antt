@@ -10,28 +10,66 @@ use Rattle.history_core.specs.declared.event.Event.TheVariants.{Scan}
 use Rattle.history_core.specs.declared.fault.BookFault.{BookFault}
 use Rattle.history_core.specs.declared.fault.BookFault.TheVariants as faults
 use Rattle.history_core.specs.declared.fault.DefineAnswer.TheVariants as defined
-use Rattle.history_core.specs.Book.{Past, Adds, session_of}
+use Rattle.history_core.specs.Book.{Past, Adds, GoesOn, session_of}
 use Rattle.history_core.specs.Legal.{IsFormed, Follows}
+use Rattle.sql_tree.specs.declared.table.Table.{Table}
 use Rattle.block_machine.specs.Calls.{Call}
 use Rattle.block_machine.specs.Calls as calls
 use Rattle.block_machine.specs.Script.{Entry, did, refused, short, unsent, stop}
 use Rattle.block_machine.specs.declared.call.Answer.{Answer}
 use Rattle.block_machine.specs.declared.call.Answer.TheVariants as answers
-use Rattle.session_core.specs.Record.{Happens, Declines, ReadsBack, ReadsFrom}
+use Rattle.session_core.specs.Record.{Happens, Declines, Draws, IsValidRecord, ReadsBack, ReadsFrom}
 use Rattle.statement_course.specs.Laws.{AreDistinct}
 use Rattle.record_pictures.specs.Runs.{lists, finds, puts}
 use Rattle.session_pictures.specs.Acts.{IsEventOf}
-use Rattle.session_pictures.specs.Laws.{IsAnswered}
 use Rattle.session_pictures.proofs.KeyOrder.{ascending_distinct}
+
+-- ---- whatever words were drawn
+
+-- the entries are what came of these calls, one after another, from one past of the book on to another
+abbrev pub IsAnswered : Past → List Call → List Entry → Past → Type 0
+IsAnswered p asked entries q = IsValidRecord {W = Unit {0}} (λ before word after. ⊤) p tt asked entries q tt
+
+any_draws : {W : Type 0} (gives : W → ℕ → W → Type 0) (p : Past) (v : W) (c : Call) (entry : Entry) (u : W) → Draws gives p v c entry u
+    → Draws {W = Unit {0}} (λ before word after. ⊤) p tt c entry tt
+any_draws gives p v (calls.Touch cell) entry u (inl back) = inl (back.0, refl)
+any_draws gives p v (calls.Touch cell) entry u (inr drawn) = inr (drawn.0, (drawn.1.0, tt, drawn.1.2))
+any_draws gives p v _ entry u same = refl
+
+-- the record is valid, whatever words its reads drew
+pub any_words : {W : Type 0} (gives : W → ℕ → W → Type 0) (p : Past) (v : W) (cs : List Call) (es : List Entry) (q : Past) (w : W)
+    → IsValidRecord gives p v cs es q w → IsAnswered p cs es q
+any_words gives p v [] [] q w l = (l.0, refl)
+any_words gives p v (c ∷ cs) [] q w l = absurd l
+any_words gives p v [] (did a e ∷ es) q w l = absurd l
+any_words gives p v [] (refused why ∷ es) q w l = absurd l
+any_words gives p v [] (short final n ∷ es) q w l = any_words gives p v [] es q w l
+any_words gives p v [] (unsent n ∷ es) q w l = any_words gives p v [] es q w l
+any_words gives p v [] (stop cause ∷ es) q w l = any_words gives p v [] es q w l
+any_words gives p v (c ∷ cs) (did a e ∷ es) q w l =
+    (l.0, tt, l.2, any_draws gives p v c (did a e) l.1 l.3, any_words gives l.0 l.1 cs es q w l.4, l.5)
+any_words gives p v (c ∷ cs) (refused why ∷ es) q w l =
+    (l.0, tt, l.2, any_draws gives p v c (refused why) l.1 l.3, any_words gives l.0 l.1 cs es q w l.4)
+any_words gives p v (c ∷ cs) (short final n ∷ es) q w l = any_words gives p v (c ∷ cs) es q w l
+any_words gives p v (c ∷ cs) (unsent n ∷ es) q w l = any_words gives p v (c ∷ cs) es q w l
+any_words gives p v (c ∷ cs) (stop cause ∷ es) q w l = any_words gives p v (c ∷ cs) es q w l
 
 -- ---- the history goes on
 
-abbrev Extends : Past → Past → Type 0
-Extends p q = (further : List Event) × (q.seen.events ≡ p.seen.events ++ further)
+-- events and tables come behind those that there were
+pub record Extends (p q : Past) : Type 0 where
+  pub further : List Event
+  pub events : q.seen.events ≡ p.seen.events ++ further
+  pub others : List Table
+  pub tables : q.seen.tables ≡ p.seen.tables ++ others
 
 extends_on : (p m q : Past) → Extends p m → Extends m q → Extends p q
-extends_on p m q one other =
-    (one.0 ++ other.0, other.1 ∙ ap (λ (events : List Event). events ++ other.0) one.1 ∙ append_assoc p.seen.events one.0 other.0)
+extends_on p m q one other = record {
+  further = one.further ++ other.further;
+  events = other.events ∙ ap (λ (es : List Event). es ++ other.further) one.events ∙ append_assoc p.seen.events one.further other.further;
+  others = one.others ++ other.others;
+  tables = other.tables ∙ ap (λ (ts : List Table). ts ++ other.others) one.tables ∙ append_assoc p.seen.tables one.others other.others;
+}
 
 happens_adds : (p : Past) (c : Call) (a : Answer) (e : Event) (q : Past) → Happens p c a e q → Adds p e q
 happens_adds p calls.Open (answers.Opened s) e q h = h.1
@@ -49,14 +87,30 @@ happens_adds p calls.Show (answers.Shown n) e q h = h.1
 happens_adds p _ _ e q h = absurd h
 
 adds_extends : (p : Past) (e : Event) (q : Past) → Adds p e q → Extends p q
-adds_extends p e q adds = (adds.others ++ e ∷ [], adds.seen ∙ append_assoc p.seen.events adds.others (e ∷ []))
+adds_extends p e q adds = record {
+  further = adds.others ++ e ∷ [];
+  events = adds.seen ∙ append_assoc p.seen.events adds.others (e ∷ []);
+  others = adds.more;
+  tables = adds.tables;
+}
 
-declines_extends : (p : Past) (c : Call) (why : BookFault) (q : Past) → Declines p c why q → Extends p q
-declines_extends p c (faults.Full limit) q h = (h.1.others, h.1.seen)
-declines_extends p c faults.Memory q h = (h.1.others, h.1.seen)
+goes_extends : (p q : Past) → GoesOn p q → Extends p q
+goes_extends p q goes = record { further = goes.others; events = goes.seen; others = goes.more; tables = goes.tables }
 
-extends_to : (p : Past) (cs : List Call) (es : List Entry) (q : Past) → IsAnswered p cs es q → Extends p q
-extends_to p [] [] q l = ([], ap (λ (x : Past). x.seen.events) l.0 ∙ sym (append-nil p.seen.events))
+pub declines_extends : (p : Past) (c : Call) (why : BookFault) (q : Past) → Declines p c why q → Extends p q
+declines_extends p c (faults.Full limit) q h = goes_extends p q h.1
+declines_extends p c faults.Memory q h = goes_extends p q h.1
+
+pub happens_extends : (p : Past) (c : Call) (a : Answer) (e : Event) (q : Past) → Happens p c a e q → Extends p q
+happens_extends p c a e q h = adds_extends p e q (happens_adds p c a e q h)
+
+pub extends_to : (p : Past) (cs : List Call) (es : List Entry) (q : Past) → IsAnswered p cs es q → Extends p q
+extends_to p [] [] q l = record {
+  further = [];
+  events = ap (λ (x : Past). x.seen.events) l.0 ∙ sym (append-nil p.seen.events);
+  others = [];
+  tables = ap (λ (x : Past). x.seen.tables) l.0 ∙ sym (append-nil p.seen.tables);
+}
 extends_to p (c ∷ cs) [] q l = absurd l
 extends_to p [] (did a e ∷ es) q l = absurd l
 extends_to p [] (refused why ∷ es) q l = absurd l
@@ -64,7 +118,7 @@ extends_to p [] (short final n ∷ es) q l = extends_to p [] es q l
 extends_to p [] (unsent n ∷ es) q l = extends_to p [] es q l
 extends_to p [] (stop cause ∷ es) q l = extends_to p [] es q l
 extends_to p (c ∷ cs) (did a e ∷ es) q l =
-    extends_on p l.0 q (adds_extends p e l.0 (happens_adds p c a e l.0 l.2)) (extends_to l.0 cs es q l.4)
+    extends_on p l.0 q (happens_extends p c a e l.0 l.2) (extends_to l.0 cs es q l.4)
 extends_to p (c ∷ cs) (refused why ∷ es) q l = extends_on p l.0 q (declines_extends p c why l.0 l.2) (extends_to l.0 cs es q l.4)
 extends_to p (c ∷ cs) (short final n ∷ es) q l = extends_to p (c ∷ cs) es q l
 extends_to p (c ∷ cs) (unsent n ∷ es) q l = extends_to p (c ∷ cs) es q l
@@ -80,9 +134,9 @@ fits : (initial : List (Cell × Value)) (p m q : Past) (e : Event) → Adds p e 
     → (before : List Event) × Follows initial before e
 fits initial p m q e adds further formed =
     let front = p.seen.events ++ adds.others in
-    let whole : q.seen.events ≡ (front ++ e ∷ []) ++ further.0 = further.1 ∙ ap (λ (events : List Event). events ++ further.0) adds.seen in
+    let whole : q.seen.events ≡ (front ++ e ∷ []) ++ further.further = further.events ∙ ap (λ (es : List Event). es ++ further.further) adds.seen in
     let place = length front in
-    let there : slice_get q.seen.events place ≡ Some e = ap (λ (events : List Event). slice_get events place) whole ∙ at_place front e further.0 in
+    let there : slice_get q.seen.events place ≡ Some e = ap (λ (events : List Event). slice_get events place) whole ∙ at_place front e further.further in
     (take place q.seen.events, (formed place e there).follows)
 
 -- ---- calls of cells

@@ -5,4 +5,5 @@ pub mod Statements
 pub mod Sessions
 pub mod KeyOrder
 pub mod Answered
+pub mod KnownTables
 pub mod OnePicture

@@ -6,7 +6,6 @@ use Rattle.sql_tree.specs.declared.statement.Statement.{Statement}
 use Rattle.sql_tree.specs.declared.table.Table.{Table}
 use Rattle.sql_tree.specs.declared.typed.Typed.{Typed}
 use Rattle.statement_course.specs.Course.{Course}
-use Rattle.outcome_replies.specs.declared.description.RowDescription.{RowDescription}
 use Rattle.block_machine.specs.Calls.{Call}
 use Rattle.block_machine.specs.Calls as calls
 use Rattle.block_machine.specs.Script.{Entry, did}
@@ -17,7 +16,6 @@ use Rattle.record_pictures.specs.Runs.{Step, lists, finds, puts}
 -- a statement, the tables over which it has these types, the demands of its course that were answered, the entries that hold the
 -- answers, and what was left of the course
 pub record Run : Type 0 where
-  pub description : RowDescription
   pub statement : Statement
   pub tables : List Table
   pub typed : Typed

@@ -1,19 +1,21 @@
 -- Each statement that a session ran was answered over one picture.
-use Rattle.std.specs.Prelude.{◌≡◌, ⊤, List, [], ◌++◌}
+use Rattle.std.specs.Prelude.{◌≡◌, ℕ, ⊤, List, [], ◌++◌}
 use Rattle.std.specs.List.{AllByRecursion}
 use Rattle.cell_base.specs.declared.level.Level.{Level}
 use Rattle.history_core.specs.Book.{Past}
+use Rattle.history_core.specs.Chronicle.{IsLegalChronicle}
 use Rattle.history_core.specs.Legal.{IsFormed}
 use Rattle.sql_tree.specs.declared.statement.Statement.{Statement}
-use Rattle.statement_course.specs.Statements.{course_of}
-use Rattle.block_machine.specs.Calls.{Call}
+use Rattle.sql_tree.specs.declared.table.Table.{Table}
 use Rattle.block_machine.specs.Script.{Entry, Said, Next, more, call, ended, astray}
 use Rattle.block_machine.specs.declared.message.Message.TheVariants as messages
 use Rattle.session_core.specs.Record.{IsValidRecord}
 use Rattle.session_core.specs.Requests.{Request, query, Requests, asks, partial, faulty, unread}
+use Rattle.session_core.specs.Serve.{Scene, Account, Serves}
 use Rattle.session_core.specs.Told.{told}
+use Rattle.session_core.specs.declared.served.Served.{Served}
 use Rattle.record_pictures.specs.Runs.{ListsOnce}
-use Rattle.record_pictures.specs.Pictures.{Picture, IsOver}
+use Rattle.record_pictures.specs.Laws.{HasPicture}
 use Rattle.session_pictures.specs.Acts.{Run, Act, runs, AreEvents, bytes_of, calls_of, entries_of}
 use Rattle.session_pictures.specs.Transcripts.{IsTranscript}
 
@@ -47,7 +49,7 @@ pub record Transcript (asked : List Statement) (entries : List Entry) (said : Sa
   pub bytes_are : said.bytes ≡ bytes_of acts
   pub calls_are : said.calls ≡ calls_of acts
   pub whole : IsWhole next rest
-  pub is : IsTranscript asked acts next
+  pub is : IsTranscript [] asked acts next
 
 -- what a session says and asks by its record has a transcript
 abbrev pub SessionHasTranscript : Type 0
@@ -55,27 +57,36 @@ SessionHasTranscript =
     (level : Level) (requests : Requests) (entries : List Entry) (said : Said) (next : Next)
     → told level requests entries ≡ (said, next) → Transcript (statements_of requests) entries said next
 
--- ---- a session whose calls a book answered
+-- ---- statements over pictures
 
--- The entries are what came of these calls, one after another, from one past of the book on to another, whatever words the reads drew.
-abbrev pub IsAnswered : Past → List Call → List Entry → Past → Type 0
-IsAnswered p asked entries q = IsValidRecord {W = Unit {0}} (λ before word after. ⊤) p tt asked entries q tt
+-- these tables are the first ones
+abbrev pub AreFirst : List Table → List Table → Type 0
+AreFirst first tables = (later : List Table) × (tables ≡ first ++ later)
 
--- a statement that ran: its entries hold the events of its steps, each scan lists a key once, and one picture shows all that it read
-pub record HasOnePicture (r : Run) : Type 0 where
+-- A statement that ran over the first tables of a history: its entries hold the events of its steps, and each scan lists a key once. One
+-- picture shows all that it read; and where it came to its end, it asked, wrote and came to what it means over that picture.
+pub record HasOnePicture (tables : List Table) (r : Run) : Type 0 where
+  pub first : AreFirst r.tables tables
   pub events : AreEvents r.steps r.entries
   pub once : AllByRecursion ListsOnce r.steps
-  pub picture : Picture
-  pub over : IsOver picture (course_of r.tables r.typed) r.steps r.left
+  pub shown : HasPicture r.tables r.typed r.steps r.left
 
-abbrev pub RanOverPicture : Act → Type 0
-RanOverPicture (runs r) = HasOnePicture r
-RanOverPicture _ = ⊤
+abbrev pub RanOverPicture : List Table → Act → Type 0
+RanOverPicture tables (runs r) = HasOnePicture tables r
+RanOverPicture tables _ = ⊤
 
--- Where a book answered the calls of a session, and each event of the history at the end fits what came before it: each statement that
+-- Where a session's record is valid, and each event of the history at its end fits what came before it: each statement that the session
 -- ran did so over one picture.
-abbrev pub EachStatementHasOnePicture : Type 0
-EachStatementHasOnePicture =
-    (level : Level) (requests : Requests) (entries : List Entry) (said : Said) (next : Next) (p q : Past)
-    → told level requests entries ≡ (said, next) → IsAnswered p said.calls entries q → IsFormed q.seen.initial q.seen.events
-    → (t : Transcript (statements_of requests) entries said next) × AllByRecursion RanOverPicture t.acts
+abbrev pub EachStatementHasOnePicture : {W : Type 0} → (W → ℕ → W → Type 0) → Type 0
+EachStatementHasOnePicture {W} gives =
+    (level : Level) (requests : Requests) (entries : List Entry) (said : Said) (next : Next) (p : Past) (v : W) (q : Past) (w : W)
+    → told level requests entries ≡ (said, next) → IsValidRecord gives p v said.calls entries q w → IsFormed q.seen.initial q.seen.events
+    → (t : Transcript (statements_of requests) entries said next) × AllByRecursion (RanOverPicture q.seen.tables) t.acts
+
+-- So did each statement of a session that was served over a link, where the history at the end is legal.
+abbrev pub ServedStatementsHavePictures : {W : Type 0} → (W → ℕ → W → Type 0) → Type 0
+ServedStatementsHavePictures {W} gives =
+    (level : Level) (before : Scene W) (outcome : Served) (after : Scene W) (account : Account)
+    → (s : Serves gives level before outcome after account) → IsLegalChronicle after.past.seen
+    → (t : Transcript (statements_of s.requests) account.entries (record { bytes = account.sent; calls = account.calls }) (ended outcome.end))
+    × AllByRecursion (RanOverPicture after.past.seen.tables) t.acts

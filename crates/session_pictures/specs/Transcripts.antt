@@ -1,9 +1,10 @@
 -- When acts are a session's transcript: each call of a cell that was answered is a step of a statement that ran, and what was told behind
 -- a statement is what it came to.
-use Rattle.std.specs.Prelude.{◌≡◌, ℕ, ⊤, List, [], ◌∷◌, ◌++◌, true, false, Ok}
+use Rattle.std.specs.Prelude.{◌≡◌, ◌⊎◌, ℕ, ⊤, length, List, [], ◌∷◌, ◌++◌, true, false, Ok}
 use Rattle.cell_base.specs.declared.sql_state.SqlState.TheVariants as states
 use Rattle.history_core.specs.declared.fault.BookFault.{BookFault}
 use Rattle.sql_tree.specs.declared.statement.Statement.{Statement}
+use Rattle.sql_tree.specs.declared.table.Table.{Table}
 use Rattle.typing_rules.specs.Typed.{typed}
 use Rattle.statement_course.specs.declared.demand.Outcome.{Outcome}
 use Rattle.statement_course.specs.declared.demand.Outcome.TheVariants as outcomes
@@ -11,6 +12,7 @@ use Rattle.statement_course.specs.Course.{Course, done, first_demand}
 use Rattle.statement_course.specs.Statements.{course_of}
 use Rattle.outcome_replies.specs.Replies.{outcome_reply}
 use Rattle.outcome_replies.specs.declared.description.RowDescription.{RowDescription}
+use Rattle.outcome_replies.specs.declared.description.RowDescription.TheVariants as described
 use Rattle.block_machine.specs.Calls.{Call, asks_cells, call_for}
 use Rattle.block_machine.specs.Calls as calls
 use Rattle.block_machine.specs.Script.{Entry, did, refused, short, unsent, stop, Next, call, astray}
@@ -58,8 +60,10 @@ pub data Ends (description : RowDescription) : Course → List Act → Next → 
 
 -- ---- the transcript
 
--- The statement has these types over these tables, and its course made the demands and got the answers that the entries hold.
-pub record IsStatementRun (r : Run) : Type 0 where
+-- A statement's course, over the tables that the session knows, made the demands and got the answers that the entries hold. A SELECT
+-- without FROM is typed over no table, and asks for nothing.
+pub record IsStatementRun (known : List Table) (r : Run) : Type 0 where
+  pub over : (r.tables ≡ known) ⊎ ((r.tables ≡ []) × (r.steps ≡ []))
   pub types : typed r.tables r.statement ≡ Ok r.typed
   pub ran : Ran (course_of r.tables r.typed) r.steps r.left
   pub answered : AreAnswers r.steps r.entries
@@ -82,12 +86,20 @@ IsNote (unsent n) = ⊤
 IsNote (stop cause) = ⊤
 IsNote _ = ⊥
 
--- The acts of a session that is asked these statements: those that ran are some of them, in order, and each ended as above.
-abbrev pub IsTranscript : List Statement → List Act → Next → Type 0
-IsTranscript asked [] next = ⊤
-IsTranscript asked (tells bytes ∷ acts) next = IsTranscript asked acts next
-IsTranscript asked (asks c entry ∷ acts) next = IsOther c entry × IsTranscript asked acts next
-IsTranscript asked (meets entry ∷ acts) next = IsNote entry × IsTranscript asked acts next
-IsTranscript asked (runs r ∷ acts) next =
+-- The tables that a session knows after a call. A look shows those behind the ones that it knew; where memory runs out at once, it forgets
+-- them again.
+abbrev pub Learns : List Table → Call → Entry → List Table → Type 0
+Learns known (calls.Look number) (did (answers.Looked tables) event) after = (number ≡ length known) × ((after ≡ known ++ tables) ⊎ (after ≡ known))
+Learns known _ _ after = after ≡ known
+
+-- The acts of a session that knows these tables and is asked these statements: those that ran are some of them, in order, and each ended as
+-- above. Rows are told with their RowDescription.
+abbrev pub IsTranscript : List Table → List Statement → List Act → Next → Type 0
+IsTranscript known asked [] next = ⊤
+IsTranscript known asked (tells bytes ∷ acts) next = IsTranscript known asked acts next
+IsTranscript known asked (asks c entry ∷ acts) next =
+    (after : List Table) × IsOther c entry × Learns known c entry after × IsTranscript after asked acts next
+IsTranscript known asked (meets entry ∷ acts) next = IsNote entry × IsTranscript known asked acts next
+IsTranscript known asked (runs r ∷ acts) next =
     (skipped : List Statement) × (later : List Statement) × (asked ≡ skipped ++ r.statement ∷ later)
-    × IsStatementRun r × Ends r.description r.left acts next × IsTranscript later acts next
+    × IsStatementRun known r × Ends described.Told r.left acts next × IsTranscript known later acts next

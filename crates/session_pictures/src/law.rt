@@ -1,5 +1,7 @@
 // What holds of the definitions.
-ghost use Rattle.session_pictures.specs.Laws.{EachStatementHasOnePicture, SessionHasTranscript};
+ghost use Rattle.session_pictures.specs.Laws.{EachStatementHasOnePicture, ServedStatementsHavePictures, SessionHasTranscript};
+
+use link_traits::Words;
 
 /// What a session says and asks by its record has a transcript: each call of a cell that was answered is a step of a statement of
 /// the client, and behind each statement that ran to its end it was told what the statement came to.
@@ -7,8 +9,13 @@ pub fn session_has_transcript()
     ensures { SessionHasTranscript }
 {}
 
-/// Where a book answered the session's calls over a history whose events fit what came before them, each statement of the transcript
-/// ran over one picture.
-pub fn each_statement_has_one_picture()
-    ensures { EachStatementHasOnePicture }
+/// Where a session's record is valid, whatever the words of its reads are drawn from, and each event of the history at its end fits
+/// what came before it, each statement of the transcript ran over one picture.
+pub fn each_statement_has_one_picture<W: Words>()
+    ensures { EachStatementHasOnePicture W.gives }
+{}
+
+/// So did each statement of a session that was served over a link.
+pub fn served_statements_have_pictures<W: Words>()
+    ensures { ServedStatementsHavePictures W.gives }
 {}

@@ -4,4 +4,6 @@
 
 mod law;
 
-pub use law::{each_statement_has_one_picture, session_has_transcript};
+pub use law::{
+    each_statement_has_one_picture, served_statements_have_pictures, session_has_transcript,
+};
