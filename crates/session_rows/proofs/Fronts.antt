@@ -1,6 +1,6 @@
 -- The first tables of a list, and what they say of cells.
-use Rattle.std.proofs.Common.{◌≡◌, inl, inr, ◌⊎◌, ℕ, ◌+◌, ◌<◌, ◌≤◌, List, [], ◌∷◌, ◌++◌, length, take, drop, Option, Some, None, true, false, refl, sym, ap, subst, ◌∙◌, arith, append_assoc}
-use Rattle.std.specs.List.{slice_get, Contains}
+use Rattle.std.proofs.Common.{◌≡◌, ℕ, ◌+◌, ◌<◌, ◌≤◌, List, [], ◌++◌, length, take, Option, true, false, refl, sym, ap, subst, ◌∙◌, arith, append_assoc}
+use Rattle.std.specs.List.{slice_get}
 use Rattle.std.proofs.lemmas.List.{append-nil, length-append, take-append-le, take_all}
 use Rattle.std.proofs.lemmas.Option.{slice_get_within}
 use Rattle.cell_base.specs.declared.cell.Cell.{Cell}
@@ -12,7 +12,7 @@ use Rattle.sql_tree.specs.declared.table.Table.{Table}
 use Rattle.statement_course.specs.Course.{Course, scan, touch, write, done}
 use Rattle.history_core.proofs.Places.{slice_get-append_left}
 use Rattle.whole_rows.specs.Rows.{IsField}
-use Rattle.row_courses.specs.Rows.{fields_in, fields_of_row, shown_after, owed_after, MayAsk, MayWrite, KeepsWhole}
+use Rattle.row_courses.specs.Rows.{fields_in, shown_after, owed_after, MayAsk, MayWrite, KeepsWhole}
 use Rattle.session_rows.specs.Alone.{AreFirst}
 
 pub first_all : (xs : List Table) → AreFirst xs xs

@@ -1,5 +1,5 @@
 -- The events of a session's record keep rows whole.
-use Rattle.std.proofs.Common.{◌≡◌, inl, inr, ◌⊎◌, ℕ, ◌≤◌, List, [], ◌∷◌, ◌++◌, Ok, length, take, refl, sym, ap, subst, ◌∙◌}
+use Rattle.std.proofs.Common.{◌≡◌, inl, inr, ℕ, ◌≤◌, List, [], ◌∷◌, ◌++◌, length, take, refl, sym, ap, subst, ◌∙◌}
 use Rattle.cell_base.specs.declared.cell.Cell.{Cell}
 use Rattle.cell_base.specs.declared.key.Key.{Key}
 use Rattle.cell_base.specs.declared.level.Level.{Level}
@@ -23,7 +23,6 @@ use Rattle.session_core.specs.Told.{told}
 use Rattle.session_core.specs.Record.{Happens, Declines, may_be_refused, IsValidRecord, events_of}
 use Rattle.link_laws.proofs.Rules.{Obeys}
 use Rattle.link_laws.proofs.SessionsKept.{session_keeps}
-use Rattle.row_courses.specs.Rows.{owed_after}
 use Rattle.session_rows.specs.Alone.{AreFirst, MayFollow, shown_behind, owed_behind, KeepsRowsFrom, KeepsRowsAlone}
 use Rattle.session_rows.proofs.Fronts.{first_all, first_then, ask_first, write_first, owed_first, looked}
 use Rattle.session_rows.proofs.Standings.{Standing, MayCall, behind, rows, rows_fit}

@@ -1,23 +1,21 @@
 -- The rules of whole rows for the calls of a session.
-use Rattle.std.proofs.Common.{◌≡◌, ℕ, ◌+◌, ◌<◌, ◌≤◌, List, [], ◌∷◌, ◌++◌, length, take, Ok, refl, sym, ap, subst, ◌∙◌, arith}
+use Rattle.std.proofs.Common.{◌≡◌, ℕ, ◌+◌, ◌≤◌, List, [], ◌++◌, length, take, Ok, refl, sym, ap, subst, ◌∙◌, arith}
 use Rattle.std.proofs.lemmas.List.{append-nil, length-append, take-append-le, take_all}
 use Rattle.cell_base.specs.declared.cell.Cell.{Cell}
 use Rattle.cell_base.specs.declared.key.Key.{Key}
 use Rattle.cell_base.specs.declared.level.Level.{Level}
-use Rattle.cell_base.specs.declared.value.Value.{Value}
 use Rattle.sql_tree.specs.declared.statement.Statement.{Statement}
 use Rattle.sql_tree.specs.declared.table.Table.{Table}
 use Rattle.sql_tree.specs.declared.typed.Typed.{Typed}
 use Rattle.typing_rules.specs.Typed.{typed}
-use Rattle.history_core.specs.declared.fault.BookFault.{BookFault}
-use Rattle.statement_course.specs.Course.{Course, scan, touch, write, done}
+use Rattle.statement_course.specs.Course.{Course}
 use Rattle.statement_course.specs.Statements.{course_of}
 use Rattle.block_machine.specs.Calls.{Call}
 use Rattle.block_machine.specs.Calls as calls
-use Rattle.block_machine.specs.Knowledge.{Knowledge, with_tables, with_level}
+use Rattle.block_machine.specs.Knowledge.{Knowledge, with_tables}
 use Rattle.block_machine.specs.declared.call.Answer.{Answer}
 use Rattle.block_machine.specs.declared.call.Answer.TheVariants as answers
-use Rattle.link_laws.proofs.Rules.{Rules, Breaks, Allows, AreFit}
+use Rattle.link_laws.proofs.Rules.{Rules, Breaks, AreFit}
 use Rattle.row_courses.specs.Rows.{shown_after, owed_after, MayAsk, MayWrite, KeepsWhole}
 use Rattle.row_courses.proofs.RowsKept.{statement_keeps}
 use Rattle.session_rows.specs.Alone.{AreFirst}
