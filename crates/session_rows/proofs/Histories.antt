@@ -16,17 +16,12 @@ use Rattle.history_core.specs.Transactions.{IsOf, IsStart}
 use Rattle.history_core.specs.Chronicle.{own_events}
 use Rattle.history_core.proofs.Places.{start_unique, start_session}
 use Rattle.history_core.proofs.RowLists.{slice_get-drop}
+use Rattle.link_laws.proofs.OwnEvents.{own_here, own_other}
 use Rattle.whole_rows.specs.Rows.{IsField, NeedsWholeRows, WritesBetween, ShowsRow, WasShown, KeepsRows}
 use Rattle.row_courses.specs.Rows.{fields_from, fields_in, fields_of_row, shown_after, owed_after, MayWrite}
 use Rattle.session_rows.specs.Alone.{MayFollow, shown_behind, owed_behind, KeepsRowsFrom, KeepsRowsAlone}
 
 -- ---- lists
-
-own_here : (e : Event) (xs : List Event) (s : ℕ) → session_in e ≡ s → own_events (e ∷ xs) s ≡ e ∷ own_events xs s
-own_here e xs s same = cond-true (session_in e == s) (e ∷ own_events xs s) (own_events xs s) (eq-eqb (session_in e) s same)
-
-own_other : (e : Event) (xs : List Event) (s : ℕ) → (session_in e ≡ s → ⊥) → own_events (e ∷ xs) s ≡ own_events xs s
-own_other e xs s apart = cond-false (session_in e == s) (e ∷ own_events xs s) (own_events xs s) (ne_eqb (session_in e) s apart)
 
 none_there : {A : Type 0} (x : A) → Contains [] x → ⊥
 none_there x there = let h = there.1 in absurd (omega arith)
