@@ -2,3 +2,4 @@ pub mod Fronts
 pub mod Histories
 pub mod Standings
 pub mod Records
+pub mod Made

@@ -1,5 +1,5 @@
 // What holds of the rows of tables in what sessions make of a history.
-ghost use Rattle.std.specs.Prelude.{◌≡◌, ℕ, List};
+ghost use Rattle.std.specs.Prelude.{◌≡◌, ◌⊎◌, ℕ, List, []};
 ghost use Rattle.cell_base.specs.declared.level.Level.{Level};
 ghost use Rattle.sql_tree.specs.declared.table.Table.{Table};
 ghost use Rattle.history_core.specs.Book.{Past};
@@ -13,6 +13,7 @@ ghost use Rattle.session_core.specs.Record.{IsValidRecord, events_of};
 ghost use Rattle.session_core.specs.Serve.{Scene, Account, Serves};
 ghost use Rattle.whole_rows.specs.Rows.{ShowsNoUnset};
 ghost use Rattle.session_rows.specs.Alone.{AreFirst, KeepsRowsAlone};
+ghost use Rattle.session_rows.specs.Made.{IsMade};
 
 use link_traits::Words;
 
@@ -33,4 +34,11 @@ pub fn session_keeps_rows<W: Words>()
 pub fn kept_rows_are_whole()
     ensures { (history : Chronicle) → IsLegalChronicle history → HoldsWholeRows history.tables history.initial →
         ((session : ℕ) → KeepsRowsAlone history.tables (own_events history.events session)) → ShowsNoUnset history.events }
+{}
+
+/// The histories that sessions make: no read of a legal history shows a cell without a value, where the initial state holds whole rows of
+/// the tables, and each session that has an event was told what a session is told, over a book of this history.
+pub fn made_rows_are_whole<W: Words>()
+    ensures { (history : Chronicle) → IsLegalChronicle history → HoldsWholeRows history.tables history.initial →
+        ((session : ℕ) → (own_events history.events session ≡ []) ⊎ IsMade W.gives history session) → ShowsNoUnset history.events }
 {}

@@ -3,4 +3,4 @@
 
 mod law;
 
-pub use law::{kept_rows_are_whole, session_keeps_rows};
+pub use law::{kept_rows_are_whole, made_rows_are_whole, session_keeps_rows};
