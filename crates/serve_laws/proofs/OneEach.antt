@@ -1,5 +1,5 @@
 -- Each record of a link is one session of its own.
-use Rattle.std.proofs.Common.{◌≡◌, inl, inr, ◌⊎◌, ℕ, suc, List, [], ◌∷◌, map, All, Contains, Option, Some, None, refl, sym, subst, ◌∙◌}
+use Rattle.std.proofs.Common.{◌≡◌, inl, inr, ◌⊎◌, ℕ, suc, List, [], ◌∷◌, map, All, Option, Some, None, refl, sym, subst, ◌∙◌}
 use Rattle.std.proofs.lemmas.List.Elements.{All-nil, All-cons, All-append}
 use Rattle.cell_base.specs.declared.level.Level.{Level}
 use Rattle.choice_stream.specs.Seeds.{Draws, stream_front}
@@ -11,7 +11,7 @@ use Rattle.history_core.specs.Chronicle.{Chronicle, own_events}
 use Rattle.doors.specs.Passage.{Passage}
 use Rattle.shared_book.specs.Finish.{Finished, HasEventOf}
 use Rattle.door_workers.specs.Visits.{Visit, AreVisits}
-use Rattle.serve_command.specs.Parts.{Part, AreParts, no_past, empty_history, record_of, records_of}
+use Rattle.serve_command.specs.Parts.{Part, AreParts, no_past, record_of, records_of}
 use Rattle.serve_command.proofs.Somewhere.{any_here}
 use Rattle.session_core.specs.Told.{opened_in}
 use Rattle.link_laws.specs.Openings.{BeginsWithOpening, AreOfOneSession}
@@ -61,13 +61,14 @@ each_all events own whole (inr one) = inr (
   record { begins = one.1; all = whole one.0 (has_event one.0 own one.1) ∙ own_all own one.0 (all_of_it one.0 own one.1) },
 )
 
-pub are_sessions : (level : Level) (seed most : ℕ) (befores afters : List Passage) (parts : List Part) (history : Chronicle) →
-    AreParts level seed most 0 befores parts afters → Finished (empty_history level) (records_of parts) history → AreSessions (records_of parts) history.events
-are_sessions level seed most befores afters parts history are finished =
+pub are_sessions : (level : Level) (seed most : ℕ) (befores afters : List Passage) (parts : List Part) (start history : Chronicle) →
+    AreParts level seed most 0 befores parts afters → (finished : Finished start (records_of parts) history) →
+    AreSessions (records_of parts) history.events finished.added
+are_sessions level seed most befores afters parts start history are finished =
     let ones = parts_one level seed most 0 befores parts afters are in
     record {
       each = λ k d within. each_all history.events _ (finished.whole k d within) (ones k d within);
       apart = λ i j session one other is_one is_other first second.
           finished.apart i j session one other is_one is_other (has_event session one first.begins) (has_event session other second.begins);
-      held = λ e there. finished.held e (subst (λ (es : List Event). Contains es e) finished.events there);
+      held = finished.held;
     }

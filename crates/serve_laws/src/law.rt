@@ -8,9 +8,9 @@ ghost use Rattle.serve_command.specs.Serving.{Served};
 ghost use Rattle.serve_laws.specs.Sessions.{AreSessions};
 
 /// Each link that a server served is one session of its own in the history, or has no event there: the record of the link begins with
-/// the opening of that session and is all that the history has of it, and no other link opened the same. Each event of the history
-/// stands in the record of a link.
+/// the opening of that session and is all that the history has of it, and no other link opened the same. Each event that came to the
+/// history stands in the record of a link.
 pub fn each_link_is_one_session()
     ensures { (options : ServeOptions) (before : Networked) (host_before : Hosted) (code : ℕ) (after : Networked) (host_after : Hosted) →
-        (served : Served options before host_before code after host_after) → AreSessions (records_of served.parts) served.history.events }
+        (served : Served options before host_before code after host_after) → AreSessions (records_of served.parts) served.history.events served.one_history.added }
 {}
