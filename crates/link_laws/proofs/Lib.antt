@@ -3,3 +3,4 @@ pub mod StatementsKept
 pub mod MessagesKept
 pub mod SessionsKept
 pub mod OneOpening
+pub mod OwnEvents

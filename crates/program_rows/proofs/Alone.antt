@@ -1,0 +1,58 @@
+-- A session that is served alone keeps rows whole.
+use Rattle.std.proofs.Common.{◌≡◌, inl, inr, ℕ, List, All, Option, Some, None, refl, sym, subst, ◌∙◌}
+use Rattle.std.proofs.lemmas.Bool.{cases_eq}
+use Rattle.std.proofs.lemmas.List.Elements.{All-cons}
+use Rattle.cell_base.specs.declared.level.Level.{Level}
+use Rattle.sql_tree.specs.declared.table.Table.{Table}
+use Rattle.history_core.specs.declared.event.Event.{Event}
+use Rattle.history_core.specs.declared.event.Event.TheVariants.{Open}
+use Rattle.history_core.specs.Events.{session_in}
+use Rattle.history_core.specs.Chronicle.{own_events}
+use Rattle.link_traits.specs.Traffic.{Sight}
+use Rattle.choice_stream.specs.Choices.{DrawsFirst}
+use Rattle.session_core.specs.declared.served.Served.{Served}
+use Rattle.session_core.specs.Told.{opened_in}
+use Rattle.session_core.specs.Record.{events_of}
+use Rattle.monkey_server.specs.Program.{no_past, ServesAlone}
+use Rattle.link_laws.specs.Openings.{BeginsWithOpening, AreOfOneSession}
+use Rattle.link_laws.proofs.OneOpening.{one_session}
+use Rattle.whole_rows.specs.Rows.{ShowsNoUnset}
+use Rattle.session_rows.specs.Alone.{KeepsRowsAlone}
+use Rattle.session_rows.proofs.Fronts.{first_all}
+use Rattle.session_rows.proofs.Records.{told_keeps}
+use Rattle.program_rows.proofs.Rows.{own_all, own_none, shows_whole}
+
+-- all events that begin with an opening are of its session
+all_of_it : (session : ℕ) (events : List Event) → BeginsWithOpening session events → All (λ e. session_in e ≡ session) events
+all_of_it session events begins =
+    subst (λ (es : List Event). All (λ e. session_in e ≡ session) es) (sym begins.events_are)
+    (All-cons (λ e. session_in e ≡ session) (Open session) begins.later refl (λ k d within. (begins.of_it k d within).0))
+
+-- so of each session there are all of them, or none
+each_keeps : (tables : List Table) (number : Option ℕ) (events : List Event) → AreOfOneSession number events → KeepsRowsAlone tables events →
+    (session : ℕ) → KeepsRowsAlone tables (own_events events session)
+each_keeps tables None events none keeps session =
+    subst (λ (es : List Event). KeepsRowsAlone tables (own_events es session)) (sym none) tt
+each_keeps tables (Some n) events begins keeps session =
+    let of_it = all_of_it n events begins in
+    elim (cases_eq n session) [
+      | inl here ↦
+          subst (λ (s : ℕ). KeepsRowsAlone tables (own_events events s)) here (subst (λ (es : List Event). KeepsRowsAlone tables es) (sym (own_all events n of_it)) keeps)
+      | inr apart ↦
+          subst (λ (es : List Event). KeepsRowsAlone tables es)
+          (sym (own_none events session (λ k d within same. apart (sym (of_it k d within) ∙ same)))) tt
+    ]
+
+pub alone_whole : (level : Level) (words : List ℕ) (before : Sight) (outcome : Served) (after : Sight) → (alone : ServesAlone level words before outcome after) →
+    ShowsNoUnset alone.past.seen.events
+alone_whole level words before outcome after alone =
+    let serves = alone.serves in
+    let entries = alone.account.entries in
+    let tables = alone.past.seen.tables in
+    let one : AreOfOneSession (opened_in entries) (events_of entries) =
+    one_session DrawsFirst level serves.requests _ _ entries (no_past level) words alone.past alone.rest serves.told_is serves.valid in
+    let keeps : KeepsRowsAlone tables (events_of entries) =
+    told_keeps DrawsFirst level serves.requests _ _ entries (no_past level) words alone.past alone.rest tables serves.told_is serves.valid (first_all tables) in
+    shows_whole alone.past.seen alone.legal alone.initial (λ session.
+    subst (λ (es : List Event). KeepsRowsAlone tables (own_events es session)) (sym alone.events)
+    (each_keeps tables (opened_in entries) (events_of entries) one keeps session))

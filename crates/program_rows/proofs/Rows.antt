@@ -1,0 +1,99 @@
+-- A history that begins without a row, and whose sessions keep rows whole.
+use Rattle.std.proofs.Common.{◌≡◌, ℕ, ◌==◌, List, [], ◌∷◌, All, refl, sym, ap, subst, ◌∙◌, arith}
+use Rattle.std.specs.List.{Contains}
+use Rattle.std.proofs.lemmas.Bool.{cond-true, cond-false, eq-eqb, ne_eqb}
+use Rattle.std.proofs.lemmas.List.Elements.{All-head, All-tail}
+use Rattle.cell_base.specs.declared.cell.Cell.{Cell}
+use Rattle.cell_base.specs.declared.key.Key.{Key}
+use Rattle.cell_base.specs.declared.value.Value.{Value}
+use Rattle.sql_tree.specs.declared.table.Table.{Table}
+use Rattle.history_core.specs.declared.event.Event.{Event}
+use Rattle.history_core.specs.declared.event.Event.TheVariants.{Open, Close, Define, Look, Begin, Scan, Read, Own, Write, Commit, Rollback, Show}
+use Rattle.history_core.specs.Events.{session_in}
+use Rattle.history_core.specs.Initial.{HoldsWholeRows}
+use Rattle.history_core.specs.Chronicle.{Chronicle, IsLegalChronicle, own_events}
+use Rattle.whole_rows.specs.Rows.{ShowsNoUnset}
+use Rattle.whole_rows.proofs.WholeRows.{all_set}
+use Rattle.session_rows.specs.Alone.{AreFirst, MayFollow, shown_behind, owed_behind, KeepsRowsFrom, KeepsRowsAlone}
+use Rattle.session_rows.proofs.Fronts.{ask_first, write_first, owed_first}
+use Rattle.session_rows.proofs.Histories.{keeps_rows}
+
+-- ---- more tables
+
+follow_first : (xs ys : List Table) (shown : List (ℕ × Key)) (owed : List Cell) (e : Event) → AreFirst xs ys → MayFollow xs shown owed e → MayFollow ys shown owed e
+follow_first xs ys shown owed (Read s cell source count word v) first may = (may.0, ask_first xs ys shown cell first may.1)
+follow_first xs ys shown owed (Write s cell v) first may = write_first xs ys owed cell v first may
+follow_first xs ys shown owed (Open s) first may = may
+follow_first xs ys shown owed (Close s) first may = may
+follow_first xs ys shown owed (Define s name) first may = may
+follow_first xs ys shown owed (Look s count) first may = may
+follow_first xs ys shown owed (Begin s level) first may = may
+follow_first xs ys shown owed (Scan s table keys) first may = may
+follow_first xs ys shown owed (Own s cell v) first may = may
+follow_first xs ys shown owed (Commit s) first may = may
+follow_first xs ys shown owed (Rollback s) first may = may
+follow_first xs ys shown owed (Show s number) first may = may
+
+owes_first : (xs ys : List Table) (shown : List (ℕ × Key)) (owed : List Cell) (e : Event) → AreFirst xs ys → MayFollow xs shown owed e →
+    owed_behind xs owed e ≡ owed_behind ys owed e
+owes_first xs ys shown owed (Write s cell v) first may = owed_first xs ys owed cell v first may
+owes_first xs ys shown owed (Read s cell source count word v) first may = refl
+owes_first xs ys shown owed (Open s) first may = refl
+owes_first xs ys shown owed (Close s) first may = refl
+owes_first xs ys shown owed (Define s name) first may = refl
+owes_first xs ys shown owed (Look s count) first may = refl
+owes_first xs ys shown owed (Begin s level) first may = refl
+owes_first xs ys shown owed (Scan s table keys) first may = refl
+owes_first xs ys shown owed (Own s cell v) first may = refl
+owes_first xs ys shown owed (Commit s) first may = refl
+owes_first xs ys shown owed (Rollback s) first may = refl
+owes_first xs ys shown owed (Show s number) first may = refl
+
+pub keeps_more : (xs ys : List Table) (shown : List (ℕ × Key)) (owed : List Cell) (es : List Event) → AreFirst xs ys → KeepsRowsFrom xs shown owed es →
+    KeepsRowsFrom ys shown owed es
+keeps_more xs ys shown owed [] first keeps = tt
+keeps_more xs ys shown owed (e ∷ es) first keeps = (
+  follow_first xs ys shown owed e first keeps.0,
+  subst (λ (cells : List Cell). KeepsRowsFrom ys (shown_behind shown e) cells es) (owes_first xs ys shown owed e first keeps.0)
+      (keeps_more xs ys (shown_behind shown e) (owed_behind xs owed e) es first keeps.1),
+)
+
+-- ---- the events of one session
+
+own_here : (e : Event) (xs : List Event) (s : ℕ) → session_in e ≡ s → own_events (e ∷ xs) s ≡ e ∷ own_events xs s
+own_here e xs s same = cond-true (session_in e == s) (e ∷ own_events xs s) (own_events xs s) (eq-eqb (session_in e) s same)
+
+own_other : (e : Event) (xs : List Event) (s : ℕ) → (session_in e ≡ s → ⊥) → own_events (e ∷ xs) s ≡ own_events xs s
+own_other e xs s apart = cond-false (session_in e == s) (e ∷ own_events xs s) (own_events xs s) (ne_eqb (session_in e) s apart)
+
+pub own_all : (xs : List Event) (s : ℕ) → All (λ e. session_in e ≡ s) xs → own_events xs s ≡ xs
+own_all [] s all = refl
+own_all (x ∷ xs) s all =
+    own_here x xs s (All-head (λ e. session_in e ≡ s) x xs all) ∙ ap (λ (es : List Event). x ∷ es) (own_all xs s (All-tail (λ e. session_in e ≡ s) x xs all))
+
+pub own_none : (xs : List Event) (s : ℕ) → All (λ e. session_in e ≡ s → ⊥) xs → own_events xs s ≡ []
+own_none [] s all = refl
+own_none (x ∷ xs) s all =
+    own_other x xs s (All-head (λ e. session_in e ≡ s → ⊥) x xs all) ∙ own_none xs s (All-tail (λ e. session_in e ≡ s → ⊥) x xs all)
+
+-- ---- no row at first
+
+none_there : {A : Type 0} (x : A) → Contains [] x → ⊥
+none_there x there = let h = there.1 in absurd (omega arith)
+
+no_rows : (tables : List Table) → HoldsWholeRows tables []
+no_rows tables = record {
+  known = λ table key there. absurd (none_there _ there);
+  whole = λ table key of_table column there is within apart. absurd (none_there _ there);
+  fields = λ table key of_table column v there is. absurd (none_there _ there);
+}
+
+pub shows_whole : (history : Chronicle) → IsLegalChronicle history → history.initial ≡ [] →
+    ((session : ℕ) → KeepsRowsAlone history.tables (own_events history.events session)) → ShowsNoUnset history.events
+shows_whole history legal none alone =
+    all_set history.tables history.initial history.events (record {
+      state = legal.initial;
+      legal = legal.legal;
+      rows = subst (λ (cells : List (Cell × Value)). HoldsWholeRows history.tables cells) (sym none) (no_rows history.tables);
+      keeps = keeps_rows history.tables history.events alone;
+    })

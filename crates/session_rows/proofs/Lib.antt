@@ -1,0 +1,5 @@
+pub mod Fronts
+pub mod Histories
+pub mod Standings
+pub mod Records
+pub mod Made
