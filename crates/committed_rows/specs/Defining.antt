@@ -39,11 +39,11 @@ pub record HasDefined (past : Past) : Type 0 where
   pub state : past.state ≡ in_session 1
 
 -- session 1 defines these tables after those that it had defined
-pub record DefinesMore (old : Past) (tables : List Table) (new : Past) : Type 0 where
+pub record DefinesMore (old : Past) (more : List Table) (new : Past) : Type 0 where
   pub defined : HasDefined new
   pub level : new.seen.level ≡ old.seen.level
   pub initial : new.seen.initial ≡ old.seen.initial
-  pub tables : new.seen.tables ≡ old.seen.tables ++ tables
+  pub tables : new.seen.tables ≡ old.seen.tables ++ more
 
 -- the table may be defined next
 pub record MayDefine (past : Past) (table : Table) : Type 0 where

@@ -1,9 +1,9 @@
 // Gathers the rows that are there, with their fields.
 ghost use Rattle.std.specs.Prelude.{◌≡◌, ◌↔◌, IfOk, IsTrue};
-ghost use Rattle.cell_base.specs.contracts.cell.CellOrd.TheImpl as cell_order;
+ghost use Rattle.std.specs.BTreeMap.{IsOrdered};
 ghost use Rattle.history_core.specs.Initial.{IsAscending};
 ghost use Rattle.committed_rows.specs.Rows.{AreCommittedRows};
-ghost use Rattle.committed_rows.specs.Walk.{AreRowsOf, FitsRows, HasRow};
+ghost use Rattle.committed_rows.specs.Walk.{cell_cmp, AreRowsOf, FitsRows, HasRow};
 
 use crate::newest::Newest;
 use crate::walk::newest_values;
@@ -17,14 +17,17 @@ use std::cmp::Ordering;
 pub fn committed_rows(alloc: Global, history: &History) -> Result<Vec<(Cell, Value)>, Memory>
     ensures { IfOk result (λ cells. AreCommittedRows history.now cells.items) }
 {
+    let _ = history.events();
     let mut newest = newest_values(alloc, history)?;
     rows_of(alloc, &mut newest)
 }
 
 /// Takes out the rows that are there.
 fn rows_of(alloc: Global, newest: &mut Newest) -> Result<Vec<(Cell, Value)>, Memory>
-    ensures { IfOk result (λ cells. AreRowsOf newest.old.values.entries cells.items) }
+    ensures rows { IfOk result (λ cells. AreRowsOf newest.old.values.entries cells.items) }
+    ensures ordered { IsOrdered cell_cmp newest.old.values }
 {
+    let _ = newest.values.len();
     let mut cells = Vec::new(alloc);
     while let Some((cell, value)) = newest.values.pop_first() {
         if is_there(cells.as_slice(), &cell, &value) {
@@ -65,7 +68,7 @@ fn has_row(cells: &[(Cell, Value)], table: u32, key: &Key) -> bool
 
 /// How the cell stands to the presence of the row.
 fn order(cell: &Cell, table: u32, key: &Key) -> Ordering
-    ensures { result ≡ (cell_order.ghosts).cmp cell.now (Cell.Presence table key.now) }
+    ensures { result ≡ cell_cmp cell.now (Cell.Presence table key.now) }
 {
     match cell {
         Cell::Presence(of_table, of_key) => of_table.cmp(&table).then(of_key.cmp(key)),

@@ -18,7 +18,7 @@ fn take_txn(newest: &mut Newest, history: &History, number: u32) -> Result<(), M
     let txn = history.txn(number);
     match txn.state {
         TxnState::Committed => fill(newest, txn.buffer.writes()),
-        TxnState::Pending | TxnState::RolledBack => Ok(()),
+        _ => Ok(()),
     }
 }
 
@@ -26,6 +26,7 @@ fn take_txn(newest: &mut Newest, history: &History, number: u32) -> Result<(), M
 pub fn newest_values(alloc: Global, history: &History) -> Result<Newest, Memory>
     ensures { IfOk result (AreNewest history.now) }
 {
+    let _ = history.events();
     let mut newest = newest::new(alloc);
     let mut number = history.begun();
     while number > 0 {
