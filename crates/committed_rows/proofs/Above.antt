@@ -1,7 +1,6 @@
 -- The newest values of the committed transactions above a limit, as the limit goes down.
-use Rattle.std.proofs.Common.{◌≡◌, ℕ, ◌+◌, ◌<◌, ◌≤◌, List, Option, Some, None, Result, Ok, Err, length, arith, refl, ap, sym, ◌∙◌, subst, inl, inr}
+use Rattle.std.proofs.Common.{◌≡◌, ℕ, ◌+◌, ◌<◌, ◌≤◌, List, Some, None, Result, Ok, Err, length, arith, sym, ◌∙◌, subst, inl, inr}
 use Rattle.std.specs.Prelude.{IsSome, OnOk}
-use Rattle.std.specs.List.{Contains}
 use Rattle.std.proofs.lemmas.Bool.{cases_lt}
 use Rattle.std.proofs.lemmas.Option.{slice_get_within}
 use Rattle.cell_base.specs.declared.cell.Cell.{Cell}
@@ -17,7 +16,7 @@ use Rattle.history_core.specs.Relations.{HasWritten, LastWrites}
 use Rattle.history_core.proofs.Greatest.{greatest}
 use Rattle.history_core.proofs.Prefixes.{start_bounded, start_positive}
 use Rattle.committed_rows.specs.declared.newest.Newest.{Newest}
-use Rattle.committed_rows.specs.Walk.{value_at, Fills, CommitsTo, AreNewestAbove}
+use Rattle.committed_rows.specs.Walk.{value_at, Fills, AreNewestAbove}
 use Rattle.committed_rows.proofs.Noted.{some_or_none, none_is_not_some, some_is, some_of}
 
 -- what was written has a last value

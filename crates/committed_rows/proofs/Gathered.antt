@@ -1,5 +1,5 @@
 -- The rows that are there, as they are taken out of all cells in order.
-use Rattle.std.proofs.Common.{◌≡◌, ℕ, ◌+◌, ◌<◌, ◌≤◌, zero, suc, List, [], ◌∷◌, ◌++◌, Option, Some, None, Bool, true, false, length, get_or, arith, refl, ap, sym, ◌∙◌, subst, inl, inr, ◌↔◌}
+use Rattle.std.proofs.Common.{◌≡◌, ℕ, ◌<◌, zero, suc, List, [], ◌∷◌, ◌++◌, Option, Some, None, Bool, true, false, length, get_or, arith, refl, ap, sym, ◌∙◌, subst, inl, inr, ◌↔◌}
 use Rattle.std.specs.Prelude.{IsTrue, IsSome}
 use Rattle.std.specs.List.{Contains, slice_get}
 use Rattle.std.specs.Map.{keys_of}
@@ -138,7 +138,7 @@ gather_push all cells rest cell value ascends is stands = record {
 -- a presence and a field don't stand at one place
 apart_at : (t u c : ℕ) (k l : Key) (v w : Value) (found : Option (Cell × Value)) → found ≡ Some (Presence t k, v) → found ≡ Some (Field u l c, w) → ⊥
 apart_at t u c k l v w found first second =
-    let same : (Presence t k, v) ≡ (Field u l c, w) = same_Some (Presence t k, v) (Field u l c, w) (sym first ∙ second) in
+    let same : ◌≡◌ {A = Cell × Value} (Presence t k, v) (Field u l c, w) = same_Some (Presence t k, v) (Field u l c, w) (sym first ∙ second) in
     let cells : Presence t k ≡ Field u l c = ap (λ (e : Cell × Value). e.0) same in
     cc
 

@@ -1,22 +1,19 @@
 -- The newest value of a cell: there is one at most, and the walk finds it.
-use Rattle.std.proofs.Common.{◌≡◌, ◌≢◌, ℕ, ◌+◌, ◌<◌, ◌≤◌, List, Option, Some, None, true, false, length, arith, refl, ap, sym, ◌∙◌, subst, inl, inr}
-use Rattle.std.specs.Prelude.{IsSome}
-use Rattle.std.specs.List.{Contains, slice_get}
+use Rattle.std.proofs.Common.{◌≡◌, ◌≢◌, ℕ, ◌<◌, ◌≤◌, List, Some, None, true, arith, refl, ap, sym, ◌∙◌, subst, inl, inr}
+use Rattle.std.specs.List.{slice_get}
 use Rattle.cell_base.specs.declared.cell.Cell.{Cell}
 use Rattle.cell_base.specs.declared.cell.Cell.TheVariants.{Presence, Field}
 use Rattle.cell_base.specs.declared.value.Value.{Value}
 use Rattle.cell_base.specs.declared.value.Value.TheVariants.{Unset, Flag}
-use Rattle.txn_buffer.specs.Buffer.{IsAbsent}
 use Rattle.history_core.specs.declared.event.Event.{Event}
 use Rattle.history_core.specs.declared.event.Event.TheVariants.{Write}
 use Rattle.history_core.specs.Initial.{IsAscending, WritesInitially, FitsCell, absent_value}
-use Rattle.history_core.specs.Transactions.{IsCommitted}
 use Rattle.history_core.specs.Relations.{LastWrites, Writes, WritesValue}
 use Rattle.history_core.specs.Chronicle.{Chronicle, IsFormedChronicle}
 use Rattle.history_core.proofs.WholeRows.{one_value}
 use Rattle.committed_rows.specs.declared.newest.Newest.{Newest}
 use Rattle.committed_rows.specs.Rows.{IsNewest}
-use Rattle.committed_rows.specs.Walk.{value_at, Fills, CommitsTo, AreNewestAbove, AreNewest}
+use Rattle.committed_rows.specs.Walk.{value_at, Fills, AreNewestAbove, AreNewest}
 use Rattle.committed_rows.proofs.Noted.{some_or_none, none_is_not_some, some_of}
 use Rattle.committed_rows.proofs.Above.{has_written, committed_positive}
 

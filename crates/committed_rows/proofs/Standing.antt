@@ -1,5 +1,5 @@
 -- The rows that are gathered are those that are there at the end of the history.
-use Rattle.std.proofs.Common.{◌≡◌, ◌≢◌, ℕ, List, Some, true, Result, Ok, Err, refl, ap, sym, ◌∙◌, subst}
+use Rattle.std.proofs.Common.{◌≢◌, List, true, Result, Ok, Err, sym, subst}
 use Rattle.std.specs.Prelude.{◌↔◌, IfOk}
 use Rattle.std.specs.List.{Contains}
 use Rattle.std.specs.BTreeMap.{IsOrdered}
@@ -13,7 +13,7 @@ use Rattle.history_core.specs.Chronicle.{Chronicle, IsFormedChronicle}
 use Rattle.history_core.proofs.Searches.{cell_total, cell_exact}
 use Rattle.committed_rows.specs.declared.newest.Newest.{Newest}
 use Rattle.committed_rows.specs.Rows.{IsNewest, StandsAtEnd, AreCommittedRows}
-use Rattle.committed_rows.specs.Walk.{cell_cmp, value_at, StandsIn, AreNewest, AreRowsOf}
+use Rattle.committed_rows.specs.Walk.{cell_cmp, StandsIn, AreNewest, AreRowsOf}
 use Rattle.committed_rows.proofs.Newly.{newest_found}
 
 module _ (history : Chronicle) (newest : Newest) (formed : IsFormedChronicle history) (are : AreNewest history newest)

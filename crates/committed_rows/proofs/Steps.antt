@@ -1,5 +1,5 @@
 -- The first session of a history, as it is opened, defines tables, and is closed.
-use Rattle.std.proofs.Common.{◌≡◌, ◌≢◌, ℕ, ◌+◌, ◌<◌, ◌≤◌, zero, suc, All, min, get_or, List, [], ◌∷◌, ◌++◌, Option, Some, None, Ok, Err, Result, length, map, take, arith, refl, ap, sym, ◌∙◌, subst, inl, inr, nat_le}
+use Rattle.std.proofs.Common.{◌≡◌, ◌≢◌, ℕ, ◌+◌, ◌<◌, ◌≤◌, zero, suc, All, get_or, List, [], ◌∷◌, ◌++◌, Option, Some, None, Ok, Err, Result, length, map, take, arith, refl, ap, sym, ◌∙◌, subst, inl, inr, nat_le}
 use Rattle.std.specs.Prelude.{IfOk}
 use Rattle.std.specs.Bool.{if◌then◌else◌}
 use Rattle.std.specs.List.{Contains, slice_get}
@@ -12,7 +12,6 @@ use Rattle.std.proofs.lemmas.List.Sums.{sum_by-cons}
 use Rattle.std.proofs.lemmas.List.Elements.{All-contains}
 use Rattle.txn_buffer.proofs.Lists.{at_contains, contains_at}
 use Rattle.cell_base.specs.declared.cell.Cell.{Cell}
-use Rattle.cell_base.specs.declared.level.Level.{Level}
 use Rattle.cell_base.specs.declared.value.Value.{Value}
 use Rattle.sql_tree.specs.declared.table.Table.{Table}
 use Rattle.sound_table.specs.Sound.{IsSound}
@@ -23,12 +22,12 @@ use Rattle.history_core.specs.declared.fault.BookFault.TheVariants.{Full}
 use Rattle.history_core.specs.declared.fault.DefineAnswer.{DefineAnswer}
 use Rattle.history_core.specs.declared.fault.DefineAnswer.TheVariants.{Defined, Taken}
 use Rattle.history_core.specs.declared.fault.Limit.{Limit}
-use Rattle.history_core.specs.declared.fault.Limit.TheVariants.{Load, Transactions, Sessions, Tables}
-use Rattle.history_core.specs.Events.{names, weight_of, weights_of, defined, opened}
+use Rattle.history_core.specs.declared.fault.Limit.TheVariants.{Load, Tables}
+use Rattle.history_core.specs.Events.{names, weight_of, weights_of, defined}
 use Rattle.history_core.specs.Initial.{initial_load, load_of}
 use Rattle.history_core.specs.Legal.{full_for}
 use Rattle.history_core.specs.Chronicle.{Chronicle, IsLegalChronicle}
-use Rattle.history_core.specs.Book.{Past, SessionState, in_session, session_of, GoesOn, Adds, AnswersDefine}
+use Rattle.history_core.specs.Book.{Past, in_session, session_of, GoesOn, Adds, AnswersDefine}
 use Rattle.history_core.proofs.KeptLemmas.{names-push}
 use Rattle.history_core.proofs.Places.{slice_get-take}
 use Rattle.valid_writes.specs.Owning.{OwnsAllThatComes}

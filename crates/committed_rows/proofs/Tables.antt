@@ -1,6 +1,5 @@
 -- The tables of a formed history can stand in another one, and its rows can be the initial state of one.
-use Rattle.std.proofs.Common.{◌≡◌, ◌≢◌, ℕ, ◌+◌, ◌<◌, ◌≤◌, zero, suc, List, [], ◌∷◌, ◌++◌, Some, length, map, arith, refl, ap, sym, ◌∙◌, subst, inl, inr}
-use Rattle.std.specs.Prelude.{ℤ}
+use Rattle.std.proofs.Common.{◌≡◌, ◌≢◌, ℕ, zero, suc, List, [], ◌∷◌, ◌++◌, Some, true, map, arith, refl, ap, sym, ◌∙◌, subst, inl, inr}
 use Rattle.std.specs.List.{Contains, slice_get}
 use Rattle.std.proofs.lemmas.List.{append-nil}
 use Rattle.std.proofs.lemmas.List.Elements.{filter_map-append}
@@ -9,19 +8,19 @@ use Rattle.cell_base.specs.declared.cell.Cell.{Cell}
 use Rattle.cell_base.specs.declared.cell.Cell.TheVariants.{Presence, Field}
 use Rattle.cell_base.specs.declared.key.Key.{Key}
 use Rattle.cell_base.specs.declared.value.Value.{Value}
-use Rattle.cell_base.specs.declared.value.Value.TheVariants.{Unset, Flag, Wide}
+use Rattle.cell_base.specs.declared.value.Value.TheVariants.{Unset, Flag}
 use Rattle.sql_tree.specs.declared.table.Table.{Table}
 use Rattle.txn_buffer.proofs.Lists.{slice_get_push_cases, contains_at}
 use Rattle.history_core.specs.declared.event.Event.{Event}
 use Rattle.history_core.specs.declared.event.Event.TheVariants.{Open, Close, Define, Look, Begin, Scan, Read, Own, Write, Commit, Rollback, Show}
 use Rattle.history_core.specs.Events.{names, defined_name}
-use Rattle.history_core.specs.Initial.{IsStorable, FitsCell, WritesInitially, IsInitialState}
+use Rattle.history_core.specs.Initial.{IsStorable, FitsCell, IsInitialState}
 use Rattle.history_core.specs.Relations.{WritesValue}
 use Rattle.history_core.specs.Legal.{IsFormed, MayCome}
 use Rattle.history_core.specs.Chronicle.{Chronicle, IsFormedChronicle}
 use Rattle.history_core.proofs.Prefixes.{along, formed_back}
 use Rattle.history_core.proofs.TablesFew.{tables_few}
-use Rattle.committed_rows.specs.Rows.{IsNewest, AreCommittedRows}
+use Rattle.committed_rows.specs.Rows.{AreCommittedRows}
 use Rattle.committed_rows.specs.Defining.{CanStand}
 
 -- ---- names
@@ -92,9 +91,9 @@ storable_there initial table column key v fits = fits.1
 
 storable_written : (history : Chronicle) (n table column : ℕ) (key : Key) (v : Value) → IsFormedChronicle history → v ≢ Unset →
     WritesValue history.initial history.events n (Field table key column) v → IsStorable v
-storable_written history n table column key v formed set (inl (zero, inl there)) =
+storable_written history n table column key v formed set (inl (none, inl there)) =
     storable_there history.initial table column key v (formed.initial.fits (Field table key column) v there)
-storable_written history n table column key v formed set (inl (zero, inr away)) = absurd (set away.1)
+storable_written history n table column key v formed set (inl (none, inr away)) = absurd (set away.1)
 storable_written history n table column key v formed set (inr (committed, last)) =
     (formed.formed last.place (Write last.session (Field table key column) v) last.write.is).follows.2
 

@@ -1,4 +1,4 @@
-use Rattle.std.proofs.Common.{List, ◌+◌, ◌++◌, [], ◌∷◌, length, take, refl, sym, ◌∙◌, subst}
+use Rattle.std.proofs.Common.{List, ◌++◌, [], ◌∷◌, length, take, refl, sym, ◌∙◌, subst}
 use Rattle.std.proofs.lemmas.Option.{slice_get_read}
 use Rattle.cell_base.specs.declared.cell.Cell.{Cell}
 use Rattle.cell_base.specs.declared.value.Value.{Value}

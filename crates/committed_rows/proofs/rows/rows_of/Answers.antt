@@ -1,8 +1,4 @@
-use Rattle.std.proofs.Common.{List, sym, subst}
-use Rattle.cell_base.specs.declared.cell.Cell.{Cell}
-use Rattle.cell_base.specs.declared.value.Value.{Value}
-use Rattle.history_core.specs.Initial.{IsAscending}
-use Rattle.committed_rows.proofs.Gathered.{ascending_entries, gather_first, gather_next, gather_over, gather_end}
+use Rattle.committed_rows.proofs.Gathered.{ascending_entries, gather_next, gather_over, gather_end}
 use Rattle.committed_rows.proofs.rows.rows_of.Goals as goal
 
 pub loop-cell-preserved-in-Continue-1 : goal.loop-cell-preserved-in-Continue-1

@@ -1,5 +1,4 @@
-use Rattle.std.specs.BTreeMap.{IsOrdered, btree_map_len}
-use Rattle.committed_rows.specs.Walk.{cell_cmp}
+use Rattle.std.specs.BTreeMap.{btree_map_len}
 use Rattle.committed_rows.proofs.Gathered.{IsGathering}
 use Rattle.committed_rows.proofs.rows.rows_of.Given as goal
 

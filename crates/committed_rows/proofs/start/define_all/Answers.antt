@@ -1,4 +1,4 @@
-use Rattle.std.proofs.Common.{List, ◌+◌, length, take, refl, sym, subst}
+use Rattle.std.proofs.Common.{List, length, take, refl, sym, subst}
 use Rattle.std.proofs.lemmas.Option.{slice_get_read}
 use Rattle.sql_tree.specs.declared.table.Table.{Table}
 use Rattle.committed_rows.specs.Defining.{DefinesMore}

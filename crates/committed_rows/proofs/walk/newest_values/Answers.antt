@@ -1,7 +1,6 @@
-use Rattle.std.proofs.Common.{List, ℕ, ◌≡◌, ◌≤◌, sym, ◌∙◌, subst, arith}
+use Rattle.std.proofs.Common.{List, ℕ, ◌≡◌, sym, ◌∙◌, subst, arith}
 use Rattle.cell_base.specs.declared.cell.Cell.{Cell}
 use Rattle.cell_base.specs.declared.value.Value.{Value}
-use Rattle.history_core.specs.Events.{begun}
 use Rattle.committed_rows.specs.Walk.{Fills, AreNewestAbove}
 use Rattle.committed_rows.proofs.Above.{above_first}
 use Rattle.committed_rows.proofs.Newly.{newest_all}
