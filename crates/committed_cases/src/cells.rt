@@ -1,30 +1,67 @@
-// The cells of the tests' rows.
+// The cells of the tests, with their values, as plain data.
 use cell_base::{Cell, Key, Text, Value};
 use history_core::BookFault;
 use std::alloc::Global;
 
-/// The presence of the row of a number.
-pub fn row(table: u32, number: i64) -> Cell {
-    Cell::Presence(table, Key::Int(number))
+/// A key.
+#[derive(Clone, Copy, Debug)]
+pub enum Row {
+    Number(i64),
+    Name(&'static [u8]),
 }
 
-/// A field of the row of a number.
-pub fn field(table: u32, number: i64, column: u32) -> Cell {
-    Cell::Field(table, Key::Int(number), column)
+/// What stands in a cell.
+#[derive(Clone, Copy, Debug)]
+pub enum Put {
+    /// Whether the table has the row.
+    Row(u32, Row, bool),
+    /// The number in the column 1 of the row, or null.
+    Field(u32, Row, Option<i64>),
 }
 
-/// A key that is a text.
-pub fn name(alloc: Global, text: &[u8]) -> Result<Key, BookFault> {
-    match Text::from_bytes(alloc, text) {
-        Ok(text) => Ok(Key::Text(text)),
-        Err(_) => Err(BookFault::Memory),
+/// The key of a row.
+fn key_of(alloc: Global, row: Row) -> Result<Key, BookFault> {
+    match row {
+        Row::Number(number) => Ok(Key::Int(number)),
+        Row::Name(name) => match Text::from_bytes(alloc, name) {
+            Ok(text) => Ok(Key::Text(text)),
+            Err(_) => Err(BookFault::Memory),
+        },
     }
 }
 
-/// Whether the cell stands at the place with this value.
-pub fn stands(cells: &[(Cell, Value)], at: usize, cell: Cell, value: Value) -> bool {
-    match cells.get(at) {
-        Some(entry) => entry.0 == cell && entry.1 == value,
-        None => false,
+/// The cell.
+pub fn cell_of(alloc: Global, put: Put) -> Result<Cell, BookFault> {
+    match put {
+        Put::Row(table, row, _) => Ok(Cell::Presence(table, key_of(alloc, row)?)),
+        Put::Field(table, row, _) => Ok(Cell::Field(table, key_of(alloc, row)?, 1)),
     }
+}
+
+/// The value.
+pub fn value_of(put: Put) -> Value {
+    match put {
+        Put::Row(_, _, there) => Value::Flag(there),
+        Put::Field(_, _, Some(number)) => Value::Int(number),
+        Put::Field(_, _, None) => Value::Null,
+    }
+}
+
+/// Whether this is the cell with this value.
+fn is_put(alloc: Global, entry: &(Cell, Value), put: Put) -> Result<bool, BookFault> {
+    let cell = cell_of(alloc, put)?;
+    Ok(entry.0.is_same(&cell) && entry.1.is_same(&value_of(put)))
+}
+
+/// Whether these are the cells, in this order.
+pub fn are_cells(alloc: Global, cells: &[(Cell, Value)], puts: &[Put]) -> Result<bool, BookFault> {
+    if cells.len() != puts.len() {
+        return Ok(false);
+    }
+    for at in 0..cells.len() {
+        if !is_put(alloc, &cells[at], puts[at])? {
+            return Ok(false);
+        }
+    }
+    Ok(true)
 }
