@@ -1,0 +1,113 @@
+// Transactions of one session. What a call asks for is tested, and where it isn't so the test ends.
+ghost use Rattle.std.specs.Prelude.{◌↔◌, OnOk, IfOk, IsTrue};
+ghost use Rattle.history_core.specs.Events.{table_of as the_table};
+ghost use Rattle.history_core.specs.Initial.{IsStorable};
+ghost use Rattle.history_core.specs.Book.{IsIdle, IsInTransaction, HasTable};
+
+use crate::cells::{Put, cell_of, value_of};
+use crate::tables::table_of;
+use cell_base::{Cell, Level, Value};
+use history_core::{Book, BookFault, InitialState};
+use std::alloc::Global;
+use valid_writes::{SeatBook, Store};
+
+/// What a transaction writes, in order, and whether it commits. Otherwise it is rolled back.
+#[derive(Clone, Copy, Debug)]
+pub struct Transaction {
+    pub writes: &'static [Put],
+    pub commits: bool,
+}
+
+/// The store in which the first session has made two tables, `t` with numbers as keys and `u` with texts, and has played the transactions.
+pub fn played(alloc: Global, transactions: &[Transaction]) -> Result<Store, BookFault> {
+    let mut book = first_session(alloc)?;
+    for transaction in transactions {
+        play(alloc, &mut book, transaction)?;
+    }
+    Ok(book.into_store())
+}
+
+/// The first session of a new store, which defines the tables.
+fn first_session(alloc: Global) -> Result<SeatBook, BookFault>
+    ensures { IfOk result (λ book. IsIdle book.state) }
+{
+    let store = Store::new(alloc, Level::Cc, InitialState::empty(alloc))?;
+    let mut book = store.seat(None);
+    book.open()?;
+    define(
+        alloc,
+        &mut book,
+        b"CREATE TABLE t (k bigint PRIMARY KEY, v bigint)",
+    )?;
+    define(
+        alloc,
+        &mut book,
+        b"CREATE TABLE u (k text PRIMARY KEY, v bigint)",
+    )?;
+    Ok(book)
+}
+
+/// Defines the table that the text creates.
+fn define(alloc: Global, book: &mut SeatBook, text: &[u8]) -> Result<(), BookFault>
+    requires { IsIdle book.old.state }
+    ensures { OnOk result (IsIdle book.new.state) }
+{
+    let table = table_of(alloc, text)?;
+    match book.define(&table) {
+        Ok(_) => Ok(()),
+        Err(fault) => Err(fault),
+    }
+}
+
+/// Plays one transaction.
+fn play(alloc: Global, book: &mut SeatBook, transaction: &Transaction) -> Result<(), BookFault>
+    requires { IsIdle book.old.state }
+    ensures { OnOk result (IsIdle book.new.state) }
+{
+    book.begin(Level::Cc)?;
+    for put in transaction.writes {
+        let cell = cell_of(alloc, *put)?;
+        write(book, cell, value_of(*put))?;
+    }
+    if transaction.commits {
+        book.commit();
+    } else {
+        book.rollback();
+    }
+    Ok(())
+}
+
+/// Writes a cell of a table that is there.
+fn write(book: &mut SeatBook, cell: Cell, value: Value) -> Result<(), BookFault>
+    requires { IsInTransaction book.old.state }
+    ensures { OnOk result (IsInTransaction book.new.state) }
+{
+    if !has_table(book, table(&cell)) || !is_storable(&value) {
+        return Err(BookFault::Memory);
+    }
+    book.write(cell, value)
+}
+
+/// Whether the table is defined.
+fn has_table(book: &SeatBook, table: u32) -> bool
+    ensures { IsTrue result ↔ HasTable book.now table }
+{
+    (table as usize) < book.history().tables().len()
+}
+
+/// The table of the cell.
+fn table(cell: &Cell) -> u32
+    ensures { result ≡ the_table cell.now }
+{
+    match cell {
+        Cell::Presence(table, _) => *table,
+        Cell::Field(table, _, _) => *table,
+    }
+}
+
+/// Whether the value can be written.
+fn is_storable(value: &Value) -> bool
+    ensures { IsTrue result ↔ IsStorable value.now }
+{
+    !matches!(value, Value::Unset | Value::Wide(_))
+}

@@ -1,0 +1,171 @@
+// What is committed at the end, and what starts with it.
+use crate::cells::{Put, Row, are_cells};
+use crate::play::{Transaction, played};
+use cell_base::Level;
+use committed_rows::{committed_rows, start_after};
+use history_core::{BookFault, Event, History};
+use std::alloc::Global;
+
+/// Transaction 1 inserts rows 1 and 2 of the first table, and row `b` of the second one. Transaction 2 updates row 1, twice. Transaction 3
+/// deletes row 2, and inserts row -5. Transaction 4 updates row 1, deletes row -5, inserts row 3, and is rolled back. Transaction 5 inserts row
+/// `a` of the second table. Transaction 6 deletes row `b`, and 7 inserts it once more.
+const TRANSACTIONS: [Transaction; 7] = [
+    Transaction {
+        writes: &[
+            Put::Row(0, Row::Number(1), true),
+            Put::Field(0, Row::Number(1), Some(10)),
+            Put::Row(0, Row::Number(2), true),
+            Put::Field(0, Row::Number(2), Some(20)),
+            Put::Row(1, Row::Name(b"b"), true),
+            Put::Field(1, Row::Name(b"b"), Some(7)),
+        ],
+        commits: true,
+    },
+    Transaction {
+        writes: &[
+            Put::Field(0, Row::Number(1), Some(11)),
+            Put::Field(0, Row::Number(1), Some(12)),
+        ],
+        commits: true,
+    },
+    Transaction {
+        writes: &[
+            Put::Row(0, Row::Number(2), false),
+            Put::Row(0, Row::Number(-5), true),
+            Put::Field(0, Row::Number(-5), None),
+        ],
+        commits: true,
+    },
+    Transaction {
+        writes: &[
+            Put::Field(0, Row::Number(1), Some(13)),
+            Put::Row(0, Row::Number(-5), false),
+            Put::Row(0, Row::Number(3), true),
+            Put::Field(0, Row::Number(3), Some(30)),
+        ],
+        commits: false,
+    },
+    Transaction {
+        writes: &[
+            Put::Row(1, Row::Name(b"a"), true),
+            Put::Field(1, Row::Name(b"a"), Some(8)),
+        ],
+        commits: true,
+    },
+    Transaction {
+        writes: &[Put::Row(1, Row::Name(b"b"), false)],
+        commits: true,
+    },
+    Transaction {
+        writes: &[
+            Put::Row(1, Row::Name(b"b"), true),
+            Put::Field(1, Row::Name(b"b"), Some(9)),
+        ],
+        commits: true,
+    },
+];
+
+/// The rows at the end of these.
+const ROWS: [Put; 8] = [
+    Put::Row(0, Row::Number(-5), true),
+    Put::Row(0, Row::Number(1), true),
+    Put::Row(1, Row::Name(b"a"), true),
+    Put::Row(1, Row::Name(b"b"), true),
+    Put::Field(0, Row::Number(-5), None),
+    Put::Field(0, Row::Number(1), Some(12)),
+    Put::Field(1, Row::Name(b"a"), Some(8)),
+    Put::Field(1, Row::Name(b"b"), Some(9)),
+];
+
+/// A row without its field.
+const HALF: [Transaction; 1] = [Transaction {
+    writes: &[Put::Row(0, Row::Number(1), true)],
+    commits: true,
+}];
+
+/// Whether the rows are found at the end.
+fn finds_rows(alloc: Global) -> Result<bool, BookFault> {
+    let store = played(alloc, &TRANSACTIONS)?;
+    let cells = committed_rows(alloc, store.history())?;
+    are_cells(alloc, cells.as_slice(), &ROWS)
+}
+
+/// Whether the event opens session 1, defines the table of the name in it, or closes it.
+fn is_event(event: &Event, word: &[u8]) -> bool {
+    match event {
+        Event::Open { session: 1 } => word == b"open".as_slice(),
+        Event::Define { session: 1, name } => name.bytes() == word,
+        Event::Close { session: 1 } => word == b"close".as_slice(),
+        _ => false,
+    }
+}
+
+/// Whether session 1 has made both tables and was closed, and nothing else was done.
+fn has_begun(history: &History) -> bool {
+    match history.events() {
+        [first, second, third, fourth] => {
+            is_event(first, b"open")
+                && is_event(second, b"t")
+                && is_event(third, b"u")
+                && is_event(fourth, b"close")
+        }
+        _ => false,
+    }
+}
+
+/// Whether a store of the level that starts after the history has the rows and the tables.
+fn starts_with_rows(alloc: Global, level: Level, setup: &History) -> Result<bool, BookFault> {
+    match start_after(alloc, level, setup)? {
+        Some(store) => has_rows(alloc, level, store.history()),
+        None => Ok(false),
+    }
+}
+
+/// Whether the history begins with the rows and the tables.
+fn has_rows(alloc: Global, level: Level, history: &History) -> Result<bool, BookFault> {
+    Ok(
+        are_cells(alloc, history.initial().cells(), &ROWS)?
+            && has_begun(history)
+            && history.tables().len() == 2
+            && history.level() == level,
+    )
+}
+
+/// Whether what starts after what was played has the rows, and what starts after that.
+fn starts_twice(alloc: Global) -> Result<bool, BookFault> {
+    let setup = played(alloc, &TRANSACTIONS)?;
+    match start_after(alloc, Level::Ra, setup.history())? {
+        Some(store) => Ok(
+            has_rows(alloc, Level::Ra, store.history())?
+                && starts_with_rows(alloc, Level::Rc, store.history())?,
+        ),
+        None => Ok(false),
+    }
+}
+
+/// Whether nothing starts after a row without its field.
+fn half_a_row_is_refused(alloc: Global) -> Result<bool, BookFault> {
+    let setup = played(alloc, &HALF)?;
+    match start_after(alloc, Level::Cc, setup.history())? {
+        Some(_) => Ok(false),
+        None => Ok(true),
+    }
+}
+
+#[test]
+fn the_rows_at_the_end(rt: HostRuntime) -> Result<(), BookFault> {
+    assert_eq!(&rt; finds_rows(rt.alloc())?, true);
+    Ok(())
+}
+
+#[test]
+fn a_store_that_starts_with_them(rt: HostRuntime) -> Result<(), BookFault> {
+    assert_eq!(&rt; starts_twice(rt.alloc())?, true);
+    Ok(())
+}
+
+#[test]
+fn a_row_that_lacks_a_field(rt: HostRuntime) -> Result<(), BookFault> {
+    assert_eq!(&rt; half_a_row_is_refused(rt.alloc())?, true);
+    Ok(())
+}
