@@ -150,7 +150,7 @@ fn tells_the_requests_to_stop(rt: HostRuntime) -> Result<(), Fail> {
     assert!(rt; network.ask_to_stop(&address) == Ok(()));
     assert!(rt; network.ask_to_stop(&address) == Err(HostFault::Failed));
     assert!(rt; network.ask_to_stop(&address) == Ok(()));
-    assert!(rt; stops(rt.alloc(), &network)? == [1, 0, 1]);
+    assert!(rt; stops(rt.alloc(), &network)?.as_slice() == [1, 0, 1].as_slice());
     assert!(rt; serve_one(&mut network, &address) == Ok(true));
     Ok(())
 }
