@@ -129,3 +129,28 @@ fn hands_out_its_doors_in_order(rt: HostRuntime) -> Result<(), Fail> {
     assert_eq!(rt; network.back().len(), 2);
     Ok(())
 }
+
+// What became of each request to stop: 1 where one was sent to `a`, 0 where one to `a` wasn't, and 9 for others.
+fn stops(alloc: Global, network: &MemNetwork) -> Result<Vec<u8>, Memory> {
+    let mut told = Vec::new(alloc);
+    for call in network.stops() {
+        let code = match call.address.as_str() {
+            "a" => u8::from(call.sent),
+            _ => 9,
+        };
+        told.push(code)?;
+    }
+    Ok(told)
+}
+
+#[test]
+fn tells_the_requests_to_stop(rt: HostRuntime) -> Result<(), Fail> {
+    let mut network = network(rt.alloc())?;
+    let address = Text::from_bytes(rt.alloc(), b"a")?;
+    assert!(rt; network.ask_to_stop(&address) == Ok(()));
+    assert!(rt; network.ask_to_stop(&address) == Err(HostFault::Failed));
+    assert!(rt; network.ask_to_stop(&address) == Ok(()));
+    assert!(rt; stops(rt.alloc(), &network)?.as_slice() == [1, 0, 1].as_slice());
+    assert!(rt; serve_one(&mut network, &address) == Ok(true));
+    Ok(())
+}

@@ -4,7 +4,7 @@ ghost use Rattle.doors.specs.TcpDoors.{tcp_passage};
 
 use crate::echo::{refuses, serve_all, serve_next};
 use cell_base::{Text, TextFault};
-use doors::{Door, Network, TcpDoor, TcpNetwork, ask_to_stop, stop_request};
+use doors::{Door, Network, TcpDoor, TcpNetwork, stop_request};
 use link_traits::{HostFault, Source, send_all};
 use std::alloc::Global;
 use std::io;
@@ -13,19 +13,31 @@ use std::net::{Net, SocketAddr, TcpListener, TcpStream};
 use std::test::Fail;
 use std::thread::join;
 
-// What a client is told for these three bytes. It then asks the server to stop.
+// What a client is told for these three bytes.
 fn ask<R: Net<Listener = TcpListener, Stream = TcpStream>>(
     rt: &R,
     address: SocketAddr,
-    text: &Text,
 ) -> io::Result<[u8; 3]> {
     let mut stream = TcpStream::connect(rt, address)?;
     stream.write_all(&[7, 8, 9])?;
     let mut room = [0u8; 3];
     stream.read_exact(&mut room)?;
-    drop(stream);
-    ask_to_stop(rt, text)?;
     Ok(room)
+}
+
+// The same, and then another network asks the server to stop. Answers also whether it could.
+fn ask_and_stop<R>(
+    rt: &R,
+    alloc: Global,
+    address: SocketAddr,
+    text: &Text,
+) -> io::Result<([u8; 3], bool)>
+where
+    R: Net<Listener = TcpListener, Stream = TcpStream> + Eprint,
+{
+    let told = ask(rt, address)?;
+    let stopped = TcpNetwork::new(rt, alloc).ask_to_stop(text).is_ok();
+    Ok((told, stopped))
 }
 
 // The text of an address.
@@ -78,9 +90,9 @@ fn serves_until_it_is_asked_to_stop(rt: HostRuntime) -> Result<(), Fail> {
     let (served, answer) = join(
         &rt,
         || serve_all(&mut doors[0]),
-        || ask(&rt, address, &text),
+        || ask_and_stop(&rt, rt.alloc(), address, &text),
     );
-    assert!(rt; answer? == [7, 8, 9]);
+    assert!(rt; answer? == ([7, 8, 9], true));
     assert!(rt; served == Some(2));
     assert!(rt; TcpStream::connect(&rt, address).is_err());
     network.doors_back(doors);
@@ -92,6 +104,21 @@ fn fails_at_an_address_that_is_none(rt: HostRuntime) -> Result<(), Fail> {
     let mut network = TcpNetwork::new(&rt, rt.alloc());
     let address = Text::from_bytes(rt.alloc(), b"127.0.0.1:port")?;
     assert!(rt; refuses(&mut network, &address, 1));
+    Ok(())
+}
+
+#[test]
+fn ends_a_door_that_waits(rt: HostRuntime) -> Result<(), Fail> {
+    let mut network = TcpNetwork::new(&rt, rt.alloc());
+    let anywhere = Text::from_bytes(rt.alloc(), b"127.0.0.1:0")?;
+    let mut doors = network.doors(&anywhere, 1)?;
+    let text = text_of(rt.alloc(), doors[0].local_addr()?)?;
+    assert!(rt; network.ask_to_stop(&text) == Ok(()));
+    assert!(rt; serve_next(&mut doors[0]) == Ok(true));
+    assert!(rt; serve_next(&mut doors[0]) == Ok(false));
+    network.doors_back(doors);
+    // Nothing listens there any more.
+    assert!(rt; network.ask_to_stop(&text) == Err(HostFault::Failed));
     Ok(())
 }
 

@@ -16,6 +16,7 @@ told_with address number passages network = record {
   calls = map tcp_call_told network.told ++ record { address = address; number = number; doors = Some passages } ∷ [];
   back = map (map tcp_passage) network.returned.list;
   lent = network.returned.out + 1;
+  stops = network.stops;
   faults = network.failures;
   to_open = None;
 }

@@ -1,5 +1,5 @@
 -- What a network in memory shows.
-use Rattle.std.specs.Prelude.{◌+◌, ◌-◌, ◌<◌, ◌⊎◌, ℕ, List, [], ◌∷◌, ◌++◌, length, map, take, drop, Some, None}
+use Rattle.std.specs.Prelude.{◌+◌, ◌-◌, ◌<◌, ◌⊎◌, ℕ, List, [], ◌∷◌, ◌++◌, length, map, take, drop, Some, None, Bool, false}
 use Rattle.std.specs.Option.{option_map}
 use Rattle.link_traits.specs.Faults.{counted}
 use Rattle.link_traits.specs.Memory.{FailsNext}
@@ -7,25 +7,28 @@ use Rattle.doors.specs.Network.{DoorsCall, Networked}
 use Rattle.doors.specs.Returns.{Returns}
 use Rattle.doors.specs.MemDoors.{MemDoorState, mem_passage}
 use Rattle.doors.specs.declared.mem_doors_call.MemDoorsCall.{MemDoorsCall}
+use Rattle.doors.specs.declared.stop_call.StopCall.{StopCall}
 
 -- a network in memory
 pub record MemNetworkState : Type 0 where
   -- the doors that can be opened
   pub doors : List MemDoorState
-  -- the numbers, from 1, of the calls of `doors` that are to fail
+  -- the numbers, from 1, of the calls that are to fail, of `doors` and `ask_to_stop` together
   pub fails : List ℕ
-  -- the calls of `doors` so far
+  -- the calls of both so far
   pub asked : ℕ
-  -- the calls that it tells, with the doors as they were handed out
+  -- the calls of `doors` that it tells, with the doors as they were handed out
   pub told : List MemDoorsCall
   -- the doors of each call that came back
   pub returned : Returns (List MemDoorState)
-  -- the calls of `doors` that failed
+  -- the calls of `ask_to_stop` that it tells
+  pub stops : List StopCall
+  -- the calls of both that failed
   pub failures : ℕ
 
 -- a network that has these doors
 abbrev pub mem_network : List MemDoorState → List ℕ → MemNetworkState
-mem_network doors fails = record { doors = doors; fails = fails; asked = 0; told = []; returned = record { list = []; out = 0 }; failures = 0 }
+mem_network doors fails = record { doors = doors; fails = fails; asked = 0; told = []; returned = record { list = []; out = 0 }; stops = []; failures = 0 }
 
 -- a call as it is told
 abbrev pub mem_call_told : MemDoorsCall → DoorsCall
@@ -37,6 +40,7 @@ mem_networked network = record {
   calls = map mem_call_told network.told;
   back = map (map mem_passage) network.returned.list;
   lent = network.returned.out;
+  stops = network.stops;
   faults = network.failures;
   to_open = Some (map mem_passage network.doors);
 }
@@ -45,9 +49,9 @@ mem_networked network = record {
 abbrev pub DoorsFail : MemNetworkState → ℕ → Type 0
 DoorsFail network number = FailsNext network.fails network.asked ⊎ (length network.doors < number)
 
--- a call was asked for, which counts also where memory ran out in it
-abbrev pub mem_doors_asked : MemNetworkState → MemNetworkState
-mem_doors_asked network = record network { asked = counted network.asked }
+-- a call was made, which counts also where memory ran out in it
+abbrev pub mem_network_asked : MemNetworkState → MemNetworkState
+mem_network_asked network = record network { asked = counted network.asked }
 
 -- the first so many doors went out
 abbrev pub mem_doors_out : ℕ → MemNetworkState → MemNetworkState
@@ -74,3 +78,11 @@ mem_open_failed address number network =
 abbrev pub mem_doors_returned : List MemDoorState → MemNetworkState → MemNetworkState
 mem_doors_returned doors network =
     record network { returned = record network.returned { list = network.returned.list ++ doors ∷ []; out = network.returned.out - 1 } }
+
+-- a call that asked the server at an address to stop is told, with whether the request was sent
+abbrev pub mem_stop_told : List ℕ → Bool → MemNetworkState → MemNetworkState
+mem_stop_told address sent network = record network { stops = network.stops ++ record { address = address; sent = sent } ∷ [] }
+
+-- the request wasn't sent, and that was counted
+abbrev pub mem_stop_failed : List ℕ → MemNetworkState → MemNetworkState
+mem_stop_failed address network = record (mem_stop_told address false network) { failures = counted network.failures }

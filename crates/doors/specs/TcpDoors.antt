@@ -1,5 +1,5 @@
 -- What doors and networks over sockets show: no bytes, and no link beforehand.
-use Rattle.std.specs.Prelude.{◌+◌, ℕ, List, [], ◌∷◌, ◌++◌, map, replicate, Option, Some, None}
+use Rattle.std.specs.Prelude.{◌+◌, ℕ, List, [], ◌∷◌, ◌++◌, map, replicate, Option, Some, None, Bool, false}
 use Rattle.link_traits.specs.Faults.{counted}
 use Rattle.link_traits.specs.Traffic.{Sight}
 use Rattle.link_traits.specs.Hosts.{no_bytes}
@@ -10,6 +10,7 @@ use Rattle.doors.specs.declared.link_faults.LinkFaults.{LinkFaults}
 use Rattle.doors.specs.declared.tcp_call.TcpDoorsCall.{TcpDoorsCall}
 use Rattle.doors.specs.declared.tcp_call.Opening.{Opening}
 use Rattle.doors.specs.declared.tcp_call.Opening.TheVariants as openings
+use Rattle.doors.specs.declared.stop_call.StopCall.{StopCall}
 
 -- the request to stop: a cancel request of 16 bytes with the process id 1398034256 and the same number as its secret key
 abbrev pub stop_bytes : List ℕ
@@ -43,11 +44,13 @@ tcp_passage door = record {
 
 -- a network over sockets
 pub record TcpNetworkState : Type 0 where
-  -- the calls that it tells
+  -- the calls of `doors` that it tells
   pub told : List TcpDoorsCall
   -- the doors of each call that came back
   pub returned : Returns (List TcpDoorState)
-  -- the calls of `doors` that failed
+  -- the calls of `ask_to_stop` that it tells
+  pub stops : List StopCall
+  -- the calls of both that failed
   pub failures : ℕ
 
 -- so many doors, as they were handed out, where the call opened them
@@ -65,6 +68,7 @@ tcp_networked network = record {
   calls = map tcp_call_told network.told;
   back = map (map tcp_passage) network.returned.list;
   lent = network.returned.out;
+  stops = network.stops;
   faults = network.failures;
   to_open = None;
 }
@@ -86,3 +90,11 @@ tcp_open_failed address number network =
     record (tcp_call_added (record { address = address; number = number; opening = openings.Failed }) network) {
       failures = counted network.failures;
     }
+
+-- a call that asked the server at an address to stop is told, with whether the request was sent
+abbrev pub tcp_stop_told : List ℕ → Bool → TcpNetworkState → TcpNetworkState
+tcp_stop_told address sent network = record network { stops = network.stops ++ record { address = address; sent = sent } ∷ [] }
+
+-- the request wasn't sent, and that was counted
+abbrev pub tcp_stop_failed : List ℕ → TcpNetworkState → TcpNetworkState
+tcp_stop_failed address network = record (tcp_stop_told address false network) { failures = counted network.failures }

@@ -1,16 +1,17 @@
 // A network in memory.
-ghost use Rattle.std.specs.Prelude.{◌≡◌, ◌<◌, ◌≤◌, ◌↔◌, ◌⊎◌, ◌++◌, ◌∷◌, Some, None, length, map, take, drop, All, IfOk, IfSome, IsErr, IsErrOf, IsTrue, OnOk, OnErr};
+ghost use Rattle.std.specs.Prelude.{◌≡◌, ◌<◌, ◌≤◌, ◌↔◌, ◌⊎◌, ◌++◌, ◌∷◌, Some, None, length, map, take, drop, All, IfOk, IfSome, IsErr, IsErrOf, IsTrue, OnOk, OnErr, true};
 ghost use Rattle.link_traits.specs.Memory.{FailsNext};
 ghost use Rattle.doors.specs.Passage.{IsUnused};
-ghost use Rattle.doors.specs.Network.{doors_opened, open_failed, doors_returned};
+ghost use Rattle.doors.specs.Network.{doors_opened, open_failed, stop_sent, stop_failed, doors_returned};
 ghost use Rattle.doors.specs.MemDoors.{MemDoorState, mem_passage};
-ghost use Rattle.doors.specs.MemNetworks.{MemNetworkState, mem_network, mem_networked, mem_doors_asked, mem_doors_out, mem_doors_told, mem_doors_opened, mem_open_failed, mem_doors_returned, DoorsFail};
+ghost use Rattle.doors.specs.MemNetworks.{MemNetworkState, mem_network, mem_networked, mem_network_asked, mem_doors_out, mem_doors_told, mem_doors_opened, mem_open_failed, mem_doors_returned, mem_stop_told, mem_stop_failed, DoorsFail};
 
 use crate::counts::{count_one, is_planned};
 use crate::mem_door::MemDoor;
 use crate::mem_doors_call::MemDoorsCall;
 use crate::network::Network;
 use crate::returned::Returned;
+use crate::stop_call::StopCall;
 use cell_base::{Items, Memory, Text};
 use link_traits::HostFault;
 use std::alloc::Global;
@@ -26,6 +27,7 @@ pub struct MemNetwork {
     asked: u64,
     told: Vec<MemDoorsCall>,
     returned: Returned<Items<MemDoor>>,
+    stops: Vec<StopCall>,
     failures: u64,
 }
 
@@ -43,6 +45,7 @@ impl Model for MemNetwork {
       asked = n.asked;
       told = n.told.items;
       returned = n.returned;
+      stops = n.stops.items;
       failures = n.failures;
     } };
 
@@ -62,8 +65,8 @@ fn copy_doors(alloc: Global, doors: &[MemDoor]) -> Result<Items<MemDoor>, Memory
 }
 
 impl MemNetwork {
-    /// A network that has these doors, by which no link came in yet. The calls of `doors` whose numbers, from 1, stand in `fails` are to
-    /// fail. Takes no memory.
+    /// A network that has these doors, by which no link came in yet. The calls of `doors` and `ask_to_stop` are numbered together, from 1, and
+    /// those whose numbers stand in `fails` are to fail. Takes no memory.
     pub fn new(alloc: Global, doors: Vec<MemDoor>, fails: Vec<u64>) -> MemNetwork
         requires { All (λ door. IsUnused (mem_passage door)) doors.items }
         ensures { result ≡ mem_network doors.items fails.items }
@@ -75,6 +78,7 @@ impl MemNetwork {
             asked: 0,
             told: Vec::new(alloc),
             returned: Returned::new(alloc),
+            stops: Vec::new(alloc),
             failures: 0,
         }
     }
@@ -86,13 +90,28 @@ impl MemNetwork {
         self.returned.list()
     }
 
-    // Counts a call for so many doors. Answers whether it fails.
-    fn begin(&mut self, number: usize) -> bool
-        ensures fails { IsTrue result ↔ DoorsFail self.old number }
-        ensures same { self.new ≡ mem_doors_asked self.old }
+    /// The calls that asked a server to stop, in order.
+    pub fn stops(&self) -> &[StopCall]
+        ensures { result.now ≡ self.now.stops }
+    {
+        self.stops.as_slice()
+    }
+
+    // Counts a call. Answers whether it is to fail.
+    fn begin(&mut self) -> bool
+        ensures fails { IsTrue result ↔ FailsNext self.old.fails self.old.asked }
+        ensures same { self.new ≡ mem_network_asked self.old }
     {
         count_one(&mut self.asked);
-        is_planned(self.fails.as_slice(), self.asked) || self.doors.len() < number
+        is_planned(self.fails.as_slice(), self.asked)
+    }
+
+    // Counts a call for so many doors. Answers whether it fails.
+    fn begin_doors(&mut self, number: usize) -> bool
+        ensures fails { IsTrue result ↔ DoorsFail self.old number }
+        ensures same { self.new ≡ mem_network_asked self.old }
+    {
+        self.begin() || self.doors.len() < number
     }
 
     // Hands the first so many doors out, with room for them to come back, and tells this call. Nothing changes where memory runs out.
@@ -157,6 +176,17 @@ impl MemNetwork {
         count_one(&mut self.failures);
         Ok(())
     }
+
+    // Tells a call that asked a server to stop. Nothing changes where memory runs out.
+    fn tell_stop(&mut self, address: &Text, sent: bool) -> Result<(), Memory>
+        ensures ok { OnOk result (self.new ≡ mem_stop_told address.now sent self.old) }
+        ensures err { OnErr result (self.new ≡ self.old) }
+    {
+        let address = address.copy(self.alloc)?;
+        self.stops.reserve(1)?;
+        self.stops.push_reserved(StopCall { address, sent });
+        Ok(())
+    }
 }
 
 impl Network for MemNetwork {
@@ -176,16 +206,36 @@ impl Network for MemNetwork {
         ensures doors { IfOk result (λ doors. doors.items ≡ take number self.old.doors) }
         ensures fails { IsErrOf result HostFault.Failed → DoorsFail self.old number }
         ensures refused { DoorsFail self.old number → IsErr result }
-        ensures new_ok { OnOk result (self.new ≡ mem_doors_opened address.now number (mem_doors_asked self.old)) }
-        ensures new_failed { IsErrOf result HostFault.Failed → self.new ≡ mem_open_failed address.now number (mem_doors_asked self.old) }
-        ensures new_memory { IsErrOf result HostFault.Memory → self.new ≡ mem_doors_asked self.old }
+        ensures new_ok { OnOk result (self.new ≡ mem_doors_opened address.now number (mem_network_asked self.old)) }
+        ensures new_failed { IsErrOf result HostFault.Failed → self.new ≡ mem_open_failed address.now number (mem_network_asked self.old) }
+        ensures new_memory { IsErrOf result HostFault.Memory → self.new ≡ mem_network_asked self.old }
     {
-        if self.begin(number as usize) {
+        if self.begin_doors(number as usize) {
             self.refuse(address, number)?;
             return Err(HostFault::Failed);
         }
         let doors = self.open(address, number)?;
         Ok(doors)
+    }
+
+    /// Sends nothing. It fails only where this call is to fail.
+    fn ask_to_stop(&mut self, address: &Text) -> Result<(), HostFault>
+        ensures ok { OnOk result (mem_networked self.new ≡ stop_sent address.now (mem_networked self.old)) }
+        ensures failed { IsErrOf result HostFault.Failed → mem_networked self.new ≡ stop_failed address.now (mem_networked self.old) }
+        ensures memory { IsErrOf result HostFault.Memory → mem_networked self.new ≡ mem_networked self.old }
+        ensures fails { IsErrOf result HostFault.Failed → FailsNext self.old.fails self.old.asked }
+        ensures refused { FailsNext self.old.fails self.old.asked → IsErr result }
+        ensures new_ok { OnOk result (self.new ≡ mem_stop_told address.now true (mem_network_asked self.old)) }
+        ensures new_failed { IsErrOf result HostFault.Failed → self.new ≡ mem_stop_failed address.now (mem_network_asked self.old) }
+        ensures new_memory { IsErrOf result HostFault.Memory → self.new ≡ mem_network_asked self.old }
+    {
+        if self.begin() {
+            self.tell_stop(address, false)?;
+            count_one(&mut self.failures);
+            return Err(HostFault::Failed);
+        }
+        self.tell_stop(address, true)?;
+        Ok(())
     }
 
     /// Takes the doors of a call back.

@@ -2,7 +2,6 @@
 ghost use Rattle.std.specs.Prelude.{◌≡◌};
 ghost use Rattle.doors.specs.TcpDoors.{stop_bytes};
 
-use cell_base::Text;
 use std::io;
 use std::io::Write;
 use std::net::{Net, Shutdown, TcpListener, TcpStream};
@@ -20,9 +19,12 @@ pub fn stop_request() -> [u8; 16]
     STOP_REQUEST
 }
 
-/// Connects to the server at an address and asks it to stop. That it could be sent doesn't say that a server heard it.
-pub fn ask_to_stop<R: Net>(rt: &R, address: &Text) -> io::Result<()> {
-    let mut stream = TcpStream::connect(rt, address.as_str())?;
+// Connects to the server at an address and asks it to stop.
+pub(crate) fn send_stop_request<R>(rt: &R, address: &str) -> io::Result<()>
+where
+    R: Net<Stream = TcpStream>,
+{
+    let mut stream = TcpStream::connect(rt, address)?;
     stream.write_all(&stop_request())
 }
 

@@ -1,12 +1,13 @@
 // A network over sockets.
-ghost use Rattle.std.specs.Prelude.{◌≡◌, ◌<◌, [], IfOk, IsErrOf, OnOk, map, replicate};
+ghost use Rattle.std.specs.Prelude.{◌≡◌, ◌<◌, [], IfOk, IsErrOf, OnOk, map, replicate, true};
 ghost use Rattle.doors.specs.Network.{doors_returned};
-ghost use Rattle.doors.specs.TcpDoors.{TcpDoorState, TcpNetworkState, new_tcp_door, tcp_passage, tcp_networked, tcp_doors_opened, tcp_open_failed};
+ghost use Rattle.doors.specs.TcpDoors.{TcpDoorState, TcpNetworkState, new_tcp_door, tcp_passage, tcp_networked, tcp_doors_opened, tcp_open_failed, tcp_stop_told, tcp_stop_failed};
 
 use crate::counts::count_one;
 use crate::network::Network;
 use crate::returned::Returned;
-use crate::stop_sign::StopSign;
+use crate::stop_call::StopCall;
+use crate::stop_sign::{StopSign, send_stop_request};
 use crate::tcp_call::{Opening, TcpDoorsCall};
 use crate::tcp_door::TcpDoor;
 use cell_base::{Items, Text};
@@ -24,6 +25,7 @@ pub struct TcpNetwork<R: Net<Listener = TcpListener, Stream = TcpStream> + Eprin
     alloc: Global,
     told: Vec<TcpDoorsCall>,
     returned: Returned<Items<TcpDoor>>,
+    stops: Vec<StopCall>,
     failures: u64,
 }
 
@@ -32,7 +34,12 @@ impl<R: Net<Listener = TcpListener, Stream = TcpStream> + Eprint + Copy> Model f
 
     ghost Value = { TcpNetworkState };
 
-    ghost view = { λ n. record { told = n.told.items; returned = n.returned; failures = n.failures } };
+    ghost view = { λ n. record {
+      told = n.told.items;
+      returned = n.returned;
+      stops = n.stops.items;
+      failures = n.failures;
+    } };
 }
 
 // So many doors over one listening socket at this address.
@@ -71,15 +78,16 @@ fn one_door(
 }
 
 impl<R: Net<Listener = TcpListener, Stream = TcpStream> + Eprint + Copy> TcpNetwork<R> {
-    /// The network of this system, of which nobody asked for doors. Takes no memory.
+    /// The network of this system, of which nobody asked anything. Takes no memory.
     pub fn new(rt: R, alloc: Global) -> Self
-        ensures { result ≡ record { told = []; returned = record { list = []; out = 0 }; failures = 0 } }
+        ensures { result ≡ record { told = []; returned = record { list = []; out = 0 }; stops = []; failures = 0 } }
     {
         TcpNetwork {
             rt,
             alloc,
             told: Vec::new(alloc),
             returned: Returned::new(alloc),
+            stops: Vec::new(alloc),
             failures: 0,
         }
     }
@@ -120,6 +128,35 @@ impl<R: Net<Listener = TcpListener, Stream = TcpStream> + Eprint + Copy> TcpNetw
             }
         }
     }
+
+    // Sends the request to stop, and tells the call. Nothing changes where memory runs out.
+    fn send_stop(&mut self, address: &Text) -> Result<(), HostFault>
+        ensures ok { OnOk result (self.new ≡ tcp_stop_told address.now true self.old) }
+        ensures failed { IsErrOf result HostFault.Failed → self.new ≡ tcp_stop_failed address.now self.old }
+        ensures memory { IsErrOf result HostFault.Memory → self.new ≡ self.old }
+    {
+        let told = address.copy(self.alloc)?;
+        self.stops.reserve(1)?;
+        match send_stop_request(&self.rt, address.as_str()) {
+            Ok(()) => {
+                self.stops.push_reserved(StopCall {
+                    address: told,
+                    sent: true,
+                });
+                Ok(())
+            }
+            Err(fault) if fault.kind() == io::ErrorKind::OutOfMemory => Err(HostFault::Memory),
+            Err(fault) => {
+                let _ = eprintln!(self.rt; "could not ask {} to stop: {fault}", address.as_str());
+                self.stops.push_reserved(StopCall {
+                    address: told,
+                    sent: false,
+                });
+                count_one(&mut self.failures);
+                Err(HostFault::Failed)
+            }
+        }
+    }
 }
 
 impl<R: Net<Listener = TcpListener, Stream = TcpStream> + Eprint + Copy> Network for TcpNetwork<R> {
@@ -131,6 +168,11 @@ impl<R: Net<Listener = TcpListener, Stream = TcpStream> + Eprint + Copy> Network
     fn doors(&mut self, address: &Text, number: u32) -> Result<Vec<TcpDoor>, HostFault> {
         let doors = self.open(address, number)?;
         Ok(doors)
+    }
+
+    /// Connects to the address and sends the request. Where the system refuses, one line on standard error gives its reason.
+    fn ask_to_stop(&mut self, address: &Text) -> Result<(), HostFault> {
+        self.send_stop(address)
     }
 
     /// Takes the doors of a call back, and stops them, so that nobody waits at their socket.

@@ -17,11 +17,11 @@ use Rattle.sim_command.specs.Simulations.{Simulates}
 use Rattle.command_line.specs.Commands.{IsCommandLine}
 use Rattle.command_line.specs.declared.reading.CommandLine.{CommandLine}
 use Rattle.command_line.specs.declared.reading.CommandLine.TheVariants as lines
-use Rattle.doors.specs.Network.{Networked}
+use Rattle.doors.specs.Network.{Networked, stop_sent, stop_failed}
 use Rattle.serve_command.specs.Serving.{Serves as Serving}
 
 abbrev pub usage_line : List ℕ
-usage_line = codes "usage: monkeydb pipe LEVEL WORDS | serve [OPTIONS] | check PATH | sim LEVEL SEED SESSIONS QUERIES" ++ 10 ∷ []
+usage_line = codes "usage: monkeydb pipe LEVEL WORDS | serve [OPTIONS] | check PATH | sim LEVEL SEED SESSIONS QUERIES | stop [ADDRESS]" ++ 10 ∷ []
 
 -- the past of a book at a level that has no row at first and no event
 abbrev pub no_past : Level → Past
@@ -77,13 +77,20 @@ Linkless before code after = (code ≡ 6) × (after ≡ call_failed (standard_li
 abbrev pub Pipes : Level → List ℕ → Hosted → ℕ → Hosted → Type 0
 Pipes level words before code after = Piped level words before code after ⊎ (Linkless before code after ⊎ Untouched before code after)
 
--- what the program does for a command: only `serve` uses the network
+-- `stop ADDRESS`: the network sent the request, or it didn't and counted that, or memory ran out and the request isn't told
+abbrev pub Stops : List ℕ → Networked → ℕ → Networked → Type 0
+Stops address before code after =
+    ((code ≡ 0) × (after ≡ stop_sent address before))
+    ⊎ (((code ≡ 6) × (after ≡ stop_failed address before)) ⊎ ((code ≡ 5) × (after ≡ before)))
+
+-- what the program does for a command: only `serve` and `stop` use the network, and `stop` uses nothing else
 abbrev pub Obeys : CommandLine → Networked → Hosted → ℕ → Networked → Hosted → Type 0
 Obeys (lines.Pipe pipe) network before code network_after after = Pipes pipe.level pipe.words before code after × (network_after ≡ network)
 Obeys (lines.Serve options) network before code network_after after = Serving options network before code network_after after
 Obeys (lines.Check path) network before code network_after after = Checks path before code after × (network_after ≡ network)
 Obeys (lines.Sim plan) network before code network_after after =
     Simulates plan.level plan.seed plan.sessions plan.queries plan.log before code after × (network_after ≡ network)
+Obeys (lines.Stop address) network before code network_after after = Stops address network code network_after × (after ≡ before)
 Obeys lines.Unknown network before code network_after after = Printed usage_line 2 before code after × (network_after ≡ network)
 
 -- what the program does with these words: it obeys the command that they are, or memory ran out before it could

@@ -2,7 +2,7 @@
 //!
 //! [`monkey_main`] does all that the program does in a host and at a network (`specs/Program`): `pipe LEVEL WORDS` serves one session over the
 //! standard link, `serve` serves the links that come in at an address, `check PATH` checks the log of a file, `sim LEVEL SEED SESSIONS QUERIES`
-//! simulates sessions, other words print the usage line.
+//! simulates sessions, `stop` asks a server to stop, other words print the usage line.
 #![tactic(auto)]
 
 mod run;

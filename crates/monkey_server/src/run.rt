@@ -4,7 +4,7 @@ ghost use Rattle.link_traits.specs.Host.{objects_out};
 ghost use Rattle.sim_command.specs.Simulations.{Simulates};
 ghost use Rattle.command_line.specs.Commands.{IsCommandLine};
 ghost use Rattle.host_calls.specs.Printing.{Printed};
-ghost use Rattle.monkey_server.specs.Program.{no_past, usage_line, status_of, ServesAlone, Pipes, Obeys, Does};
+ghost use Rattle.monkey_server.specs.Program.{no_past, usage_line, status_of, ServesAlone, Pipes, Stops, Obeys, Does};
 ghost use Rattle.link_traits.specs.Traffic.{sight_of};
 
 use cell_base::{Items, Level, Memory, Text};
@@ -24,7 +24,7 @@ use std::thread::Threads;
 use valid_writes::{SeatBook, Store};
 
 const USAGE: &str =
-    "usage: monkeydb pipe LEVEL WORDS | serve [OPTIONS] | check PATH | sim LEVEL SEED SESSIONS QUERIES\n";
+    "usage: monkeydb pipe LEVEL WORDS | serve [OPTIONS] | check PATH | sim LEVEL SEED SESSIONS QUERIES | stop [ADDRESS]\n";
 
 // The status of what became of a session.
 fn status_for(served: Served) -> Status
@@ -107,6 +107,17 @@ fn sim<H: Host>(alloc: Global, host: &mut H, wanted: &SimPlan) -> Status
     simulate(alloc, host, plan, &wanted.log)
 }
 
+// Asks a server to stop.
+fn stop<N: Network>(network: &mut N, address: &Text) -> Status
+    ensures { Stops address.now (N.networked network.old) result.code (N.networked network.new) }
+{
+    match network.ask_to_stop(address) {
+        Ok(()) => Status { code: 0 },
+        Err(HostFault::Failed) => Status { code: 6 },
+        Err(HostFault::Memory) => Status { code: 5 },
+    }
+}
+
 // Prints the usage line.
 fn print_usage<H: Host>(host: &mut H) -> Status
     requires none_out { objects_out (H.hosted host.old) ≡ 0 }
@@ -135,6 +146,7 @@ fn obey<R: Threads + Wait + Eprint + Sync, H: Host, N: Network>(
         CommandLine::Serve(options) => serve(rt, alloc, host, network, &options),
         CommandLine::Check { path } => check_file(alloc, host, &path),
         CommandLine::Sim(plan) => sim(alloc, host, &plan),
+        CommandLine::Stop { address } => stop(network, &address),
         CommandLine::Unknown => print_usage(host),
     }
 }
@@ -143,14 +155,14 @@ fn obey<R: Threads + Wait + Eprint + Sync, H: Host, N: Network>(
 /// session over the host's standard link, at Read Committed (`rc`), Read Atomic (`ra`) or Causal Consistency (`cc`), with the numbers of
 /// WORDS as the choice words and 0 after them; `serve` serves the links that come in at an address of the network, each as a session over one
 /// history; `check PATH` reads the log of a file and prints `ok`, the first breach of its history, or why it is no log; `sim LEVEL SEED SESSIONS
-/// QUERIES` simulates sessions whose queries and choices are drawn from a seed, and prints a summary of their history; other words print the
-/// usage line.
+/// QUERIES` simulates sessions whose queries and choices are drawn from a seed, and prints a summary of their history; `stop` asks the server
+/// at an address to stop; other words print the usage line.
 ///
-/// The status is 0 where the session ended well or was a cancel request, for a server that ended, for `ok`, and for a summary; 1 where its input
-/// was cut short or was no messages, where its start was refused, or where more bytes were wanted than are read, for a breach or a fault of a log,
-/// and where a simulation made 4,294,967,295 steps without coming to its end; 2 for the usage line; 3 where reading failed; 4 where writing
-/// failed; 5 where memory ran out; and 6 where the host counted that it gave no link or file, or the network that it opened no doors, or where
-/// accepting a link failed.
+/// The status is 0 where the session ended well or was a cancel request, for a server that ended, for `ok`, for a summary, and for a request to
+/// stop that was sent; 1 where its input was cut short or was no messages, where its start was refused, or where more bytes were wanted than are
+/// read, for a breach or a fault of a log, and where a simulation made 4,294,967,295 steps without coming to its end; 2 for the usage line; 3 where
+/// reading failed; 4 where writing failed; 5 where memory ran out; and 6 where the host counted that it gave no link or file, or the network that
+/// it opened no doors or sent no request, or where accepting a link failed.
 pub fn monkey_main<R: Threads + Wait + Eprint + Sync, H: Host, N: Network>(
     rt: &R,
     alloc: Global,

@@ -1,5 +1,5 @@
 // Lists of choice words that the command line may have, told by what a session reads with them, and texts that are none.
-use crate::hosts::{answers, answers_at, prints};
+use crate::hosts::{answers, answers_at, prints, stops};
 use cell_base::Memory;
 use std::alloc::Global;
 use std::sync::Wait;
@@ -25,7 +25,7 @@ const TAKEN: &[u8] =
     b"R\0\0\0\x08\0\0\0\0S\0\0\0\x18server_version\014.0\0S\0\0\0\x19server_encoding\0UTF8\0S\0\0\0\x19client_encoding\0UTF8\0S\0\0\0\x17DateStyle\0ISO, MDY\0S\0\0\0\x19integer_datetimes\0on\0S\0\0\0#standard_conforming_strings\0on\0K\0\0\0\x0c\0\0\0\x01\0\0\0\0Z\0\0\0\x05IC\0\0\0\x11CREATE TABLE\0Z\0\0\0\x05IC\0\0\0\x0fINSERT 0 1\0Z\0\0\0\x05IE\0\0\0JSERROR\0VERROR\0C23505\0Mduplicate key value violates unique constraint\0\0Z\0\0\0\x05IT\0\0\0\x1a\0\x01v\0\0\0\0\0\0\0\0\0\0\x14\0\x08\xff\xff\xff\xff\0\0D\0\0\0\x0c\0\x01\0\0\0\x0210C\0\0\0\x0dSELECT 1\0Z\0\0\0\x05I";
 // What is printed where the words are no command.
 const USAGE: &[u8] =
-    b"usage: monkeydb pipe LEVEL WORDS | serve [OPTIONS] | check PATH | sim LEVEL SEED SESSIONS QUERIES\n";
+    b"usage: monkeydb pipe LEVEL WORDS | serve [OPTIONS] | check PATH | sim LEVEL SEED SESSIONS QUERIES | stop [ADDRESS]\n";
 
 // Whether a session with this list is sent these bytes.
 fn takes<R: Threads + Wait + Eprint + Sync>(
@@ -109,5 +109,14 @@ fn refuses_other_texts(rt: HostRuntime) -> Result<(), Fail> {
     assert!(rt; refuses(&rt, alloc, b"-1")?);
     assert!(rt; refuses(&rt, alloc, b"1a")?);
     assert!(rt; refuses(&rt, alloc, b"4294967296")?);
+    Ok(())
+}
+
+#[test]
+fn asks_a_server_to_stop(rt: HostRuntime) -> Result<(), Fail> {
+    let alloc = rt.alloc();
+    assert!(rt; stops(&rt, alloc, b"127.0.0.1:5433", &[], 0)?);
+    assert!(rt; stops(&rt, alloc, b"a", &[1], 6)?);
+    assert!(rt; stops(&rt, alloc, b"", &[2], 0)?);
     Ok(())
 }

@@ -13,7 +13,7 @@ use std::test::Fail;
 use std::thread::Threads;
 
 const USAGE: &[u8] =
-    b"usage: monkeydb pipe LEVEL WORDS | serve [OPTIONS] | check PATH | sim LEVEL SEED SESSIONS QUERIES\n";
+    b"usage: monkeydb pipe LEVEL WORDS | serve [OPTIONS] | check PATH | sim LEVEL SEED SESSIONS QUERIES | stop [ADDRESS]\n";
 
 fn plan(alloc: Global) -> MemPlan
     ensures { result.piece ≡ 64 }
