@@ -4,9 +4,9 @@ use Rattle.clap.specs.Words.{App, built, is_simple, is_simple_and_free}
 use Rattle.clap.specs.Faults.{is_free_app}
 use Rattle.clap.proofs.WalkLemmas.{both}
 use Rattle.clap.proofs.OnLiterals.{clap_on_literals}
-use Rattle.command_line.specs.Arguments.{arguments_of, pipe_arguments, serve_arguments, check_arguments, sim_arguments}
+use Rattle.command_line.specs.Arguments.{arguments_of, pipe_arguments, serve_arguments, check_arguments, sim_arguments, stop_arguments}
 use Rattle.command_line.specs.declared.arguments.Name.{Name}
-use Rattle.command_line.specs.declared.arguments.Name.TheVariants.{Pipe, Serve, Check, Sim}
+use Rattle.command_line.specs.declared.arguments.Name.TheVariants.{Pipe, Serve, Check, Sim, Stop}
 
 pipe_free : is_simple_and_free pipe_arguments ≡ true
 unfolding clap_on_literals pipe_arguments
@@ -24,11 +24,16 @@ sim_free : is_simple_and_free sim_arguments ≡ true
 unfolding clap_on_literals sim_arguments
 sim_free = refl
 
+stop_free : is_simple_and_free stop_arguments ≡ true
+unfolding clap_on_literals stop_arguments
+stop_free = refl
+
 pub arguments_free : (name : Name) → is_simple_and_free (arguments_of name) ≡ true
 arguments_free Pipe = pipe_free
 arguments_free Serve = serve_free
 arguments_free Check = check_free
 arguments_free Sim = sim_free
+arguments_free Stop = stop_free
 
 -- such a command is simple
 pub simple_of : (a : App) → is_simple_and_free a ≡ true → is_simple a ≡ true

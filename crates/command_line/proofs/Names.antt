@@ -6,17 +6,18 @@ use Rattle.clap.specs.Words.{App, Text, Row, fault_of, matches_of}
 use Rattle.command_line.specs.Arguments.{word_of, arguments_of}
 use Rattle.command_line.specs.Commands.{Says, IsNoCommand}
 use Rattle.command_line.specs.declared.arguments.Name.{Name}
-use Rattle.command_line.specs.declared.arguments.Name.TheVariants.{Pipe, Serve, Check, Sim}
+use Rattle.command_line.specs.declared.arguments.Name.TheVariants.{Pipe, Serve, Check, Sim, Stop}
 
 -- the name by the first two bytes of its word
 abbrev name_by : ℕ → ℕ → Name
-name_by a b = if a == 112 then Pipe else (if a == 99 then Check else (if b == 101 then Serve else Sim))
+name_by a b = if a == 112 then Pipe else (if a == 99 then Check else (if b == 101 then Serve else (if b == 105 then Sim else Stop)))
 
 name_back : (n : Name) → name_by (slice_index (word_of n) 0) (slice_index (word_of n) 1) ≡ n
 name_back Pipe = refl
 name_back Serve = refl
 name_back Check = refl
 name_back Sim = refl
+name_back Stop = refl
 
 word_same : (n m : Name) → word_of n ≡ word_of m → n ≡ m
 word_same n m e = sym (name_back n) ∙ ap (λ (w : Text). name_by (slice_index w 0) (slice_index w 1)) e ∙ name_back m
@@ -45,6 +46,7 @@ unsaid args none = record {
   no_serve = λ options h. none Serve h.0 h.1;
   no_check = λ path h. none Check h.0 h.1;
   no_sim = λ level seed sessions queries log h. none Sim h.0 h.1;
+  no_stop = λ address h. none Stop h.0 h.1;
 }
 
 -- no name stands first

@@ -93,11 +93,13 @@ serve_same said a b p q =
     let workers = option_same 16 (IsUpTo 64) (up_to_same 64) (first_of (codes "workers") said) a.workers b.workers p.numbers.workers_are q.numbers.workers_are in
     let accept = option_same 64 (IsUpTo 4096) (up_to_same 4096) (first_of (codes "accept") said) a.accept b.accept p.numbers.accept_is q.numbers.accept_is in
     let log : a.log ≡ b.log = p.log_is ∙ sym q.log_is in
+    let setup : a.setup ≡ b.setup = p.setup_is ∙ sym q.setup_is in
     let progress = progress_same (first_of (codes "quiet") said) a.progress b.progress p.progress_is q.progress_is in
     ap (λ (x : Level). record a { level = x }) level
     ∙ ap (λ (x : ℕ). record a { level = b.level; seed = x }) seed
     ∙ ap (λ (x : List ℕ). record a { level = b.level; seed = b.seed; listen = x }) listen
-    ∙ ap (λ (x : ℕ). record b { workers = x; accept = a.accept; log = a.log; progress = a.progress }) workers
-    ∙ ap (λ (x : ℕ). record b { accept = x; log = a.log; progress = a.progress }) accept
-    ∙ ap (λ (x : Option (List ℕ)). record b { log = x; progress = a.progress }) log
+    ∙ ap (λ (x : ℕ). record b { workers = x; accept = a.accept; log = a.log; setup = a.setup; progress = a.progress }) workers
+    ∙ ap (λ (x : ℕ). record b { accept = x; log = a.log; setup = a.setup; progress = a.progress }) accept
+    ∙ ap (λ (x : Option (List ℕ)). record b { log = x; setup = a.setup; progress = a.progress }) log
+    ∙ ap (λ (x : Option (List ℕ)). record b { setup = x; progress = a.progress }) setup
     ∙ ap (λ (x : Progress). record b { progress = x }) progress

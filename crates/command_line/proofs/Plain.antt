@@ -14,7 +14,7 @@ use Rattle.clap.specs.Simple.{entered}
 use Rattle.clap.specs.Faults.{other_fault, flag_word_fault, bundle_fault, turn_fault, step_fault, walk_fault, entered_fault, settle_fault, defaults_fault, check_fault}
 use Rattle.clap.proofs.OnLiterals.{clap_on_literals}
 use Rattle.command_line.specs.Numbers.{level_word, IsDigit, IsNumber, Lists}
-use Rattle.command_line.specs.Arguments.{pipe_arguments, check_arguments, sim_arguments}
+use Rattle.command_line.specs.Arguments.{pipe_arguments, check_arguments, sim_arguments, stop_arguments}
 
 -- the word is no option, no flags and not `--`
 pub record Plain (word : Text) : Type 0 where
@@ -256,3 +256,33 @@ sim_queries w1 w2 w3 w4 p1 p2 p3 p4 = ap (λ (k : Walk). first_of (codes "querie
 pub sim_log : (w1 w2 w3 w4 : Text) → Plain w1 → Plain w2 → Plain w3 → Plain w4 → first_of (codes "log") (matches_of sim_arguments (w1 ∷ w2 ∷ w3 ∷ w4 ∷ [])) ≡ None
 unfolding clap_on_literals sim_arguments
 sim_log w1 w2 w3 w4 p1 p2 p3 p4 = ap (λ (k : Walk). first_of (codes "log") (finished sim_app.top.rules k.held)) (sim_walk_4 w1 w2 w3 w4 p1 p2 p3 p4)
+
+-- the place of `stop`
+
+abbrev stop_app : App
+stop_app = built stop_arguments
+
+-- where the walk stands behind its words, and what is held there
+abbrev stop_stood_1 : Text → Walk
+stop_stood_1 w1 = walked stop_app.top.rules [] (at nothing_held 1) w1
+
+abbrev stop_held_1 : Text → Held
+stop_held_1 w1 = held_after stop_app.top.rules nothing_held 1 w1
+
+stop_walk_1 : (w1 : Text) → Plain w1 → stop_stood_1 w1 ≡ at (stop_held_1 w1) 2
+unfolding clap_on_literals stop_arguments
+stop_walk_1 w1 p1 = next_walk stop_app.top.rules (at nothing_held 1) nothing_held 1 w1 refl p1 refl
+
+stop_way : (w1 : Text) → Plain w1 → walk_fault stop_app.top [] (at nothing_held 1) (w1 ∷ []) ≡ []
+unfolding clap_on_literals stop_arguments
+stop_way w1 p1 =
+    next_turn stop_app.top (at nothing_held 1) nothing_held 1 w1 [] refl p1 refl
+    (no_turn stop_app.top (stop_stood_1 w1))
+
+pub stop_taken : (w1 : Text) → Plain w1 → fault_of stop_arguments (w1 ∷ []) ≡ []
+unfolding clap_on_literals stop_arguments
+stop_taken w1 p1 = ap₂ (faults_by stop_app) (stop_walk_1 w1 p1) (stop_way w1 p1)
+
+pub stop_address : (w1 : Text) → Plain w1 → first_of (codes "address") (matches_of stop_arguments (w1 ∷ [])) ≡ Some w1
+unfolding clap_on_literals stop_arguments
+stop_address w1 p1 = ap (λ (k : Walk). first_of (codes "address") (finished stop_app.top.rules k.held)) (stop_walk_1 w1 p1)

@@ -3,7 +3,7 @@ use Rattle.std.specs.Prelude.{Some, true, codes}
 use Rattle.clap.specs.Words.{App, Rule, Text, new_app, new_rule, with_rule}
 use Rattle.clap.specs.declared.builder.action.ArgAction.TheVariants.{Set, SetTrue}
 use Rattle.command_line.specs.declared.arguments.Name.{Name}
-use Rattle.command_line.specs.declared.arguments.Name.TheVariants.{Pipe, Serve, Check, Sim}
+use Rattle.command_line.specs.declared.arguments.Name.TheVariants.{Pipe, Serve, Check, Sim, Stop}
 
 -- the word that names a command
 abbrev pub word_of : Name → Text
@@ -11,10 +11,15 @@ word_of Pipe = codes "pipe"
 word_of Serve = codes "serve"
 word_of Check = codes "check"
 word_of Sim = codes "sim"
+word_of Stop = codes "stop"
 
 -- an argument by its place, which has to be there
 abbrev pub place : Text → Rule
 place name = record (new_rule name) { action = Some Set; required = true }
+
+-- an argument by its place, which may be left out
+abbrev pub last_place : Text → Rule
+last_place name = record (new_rule name) { action = Some Set }
 
 -- an option that takes one text, at most once
 abbrev pub text_option : Text → Rule
@@ -37,9 +42,9 @@ pipe_arguments = with_rule (with_rule (bare (codes "pipe")) (place (codes "level
 -- `serve` with its options
 unfoldable pub serve_arguments : App
 serve_arguments =
-    with_rule (with_rule (with_rule (with_rule (with_rule (with_rule (with_rule (bare (codes "serve"))
+    with_rule (with_rule (with_rule (with_rule (with_rule (with_rule (with_rule (with_rule (bare (codes "serve"))
     (text_option (codes "level"))) (text_option (codes "seed"))) (text_option (codes "listen"))) (text_option (codes "workers")))
-    (text_option (codes "accept"))) (text_option (codes "log"))) (flag (codes "quiet"))
+    (text_option (codes "accept"))) (text_option (codes "log"))) (text_option (codes "setup"))) (flag (codes "quiet"))
 
 -- `check PATH`
 unfoldable pub check_arguments : App
@@ -51,8 +56,13 @@ sim_arguments =
     with_rule (with_rule (with_rule (with_rule (with_rule (bare (codes "sim"))
     (place (codes "level"))) (place (codes "seed"))) (place (codes "sessions"))) (place (codes "queries"))) (text_option (codes "log"))
 
+-- `stop`, with an address or without
+unfoldable pub stop_arguments : App
+stop_arguments = with_rule (bare (codes "stop")) (last_place (codes "address"))
+
 abbrev pub arguments_of : Name → App
 arguments_of Pipe = pipe_arguments
 arguments_of Serve = serve_arguments
 arguments_of Check = check_arguments
 arguments_of Sim = sim_arguments
+arguments_of Stop = stop_arguments

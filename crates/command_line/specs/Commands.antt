@@ -54,12 +54,21 @@ pub record GivesNumbers (said : List Row) (level : Level) (seed workers accept :
   pub workers_are : IsOr 16 (IsUpTo 64) (first_of (codes "workers") said) workers
   pub accept_is : IsOr 64 (IsUpTo 4096) (first_of (codes "accept") said) accept
 
+-- the address to listen at, and to ask to stop, where none is given
+abbrev pub default_address : List ℕ
+default_address = codes "127.0.0.1:5433"
+
 -- the options of `serve`
 pub record GivesServe (said : List Row) (options : ServeOptions) : Type 0 where
   pub numbers : GivesNumbers said options.level options.seed options.workers options.accept
-  pub listen_is : options.listen ≡ unwrap_or (first_of (codes "listen") said) (codes "127.0.0.1:5433")
+  pub listen_is : options.listen ≡ unwrap_or (first_of (codes "listen") said) default_address
   pub log_is : options.log ≡ first_of (codes "log") said
+  pub setup_is : options.setup ≡ first_of (codes "setup") said
   pub progress_is : IsProgress (first_of (codes "quiet") said) options.progress
+
+-- the address of `stop [ADDRESS]`
+abbrev pub GivesStop : List Row → List ℕ → Type 0
+GivesStop said address = address ≡ unwrap_or (first_of (codes "address") said) default_address
 
 -- `pipe LEVEL WORDS`
 abbrev pub IsPipe : List (List ℕ) → Level → List ℕ → Type 0
@@ -77,12 +86,17 @@ IsCheck args path = (said : List Row) × Says names.Check args said × GivesChec
 abbrev pub IsSim : List (List ℕ) → Level → ℕ → ℕ → ℕ → Option (List ℕ) → Type 0
 IsSim args level seed sessions queries log = (said : List Row) × Says names.Sim args said × GivesSim said level seed sessions queries log
 
+-- `stop [ADDRESS]`
+abbrev pub IsStop : List (List ℕ) → List ℕ → Type 0
+IsStop args address = (said : List Row) × Says names.Stop args said × GivesStop said address
+
 -- the words are no command
 pub record IsNoCommand (args : List (List ℕ)) : Type 0 where
   pub no_pipe : (level : Level) (words : List ℕ) → ¬ (IsPipe args level words)
   pub no_serve : (options : ServeOptions) → ¬ (IsServe args options)
   pub no_check : (path : List ℕ) → ¬ (IsCheck args path)
   pub no_sim : (level : Level) (seed sessions queries : ℕ) (log : Option (List ℕ)) → ¬ (IsSim args level seed sessions queries log)
+  pub no_stop : (address : List ℕ) → ¬ (IsStop args address)
 
 -- what the words are
 abbrev pub IsCommandLine : List (List ℕ) → CommandLine → Type 0
@@ -90,6 +104,7 @@ IsCommandLine args (lines.Pipe pipe) = IsPipe args pipe.level pipe.words
 IsCommandLine args (lines.Serve options) = IsServe args options
 IsCommandLine args (lines.Check path) = IsCheck args path
 IsCommandLine args (lines.Sim plan) = IsSim args plan.level plan.seed plan.sessions plan.queries plan.log
+IsCommandLine args (lines.Stop address) = IsStop args address
 IsCommandLine args lines.Unknown = IsNoCommand args
 
 -- the same words are one command
@@ -113,13 +128,20 @@ abbrev pub default_options : Progress → ServeOptions
 default_options progress = record {
   level = Rc;
   seed = 0;
-  listen = codes "127.0.0.1:5433";
+  listen = default_address;
   workers = 16;
   accept = 64;
   log = None;
+  setup = None;
   progress = progress;
 }
 
 -- `serve` alone, and with its flag
 abbrev pub PlainServe : Type 0
 PlainServe = IsServe (codes "serve" ∷ []) (default_options Told) × IsServe (codes "serve" ∷ codes "--quiet" ∷ []) (default_options Quiet)
+
+-- `stop` alone, and with its address, which begins with no dash and is some text
+abbrev pub PlainStop : Type 0
+PlainStop =
+    IsStop (codes "stop" ∷ []) default_address
+    × ((first : ℕ) (rest : List ℕ) → first ≢ 45 → IsStop (codes "stop" ∷ (first ∷ rest) ∷ []) (first ∷ rest))

@@ -2,7 +2,7 @@
 ghost use Rattle.std.specs.Prelude.{◌≡◌, ◌≢◌, ◌∷◌, List, IfOk, IfSome, IsNone, false};
 ghost use Rattle.clap.specs.Words.{app_of, rule_of, Text as Bytes};
 ghost use Rattle.command_line.specs.declared.arguments.Name.{Name as Named};
-ghost use Rattle.command_line.specs.Arguments.{word_of, place, text_option, flag, bare, arguments_of, pipe_arguments, serve_arguments, check_arguments, sim_arguments};
+ghost use Rattle.command_line.specs.Arguments.{word_of, place, last_place, text_option, flag, bare, arguments_of, pipe_arguments, serve_arguments, check_arguments, sim_arguments, stop_arguments};
 
 use cell_base::{Memory, Text};
 use clap::{Arg, ArgAction, Command};
@@ -15,6 +15,7 @@ pub enum Name {
     Serve,
     Check,
     Sim,
+    Stop,
 }
 
 // The name that the word is.
@@ -30,6 +31,8 @@ fn named(word: &str) -> Option<Name>
         Some(Name::Check)
     } else if word == "sim" {
         Some(Name::Sim)
+    } else if word == "stop" {
+        Some(Name::Stop)
     } else {
         None
     }
@@ -51,6 +54,14 @@ fn place<'a>(alloc: Global, name: &'a str) -> Arg<'a>
     ensures local { result.global ≡ false }
 {
     Arg::new(alloc, name).action(ArgAction::Set).required(true)
+}
+
+// An argument by its place, which may be left out.
+fn last_place<'a>(alloc: Global, name: &'a str) -> Arg<'a>
+    ensures rule { rule_of result ≡ last_place name.entry.now }
+    ensures local { result.global ≡ false }
+{
+    Arg::new(alloc, name).action(ArgAction::Set)
 }
 
 // An option that takes one text.
@@ -99,6 +110,7 @@ fn serve_arguments<'a>(alloc: Global) -> Result<Command<'a>, Memory>
         .arg(text_option(alloc, "workers"))?
         .arg(text_option(alloc, "accept"))?
         .arg(text_option(alloc, "log"))?
+        .arg(text_option(alloc, "setup"))?
         .arg(flag(alloc, "quiet"))?;
     Ok(command)
 }
@@ -124,6 +136,14 @@ fn sim_arguments<'a>(alloc: Global) -> Result<Command<'a>, Memory>
     Ok(command)
 }
 
+// The arguments of `stop`.
+fn stop_arguments<'a>(alloc: Global) -> Result<Command<'a>, Memory>
+    ensures { IfOk result (λ command. app_of command ≡ stop_arguments) }
+{
+    let command = bare(alloc, "stop").arg(last_place(alloc, "address"))?;
+    Ok(command)
+}
+
 /// The arguments of the command.
 pub fn arguments_of<'a>(alloc: Global, name: Name) -> Result<Command<'a>, Memory>
     ensures { IfOk result (λ command. app_of command ≡ arguments_of name) }
@@ -133,5 +153,6 @@ pub fn arguments_of<'a>(alloc: Global, name: Name) -> Result<Command<'a>, Memory
         Name::Serve => serve_arguments(alloc),
         Name::Check => check_arguments(alloc),
         Name::Sim => sim_arguments(alloc),
+        Name::Stop => stop_arguments(alloc),
     }
 }

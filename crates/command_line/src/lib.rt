@@ -14,6 +14,7 @@ mod reading;
 mod said;
 mod serve;
 mod sim;
+mod stop;
 
 pub use pipe::PipeCommand;
 pub use reading::{CommandLine, one_command, plain_words, read_command};

@@ -1,7 +1,7 @@
 // The command that the words of the command line are.
 ghost use Rattle.std.specs.Prelude.{List, IfOk};
 ghost use Rattle.clap.specs.Words.{Text as Bytes};
-ghost use Rattle.command_line.specs.Commands.{Says, IsCommandLine, OneCommand, PlainPipe, PlainCheck, PlainSim, PlainServe};
+ghost use Rattle.command_line.specs.Commands.{Says, IsCommandLine, OneCommand, PlainPipe, PlainCheck, PlainSim, PlainServe, PlainStop};
 
 use crate::arguments::{Name, name_of};
 use crate::check::check_of;
@@ -9,6 +9,7 @@ use crate::pipe::{PipeCommand, pipe_of};
 use crate::said::{Said, said_of, strs};
 use crate::serve::{ServeOptions, serve_of};
 use crate::sim::{SimPlan, sim_of};
+use crate::stop::stop_of;
 use cell_base::{Memory, Text};
 use std::alloc::Global;
 
@@ -23,6 +24,8 @@ pub enum CommandLine {
     Check { path: Text },
     /// `sim LEVEL SEED SESSIONS QUERIES`.
     Sim(SimPlan),
+    /// `stop [ADDRESS]`.
+    Stop { address: Text },
     /// The words are no command.
     Unknown,
 }
@@ -67,6 +70,14 @@ fn sim_line(alloc: Global, said: &Said) -> Result<CommandLine, Memory>
     }
 }
 
+// What the words give for `stop`.
+fn stop_line(alloc: Global, said: &Said) -> Result<CommandLine, Memory>
+    ensures { IfOk result (λ line. (args : List Bytes) → Says Name.Stop args said.now → IsCommandLine args line) }
+{
+    let address = stop_of(alloc, said)?;
+    Ok(CommandLine::Stop { address })
+}
+
 // What the words behind the name give for the command.
 fn line_of(alloc: Global, name: Name, said: &Said) -> Result<CommandLine, Memory>
     ensures { IfOk result (λ line. (args : List Bytes) → Says name args said.now → IsCommandLine args line) }
@@ -76,6 +87,7 @@ fn line_of(alloc: Global, name: Name, said: &Said) -> Result<CommandLine, Memory
         Name::Serve => serve_line(alloc, said),
         Name::Check => check_line(alloc, said),
         Name::Sim => sim_line(alloc, said),
+        Name::Stop => stop_line(alloc, said),
     }
 }
 
@@ -98,10 +110,11 @@ pub fn one_command()
     ensures { OneCommand }
 {}
 
-/// The commands in their plain form: places in their order, and `serve` without values.
+/// The commands in their plain form: places in their order, `serve` without values, and `stop` with an address and without.
 pub fn plain_words()
     ensures pipe { PlainPipe }
     ensures check { PlainCheck }
     ensures sim { PlainSim }
     ensures serve { PlainServe }
+    ensures stop { PlainStop }
 {}

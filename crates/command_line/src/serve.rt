@@ -1,12 +1,13 @@
 // `serve` with its options.
-ghost use Rattle.std.specs.Prelude.{◌≡◌, ℕ, IfOk, IfSome, IsNone, codes, unwrap_or};
+ghost use Rattle.std.specs.Prelude.{ℕ, IfOk, IfSome, IsNone, codes};
 ghost use Rattle.cell_base.specs.declared.level.Level.{Level as Served};
 ghost use Rattle.clap.specs.Words.{first_of};
 ghost use Rattle.command_line.specs.Commands.{GivesNumbers, IsProgress, GivesServe};
 ghost use Rattle.command_line.specs.declared.serve.ServeOptions.{ServeOptions as Options};
 
 use crate::given::{level_or, number_or, up_to_or};
-use crate::said::{Said, text_of, text_or_none};
+use crate::said::{Said, text_or_none};
+use crate::stop::address_or;
 use cell_base::{Level, Memory, Text};
 use std::alloc::Global;
 
@@ -33,6 +34,8 @@ pub struct ServeOptions {
     pub accept: u32,
     /// The path of the log, where one is asked for.
     pub log: Option<Text>,
+    /// The path of the statements that set up what the server holds, where one is given.
+    pub setup: Option<Text>,
     pub progress: Progress,
 }
 
@@ -69,16 +72,6 @@ fn progress_of(said: &Said) -> Progress
     }
 }
 
-// The address to listen at.
-fn listen_of(alloc: Global, said: &Said) -> Result<Text, Memory>
-    ensures { IfOk result (λ listen. listen ≡ unwrap_or (first_of (codes "listen") said.now) (codes "127.0.0.1:5433")) }
-{
-    match said.value("listen") {
-        Some(text) => text_of(alloc, text),
-        None => text_of(alloc, "127.0.0.1:5433"),
-    }
-}
-
 /// What the words give for `serve`. `None` comes exactly where the text of an option says no level, or no number inside its range.
 pub fn serve_of(alloc: Global, said: &Said) -> Result<Option<ServeOptions>, Memory>
     ensures some { IfOk result (λ found. IfSome found (λ options. GivesServe said.now options)) }
@@ -87,8 +80,9 @@ pub fn serve_of(alloc: Global, said: &Said) -> Result<Option<ServeOptions>, Memo
     let Some(numbers) = numbers_of(said) else {
         return Ok(None);
     };
-    let listen = listen_of(alloc, said)?;
+    let listen = address_or(alloc, said.value("listen"))?;
     let log = text_or_none(alloc, said.value("log"))?;
+    let setup = text_or_none(alloc, said.value("setup"))?;
     Ok(Some(ServeOptions {
         level: numbers.level,
         seed: numbers.seed,
@@ -96,6 +90,7 @@ pub fn serve_of(alloc: Global, said: &Said) -> Result<Option<ServeOptions>, Memo
         workers: numbers.workers,
         accept: numbers.accept,
         log,
+        setup,
         progress: progress_of(said),
     }))
 }

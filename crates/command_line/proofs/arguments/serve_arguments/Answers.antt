@@ -4,7 +4,7 @@ use Rattle.clap.specs.Words.{with_rule}
 use Rattle.command_line.specs.Arguments.{flag, text_option, bare, serve_arguments}
 use Rattle.command_line.proofs.arguments.serve_arguments.Goals as goal
 
-whole : with_rule (with_rule (with_rule (with_rule (with_rule (with_rule (with_rule (bare (codes "serve")) (text_option (codes "level"))) (text_option (codes "seed"))) (text_option (codes "listen"))) (text_option (codes "workers"))) (text_option (codes "accept"))) (text_option (codes "log"))) (flag (codes "quiet")) ≡ serve_arguments
+whole : with_rule (with_rule (with_rule (with_rule (with_rule (with_rule (with_rule (with_rule (bare (codes "serve")) (text_option (codes "level"))) (text_option (codes "seed"))) (text_option (codes "listen"))) (text_option (codes "workers"))) (text_option (codes "accept"))) (text_option (codes "log"))) (text_option (codes "setup"))) (flag (codes "quiet")) ≡ serve_arguments
 unfolding serve_arguments
 whole = refl
 
@@ -16,4 +16,5 @@ returns c =
     let four = c.in_ok-arg-4.ensures.shape c.text_option-4.ensures.local ∙ ap₂ with_rule three c.text_option-4.ensures.rule in
     let five = c.in_ok-arg-5.ensures.shape c.text_option-5.ensures.local ∙ ap₂ with_rule four c.text_option-5.ensures.rule in
     let six = c.in_ok-arg-6.ensures.shape c.text_option-6.ensures.local ∙ ap₂ with_rule five c.text_option-6.ensures.rule in
-    c.in_ok-command.ensures.shape c.flag.ensures.local ∙ ap₂ with_rule six c.flag.ensures.rule ∙ whole
+    let seven = c.in_ok-arg-7.ensures.shape c.text_option-7.ensures.local ∙ ap₂ with_rule six c.text_option-7.ensures.rule in
+    c.in_ok-command.ensures.shape c.flag.ensures.local ∙ ap₂ with_rule seven c.flag.ensures.rule ∙ whole

@@ -1,14 +1,14 @@
 -- The commands in their plain form.
 use Rattle.std.proofs.Common.{◌≡◌, ◌∷◌, ℕ, List, [], ap, refl, sym, subst, arith, slice_index}
-use Rattle.std.specs.Prelude.{Option, Some, IsSomeAnd, codes}
+use Rattle.std.specs.Prelude.{Option, Some, IsSomeAnd, codes, unwrap_or}
 use Rattle.clap.specs.Words.{matches_of}
 use Rattle.command_line.specs.Numbers.{level_word, IsLevelWord, IsLongWord, IsUpTo, Lists}
-use Rattle.command_line.specs.Arguments.{pipe_arguments, serve_arguments, check_arguments, sim_arguments}
-use Rattle.command_line.specs.Commands.{Says, GivesServe, default_options, PlainPipe, PlainCheck, PlainSim, PlainServe}
+use Rattle.command_line.specs.Arguments.{pipe_arguments, serve_arguments, check_arguments, sim_arguments, stop_arguments}
+use Rattle.command_line.specs.Commands.{Says, GivesServe, GivesStop, default_address, default_options, PlainPipe, PlainCheck, PlainSim, PlainServe, PlainStop}
 use Rattle.command_line.specs.declared.serve.Progress.TheVariants.{Told, Quiet}
 use Rattle.clap.proofs.OnLiterals.{clap_on_literals}
 use Rattle.command_line.specs.declared.arguments.Name.TheVariants as names
-use Rattle.command_line.proofs.Plain.{plain_from, plain_level, plain_number, plain_list, pipe_taken, pipe_level, pipe_words, check_taken, check_path, sim_taken, sim_level, sim_seed, sim_sessions, sim_queries, sim_log}
+use Rattle.command_line.proofs.Plain.{plain_from, plain_level, plain_number, plain_list, pipe_taken, pipe_level, pipe_words, check_taken, check_path, sim_taken, sim_level, sim_seed, sim_sessions, sim_queries, sim_log, stop_taken, stop_address}
 use Rattle.command_line.proofs.reading.plain_words.Goals as goal
 
 pipe : PlainPipe
@@ -67,6 +67,7 @@ serve_gives = record {
   numbers = record { level_is = refl; seed_is = refl; workers_are = refl; accept_is = refl };
   listen_is = refl;
   log_is = refl;
+  setup_is = refl;
   progress_is = not_true;
 }
 
@@ -80,6 +81,7 @@ quiet_gives = record {
   numbers = record { level_is = refl; seed_is = refl; workers_are = refl; accept_is = refl };
   listen_is = refl;
   log_is = refl;
+  setup_is = refl;
   progress_is = refl;
 }
 
@@ -87,6 +89,25 @@ serve : PlainServe
 serve = (
   (matches_of serve_arguments [], serve_says, serve_gives),
   (matches_of serve_arguments (codes "--quiet" ∷ []), quiet_says, quiet_gives),
+)
+
+stop_says : Says names.Stop (codes "stop" ∷ []) (matches_of stop_arguments [])
+unfolding clap_on_literals stop_arguments
+stop_says = record { words = []; args_are = refl; taken = refl; said_is = refl }
+
+stop_gives : GivesStop (matches_of stop_arguments []) default_address
+unfolding clap_on_literals stop_arguments
+stop_gives = refl
+
+stop : PlainStop
+stop = (
+  (matches_of stop_arguments [], stop_says, stop_gives),
+  (λ first rest differs.
+      let p = plain_from first rest differs in (
+        matches_of stop_arguments ((first ∷ rest) ∷ []),
+        record { words = (first ∷ rest) ∷ []; args_are = refl; taken = stop_taken (first ∷ rest) p; said_is = refl },
+        sym (ap (λ (o : Option (List ℕ)). unwrap_or o default_address) (stop_address (first ∷ rest) p)),
+      )),
 )
 
 pub returns-clause-pipe : goal.returns-clause-pipe
@@ -100,3 +121,6 @@ returns-clause-sim c = sim
 
 pub returns-clause-serve : goal.returns-clause-serve
 returns-clause-serve c = serve
+
+pub returns-clause-stop : goal.returns-clause-stop
+returns-clause-stop c = stop
