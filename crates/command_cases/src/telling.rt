@@ -15,10 +15,10 @@ fn push_number(alloc: Global, out: &mut String, number: u64) -> Result<(), Alloc
     out.push_str(format!(in alloc; " {number}")?.as_str())
 }
 
-fn push_log(out: &mut String, log: &Option<Text>) -> Result<(), AllocError> {
-    match log {
+fn push_path(out: &mut String, before: &str, path: &Option<Text>) -> Result<(), AllocError> {
+    match path {
         Some(path) => {
-            out.push_str(" log ")?;
+            out.push_str(before)?;
             out.push_str(path.as_str())
         }
         None => Ok(()),
@@ -42,7 +42,8 @@ fn push_serve(alloc: Global, out: &mut String, options: &ServeOptions) -> Result
     out.push_str(options.listen.as_str())?;
     push_number(alloc, out, u64::from(options.workers))?;
     push_number(alloc, out, u64::from(options.accept))?;
-    push_log(out, &options.log)?;
+    push_path(out, " log ", &options.log)?;
+    push_path(out, " setup ", &options.setup)?;
     match options.progress {
         Progress::Told => Ok(()),
         Progress::Quiet => out.push_str(" quiet"),
@@ -55,7 +56,7 @@ fn push_sim(alloc: Global, out: &mut String, plan: &SimPlan) -> Result<(), Alloc
     push_number(alloc, out, plan.seed)?;
     push_number(alloc, out, u64::from(plan.sessions))?;
     push_number(alloc, out, u64::from(plan.queries))?;
-    push_log(out, &plan.log)
+    push_path(out, " log ", &plan.log)
 }
 
 fn push_line(alloc: Global, out: &mut String, line: &CommandLine) -> Result<(), AllocError> {
@@ -67,6 +68,10 @@ fn push_line(alloc: Global, out: &mut String, line: &CommandLine) -> Result<(), 
             out.push_str(path.as_str())
         }
         CommandLine::Sim(plan) => push_sim(alloc, out, plan),
+        CommandLine::Stop { address } => {
+            out.push_str("stop ")?;
+            out.push_str(address.as_str())
+        }
         CommandLine::Unknown => out.push_str("unknown"),
     }
 }

@@ -115,6 +115,14 @@ const SERVES: &[(&str, &str)] = &[
         "serve|--workers=1|--accept=1|--listen=|--log=",
         "serve rc 0  1 1 log ",
     ),
+    (
+        "serve|--setup|a.sql",
+        "serve rc 0 127.0.0.1:5433 16 64 setup a.sql",
+    ),
+    (
+        "serve|--setup=|--quiet|--log|-",
+        "serve rc 0 127.0.0.1:5433 16 64 log - setup  quiet",
+    ),
 ];
 
 #[test]
@@ -138,6 +146,9 @@ const NO_OPTIONS: &[&str] = &[
     "serve|--quiet=true",
     "serve|--quiet|--quiet",
     "serve|--quiet|true",
+    "serve|--setup",
+    "serve|--setup|a|--setup|a",
+    "serve|a.sql",
 ];
 
 #[test]
@@ -168,7 +179,30 @@ fn refuses_other_values_of_serve(rt: HostRuntime) -> Result<(), Fail> {
     Ok(())
 }
 
-const NO_NAMES: &[&str] = &["", "help", "Serve", "--|serve", "checks|a"];
+const STOPS: &[(&str, &str)] = &[
+    ("stop", "stop 127.0.0.1:5433"),
+    ("stop|--", "stop 127.0.0.1:5433"),
+    ("stop|0.0.0.0:1", "stop 0.0.0.0:1"),
+    ("stop|[::1]:5433", "stop [::1]:5433"),
+    ("stop|", "stop "),
+    ("stop|--|-x", "stop -x"),
+];
+
+#[test]
+fn reads_stop(rt: HostRuntime) -> Result<(), Fail> {
+    assert!(rt; are(rt.alloc(), STOPS)?);
+    Ok(())
+}
+
+const NO_STOPS: &[&str] = &["stop|a|b", "stop|-x", "stop|--help", "stop|--address|a"];
+
+#[test]
+fn refuses_other_words_of_stop(rt: HostRuntime) -> Result<(), Fail> {
+    assert!(rt; are_unknown(rt.alloc(), NO_STOPS)?);
+    Ok(())
+}
+
+const NO_NAMES: &[&str] = &["", "help", "Serve", "--|serve", "checks|a", "sto", "stops"];
 
 #[test]
 fn refuses_other_names(rt: HostRuntime) -> Result<(), Fail> {
