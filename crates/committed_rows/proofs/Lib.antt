@@ -1,0 +1,10 @@
+pub mod Noted
+pub mod Above
+pub mod Newly
+pub mod Gathered
+pub mod Standing
+pub mod Unique
+pub mod Small
+pub mod Tables
+pub mod Steps
+pub mod Started

@@ -1,0 +1,4 @@
+pub mod Rows
+pub mod Start
+pub mod Defining
+pub mod Walk
