@@ -1,20 +1,17 @@
 -- Workers that have ended: each is as it was manned, and did its part.
-use Rattle.std.proofs.Common.{◌≡◌, ◌≤◌, ◌<◌, ◌+◌, ℕ, zero, suc, List, [], ◌∷◌, ◌++◌, length, map, refl, sym, ◌∙◌, ap, subst, arith, None, vec_len, vec_capacity}
+use Rattle.std.proofs.Common.{◌≡◌, ◌≤◌, ◌+◌, ℕ, suc, List, [], ◌∷◌, length, map, refl, sym, ◌∙◌, ap, subst, arith, vec_len, vec_capacity}
 use Rattle.std.specs.Prelude.{All}
 use Rattle.std.proofs.lemmas.List.Elements.{All-push, All-head, All-tail, All-nil}
 use Rattle.cell_base.specs.declared.level.Level.{Level}
 use Rattle.rand_chacha.specs.ChaCha.{ChaCha}
-use Rattle.choice_stream.specs.Seeds.{Draws, stream_front}
-use Rattle.turn_lock.specs.Passes.{LockValue, PassValue}
-use Rattle.history_core.specs.declared.event.Event.{Event}
-use Rattle.history_core.specs.Book.{Past, no_session}
+use Rattle.choice_stream.specs.Seeds.{Draws}
+use Rattle.turn_lock.specs.Passes.{PassValue}
 use Rattle.doors.specs.Passage.{Passage, IsUnused}
-use Rattle.door_workers.specs.Visits.{Visit, AreVisits, events_of_visits, went_of, came_of}
 use Rattle.door_workers.specs.Workers.{Post, Worked, IsReady, post_of}
 use Rattle.door_workers.specs.Pairs.{EachPair}
 use Rattle.door_workers.specs.declared.worker.Worker.{Worker}
 use Rattle.shared_book.specs.declared.entry.Entry.{Entry}
-use Rattle.shared_book.specs.Books.{BookValue, fresh_book, past_of, Stays}
+use Rattle.shared_book.specs.Books.{BookValue, past_of, Stays}
 use Rattle.serve_command.specs.Manning.{Begins, AreManned, HasEnded, HaveEnded, MayLeave}
 use Rattle.serve_command.proofs.Pairs.{last_pair}
 

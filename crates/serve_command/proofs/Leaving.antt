@@ -1,5 +1,5 @@
 -- The parts of workers that leave one after another.
-use Rattle.std.proofs.Common.{◌≡◌, ◌≤◌, ◌<◌, ◌+◌, ℕ, zero, suc, List, [], ◌∷◌, ◌++◌, length, map, Option, None, Some, refl, sym, ◌∙◌, ap, subst, arith, length-append}
+use Rattle.std.proofs.Common.{◌≡◌, ◌+◌, ℕ, suc, List, [], ◌∷◌, ◌++◌, length, map, Option, None, Some, refl, sym, ◌∙◌, ap, subst, arith, length-append}
 use Rattle.std.specs.Prelude.{All}
 use Rattle.std.proofs.lemmas.List.{append-nil, append_assoc, map-append}
 use Rattle.std.proofs.lemmas.List.Elements.{All-head, All-tail}
@@ -10,34 +10,35 @@ use Rattle.rand_chacha.specs.ChaCha.{ChaCha}
 use Rattle.choice_stream.specs.Seeds.{Draws, stream_front}
 use Rattle.turn_lock.specs.Passes.{PassValue, Joined, lists_of}
 use Rattle.history_core.specs.declared.event.Event.{Event}
+use Rattle.history_core.specs.Chronicle.{Chronicle}
 use Rattle.history_core.specs.Book.{Past}
 use Rattle.doors.specs.Passage.{Passage, IsUnused}
-use Rattle.door_workers.specs.Visits.{Visit, AreVisits, events_of_visits, went_of, came_of}
+use Rattle.door_workers.specs.Visits.{AreVisits, events_of_visits, went_of, came_of}
 use Rattle.door_workers.specs.declared.worker.Worker.{Worker}
 use Rattle.door_workers.specs.Workers.{AreNextOf, faults_after, Ceases}
 use Rattle.shared_book.specs.declared.entry.Entry.{Entry}
 use Rattle.shared_book.specs.Entries.{events_of, event_lists, key_of}
-use Rattle.shared_book.specs.Books.{BookValue, fresh_book, past_of, Stays}
-use Rattle.serve_command.specs.Parts.{Part, IsPart, AreParts, no_past, worse, worst_of}
-use Rattle.serve_command.specs.Manning.{Begins, HasEnded, HaveEnded}
+use Rattle.shared_book.specs.Books.{BookValue, fresh_book, past_of}
+use Rattle.serve_command.specs.Parts.{Part, IsPart, AreParts, begins_with, worse, worst_of}
+use Rattle.serve_command.specs.Manning.{HasEnded, HaveEnded}
 use Rattle.door_workers.proofs.Visiting.{own_of_visits}
 
 -- ---- parts
 
-pub parts_push : (level : Level) (seed most stream : ℕ) (befores : List Passage) (parts : List Part) (afters : List Passage) (before : Passage) (part : Part)
-    (after : Passage) → AreParts level seed most stream befores parts afters → IsPart level seed most (stream + length befores) before part after →
-    AreParts level seed most stream (befores ++ before ∷ []) (parts ++ part ∷ []) (afters ++ after ∷ [])
-parts_push level seed most stream [] [] [] before part after are is =
-    (subst (λ (n : ℕ). IsPart level seed most n before part after) (omega arith) is, tt)
-parts_push level seed most stream (b ∷ befores) (p ∷ parts) (a ∷ afters) before part after are is = (
+pub parts_push : (level : Level) (history : Chronicle) (seed most stream : ℕ) (befores : List Passage) (parts : List Part) (afters : List Passage) (before : Passage) (part : Part)
+    (after : Passage) → AreParts level history seed most stream befores parts afters → IsPart level history seed most (stream + length befores) before part after →
+    AreParts level history seed most stream (befores ++ before ∷ []) (parts ++ part ∷ []) (afters ++ after ∷ [])
+parts_push level history seed most stream [] [] [] before part after are is =
+    (subst (λ (n : ℕ). IsPart level history seed most n before part after) (omega arith) is, tt)
+parts_push level history seed most stream (b ∷ befores) (p ∷ parts) (a ∷ afters) before part after are is = (
   are.0,
-  parts_push level seed most (suc stream) befores parts afters before part after are.1
-      (subst (λ (n : ℕ). IsPart level seed most n before part after) (omega arith) is),
+  parts_push level history seed most (suc stream) befores parts afters before part after are.1
+      (subst (λ (n : ℕ). IsPart level history seed most n before part after) (omega arith) is),
 )
-parts_push level seed most stream [] [] (a ∷ afters) before part after are is = absurd are
-parts_push level seed most stream [] (p ∷ parts) afters before part after are is = absurd are
-parts_push level seed most stream (b ∷ befores) [] afters before part after are is = absurd are
-parts_push level seed most stream (b ∷ befores) (p ∷ parts) [] before part after are is = absurd are
+parts_push level history seed most stream [] [] (a ∷ afters) before part after are is = absurd are
+parts_push level history seed most stream [] (p ∷ parts) afters before part after are is = absurd are
+parts_push level history seed most stream (b ∷ befores) [] afters before part after are is = absurd are
+parts_push level history seed most stream (b ∷ befores) (p ∷ parts) [] before part after are is = absurd are
 
 worse_none : (fault : Option HostFault) → worse fault None ≡ fault
 worse_none None = refl
@@ -59,24 +60,24 @@ worst_push (p ∷ parts) part = ap (λ (f : Option HostFault). worse p.fault f) 
 
 -- ---- a worker's part
 
-pub record ItsPart {D : Type 0} (passage : D → Passage) (level : Level) (seed accept stream : ℕ) (before : Passage) (worker : Worker BookValue D ChaCha) : Type 0 where
+pub record ItsPart {D : Type 0} (passage : D → Passage) (level : Level) (history : Chronicle) (seed accept stream : ℕ) (before : Passage) (worker : Worker BookValue D ChaCha) : Type 0 where
   pub part : Part
-  pub is : IsPart level seed accept stream before part (passage worker.door)
+  pub is : IsPart level history seed accept stream before part (passage worker.door)
   pub own : events_of worker.book.pass.own ≡ events_of_visits part.visits
   pub kept : worker.book.pass.kept ≡ []
   pub fault : part.fault ≡ worker.fault
 
-module _ {D : Type 0} (passage : D → Passage) (level : Level) (pass : PassValue Entry) (seed accept : ℕ)
-    (new : past_of (fresh_book pass) ≡ no_past level) (none_kept : pass.kept ≡ []) where
+module _ {D : Type 0} (passage : D → Passage) (level : Level) (history : Chronicle) (pass : PassValue Entry) (seed accept : ℕ)
+    (new : past_of (fresh_book pass) ≡ begins_with history) (none_kept : pass.kept ≡ []) where
   pub its_part : (stream : ℕ) (before : Passage) (worker : Worker BookValue D ChaCha) → IsUnused before →
-      HasEnded passage level pass seed accept stream before worker → ItsPart passage level seed accept stream before worker
+      HasEnded passage level pass seed accept stream before worker → ItsPart passage level history seed accept stream before worker
   its_part stream before worker unused has_ended =
       let began = has_ended.began in
       let attended = has_ended.worked.attended in
-      let first : past_of began.book ≡ no_past level = ap past_of has_ended.begins.book ∙ new in
+      let first : past_of began.book ≡ begins_with history = ap past_of has_ended.begins.book ∙ new in
       let door : passage began.door ≡ before = ap passage has_ended.begins.door_is ∙ has_ended.before_is in
-      let visits : AreVisits Draws level (no_past level) (stream_front seed stream) attended.visits (past_of worker.book) worker.words =
-      subst (λ (w : ChaCha). AreVisits Draws level (no_past level) w attended.visits (past_of worker.book) worker.words) has_ended.begins.words
+      let visits : AreVisits Draws level (begins_with history) (stream_front seed stream) attended.visits (past_of worker.book) worker.words =
+      subst (λ (w : ChaCha). AreVisits Draws level (begins_with history) w attended.visits (past_of worker.book) worker.words) has_ended.begins.words
       (subst (λ (p : Past). AreVisits Draws level p began.words attended.visits (past_of worker.book) worker.words) first attended.are_visits) in
       let none_accepted : (passage began.door).accepted ≡ 0 = ap (λ (p : Passage). p.accepted) door ∙ unused.accepted in
       record {
@@ -94,7 +95,7 @@ module _ {D : Type 0} (passage : D → Passage) (level : Level) (pass : PassValu
           ceases = subst (λ (n : ℕ). Ceases worker.fault n accept (passage worker.door).to_come) (sym attended.number_is)
               (subst (λ (n : ℕ). Ceases worker.fault has_ended.worked.number n (passage worker.door).to_come) has_ended.begins.accept_is has_ended.worked.ceases);
         };
-        own = own_of_visits Draws level (no_past level) (stream_front seed stream) attended.visits (past_of worker.book) worker.words visits;
+        own = own_of_visits Draws level (begins_with history) (stream_front seed stream) attended.visits (past_of worker.book) worker.words visits;
         kept = attended.stays.kept ∙ ap (λ (b : BookValue). b.pass.kept) has_ended.begins.book ∙ none_kept;
         fault = refl;
       }
@@ -113,12 +114,12 @@ unused_at : (gone : List Passage) (before : Passage) (rest : List Passage) → A
 unused_at [] before rest unused = All-head IsUnused before rest unused
 unused_at (g ∷ gone) before rest unused = unused_at gone before rest (All-tail IsUnused g (gone ++ before ∷ rest) unused)
 
-module _ {D : Type 0} (passage : D → Passage) (level : Level) (start : PassValue Entry) (seed accept : ℕ) where
+module _ {D : Type 0} (passage : D → Passage) (level : Level) (history : Chronicle) (start : PassValue Entry) (seed accept : ℕ) where
   -- these doors are back, and these workers are still there
   abbrev pub IsLeft : List Passage → List D → List (Worker BookValue D ChaCha) → PassValue Entry → PassValue Entry → Option HostFault → Type 0
   IsLeft opened doors workers first pass fault =
       (gone : List Passage) × (rest : List Passage) × (parts : List Part) × (opened ≡ gone ++ rest)
-      × AreParts level seed accept 0 gone parts (map passage doors)
+      × AreParts level history seed accept 0 gone parts (map passage doors)
       × HaveEnded passage level start seed accept (length gone) rest workers
       × (event_lists pass ≡ event_lists first ++ map (λ part. events_of_visits part.visits) parts) × (fault ≡ worst_of parts)
 
@@ -139,7 +140,7 @@ module _ {D : Type 0} (passage : D → Passage) (level : Level) (start : PassVal
       ((λ i. heads i ∷ later.0 i), later.1)
 
   pub left_one_more : (opened : List Passage) (doors more : List D) (workers fewer : List (Worker BookValue D ChaCha)) (worker : Worker BookValue D ChaCha)
-      (first pass after : PassValue Entry) (fault now : Option HostFault) → past_of (fresh_book start) ≡ no_past level → start.kept ≡ [] →
+      (first pass after : PassValue Entry) (fault now : Option HostFault) → past_of (fresh_book start) ≡ begins_with history → start.kept ≡ [] →
       All IsUnused opened → workers ≡ fewer ++ worker ∷ [] → more ≡ doors ++ worker.door ∷ [] → Joined key_of pass worker.book.pass after →
       now ≡ worse fault worker.fault → IsLeft opened doors workers first pass fault → IsLeft opened more fewer first after now
   left_one_more opened doors more workers fewer worker first pass after fault now new kept unused is grown joined decided
@@ -152,7 +153,7 @@ module _ {D : Type 0} (passage : D → Passage) (level : Level) (start : PassVal
   left_one_more opened doors more workers fewer worker first pass after fault now new kept unused is grown joined decided
       (gone, before ∷ rest, parts, whole, are, (front, last, last_is, has_ended, others), lists, fault_is) =
       let same = last_same fewer front worker last (sym is ∙ last_is) in
-      let mine = its_part passage level start seed accept new kept (length gone) before last
+      let mine = its_part passage level history start seed accept new kept (length gone) before last
       (unused_at gone before rest (subst (λ (l : List Passage). All IsUnused l) whole unused)) has_ended in
       let door : worker.door ≡ last.door = ap (λ (w : Worker BookValue D ChaCha). w.door) same.1 in
       let pass_is : worker.book.pass ≡ last.book.pass = ap (λ (w : Worker BookValue D ChaCha). w.book.pass) same.1 in
@@ -167,9 +168,9 @@ module _ {D : Type 0} (passage : D → Passage) (level : Level) (start : PassVal
         rest,
         parts ++ mine.part ∷ [],
         whole ∙ sym (append_assoc gone (before ∷ []) rest),
-        subst (λ (l : List Passage). AreParts level seed accept 0 (gone ++ before ∷ []) (parts ++ mine.part ∷ []) l) (sym back)
-            (parts_push level seed accept 0 gone parts (map passage doors) before mine.part (passage last.door) are
-            (subst (λ (n : ℕ). IsPart level seed accept n before mine.part (passage last.door)) at_zero mine.is)),
+        subst (λ (l : List Passage). AreParts level history seed accept 0 (gone ++ before ∷ []) (parts ++ mine.part ∷ []) l) (sym back)
+            (parts_push level history seed accept 0 gone parts (map passage doors) before mine.part (passage last.door) are
+            (subst (λ (n : ℕ). IsPart level history seed accept n before mine.part (passage last.door)) at_zero mine.is)),
         subst (λ (n : ℕ). HaveEnded passage level start seed accept n rest fewer) (sym count)
             (subst (λ (l : List (Worker BookValue D ChaCha)). HaveEnded passage level start seed accept (suc (length gone)) rest l) (sym same.0) others),
         lists_joined pass worker.book.pass after joined no_kept ∙ ap (λ l. l ++ events_of worker.book.pass.own ∷ []) lists
@@ -183,9 +184,9 @@ module _ {D : Type 0} (passage : D → Passage) (level : Level) (start : PassVal
   -- where no worker is left, all doors are back
   pub none_left_over : (opened gone rest : List Passage) (parts : List Part) (afters : List Passage) (workers : List (Worker BookValue D ChaCha)) →
       opened ≡ gone ++ rest → workers ≡ [] → HaveEnded passage level start seed accept (length gone) rest workers →
-      AreParts level seed accept 0 gone parts afters → AreParts level seed accept 0 opened parts afters
+      AreParts level history seed accept 0 gone parts afters → AreParts level history seed accept 0 opened parts afters
   none_left_over opened gone [] parts afters workers whole none ended are =
-      subst (λ (l : List Passage). AreParts level seed accept 0 l parts afters) (sym (whole ∙ append-nil gone)) are
+      subst (λ (l : List Passage). AreParts level history seed accept 0 l parts afters) (sym (whole ∙ append-nil gone)) are
   none_left_over opened gone (before ∷ rest) parts afters workers whole none (front, last, last_is, has_ended, others) are =
       absurd (never front last (sym last_is ∙ none))
     where

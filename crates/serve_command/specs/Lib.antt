@@ -1,3 +1,4 @@
+pub mod Starting
 pub mod Parts
 pub mod Line
 pub mod Manning

@@ -13,26 +13,22 @@ use Rattle.doors.specs.Passage.{Passage}
 use Rattle.door_workers.specs.Visits.{Visit, AreVisits, came_of, went_of}
 use Rattle.door_workers.specs.Workers.{AreNextOf, Ceases, faults_after}
 
--- a history at a level without a row at first and without an event
-abbrev pub empty_history : Level → Chronicle
-empty_history level = record { level = level; initial = []; events = []; tables = [] }
-
--- the past of a book of this history, which has no session
-abbrev pub no_past : Level → Past
-no_past level = record { seen = empty_history level; own = []; state = no_session }
+-- the past of a book that begins with this history, and has no session and no event of its own
+abbrev pub begins_with : Chronicle → Past
+begins_with start = record { seen = start; own = []; state = no_session }
 
 -- What became of one worker: the links that it served, and why it accepted no more, where accepting failed.
 pub record Part : Type 0 where
   pub visits : List Visit
   pub fault : Option HostFault
 
--- A worker served its links one after another, from an empty history on that others added to as well, with the words of its own stream of the
+-- A worker served its links one after another, from this history on, that others added to as well, with the words of its own stream of the
 -- seed. They came in by its door and went back to it. It accepted as many as it may, or no further one came, or accepting failed, which its
 -- door counted.
-pub record IsPart (level : Level) (seed most stream : ℕ) (before : Passage) (part : Part) (after : Passage) : Type 0 where
+pub record IsPart (level : Level) (start : Chronicle) (seed most stream : ℕ) (before : Passage) (part : Part) (after : Passage) : Type 0 where
   pub past : Past
   pub words : ChaCha
-  pub are_visits : AreVisits Draws level (no_past level) (stream_front seed stream) part.visits past words
+  pub are_visits : AreVisits Draws level (begins_with start) (stream_front seed stream) part.visits past words
   pub accepted : after.accepted ≡ length part.visits
   pub back : after.back ≡ map went_of part.visits
   pub to_come : AreNextOf (map came_of part.visits) before.to_come after.to_come
@@ -40,14 +36,14 @@ pub record IsPart (level : Level) (seed most stream : ℕ) (before : Passage) (p
   pub ceases : Ceases part.fault (length part.visits) most after.to_come
 
 -- the same of each worker, whose streams are numbered from this one on
-abbrev pub AreParts : Level → ℕ → ℕ → ℕ → List Passage → List Part → List Passage → Type 0
-AreParts level seed most stream [] [] [] = Unit {0}
-AreParts level seed most stream (before ∷ befores) (part ∷ parts) (after ∷ afters) =
-    IsPart level seed most stream before part after × AreParts level seed most (suc stream) befores parts afters
-AreParts level seed most stream [] [] (after ∷ afters) = ⊥
-AreParts level seed most stream [] (part ∷ parts) afters = ⊥
-AreParts level seed most stream (before ∷ befores) [] afters = ⊥
-AreParts level seed most stream (before ∷ befores) (part ∷ parts) [] = ⊥
+abbrev pub AreParts : Level → Chronicle → ℕ → ℕ → ℕ → List Passage → List Part → List Passage → Type 0
+AreParts level start seed most stream [] [] [] = Unit {0}
+AreParts level start seed most stream (before ∷ befores) (part ∷ parts) (after ∷ afters) =
+    IsPart level start seed most stream before part after × AreParts level start seed most (suc stream) befores parts afters
+AreParts level start seed most stream [] [] (after ∷ afters) = ⊥
+AreParts level start seed most stream [] (part ∷ parts) afters = ⊥
+AreParts level start seed most stream (before ∷ befores) [] afters = ⊥
+AreParts level start seed most stream (before ∷ befores) (part ∷ parts) [] = ⊥
 
 -- the events of the record of one link's session
 abbrev pub record_of : Visit → List Event

@@ -9,16 +9,15 @@ ghost use Rattle.turn_lock.specs.Views.{all_parts};
 ghost use Rattle.doors.specs.Network.{open_failed};
 ghost use Rattle.shared_book.specs.Books.{HasSeenLegal};
 ghost use Rattle.shared_book.specs.Entries.{chronicle_of, event_lists};
-ghost use Rattle.serve_command.specs.Parts.{empty_history};
-ghost use Rattle.serve_command.specs.Serving.{status_of, Ran, Ends, Serves};
+ghost use Rattle.serve_command.specs.Serving.{status_of as status_behind, Ran, Ends, GoesOn, Serves};
 
 use crate::line::line_of;
 use crate::manning::{leave, man, rooms};
+use crate::start::{start, status_of, tell_fault};
 use cell_base::{Level, Memory};
 use command_line::{Progress as Verbosity, ServeOptions};
 use door_workers::{Progress, serve_doors};
 use doors::Network;
-use history_core::InitialState;
 use host_calls::Status;
 use link_traits::{Host, HostFault};
 use log_file::log_and_print;
@@ -68,8 +67,7 @@ fn run<R: Threads + Wait + Eprint + Sync, N: Network>(
 ) -> Result<Option<HostFault>, HostFault>
     requires workers { options.now.workers ≤ 64 }
     requires pass { pass.old ≡ first_pass shared.now }
-    requires start { chronicle_of shared.now.start ≡ empty_history options.now.level }
-    ensures ok { IfOk result (λ fault. Ran options.now (N.networked network.old) (event_lists pass.new) fault (N.networked network.new)) }
+    ensures ok { IfOk result (λ fault. Ran options.now (chronicle_of shared.now.start) (N.networked network.old) (event_lists pass.new) fault (N.networked network.new)) }
     ensures failed { IfErr result (λ fault. fault ≡ HostFault.Failed → N.networked network.new ≡ open_failed options.now.listen options.now.workers (N.networked network.old)) }
     ensures memory { IfErr result (λ fault. fault ≡ HostFault.Memory → N.networked network.new ≡ N.networked network.old) }
     ensures lock { IfOk result (λ fault. pass.new.lock ≡ shared.now) }
@@ -115,7 +113,7 @@ fn end<H: Host>(alloc: Global, host: &mut H, options: &ServeOptions, store: &Sto
 
 // The status of a server whose workers have this fault, if they have one, and which ended with that status.
 fn status_after(fault: Option<HostFault>, status: Status) -> Status
-    ensures { result.code ≡ status_of fault status.code }
+    ensures { result.code ≡ status_behind fault status.code }
 {
     match fault {
         None => status,
@@ -124,12 +122,41 @@ fn status_after(fault: Option<HostFault>, status: Status) -> Status
     }
 }
 
+// Serves with this store, and ends.
+fn serve_with<R: Threads + Wait + Eprint + Sync, H: Host, N: Network>(
+    rt: &R,
+    alloc: Global,
+    host: &mut H,
+    network: &mut N,
+    options: &ServeOptions,
+    store: Store,
+) -> Status
+    requires workers { options.now.workers ≤ 64 }
+    requires none_out { objects_out (H.hosted host.old) ≡ 0 }
+    ensures goes_on { GoesOn options.now store (N.networked network.old) (H.hosted host.old) result.code (N.networked network.new) (H.hosted host.new) }
+    ensures none_out { objects_out (H.hosted host.new) ≡ 0 }
+{
+    let Ok((shared, mut pass)) = Shared::new(alloc, store) else {
+        return Status { code: 5 };
+    };
+    let fault = match run(rt, alloc, network, &shared, &mut pass, options) {
+        Ok(fault) => fault,
+        Err(HostFault::Failed) => return Status { code: 6 },
+        Err(HostFault::Memory) => return Status { code: 5 },
+    };
+    let store = shared.finish(pass);
+    let status = end(alloc, host, options, &store);
+    status_after(fault, status)
+}
+
 /// Serves the links that come in at an address, each as a session over one history, until each worker has accepted as many links as it may or no
-/// more come; then writes the log of the history, where one is asked for, and prints how many sessions, transactions and events there were.
+/// more come; then writes the log of the history, where one is asked for, and prints how many sessions, transactions and events there were. The
+/// history begins with what the setup of the options left, where there is one: its statements are run before a door is opened.
 ///
-/// The status is 0 where all was written whole; 4 where a write failed; 5 where memory ran out, at a worker's accept or at the end; and 6 where no
-/// doors were opened, accepting a link failed, or the file of the log couldn't be made. A link that fails, or whose session runs out of memory,
-/// changes no status.
+/// The status is 0 where all was written whole; 1 where the setup failed, or left more than a history begins with; 3 where reading its file
+/// failed; 4 where a write failed; 5 where memory ran out, before a door was opened, at a worker's accept or at the end; and 6 where the file of
+/// the setup couldn't be opened, no doors were opened, accepting a link failed, or the file of the log couldn't be made. A link that fails, or
+/// whose session runs out of memory, changes no status. What is wrong with the setup is told in one line on standard error.
 pub fn serve<R: Threads + Wait + Eprint + Sync, H: Host, N: Network>(
     rt: &R,
     alloc: Global,
@@ -142,18 +169,11 @@ pub fn serve<R: Threads + Wait + Eprint + Sync, H: Host, N: Network>(
     ensures serves { Serves options.now (N.networked network.old) (H.hosted host.old) result.code (N.networked network.new) (H.hosted host.new) }
     ensures none_out { objects_out (H.hosted host.new) ≡ 0 }
 {
-    let Ok(store) = Store::new(alloc, options.level, InitialState::empty(alloc)) else {
-        return Status { code: 5 };
-    };
-    let Ok((shared, mut pass)) = Shared::new(alloc, store) else {
-        return Status { code: 5 };
-    };
-    let fault = match run(rt, alloc, network, &shared, &mut pass, options) {
-        Ok(fault) => fault,
-        Err(HostFault::Failed) => return Status { code: 6 },
-        Err(HostFault::Memory) => return Status { code: 5 },
-    };
-    let store = shared.finish(pass);
-    let status = end(alloc, host, options, &store);
-    status_after(fault, status)
+    match start(alloc, host, options) {
+        Ok(store) => serve_with(rt, alloc, host, network, options, store),
+        Err(fault) => {
+            tell_fault(rt, &fault);
+            status_of(&fault)
+        }
+    }
 }

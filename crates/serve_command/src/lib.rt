@@ -7,5 +7,6 @@
 mod command;
 mod line;
 mod manning;
+mod start;
 
 pub use command::serve;

@@ -1,13 +1,13 @@
 use denote.Param.Send.{sendable}
 use denote.Param.SendFields.{declared_send}
-use Rattle.std.proofs.Common.{◌≡◌, ◌++◌, ◌∷◌, ℕ, List, [], length, map, vec_len, refl, sym, ◌∙◌, ap, subst}
+use Rattle.std.proofs.Common.{◌≡◌, ◌++◌, List, [], length, map, vec_len, refl, sym, ◌∙◌, ap, subst}
 use Rattle.std.specs.Prelude.{All, ◌+◌, ◌≤◌, vec_capacity}
 use Rattle.std.proofs.lemmas.List.Elements.{All-map}
 use Rattle.history_core.specs.declared.event.Event.{Event}
 use Rattle.history_core.specs.Chronicle.{Chronicle}
 use Rattle.history_core.specs.Book.{no_session}
 use Rattle.turn_lock.specs.Passes.{LockValue, PassValue, split_off}
-use Rattle.doors.specs.Passage.{Passage, IsUnused}
+use Rattle.doors.specs.Passage.{IsUnused}
 use Rattle.doors.specs.Network.{doors_returned}
 use Rattle.door_workers.specs.Visits.{events_of_visits}
 use Rattle.shared_book.specs.declared.entry.Entry.{Entry}
@@ -63,8 +63,9 @@ returns-clause-ok g c =
     let back = subst (λ workers. HaveEnded g.N.Door.Door.passage c.args.options.now.level start c.args.options.now.seed c.args.options.now.accept 0 opened workers)
     (sym (written_back c.man.new.workers.items c.serve_doors.new.workers c.man.new.workers.len pairs.0 many)) have in
     let unused : All IsUnused opened = All-map IsUnused g.N.Door.Door.passage c.in-Ok.doors.items c.in-Ok.ensures.unused in
-    let history = ap (λ (p : PassValue Entry). chronicle_of p.seen) c.requires.pass ∙ c.requires.start in
-    let left = c.leave-fault.ensures.left c.args.options.now.level start c.args.options.now.seed c.args.options.now.accept opened
+    let history = ap (λ (p : PassValue Entry). chronicle_of p.seen) c.requires.pass in
+    let left = c.leave-fault.ensures.left c.args.options.now.level (chronicle_of c.args.shared.now.start) start c.args.options.now.seed
+    c.args.options.now.accept opened
     (ap (λ (h : Chronicle). record { seen = h; own = []; state = no_session }) history) refl unused back in
     let whats : Part → List Event = λ part. events_of_visits part.visits in
     let before = ap (λ (p : PassValue Entry). event_lists p) c.man.ensures.pass ∙ ap (λ (p : PassValue Entry). event_lists p) c.requires.pass in

@@ -1,12 +1,12 @@
-use Rattle.std.proofs.Common.{◌≡◌, ◌+◌, ◌-◌, ◌<◌, ◌≤◌, ◌++◌, ◌∷◌, ℕ, suc, List, [], length, drop, vec_len, vec_capacity, refl, sym, ◌∙◌, ap, subst, arith}
-use Rattle.std.specs.Prelude.{All, Some}
+use Rattle.std.proofs.Common.{◌≡◌, ◌-◌, ◌≤◌, ◌++◌, ◌∷◌, ℕ, suc, [], length, drop, vec_len, vec_capacity, refl, sym, ◌∙◌, ap, subst, arith}
+use Rattle.std.specs.Prelude.{Some}
 use Rattle.std.proofs.lemmas.List.{append-nil, append_assoc}
 use Rattle.std.proofs.lemmas.List.Elements.{All-pop}
 use Rattle.turn_lock.specs.Passes.{PassValue, split_off}
 use Rattle.choice_stream.specs.Seeds.{stream_front}
 use Rattle.shared_book.specs.declared.entry.Entry.{Entry}
 use Rattle.shared_book.specs.Books.{fresh_book}
-use Rattle.serve_command.specs.Manning.{AreManned, Begins}
+use Rattle.serve_command.specs.Manning.{AreManned}
 use Rattle.serve_command.proofs.Fronts.{drop_all, drop_one_more, no_items}
 use Rattle.serve_command.proofs.manning.man.Goals as goal
 

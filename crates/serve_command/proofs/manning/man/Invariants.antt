@@ -1,4 +1,4 @@
-use Rattle.std.proofs.Common.{◌≡◌, ◌≤◌, ◌<◌, ◌+◌, ◌++◌, List, [], length, drop, vec_len, vec_capacity}
+use Rattle.std.proofs.Common.{◌≡◌, ◌≤◌, ◌<◌, ◌+◌, ◌++◌, length, drop, vec_len, vec_capacity}
 use Rattle.std.specs.Prelude.{All}
 use Rattle.turn_lock.specs.Passes.{split_off}
 use Rattle.serve_command.specs.Manning.{AreManned}

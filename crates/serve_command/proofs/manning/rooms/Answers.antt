@@ -1,5 +1,4 @@
-use Rattle.std.proofs.Common.{◌≡◌, ◌≤◌, ◌+◌, ◌∷◌, ◌++◌, [], List, length, vec_len, vec_capacity, ap, sym, subst, ◌∙◌, arith, refl}
-use Rattle.std.specs.Prelude.{All}
+use Rattle.std.proofs.Common.{◌≡◌, ◌≤◌, length, vec_len, vec_capacity, ap, arith}
 use Rattle.std.proofs.lemmas.List.Elements.{All-push, All-nil, All-same}
 use Rattle.serve_command.proofs.manning.rooms.Goals as goal
 

@@ -1,0 +1,142 @@
+// What a server starts from: nothing, or what a setup left.
+ghost use Rattle.std.specs.Prelude.{◌≡◌, Some, IfOk, IfErr};
+ghost use Rattle.link_traits.specs.Host.{objects_out};
+ghost use Rattle.serve_command.specs.Starting.{StartsBy, Unstarted, status_of_start};
+
+use cell_base::{Level, Memory, Text};
+use command_line::ServeOptions;
+use committed_rows::start_after;
+use history_core::InitialState;
+use host_calls::{FileFault, Status, read_file};
+use link_traits::Host;
+use setup_session::{MOST_TEXT, SetupFault, StatementFault, run_setup};
+use std::alloc::Global;
+use std::str;
+use valid_writes::Store;
+
+/// Why a server didn't start.
+#[derive(Debug, Drop)]
+pub enum StartFault {
+    /// The file of the setup wasn't read whole.
+    File(FileFault),
+    /// The setup failed.
+    Setup(SetupFault),
+    /// What the setup left is more than a history begins with.
+    Heavy,
+    /// Out of memory.
+    Memory,
+}
+
+impl From<Memory> for StartFault {
+    ghost use Rattle.std.specs.Prelude.{◌≡◌};
+    ghost use Rattle.serve_command.specs.declared.start.StartFault.TheVariants as faults;
+
+    ghost from_gives = { λ _ e. e ≡ faults.Memory };
+
+    fn from(_: Memory) -> Self {
+        StartFault::Memory
+    }
+}
+
+impl From<FileFault> for StartFault {
+    ghost use Rattle.std.specs.Prelude.{◌≡◌};
+    ghost use Rattle.serve_command.specs.declared.start.StartFault.TheVariants as faults;
+
+    ghost from_gives = { λ file e. e ≡ faults.File file };
+
+    fn from(fault: FileFault) -> Self {
+        StartFault::File(fault)
+    }
+}
+
+impl From<SetupFault> for StartFault {
+    ghost use Rattle.std.specs.Prelude.{◌≡◌};
+    ghost use Rattle.serve_command.specs.declared.start.StartFault.TheVariants as faults;
+
+    ghost from_gives = { λ setup e. e ≡ faults.Setup setup };
+
+    fn from(fault: SetupFault) -> Self {
+        StartFault::Setup(fault)
+    }
+}
+
+// Runs the statements of the file of a path, and answers the store that starts after them.
+fn set_up<H: Host>(
+    alloc: Global,
+    host: &mut H,
+    path: &Text,
+    level: Level,
+) -> Result<Store, StartFault>
+    requires none_out { objects_out (H.hosted host.old) ≡ 0 }
+    ensures ok { IfOk result (λ store. StartsBy (Some path.now) level (H.hosted host.old) store (H.hosted host.new)) }
+    ensures err { IfErr result (λ e. Unstarted (Some path.now) level (H.hosted host.old) e (H.hosted host.new)) }
+    ensures none_out { objects_out (H.hosted host.new) ≡ 0 }
+{
+    let text = read_file(alloc, host, path, MOST_TEXT)?;
+    let setup = run_setup(alloc, &text)?;
+    match start_after(alloc, level, setup.history())? {
+        Some(store) => Ok(store),
+        None => Err(StartFault::Heavy),
+    }
+}
+
+/// The store that a server starts with: at its level, and after the setup of its options, where there is one.
+pub fn start<H: Host>(
+    alloc: Global,
+    host: &mut H,
+    options: &ServeOptions,
+) -> Result<Store, StartFault>
+    requires none_out { objects_out (H.hosted host.old) ≡ 0 }
+    ensures ok { IfOk result (λ store. StartsBy options.now.setup options.now.level (H.hosted host.old) store (H.hosted host.new)) }
+    ensures err { IfErr result (λ e. Unstarted options.now.setup options.now.level (H.hosted host.old) e (H.hosted host.new)) }
+    ensures none_out { objects_out (H.hosted host.new) ≡ 0 }
+{
+    match &options.setup {
+        Some(path) => set_up(alloc, host, path, options.level),
+        None => Ok(Store::new(alloc, options.level, InitialState::empty(alloc))?),
+    }
+}
+
+/// The status of a server that didn't start.
+pub fn status_of(fault: &StartFault) -> Status
+    ensures { result.code ≡ status_of_start fault.now }
+{
+    let code = match fault {
+        StartFault::File(FileFault::Open) => 6,
+        StartFault::File(FileFault::Read) => 3,
+        StartFault::File(FileFault::Memory)
+        | StartFault::Setup(SetupFault::Memory)
+        | StartFault::Memory => 5,
+        StartFault::Setup(_) | StartFault::Heavy => 1,
+    };
+    Status { code }
+}
+
+// Bytes as text; a question mark where they are none.
+fn shown(bytes: &[u8]) -> &str {
+    str::from_utf8(bytes).unwrap_or("?")
+}
+
+// Tells of the statement that failed.
+fn tell_statement<R: Eprint>(rt: &R, fault: &StatementFault) {
+    let number = fault.number;
+    let code = shown(fault.code.as_slice());
+    let message = shown(fault.message.as_slice());
+    let _ = eprintln!(rt; "setup: statement {number} failed: {code} {message}");
+}
+
+/// Tells on standard error why a server didn't start, in one line.
+pub fn tell_fault<R: Eprint>(rt: &R, fault: &StartFault) {
+    let why = match fault {
+        StartFault::Setup(SetupFault::Statement(fault)) => return tell_statement(rt, fault),
+        StartFault::File(FileFault::Open) => "setup: the file can't be opened",
+        StartFault::File(FileFault::Read) => "setup: reading the file failed",
+        StartFault::Setup(SetupFault::TooLong) => "setup: the file has more than 1048571 bytes",
+        StartFault::Setup(SetupFault::Ended(_)) => "setup: its replies have too many bytes",
+        StartFault::Heavy => "setup: it leaves more rows than a history begins with",
+        StartFault::File(FileFault::Memory)
+        | StartFault::Setup(SetupFault::Memory)
+        | StartFault::Memory => "out of memory",
+    };
+    let _ = eprintln!(rt; "{why}");
+}

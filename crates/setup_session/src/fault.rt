@@ -1,0 +1,28 @@
+// Why a setup failed.
+use block_machine::End;
+use cell_base::Memory;
+use setup_client::StatementFault;
+
+/// Why a setup failed.
+#[derive(Debug, Drop)]
+pub enum SetupFault {
+    /// The text has more than [`MOST_TEXT`](setup_client::MOST_TEXT) bytes.
+    TooLong,
+    /// A statement failed, or the text couldn't be read.
+    Statement(StatementFault),
+    /// No error was told, and the session ended otherwise than its client said: so where its replies have more bytes than there is room for.
+    Ended(End),
+    /// Out of memory.
+    Memory,
+}
+
+impl From<Memory> for SetupFault {
+    ghost use Rattle.std.specs.Prelude.{◌≡◌};
+    ghost use Rattle.setup_session.specs.declared.fault.SetupFault.TheVariants as faults;
+
+    ghost from_gives = { λ _ e. e ≡ faults.Memory };
+
+    fn from(_: Memory) -> Self {
+        SetupFault::Memory
+    }
+}
