@@ -125,6 +125,7 @@ pub fn options(
         workers,
         accept,
         log,
+        setup: None,
         progress: Progress::Quiet,
     })
 }
