@@ -1,7 +1,7 @@
 -- What the lists of writers show of a read at once.
-use Rattle.std.proofs.Common.{◌≡◌, ◌≢◌, ℕ, ◌+◌, ◌-◌, ◌<◌, ◌≤◌, List, length, get_or, set, Some, None, arith, refl, ap, sym, ◌∙◌, subst, inl, inr, ◌⊎◌, Option, replicate}
-use Rattle.std.specs.List.{Contains, slice_get, slice_index, Any}
-use Rattle.std.proofs.lemmas.Bool.{cases_eq, cases_lt}
+use Rattle.std.proofs.Common.{◌≡◌, ℕ, ◌+◌, ◌-◌, ◌<◌, ◌≤◌, List, length, get_or, set, Some, arith, refl, ap, sym, ◌∙◌, subst, inl, inr, ◌⊎◌, Option, replicate}
+use Rattle.std.specs.List.{Contains, slice_get, slice_index}
+use Rattle.std.proofs.lemmas.Bool.{cases_eq}
 use Rattle.std.proofs.lemmas.Option.{slice_get_within, slice_get_cases, slice_get_read}
 use Rattle.graph_base.specs.Order.{place_of}
 use Rattle.cell_base.specs.declared.level.Level.{Level}
@@ -9,14 +9,13 @@ use Rattle.cell_base.specs.declared.level.Level.TheVariants.{Rc, Ra, Cc}
 use Rattle.cell_base.specs.declared.cell.Cell.{Cell}
 use Rattle.cell_base.specs.declared.value.Value.{Value}
 use Rattle.cell_writers.specs.declared.writers.CellWriters.{CellWriters}
-use Rattle.cell_writers.specs.Writers.{numbers_at, AreAscending, IsLastUpTo}
+use Rattle.cell_writers.specs.Writers.{numbers_at, IsLastUpTo}
 use Rattle.history_core.specs.declared.event.Event.{Event}
 use Rattle.history_core.specs.declared.event.Event.TheVariants.{Read}
 use Rattle.history_core.specs.declared.txn.Txn.{Txn}
 use Rattle.history_core.specs.declared.txn.Seen.{Seen}
-use Rattle.history_core.specs.declared.txn.TxnState.TheVariants.{Committed}
 use Rattle.history_core.specs.Events.{begun}
-use Rattle.history_core.specs.Relations.{Gives, Writes, Precedes, PrecedesCausally, IsVisible, IsVisibleAt, ReadsBefore, ReadsFrom, IsSessionOrdered}
+use Rattle.history_core.specs.Relations.{Gives, Writes, Precedes, PrecedesCausally, IsVisibleAt, ReadsBefore, ReadsFrom, IsSessionOrdered}
 use Rattle.history_core.specs.Transactions.{RunsAt}
 use Rattle.history_core.specs.Records.{IsRecordOf}
 use Rattle.history_core.proofs.Places.{start_session}
@@ -25,10 +24,10 @@ use Rattle.saturation.proofs.Chains.{chained_one}
 use Rattle.saturation.proofs.Sights.{none_from_record, writes_later, record_reads_from, record_before}
 use Rattle.order_test.specs.declared.places.Places.{Places}
 use Rattle.order_test.specs.declared.pasts.Past.{Past}
-use Rattle.order_test.specs.Unkept.{KeepsSessions, StandsBefore, IsUnmet}
+use Rattle.order_test.specs.Unkept.{KeepsSessions, StandsBefore}
 use Rattle.order_test.specs.Pasts.{IsPastOf}
 use Rattle.order_test.specs.Sights.{IsScene, IsReadAt, IsRival, origin_of}
-use Rattle.order_test.specs.Listed.{AreTxnsWithin, IsTxnOf, ListsCommitted, HasNoLate, HasNoRival, HasNoDirectRival, IsHarmless, AreHarmless, AreKeptUpTo, listed_at, numbers_in}
+use Rattle.order_test.specs.Listed.{AreTxnsWithin, ListsCommitted, HasNoLate, HasNoRival, HasNoDirectRival, IsHarmless, AreHarmless, AreKeptUpTo, listed_at, numbers_in}
 use Rattle.order_test.proofs.SightLemmas.{record_at, ordered_from_records, records_from_ordered, out_bounds, visible_at}
 use Rattle.order_test.proofs.PastSteps.{at_set}
 use Rattle.order_test.proofs.SearchLemmas.{less_unless, rival_bounds}
