@@ -1,8 +1,8 @@
 // Transactions of one session. What a call asks for is tested, and where it isn't so the test ends.
-ghost use Rattle.std.specs.Prelude.{◌↔◌, OnOk, IfOk, IsTrue};
+ghost use Rattle.std.specs.Prelude.{◌≡◌, ◌↔◌, OnOk, IsTrue};
 ghost use Rattle.history_core.specs.Events.{table_of as the_table};
 ghost use Rattle.history_core.specs.Initial.{IsStorable};
-ghost use Rattle.history_core.specs.Book.{IsIdle, IsInTransaction, HasTable};
+ghost use Rattle.history_core.specs.Book.{no_session, IsIdle, IsInTransaction, HasTable};
 
 use crate::cells::{Put, cell_of, value_of};
 use crate::tables::table_of;
@@ -20,31 +20,43 @@ pub struct Transaction {
 
 /// The store in which the first session has made two tables, `t` with numbers as keys and `u` with texts, and has played the transactions.
 pub fn played(alloc: Global, transactions: &[Transaction]) -> Result<Store, BookFault> {
-    let mut book = first_session(alloc)?;
-    for transaction in transactions {
-        play(alloc, &mut book, transaction)?;
-    }
+    let store = Store::new(alloc, Level::Cc, InitialState::empty(alloc))?;
+    let mut book = store.seat(None);
+    play_all(alloc, &mut book, transactions)?;
     Ok(book.into_store())
 }
 
-/// The first session of a new store, which defines the tables.
-fn first_session(alloc: Global) -> Result<SeatBook, BookFault>
-    ensures { IfOk result (λ book. IsIdle book.state) }
+/// Opens the session, defines the tables, and plays the transactions.
+fn play_all(
+    alloc: Global,
+    book: &mut SeatBook,
+    transactions: &[Transaction],
+) -> Result<(), BookFault>
+    requires { book.old.state ≡ no_session }
 {
-    let store = Store::new(alloc, Level::Cc, InitialState::empty(alloc))?;
-    let mut book = store.seat(None);
+    open(alloc, book)?;
+    for transaction in transactions {
+        play(alloc, book, transaction)?;
+    }
+    Ok(())
+}
+
+/// Opens the session, and defines the tables.
+fn open(alloc: Global, book: &mut SeatBook) -> Result<(), BookFault>
+    requires { book.old.state ≡ no_session }
+    ensures { OnOk result (IsIdle book.new.state) }
+{
     book.open()?;
     define(
         alloc,
-        &mut book,
+        book,
         b"CREATE TABLE t (k bigint PRIMARY KEY, v bigint)",
     )?;
     define(
         alloc,
-        &mut book,
+        book,
         b"CREATE TABLE u (k text PRIMARY KEY, v bigint)",
-    )?;
-    Ok(book)
+    )
 }
 
 /// Defines the table that the text creates.

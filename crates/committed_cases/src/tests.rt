@@ -83,11 +83,16 @@ const HALF: [Transaction; 1] = [Transaction {
     commits: true,
 }];
 
+/// Whether these are the rows at the end of the history.
+fn ends_with_rows(alloc: Global, history: &History) -> Result<bool, BookFault> {
+    let cells = committed_rows(alloc, history)?;
+    are_cells(alloc, cells.as_slice(), &ROWS)
+}
+
 /// Whether the rows are found at the end.
 fn finds_rows(alloc: Global) -> Result<bool, BookFault> {
     let store = played(alloc, &TRANSACTIONS)?;
-    let cells = committed_rows(alloc, store.history())?;
-    are_cells(alloc, cells.as_slice(), &ROWS)
+    ends_with_rows(alloc, store.history())
 }
 
 /// Whether the event opens session 1, defines the table of the name in it, or closes it.
@@ -131,16 +136,23 @@ fn has_rows(alloc: Global, level: Level, history: &History) -> Result<bool, Book
     )
 }
 
+/// Whether the history begins with the rows and the tables, and so does a store that starts after it.
+fn has_rows_twice(alloc: Global, level: Level, history: &History) -> Result<bool, BookFault> {
+    Ok(has_rows(alloc, level, history)? && starts_with_rows(alloc, Level::Rc, history)?)
+}
+
+/// Whether a store that starts after the history has the rows, and one that starts after that.
+fn starts_from(alloc: Global, setup: &History) -> Result<bool, BookFault> {
+    match start_after(alloc, Level::Ra, setup)? {
+        Some(store) => has_rows_twice(alloc, Level::Ra, store.history()),
+        None => Ok(false),
+    }
+}
+
 /// Whether what starts after what was played has the rows, and what starts after that.
 fn starts_twice(alloc: Global) -> Result<bool, BookFault> {
     let setup = played(alloc, &TRANSACTIONS)?;
-    match start_after(alloc, Level::Ra, setup.history())? {
-        Some(store) => Ok(
-            has_rows(alloc, Level::Ra, store.history())?
-                && starts_with_rows(alloc, Level::Rc, store.history())?,
-        ),
-        None => Ok(false),
-    }
+    starts_from(alloc, setup.history())
 }
 
 /// Whether nothing starts after a row without its field.

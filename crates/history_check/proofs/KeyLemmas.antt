@@ -1,35 +1,25 @@
--- Keys in order, and the keys that a scan covers.
-use Rattle.std.proofs.Common.{◌≡◌, ℕ, ◌+◌, ◌<◌, ◌≤◌, zero, suc, List, [], ◌∷◌, Some, true, length, get_or, rules, arith, refl, ap, sym, ◌∙◌, subst, inl, inr, ◌⊎◌}
-use Rattle.std.specs.Ordering.{nat_cmp, int_cmp}
+-- Keys in order, and the keys that a scan lists.
+use Rattle.std.proofs.Common.{◌≡◌, ℕ, ◌+◌, ◌-◌, ◌<◌, ◌≤◌, zero, suc, List, Some, length, get_or, rules, arith, refl, ap, sym, ◌∙◌, subst, inl, inr}
+use Rattle.std.specs.Ordering.{nat_cmp, int_cmp, ordering_index}
 use Rattle.std.specs.Cmp.{IsTotalOrder}
 use Rattle.std.specs.Cmp.Lexicographic.{slice_cmp}
 use Rattle.std.specs.declared.cmp.Ordering.{Ordering}
 use Rattle.std.specs.declared.cmp.Ordering.TheVariants.{Less, Equal, Greater}
-use Rattle.std.specs.List.{Contains, slice_get}
+use Rattle.std.specs.List.{Contains, HoldsAt, slice_get}
+use Rattle.std.specs.List.Sorted.{IsNonDecreasingBy, IsPartitionPoint}
 use Rattle.std.proofs.lemmas.Cmp.{tied_itself}
 use Rattle.std.proofs.lemmas.Map.Lookups.{CmpEqualImpliesEq, exact_signed, exact_bytes}
-use Rattle.std.proofs.lemmas.List.Elements.{Contains-get_or}
-use Rattle.std.proofs.lemmas.Option.{slice_get_within, get_or_from_slice_get}
+use Rattle.std.proofs.lemmas.Option.{slice_get_within, get_or_from_slice_get, slice_get-get_or}
 use Rattle.std.proofs.lemmas.Bool.{cases_eq, cases_lt}
-use Rattle.txn_buffer.proofs.Lists.{at_contains}
 use Rattle.cell_base.specs.declared.cell.Cell.{Cell}
-use Rattle.cell_base.specs.declared.cell.Cell.TheVariants.{Presence, Field}
 use Rattle.cell_base.specs.declared.key.Key.{Key}
 use Rattle.cell_base.specs.declared.key.Key.TheVariants.{Int, Text}
 use Rattle.cell_base.specs.contracts.key.KeyOrd.TheImpl as key_ord
 use Rattle.cell_base.specs.contracts.key.KeyOrd.TheImpl.Laws as key_laws
 use Rattle.cell_base.specs.declared.value.Value.{Value}
-use Rattle.cell_base.specs.declared.value.Value.TheVariants.{Flag}
 use Rattle.history_core.specs.declared.event.Event.{Event}
-use Rattle.history_core.specs.declared.txn.Txn.{Txn}
-use Rattle.history_core.specs.Events.{begun}
-use Rattle.history_core.specs.Initial.{IsThereInitially}
-use Rattle.history_core.specs.Relations.{HasWritten, Writes}
-use Rattle.history_core.specs.Records.{IsRecordOf}
 use Rattle.history_core.specs.Legal.{IsKeyBelow, ListsKeys}
-use Rattle.history_core.proofs.Offers.{writer_bounded}
-use Rattle.history_check.specs.Keys.{IsAscending, IsListedIn, IsListed, Covers, CoversInitial, CoversWriter, CoversWriters, CoversOwn, HasLaterWriter, IsToList, ListsNoOther}
-use Rattle.history_check.proofs.WriteLemmas.{written_from_record, none_from_record}
+use Rattle.history_check.specs.Keys.{IsAscending, IsToList, ListsNoOther}
 
 -- ---- keys in order
 
@@ -56,39 +46,6 @@ less_from_below (Int a) (Int b) is = search rules
 less_from_below (Int a) (Text b) is = search rules
 less_from_below (Text a) (Int b) is = absurd is
 less_from_below (Text a) (Text b) is = search rules
-
-key_decides : (a b : Key) → (a ≡ b) ⊎ (a ≡ b → ⊥)
-key_decides a b = of (key_cmp a b) refl
-  where
-    tie : a ≡ b → key_cmp a b ≡ Equal
-    tie same = subst (λ (k : Key). key_cmp a k ≡ Equal) same (tied_itself key_total a)
-
-    apart_less : key_cmp a b ≡ Equal → key_cmp a b ≡ Less → ⊥
-    apart_less equal less = let both : Less ≡ Equal = sym less ∙ equal in cc
-
-    apart_greater : key_cmp a b ≡ Equal → key_cmp a b ≡ Greater → ⊥
-    apart_greater equal greater = let both : Greater ≡ Equal = sym greater ∙ equal in cc
-
-    of : (o : Ordering) → key_cmp a b ≡ o → (a ≡ b) ⊎ (a ≡ b → ⊥)
-    of Equal is = inl (key_exact a b is)
-    of Less is = inr (λ same. apart_less (tie same) is)
-    of Greater is = inr (λ same. apart_greater (tie same) is)
-
--- a key is listed, or it isn't
-pub contains_decides : (keys : List Key) (key : Key) → Contains keys key ⊎ (Contains keys key → ⊥)
-contains_decides [] key = inr (λ (k, within, is). absurd (omega arith))
-contains_decides (x ∷ xs) key =
-    elim (key_decides x key) [
-      | inl same ↦ inl (0, omega arith, same)
-      | inr other ↦ elim (contains_decides xs key) [
-        | inl member ↦ inl (suc member.0, let h = member.1 in omega arith, member.2)
-        | inr none ↦ inr (λ member. cut x xs key other none member)
-      ]
-    ]
-  where
-    cut : (x : Key) (xs : List Key) (key : Key) → (x ≡ key → ⊥) → (Contains xs key → ⊥) → Contains (x ∷ xs) key → ⊥
-    cut x xs key other none (zero, within, is) = other is
-    cut x xs key other none (suc k, within, is) = none (k, omega arith, is)
 
 -- ---- ascending keys, one after another
 
@@ -118,140 +75,76 @@ pub ascending_broken : (keys : List Key) (n p : ℕ) (low high : Key) → p + 1 
 ascending_broken keys n p low high number at_low at_high broken ascending =
     broken (ascending p low high at_low (ap (λ (i : ℕ). slice_get keys i) number ∙ at_high))
 
--- ---- what a record covers
+-- ---- a key among those that ascend
 
-listed_of : (table : ℕ) (keys : List Key) (cell : Cell) → ((key : Key) → cell ≡ Presence table key → Contains keys key) → IsListedIn table keys cell
-listed_of table keys (Presence t key) has = λ same. has key (ap (λ (n : ℕ). Presence n key) same)
-listed_of table keys (Field t key column) has = tt
+ascending_less : (keys : List Key) → IsAscending keys → (i n : ℕ) (d : Key) → i + suc n < length keys → key_cmp (get_or keys i d) (get_or keys (i + suc n) d) ≡ Less
+ascending_less keys ascending i zero d within =
+    let next : i + suc zero ≡ i + 1 = omega arith in
+    let low = slice_get-get_or keys i d (omega arith) in
+    let high = slice_get-get_or keys (i + 1) d (omega arith) in
+    subst (λ (k : ℕ). key_cmp (get_or keys i d) (get_or keys k d) ≡ Less) (sym next)
+    (less_from_below (get_or keys i d) (get_or keys (i + 1) d) (ascending i (get_or keys i d) (get_or keys (i + 1) d) low high))
+ascending_less keys ascending i (suc n) d within =
+    let mid = i + suc n in
+    let next : i + suc (suc n) ≡ mid + 1 = omega arith in
+    let low = slice_get-get_or keys mid d (omega arith) in
+    let high = slice_get-get_or keys (mid + 1) d (omega arith) in
+    let step : key_cmp (get_or keys mid d) (get_or keys (mid + 1) d) ≡ Less =
+    less_from_below (get_or keys mid d) (get_or keys (mid + 1) d) (ascending mid (get_or keys mid d) (get_or keys (mid + 1) d) low high) in
+    subst (λ (k : ℕ). key_cmp (get_or keys i d) (get_or keys k d) ≡ Less) (sym next)
+    (key_total.trans (get_or keys i d) (get_or keys mid d) (get_or keys (mid + 1) d) (ascending_less keys ascending i n d (omega arith)) step)
 
-pub record_covered :
-    (events : List Event) (n : ℕ) (txn : Txn) (table : ℕ) (keys : List Key) → IsRecordOf events n txn → Covers table keys txn.buffer.writes →
-    (key : Key) → HasWritten events n (Presence table key) → Contains keys key
-record_covered events n txn table keys is covers key written =
-    elim (contains_decides keys key) [
-      | inl member ↦ member
-      | inr none ↦ absurd (none_from_record events n txn (Presence table key) is
-          (λ v (i, within, at).
-          let listed : IsListedIn table keys (Presence table key) =
-          subst (λ (e : Cell × Value). IsListedIn table keys e.0) at (covers i (Presence table key, v) within).listed in
-          none (listed refl))
-          written)
+index_small : (o : Ordering) → ordering_index o ≤ 2
+index_small Less = omega arith
+index_small Equal = omega arith
+index_small Greater = omega arith
+
+index_rises : (a b key : Key) → key_cmp a b ≡ Less → ordering_index (key_cmp a key) ≤ ordering_index (key_cmp b key)
+index_rises a b key less = of (key_cmp b key) refl
+  where
+    of : (o : Ordering) → key_cmp b key ≡ o → ordering_index (key_cmp a key) ≤ ordering_index (key_cmp b key)
+    of Less is = let h : ordering_index (key_cmp a key) ≡ 0 = ap ordering_index (key_total.trans a b key less is) in omega arith
+    of Equal is =
+        let same : b ≡ key = key_exact b key is in
+        let below : key_cmp a key ≡ Less = subst (λ (k : Key). key_cmp a k ≡ Less) same less in
+        let h : ordering_index (key_cmp a key) ≡ 0 = ap ordering_index below in omega arith
+    of Greater is = let g : ordering_index (key_cmp b key) ≡ 2 = ap ordering_index is in let s = index_small (key_cmp a key) in omega arith
+
+keys_rise : (keys : List Key) (key : Key) → IsAscending keys → IsNonDecreasingBy (λ y. ordering_index (key_cmp y key)) keys
+keys_rise keys key ascending i j d upto within =
+    elim (cases_lt i j) [
+      | inl below ↦
+          let n = j - suc i in
+          let at : i + suc n ≡ j = omega arith in
+          index_rises (get_or keys i d) (get_or keys j d) key
+          (subst (λ (k : ℕ). key_cmp (get_or keys i d) (get_or keys k d) ≡ Less) at (ascending_less keys ascending i n d (omega arith)))
+      | inr not_below ↦
+          let same : i ≡ j = omega arith in
+          let equal : ordering_index (key_cmp (get_or keys i d) key) ≡ ordering_index (key_cmp (get_or keys j d) key) =
+          ap (λ (k : ℕ). ordering_index (key_cmp (get_or keys k d) key)) same in omega arith
     ]
 
-pub record_covers :
-    (events : List Event) (n : ℕ) (txn : Txn) (table : ℕ) (keys : List Key) → IsRecordOf events n txn →
-    ((key : Key) → HasWritten events n (Presence table key) → Contains keys key) → Covers table keys txn.buffer.writes
-record_covers events n txn table keys is has i d within =
-    let entry = get_or txn.buffer.writes i d in
-    record {
-      listed = listed_of table keys entry.0 (λ key at.
-          has key (written_from_record events n txn (Presence table key) entry.1 is (placed txn.buffer.writes entry (Presence table key) at (Contains-get_or txn.buffer.writes i d within))));
-    }
-  where
-    placed : (xs : List (Cell × Value)) (e : Cell × Value) (x : Cell) → e.0 ≡ x → Contains xs e → Contains xs (x, e.1)
-    placed xs (y, v) x same member = subst (λ (z : Cell). Contains xs (z, v)) same member
+-- what a binary search finds
+pub found_key : (keys : List Key) (key : Key) (at : ℕ) → at < length keys → HoldsAt (λ y. key_cmp y key ≡ Equal) keys at → Contains keys key
+found_key keys key at within holds = (at, within, key_exact (get_or keys at key) key (holds key))
 
--- ---- entries, one after another
-
-abbrev pub CoversUpTo : ℕ → List Key → List (Cell × Value) → ℕ → Type 0
-CoversUpTo table keys cells n = (k : ℕ) (d : Cell × Value) → k < n → k < length cells → IsListed table keys (get_or cells k d)
-
-pub covers_entry :
-    (table : ℕ) (keys : List Key) (cells : List (Cell × Value)) (n : ℕ) (entry : Cell × Value) → slice_get cells n ≡ Some entry → IsListed table keys entry →
-    CoversUpTo table keys cells n → CoversUpTo table keys cells (n + 1)
-covers_entry table keys cells n entry at here before k d under within =
-    elim (cases_eq k n) [
-      | inl same ↦
-          let is : get_or cells k d ≡ entry = ap (λ (i : ℕ). get_or cells i d) same ∙ get_or_from_slice_get cells n entry d at in
-          subst (λ (e : Cell × Value). IsListed table keys e) (sym is) here
-      | inr other ↦ before k d (omega arith) within
+pub missed_key :
+    (keys : List Key) (key : Key) (at : ℕ) → IsAscending keys →
+    (IsNonDecreasingBy (λ y. ordering_index (key_cmp y key)) keys → IsPartitionPoint (λ y. key_cmp y key ≡ Less) (λ y. key_cmp y key ≡ Greater) keys at) →
+    Contains keys key → ⊥
+missed_key keys key at ascending point (k, within, is) =
+    let parts = point (keys_rise keys key ascending) in
+    let equal : key_cmp (get_or keys k key) key ≡ Equal = subst (λ (y : Key). key_cmp y key ≡ Equal) (sym is) (tied_itself key_total key) in
+    elim (cases_lt k at) [
+      | inl before ↦ let less = parts.0 k key (omega arith) before in let both : Less ≡ Equal = sym less ∙ equal in cc
+      | inr after ↦ let more = parts.1 k key (omega arith) within in let both : Greater ≡ Equal = sym more ∙ equal in cc
     ]
 
-pub covers_every : (table : ℕ) (keys : List Key) (cells : List (Cell × Value)) (n : ℕ) → length cells ≤ n → CoversUpTo table keys cells n → Covers table keys cells
-covers_every table keys cells n all below k d within = below k d (omega arith) within
-
-pub entry_listed : (table : ℕ) (keys : List Key) (cells : List (Cell × Value)) (n : ℕ) (entry : Cell × Value) → slice_get cells n ≡ Some entry → Covers table keys cells → IsListed table keys entry
-entry_listed table keys cells n entry at covers =
-    subst (λ (e : Cell × Value). IsListed table keys e) (get_or_from_slice_get cells n entry entry at) (covers n entry (slice_get_within cells n entry at))
-
--- ---- the whole list
-
-pub initial_covered : (initial : List (Cell × Value)) (table : ℕ) (keys : List Key) → CoversInitial table keys initial → (key : Key) → IsThereInitially initial table key → Contains keys key
-initial_covered initial table keys covers key (i, within, at) =
-    let d : Cell × Value = (Presence table key, Flag true) in
-    let listed : IsListedIn table keys (get_or initial i d).0 = (covers i d within).listed (ap (λ (e : Cell × Value). e.1) at) in
-    let here : IsListedIn table keys (Presence table key) = subst (λ (e : Cell × Value). IsListedIn table keys e.0) at listed in
-    here refl
-
-pub initial_covers : (initial : List (Cell × Value)) (table : ℕ) (keys : List Key) → ((key : Key) → IsThereInitially initial table key → Contains keys key) → CoversInitial table keys initial
-initial_covers initial table keys has i d within = record {
-  listed = λ is_there.
-      listed_of table keys (get_or initial i d).0 (λ key at. has key (placed initial (get_or initial i d) (Presence table key) at is_there (Contains-get_or initial i d within)));
-}
-  where
-    placed : (xs : List (Cell × Value)) (e : Cell × Value) (x : Cell) → e.0 ≡ x → e.1 ≡ Flag true → Contains xs e → Contains xs (x, Flag true)
-    placed xs (y, v) x same value member =
-        subst (λ (z : Cell). Contains xs (z, Flag true)) same (subst (λ (u : Value). Contains xs (y, u)) value member)
-
-pub lists_to :
-    (initial : List (Cell × Value)) (events : List Event) (session table : ℕ) (keys : List Key) → IsAscending keys → CoversInitial table keys initial →
-    CoversWriters events table keys → CoversOwn events session table keys → ListsNoOther initial events session table keys → ListsKeys initial events session table keys
-lists_to initial events session table keys ascending first later own others = record {
-  ascending = ascending;
-  listed = λ key. (
-    λ member. let found = at_contains keys key member in others found.0 key found.1,
-    λ is. elim is [
-      | inl there ↦ initial_covered initial table keys first key there
-      | inr more ↦ elim more [
-        | inl writer ↦ later writer.0 writer.1 key writer.2
-        | inr wrote ↦ own key wrote
-      ]
-    ],
-  );
-}
-
-pub lists_first : (initial : List (Cell × Value)) (events : List Event) (session table : ℕ) (keys : List Key) → ListsKeys initial events session table keys → CoversInitial table keys initial
-lists_first initial events session table keys lists = initial_covers initial table keys (λ key there. (lists.listed key).1 (inl there))
-
-pub lists_later : (initial : List (Cell × Value)) (events : List Event) (session table : ℕ) (keys : List Key) → ListsKeys initial events session table keys → CoversWriters events table keys
-lists_later initial events session table keys lists txn positive key writes = (lists.listed key).1 (inr (inl (txn, positive, writes)))
-
-pub lists_own : (initial : List (Cell × Value)) (events : List Event) (session table : ℕ) (keys : List Key) → ListsKeys initial events session table keys → CoversOwn events session table keys
-lists_own initial events session table keys lists key wrote = (lists.listed key).1 (inr (inr wrote))
+-- ---- the listed keys, one after another
 
 pub lists_others : (initial : List (Cell × Value)) (events : List Event) (session table : ℕ) (keys : List Key) → ListsKeys initial events session table keys → ListsNoOther initial events session table keys
 lists_others initial events session table keys lists k key is =
     (lists.listed key).0 (k, slice_get_within keys k key is, get_or_from_slice_get keys k key key is)
-
--- ---- the transactions, one after another
-
-abbrev pub CoversBelow : List Event → ℕ → List Key → ℕ → Type 0
-CoversBelow events table keys n = (txn : ℕ) → 0 < txn → txn < n → CoversWriter events table keys txn
-
-pub covers_step : (events : List Event) (table : ℕ) (keys : List Key) (n : ℕ) → CoversWriter events table keys n → CoversBelow events table keys n → CoversBelow events table keys (n + 1)
-covers_step events table keys n here before txn positive under =
-    elim (cases_eq txn n) [
-      | inl same ↦ subst (λ (m : ℕ). CoversWriter events table keys m) (sym same) here
-      | inr other ↦ before txn positive (omega arith)
-    ]
-
-pub covers_all : (events : List Event) (table : ℕ) (keys : List Key) (n : ℕ) → begun events < n → CoversBelow events table keys n → CoversWriters events table keys
-covers_all events table keys n all below txn positive key writes =
-    let h = writer_bounded events txn (Presence table key) writes in below txn positive (omega arith) key writes
-
-abbrev pub NoWriterBelow : List Event → Cell → ℕ → Type 0
-NoWriterBelow events cell n = (txn : ℕ) → 0 < txn → txn < n → Writes events txn cell → ⊥
-
-pub no_writer_step : (events : List Event) (cell : Cell) (n : ℕ) → (Writes events n cell → ⊥) → NoWriterBelow events cell n → NoWriterBelow events cell (n + 1)
-no_writer_step events cell n none before txn positive under writes =
-    elim (cases_eq txn n) [
-      | inl same ↦ none (subst (λ (m : ℕ). Writes events m cell) same writes)
-      | inr other ↦ before txn positive (omega arith) writes
-    ]
-
-pub no_later_writer : (events : List Event) (cell : Cell) (n : ℕ) → begun events < n → NoWriterBelow events cell n → HasLaterWriter events cell → ⊥
-no_later_writer events cell n all none (txn, positive, writes) =
-    let h = writer_bounded events txn cell writes in none txn positive (omega arith) writes
 
 abbrev pub ListsNoOtherBelow : List (Cell × Value) → List Event → ℕ → ℕ → List Key → ℕ → Type 0
 ListsNoOtherBelow initial events session table keys n = (k : ℕ) (key : Key) → k < n → slice_get keys k ≡ Some key → IsToList initial events session table key

@@ -10,3 +10,7 @@ pub mod KeyLemmas
 pub mod EventLemmas
 pub mod Orderly
 pub mod TraceLaws
+pub mod Committed
+pub mod KeyLists
+pub mod RowLemmas
+pub mod ScanLemmas

@@ -2,4 +2,6 @@ pub mod Rules
 pub mod Breaches
 pub mod Notes
 pub mod Keys
+pub mod Rows
 pub mod Orders
+pub mod TableKeys

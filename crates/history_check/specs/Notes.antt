@@ -1,12 +1,20 @@
 -- How what the judge has noted stands for the events so far.
-use Rattle.std.specs.Prelude.{◌≡◌, ◌<◌, ◌≤◌, ◌+◌, ◌↔◌, [], ℕ, Option, Some, false, List, length, slice_get}
+use Rattle.std.specs.Prelude.{◌≡◌, ◌<◌, ◌≤◌, ◌+◌, ◌↔◌, [], ℕ, Option, Some, false, List, Contains, length, slice_get}
 use Rattle.history_core.specs.declared.event.Event.{Event}
+use Rattle.cell_base.specs.declared.cell.Cell.{Cell}
 use Rattle.cell_base.specs.declared.level.Level.{Level}
 use Rattle.history_core.specs.declared.txn.Txn.{Txn}
 use Rattle.history_core.specs.declared.txn.TxnState.TheVariants.{Pending}
 use Rattle.history_core.specs.Events.{opened, defined, session_in}
 use Rattle.history_core.specs.Transactions.{IsPending}
 use Rattle.history_core.specs.Kept.{IsSessionOf, StandsForTxns, ChangesOne}
+use Rattle.history_core.specs.Relations.{HasWritten, Writes}
+use Rattle.cell_base.specs.declared.cell.Cell.TheVariants.{Presence}
+use Rattle.cell_base.specs.declared.key.Key.{Key}
+use Rattle.history_check.specs.declared.table_keys.TableKeys.{TableKeys}
+use Rattle.history_check.specs.TableKeys.{keys_at}
+use Rattle.cell_writers.specs.declared.writers.CellWriters.{CellWriters}
+use Rattle.cell_writers.specs.Writers.{numbers_at, AreAscending}
 use Rattle.order_test.specs.Settled.{IsSettled}
 use Rattle.history_check.specs.declared.seat.Seat.{Seat}
 use Rattle.history_check.specs.declared.notes.Notes.{Notes}
@@ -50,10 +58,21 @@ pub record IsFreshRecord (txn : Txn) (session : ℕ) (level : Level) : Type 0 wh
   pub nothing_seen : txn.seen ≡ []
   pub nothing_written : txn.buffer.writes ≡ []
 
+-- at each cell stand, ascending, the transactions after the initial one that write it
+pub record AreWriters (events : List Event) (writers : CellWriters) : Type 0 where
+  pub ascending : AreAscending writers
+  pub exact : (cell : Cell) (number : ℕ) → Contains (numbers_at writers cell) number ↔ ((0 < number) × Writes events number cell)
+
+-- each key whose presence was written is noted at its table, whatever became of the transaction
+abbrev pub AreWrittenKeys : List Event → TableKeys → Type 0
+AreWrittenKeys events keys = (table : ℕ) (key : Key) (number : ℕ) → HasWritten events number (Presence table key) → Contains (keys_at keys table) key
+
 -- the notes stand for the events
 pub record AreNotes (events : List Event) (notes : Notes) : Type 0 where
   pub settled : IsSettled events
   pub sessions : AreOfSessions events
   pub seats : StandsForSeats events notes.seats.items
   pub txns : StandsForTxns events notes.txns.items
+  pub writers : AreWriters events notes.writers
+  pub keys : AreWrittenKeys events notes.keys
   pub tables : notes.tables ≡ defined events

@@ -7,6 +7,7 @@ ghost use Rattle.history_check.specs.Notes.{AreNotes};
 use crate::judge::verdict;
 use crate::notes::{Notes, no_notes};
 use crate::noting::note;
+use crate::rows::Rows;
 use crate::{Breach, CheckFault};
 use cell_base::{Cell, Value};
 use history_core::Event;
@@ -38,6 +39,19 @@ pub fn note_events(
     ensures right { OnOk result (AreRight initial.now events.now) }
     ensures breach { IfBreach result (IsFirstEventBreach initial.now events.now) }
 {
+    match Rows::new(alloc, initial) {
+        Ok(rows) => note_all(alloc, &rows, events),
+        Err(_memory) => Err(CheckFault::Memory),
+    }
+}
+
+/// The notes of all events of this initial state, where each of them keeps to the rules.
+fn note_all(alloc: Global, initial: &Rows, events: &[Event]) -> Result<Notes, CheckFault>
+    requires few { length events.now < 4294967296 }
+    ensures notes { IfOk result (AreNotes events.now) }
+    ensures right { OnOk result (AreRight initial.now events.now) }
+    ensures breach { IfBreach result (IsFirstEventBreach initial.now events.now) }
+{
     let mut notes = no_notes(alloc);
     for at in 0..events.len() {
         match judge_event(&mut notes, initial, &events[..at], &events[at]) {
@@ -51,7 +65,7 @@ pub fn note_events(
 /// Judges one event, and notes it.
 fn judge_event(
     notes: &mut Notes,
-    initial: &[(Cell, Value)],
+    initial: &Rows,
     before: &[Event],
     event: &Event,
 ) -> Result<(), CheckFault>
@@ -70,7 +84,7 @@ fn judge_event(
 /// Notes the event, where the verdict finds no breach.
 fn note_right(
     notes: &mut Notes,
-    initial: &[(Cell, Value)],
+    initial: &Rows,
     before: &[Event],
     event: &Event,
     found: Option<Breach>,

@@ -10,6 +10,7 @@ ghost use Rattle.history_check.specs.Notes.{AreNotes};
 use crate::Breach;
 use crate::keys::lists_keys;
 use crate::notes::Notes;
+use crate::rows::Rows;
 use crate::shape::is_in_shape;
 use crate::sources::{count_writers, gives_own_value, gives_value, is_writer, wrote_itself};
 use cell_base::{Cell, Key, Memory, Value};
@@ -26,7 +27,7 @@ fn next_number(before: &[Event]) -> u32
 /// The first rule that the event breaks, as a breach.
 pub fn verdict(
     notes: &Notes,
-    initial: &[(Cell, Value)],
+    initial: &Rows,
     before: &[Event],
     event: &Event,
 ) -> Result<Option<Breach>, Memory>
@@ -106,7 +107,7 @@ fn of_show(before: &[Event], session: u32, number: u32) -> Option<Breach>
 /// The verdict on a scan.
 fn of_scan(
     notes: &Notes,
-    initial: &[(Cell, Value)],
+    initial: &Rows,
     before: &[Event],
     session: u32,
     table: u32,
@@ -128,7 +129,7 @@ fn of_scan(
 /// The verdict on an external read.
 fn of_read(
     notes: &Notes,
-    initial: &[(Cell, Value)],
+    initial: &Rows,
     before: &[Event],
     session: u32,
     cell: &Cell,

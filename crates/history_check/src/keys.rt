@@ -1,24 +1,24 @@
 // Whether a scan lists the keys that it has to, and no other.
-ghost use Rattle.std.specs.Prelude.{◌≡◌, ◌<◌, ◌≤◌, ◌↔◌, ℕ, length, IsTrue, IfOk, Contains, true};
+ghost use Rattle.std.specs.Prelude.{◌<◌, ◌↔◌, length, IsTrue, IfOk, Contains};
 ghost use Rattle.cell_base.specs.declared.cell.Cell.{Cell as CellValue};
-ghost use Rattle.cell_base.specs.declared.value.Value.{Value as ValueOf};
-ghost use Rattle.history_core.specs.Events.{begun};
-ghost use Rattle.history_core.specs.Initial.{IsThereInitially};
+ghost use Rattle.history_check.specs.TableKeys.{keys_at};
 ghost use Rattle.history_core.specs.Legal.{IsKeyBelow, ListsKeys};
-ghost use Rattle.history_check.specs.Keys.{IsAscending, IsListed, IsListedFirst, Covers, CoversInitial, CoversWriter, CoversWriters, CoversOwn, HasLaterWriter, IsPresent, ListsNoOther};
+ghost use Rattle.history_check.specs.Keys.{IsAscending, HasLaterWriter, IsPresent, IsToList, ListsAll, ListsNoOther};
 ghost use Rattle.history_check.specs.Notes.{AreNotes};
 
-use crate::notes::{Notes, count_begun, pending_in, txn_of};
-use crate::sources::{has_committed, holds, is_writer, wrote_itself};
+use crate::notes::Notes;
+use crate::rows::Rows;
+use crate::sources::wrote_itself;
+use crate::table_keys::{Keys, TableKeys, keys_of};
 use cell_base::{Cell, Key, Memory, Value};
+use cell_writers::writers_at;
 use history_core::Event;
-use std::alloc::Global;
 use std::cmp::Ordering;
 
 /// Whether the keys of the table that the session lists are those that a scan has to list, ascending.
 pub fn lists_keys(
     notes: &Notes,
-    initial: &[(Cell, Value)],
+    initial: &Rows,
     before: &[Event],
     session: u32,
     table: u32,
@@ -31,13 +31,10 @@ pub fn lists_keys(
     if !ascend(keys) {
         return Ok(false);
     }
-    if !covers_initial(table, keys, initial) {
+    if !lists_table(notes, initial, before, session, table, keys, initial.keys())? {
         return Ok(false);
     }
-    if !covers_writers(notes, before, table, keys) {
-        return Ok(false);
-    }
-    if !covers_own(notes, before, session, table, keys) {
+    if !lists_table(notes, initial, before, session, table, keys, &notes.keys)? {
         return Ok(false);
     }
     lists_no_other(notes, initial, before, session, table, keys)
@@ -66,133 +63,101 @@ fn is_below(low: &Key, high: &Key) -> bool
     }
 }
 
-/// Whether the key is listed.
+/// Whether the key is among those that ascend.
 fn contains_key(keys: &[Key], key: &Key) -> bool
+    requires { IsAscending keys.now }
     ensures { IsTrue result ↔ Contains keys.now key.now }
 {
-    keys.iter().any(|own| own.is_same(key))
-}
-
-/// Whether a key of the table is listed.
-fn is_row_listed(table: u32, keys: &[Key], of_table: u32, key: &Key) -> bool
-    ensures { IsTrue result ↔ (of_table ≡ table → Contains keys.now key.now) }
-{
-    if of_table != table {
-        return true;
-    }
-    contains_key(keys, key)
-}
-
-/// Whether the key is listed, where the cell is the presence of a row of the table.
-fn is_listed(table: u32, keys: &[Key], entry: &(Cell, Value)) -> bool
-    ensures { IsTrue result ↔ IsListed table keys.now entry.now }
-{
-    match &entry.0 {
-        Cell::Presence(of_table, key) => is_row_listed(table, keys, *of_table, key),
-        Cell::Field(_table, _key, _column) => true,
+    match keys.binary_search(key) {
+        Ok(_at) => true,
+        Err(_at) => false,
     }
 }
 
-/// Whether the key of each row of the table among the cells is listed.
-fn covers(table: u32, keys: &[Key], cells: &[(Cell, Value)]) -> bool
-    ensures { IsTrue result ↔ Covers table keys.now cells.now }
-{
-    for entry in cells {
-        if !is_listed(table, keys, entry) {
-            return false;
-        }
-    }
-    true
-}
-
-/// Whether the key is listed, where the row is there from the start.
-fn is_initial_listed(table: u32, keys: &[Key], entry: &(Cell, Value)) -> bool
-    ensures { IsTrue result ↔ IsListedFirst table keys.now entry.now }
-{
-    if !entry.1.is_same(&Value::Flag(true)) {
-        return true;
-    }
-    is_listed(table, keys, entry)
-}
-
-/// Whether the key of each row of the table that is there from the start is listed.
-fn covers_initial(table: u32, keys: &[Key], initial: &[(Cell, Value)]) -> bool
-    ensures { IsTrue result ↔ CoversInitial table keys.now initial.now }
-{
-    initial
-        .iter()
-        .all(|entry| is_initial_listed(table, keys, entry))
-}
-
-/// Whether the key of each row of the table that the transaction writes is listed.
-fn covers_writer(notes: &Notes, before: &[Event], number: u32, table: u32, keys: &[Key]) -> bool
-    requires notes { AreNotes before.now notes.now }
-    requires some { 0 < number }
-    requires begun { number ≤ begun before.now }
-    ensures { IsTrue result ↔ CoversWriter before.now table keys.now number }
-{
-    if !has_committed(notes, before, number) {
-        return true;
-    }
-    let txn = txn_of(notes, before, number);
-    covers(table, keys, txn.buffer.writes())
-}
-
-/// Whether the key of each row of the table that a transaction writes is listed.
-fn covers_writers(notes: &Notes, before: &[Event], table: u32, keys: &[Key]) -> bool
+/// Whether the key is listed, where a scan has to list it.
+fn is_listed(
+    notes: &Notes,
+    initial: &Rows,
+    before: &[Event],
+    session: u32,
+    table: u32,
+    keys: &[Key],
+    key: &Key,
+) -> Result<bool, Memory>
     requires notes { AreNotes before.now notes.now }
     requires few { length before.now < 4294967295 }
-    ensures { IsTrue result ↔ CoversWriters before.now table keys.now }
+    requires ascending { IsAscending keys.now }
+    ensures { IfOk result (λ listed. IsTrue listed ↔ (IsToList initial.now before.now session table key.now → Contains keys.now key.now)) }
 {
-    for number in 1..count_begun(notes, before) + 1 {
-        if !covers_writer(notes, before, number, table, keys) {
-            return false;
-        }
+    if contains_key(keys, key) {
+        return Ok(true);
     }
-    true
+    let is = is_to_list(notes, initial, before, session, table, key)?;
+    Ok(!is)
 }
 
-/// Whether the key of each row of the table that the pending transaction wrote is listed.
-fn covers_own(notes: &Notes, before: &[Event], session: u32, table: u32, keys: &[Key]) -> bool
-    requires { AreNotes before.now notes.now }
-    ensures { IsTrue result ↔ CoversOwn before.now session table keys.now }
+/// Whether each of these keys is listed that a scan has to list.
+fn lists_all(
+    notes: &Notes,
+    initial: &Rows,
+    before: &[Event],
+    session: u32,
+    table: u32,
+    keys: &[Key],
+    among: &Keys,
+) -> Result<bool, Memory>
+    requires notes { AreNotes before.now notes.now }
+    requires few { length before.now < 4294967295 }
+    requires ascending { IsAscending keys.now }
+    ensures { IfOk result (λ all. IsTrue all ↔ ListsAll initial.now before.now session table among.now keys.now) }
 {
-    match pending_in(notes, before, session) {
-        Some(number) => {
-            let txn = txn_of(notes, before, number);
-            covers(table, keys, txn.buffer.writes())
+    for key in among.iter() {
+        if !is_listed(notes, initial, before, session, table, keys, key)? {
+            return Ok(false);
         }
-        None => true,
+    }
+    Ok(true)
+}
+
+/// Whether each of the table's keys in the index is listed that a scan has to list.
+fn lists_table(
+    notes: &Notes,
+    initial: &Rows,
+    before: &[Event],
+    session: u32,
+    table: u32,
+    keys: &[Key],
+    index: &TableKeys,
+) -> Result<bool, Memory>
+    requires notes { AreNotes before.now notes.now }
+    requires few { length before.now < 4294967295 }
+    requires ascending { IsAscending keys.now }
+    ensures { IfOk result (λ all. IsTrue all ↔ ListsAll initial.now before.now session table (keys_at index.now table) keys.now) }
+{
+    match keys_of(index, table) {
+        Some(among) => lists_all(notes, initial, before, session, table, keys, among),
+        None => Ok(true),
     }
 }
 
 /// Whether a transaction after the initial one writes the cell.
 fn has_later_writer(notes: &Notes, before: &[Event], cell: &Cell) -> bool
     requires notes { AreNotes before.now notes.now }
-    requires few { length before.now < 4294967295 }
     ensures { IsTrue result ↔ HasLaterWriter before.now cell.now }
 {
-    for number in 1..count_begun(notes, before) + 1 {
-        if is_writer(notes, before, number, cell) {
-            return true;
-        }
+    if writers_at(&notes.writers, cell).is_empty() {
+        return false;
     }
-    false
+    true
 }
 
 /// Whether the presence of a row is true from the start, or some transaction, or the pending one of the session, wrote it.
-fn is_present(
-    notes: &Notes,
-    initial: &[(Cell, Value)],
-    before: &[Event],
-    session: u32,
-    cell: &Cell,
-) -> bool
+fn is_present(notes: &Notes, initial: &Rows, before: &[Event], session: u32, cell: &Cell) -> bool
     requires notes { AreNotes before.now notes.now }
     requires few { length before.now < 4294967295 }
     ensures { IsTrue result ↔ IsPresent initial.now before.now session cell.now }
 {
-    if holds(initial, cell, &Value::Flag(true)) {
+    if initial.holds(cell, &Value::Flag(true)) {
         return true;
     }
     if has_later_writer(notes, before, cell) {
@@ -204,7 +169,7 @@ fn is_present(
 /// Whether the row is one that a scan has to list.
 fn is_to_list(
     notes: &Notes,
-    initial: &[(Cell, Value)],
+    initial: &Rows,
     before: &[Event],
     session: u32,
     table: u32,
@@ -223,7 +188,7 @@ fn is_to_list(
 /// Whether each listed key is one that a scan has to list.
 fn lists_no_other(
     notes: &Notes,
-    initial: &[(Cell, Value)],
+    initial: &Rows,
     before: &[Event],
     session: u32,
     table: u32,

@@ -14,11 +14,14 @@ mod notes;
 mod noting;
 mod order;
 mod records;
+mod rows;
 mod seat;
 mod seats;
 mod shape;
 mod sources;
 mod spelled;
+mod table_keys;
+mod writers;
 
 pub use breach::{Breach, CheckFault};
 pub use events::check_events;

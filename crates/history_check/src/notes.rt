@@ -7,16 +7,20 @@ ghost use Rattle.history_core.specs.Records.{IsRecordOf};
 ghost use Rattle.history_check.specs.Notes.{AreNotes};
 
 use crate::seat::Seat;
+use crate::table_keys::{TableKeys, new_keys};
+use cell_writers::{CellWriters, new_writers};
 use history_core::{Event, Txn};
 use std::alloc::Global;
 
-/// A seat for each session, a record of each transaction, and the number of tables. Session s has the seat at s - 1, transaction k the record
-/// at k - 1.
+/// A seat for each session, a record of each transaction, for each cell those that have committed and write it, for each table the keys whose
+/// presence was written, and the number of tables. Session s has the seat at s - 1, transaction k the record at k - 1.
 #[derive(Debug, Drop)]
 pub struct Notes {
     pub alloc: Global,
     pub seats: Vec<Seat>,
     pub txns: Vec<Txn>,
+    pub writers: CellWriters,
+    pub keys: TableKeys,
     pub tables: u32,
 }
 
@@ -28,6 +32,8 @@ pub fn no_notes(alloc: Global) -> Notes
         alloc,
         seats: Vec::new(alloc),
         txns: Vec::new(alloc),
+        writers: new_writers(alloc),
+        keys: new_keys(alloc),
         tables: 0,
     }
 }

@@ -2,11 +2,14 @@
 ghost use Rattle.std.specs.Prelude.{◌≡◌, ◌<◌, ◌+◌, ◌∷◌, ◌++◌, [], length, OnOk};
 ghost use Rattle.history_core.specs.Events.{session_in, defined};
 ghost use Rattle.history_check.specs.Rules.{IsInShape, HasSource};
-ghost use Rattle.history_check.specs.Notes.{AreNotes};
+ghost use Rattle.history_core.specs.Kept.{StandsForTxns};
+ghost use Rattle.order_test.specs.Settled.{IsSettled};
+ghost use Rattle.history_check.specs.Notes.{AreNotes, AreWriters, IsRunningOwner};
 
 use crate::notes::{Notes, count_begun, pending_in};
 use crate::records::note_record;
 use crate::seats::note_seat;
+use crate::writers::{note_writers, note_written};
 use cell_base::Memory;
 use history_core::Event;
 
@@ -21,8 +24,33 @@ pub fn note(notes: &mut Notes, before: &[Event], event: &Event) -> Result<(), Me
     let owner = pending_in(notes, before, session_of(event));
     let started = count_begun(notes, before);
     note_seat(&mut notes.seats, before, event, started)?;
-    note_record(notes.alloc, &mut notes.txns, before, event, owner)?;
+    note_txn(notes, before, event, owner)?;
+    note_written(&mut notes.keys, before, event)?;
     notes.tables += definitions(event);
+    Ok(())
+}
+
+/// Notes of the event what it changes for its transaction, and at the cells that this wrote, where it commits.
+fn note_txn(
+    notes: &mut Notes,
+    before: &[Event],
+    event: &Event,
+    owner: Option<u32>,
+) -> Result<(), Memory>
+    requires txns { StandsForTxns before.now notes.old.txns.items }
+    requires writers { AreWriters before.now notes.old.writers }
+    requires settled { IsSettled before.now }
+    requires shape { IsInShape before.now event.now }
+    requires owner { IsRunningOwner before.now event.now owner }
+    requires few { length before.now < 4294967295 }
+    ensures txns { OnOk result (StandsForTxns (before.now ++ event.now ∷ []) notes.new.txns.items) }
+    ensures writers { OnOk result (AreWriters (before.now ++ event.now ∷ []) notes.new.writers) }
+    ensures seats { notes.new.seats ≡ notes.old.seats }
+    ensures keys { notes.new.keys ≡ notes.old.keys }
+    ensures tables { notes.new.tables ≡ notes.old.tables }
+{
+    note_writers(&mut notes.writers, &notes.txns, before, event, owner)?;
+    note_record(notes.alloc, &mut notes.txns, before, event, owner)?;
     Ok(())
 }
 

@@ -9,7 +9,9 @@ ghost use Rattle.history_check.specs.Rules.{HasCandidates};
 ghost use Rattle.history_check.specs.Notes.{AreNotes};
 
 use crate::notes::{Notes, count_begun, pending_in, txn_of};
+use crate::rows::Rows;
 use cell_base::{Cell, Value};
+use cell_writers::writers_at;
 use history_core::{Event, TxnState};
 
 /// Whether the transaction has written the cell, committed or not.
@@ -87,29 +89,8 @@ pub fn count_writers(notes: &Notes, before: &[Event], cell: &Cell) -> u32
     requires few { length before.now < 4294967295 }
     ensures { HasCandidates before.now cell.now result }
 {
-    let mut count = 0;
-    for number in 0..count_begun(notes, before) + 1 {
-        if is_writer(notes, before, number, cell) {
-            count += 1;
-        }
-    }
-    count
-}
-
-/// Whether the initial state has the value at the cell.
-pub fn holds(initial: &[(Cell, Value)], cell: &Cell, value: &Value) -> bool
-    ensures { IsTrue result ↔ Any (λ e. (e.0 ≡ cell.now) × (e.1 ≡ value.now)) initial.now }
-{
-    initial
-        .iter()
-        .any(|entry| entry.0.is_same(cell) && entry.1.is_same(value))
-}
-
-/// Whether the initial state has the cell.
-fn has_cell(initial: &[(Cell, Value)], cell: &Cell) -> bool
-    ensures { IsTrue result ↔ Any (λ e. e.0 ≡ cell.now) initial.now }
-{
-    initial.iter().any(|entry| entry.0.is_same(cell))
+    let later = writers_at(&notes.writers, cell);
+    later.len() as u32 + 1
 }
 
 /// Whether the value is what stands in a cell that the initial state doesn't have.
@@ -123,11 +104,11 @@ fn is_absent_value(cell: &Cell, value: &Value) -> bool
 }
 
 /// Whether the initial transaction wrote the value to the cell.
-fn wrote_initially(initial: &[(Cell, Value)], cell: &Cell, value: &Value) -> bool
+fn wrote_initially(initial: &Rows, cell: &Cell, value: &Value) -> bool
     ensures { IsTrue result ↔ WritesInitially initial.now cell.now value.now }
 {
-    if has_cell(initial, cell) {
-        return holds(initial, cell, value);
+    if initial.has_cell(cell) {
+        return initial.holds(cell, value);
     }
     is_absent_value(cell, value)
 }
@@ -135,7 +116,7 @@ fn wrote_initially(initial: &[(Cell, Value)], cell: &Cell, value: &Value) -> boo
 /// Whether the transaction is the initial one or a committed one, and wrote the value last to the cell.
 pub fn gives_value(
     notes: &Notes,
-    initial: &[(Cell, Value)],
+    initial: &Rows,
     before: &[Event],
     number: u32,
     cell: &Cell,

@@ -2,7 +2,7 @@
 //
 // At Causal Consistency a session finds its own committed row, and nobody else writes its key: so what each is told but for its number, and
 // whether it made the table, is the same in every run.
-ghost use Rattle.std.specs.Prelude.{◌≡◌, ◌≤◌, All, IfOk};
+ghost use Rattle.std.specs.Prelude.{All, IfOk};
 ghost use Rattle.doors.specs.Passage.{IsUnused};
 ghost use Rattle.doors.specs.MemDoors.{mem_passage};
 
@@ -131,9 +131,12 @@ fn are_sixteen(sessions: &[Session]) -> bool {
 // Whether the history has just the events of each session.
 fn stand_in(sessions: &[Session], trace: &Trace) -> bool {
     trace.events.len() == 224
-        && sessions
-            .iter()
-            .all(|&(session, made, key)| is_session(trace, u32::from(session), made, key))
+        && sessions.iter().all(|&(session, made, key)| is_session(
+            trace,
+            u32::from(session),
+            made,
+            key,
+        ))
 }
 
 #[test]

@@ -8,6 +8,7 @@ use std::alloc::Global;
 // The kinds of a session's events, a letter each: it opens; makes the table, or looks at the one that is there; looks, begins, reads whether
 // its key is taken, writes the row's presence and its field, and commits; looks, begins, reads both, and commits; and closes.
 const MAKER: &[u8] = b"odlbrwwclbrrcx";
+
 const OTHER: &[u8] = b"ollbrwwclbrrcx";
 
 // An event's kind and its session.

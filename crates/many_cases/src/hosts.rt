@@ -1,5 +1,5 @@
 // Links, doors, networks and hosts in memory.
-ghost use Rattle.std.specs.Prelude.{◌≡◌, ◌≤◌, ◌<◌, All, IfOk};
+ghost use Rattle.std.specs.Prelude.{◌≡◌, ◌<◌, All, IfOk};
 ghost use Rattle.doors.specs.Passage.{IsUnused};
 ghost use Rattle.doors.specs.MemDoors.{mem_passage};
 ghost use Rattle.link_traits.specs.Host.{objects_out};

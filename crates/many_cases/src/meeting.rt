@@ -2,7 +2,7 @@
 //
 // A server that runs sessions one after another, in whichever order, never gets there, and neither does one that holds the turn over a whole
 // statement.
-ghost use Rattle.std.specs.Prelude.{◌≡◌, ◌≤◌, IfOk};
+ghost use Rattle.std.specs.Prelude.{◌≡◌, IfOk};
 ghost use Rattle.history_core.specs.Book.{no_session};
 ghost use Rattle.doors.specs.Passage.{IsUnused};
 ghost use Rattle.doors.specs.MemDoors.{mem_passage};
@@ -25,6 +25,7 @@ use std::test::Fail;
 use valid_writes::{SeatBook, Store};
 
 const PUT: &[u8] = b"Q\0\0\0\x21INSERT INTO t VALUES (1, 10)\0";
+
 const GET: &[u8] = b"Q\0\0\0\x20SELECT v FROM t WHERE k = 1\0";
 
 // How often a session looks for the other one.

@@ -12,7 +12,9 @@ pub const TERMINATE: &[u8] = b"X\0\0\0\x04";
 pub const CREATE: &[u8] = b"Q\0\0\0\x34CREATE TABLE t (k bigint PRIMARY KEY, v bigint)\0";
 
 // What a session is told at its start, up to its number, and behind this.
-const GREETING: &[u8] = b"R\0\0\0\x08\0\0\0\0S\0\0\0\x18server_version\014.0\0S\0\0\0\x19server_encoding\0UTF8\0S\0\0\0\x19client_encoding\0UTF8\0S\0\0\0\x17DateStyle\0ISO, MDY\0S\0\0\0\x19integer_datetimes\0on\0S\0\0\0#standard_conforming_strings\0on\0K\0\0\0\x0c\0\0\0";
+const GREETING: &[u8] =
+    b"R\0\0\0\x08\0\0\0\0S\0\0\0\x18server_version\014.0\0S\0\0\0\x19server_encoding\0UTF8\0S\0\0\0\x19client_encoding\0UTF8\0S\0\0\0\x17DateStyle\0ISO, MDY\0S\0\0\0\x19integer_datetimes\0on\0S\0\0\0#standard_conforming_strings\0on\0K\0\0\0\x0c\0\0\0";
+
 const READY: &[u8] = b"\0\0\0\0Z\0\0\0\x05I";
 
 /// What is told of a table that was made.
@@ -28,6 +30,7 @@ pub const INSERTED: &[u8] = b"C\0\0\0\x0fINSERT 0 1\0Z\0\0\0\x05I";
 // What is told of a row, up to its value of two digits, and behind this.
 const ROW: &[u8] =
     b"T\0\0\0\x1a\0\x01v\0\0\0\0\0\0\0\0\0\0\x14\0\x08\xff\xff\xff\xff\0\0D\0\0\0\x0c\0\x01\0\0\0\x02";
+
 const ONE: &[u8] = b"C\0\0\0\x0dSELECT 1\0Z\0\0\0\x05I";
 
 /// The bytes one behind another.

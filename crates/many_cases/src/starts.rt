@@ -1,5 +1,5 @@
 // Two workers with a link each, in which a session starts and ends.
-ghost use Rattle.std.specs.Prelude.{◌≡◌, ◌≤◌, All, IfOk};
+ghost use Rattle.std.specs.Prelude.{All, IfOk};
 ghost use Rattle.doors.specs.Passage.{IsUnused};
 ghost use Rattle.doors.specs.MemDoors.{mem_passage};
 
@@ -14,6 +14,7 @@ use std::test::Fail;
 
 // Each session opens and closes.
 const BOTH: &[u8] = b"served 2 sessions 0 transactions 4 events\n";
+
 const ONE: &[u8] = b"served 1 sessions 0 transactions 2 events\n";
 
 // A link of a session that starts and ends.

@@ -160,8 +160,8 @@ fn obey<R: Threads + Wait + Eprint + Sync, H: Host, N: Network>(
 ///
 /// The status is 0 where the session ended well or was a cancel request, for a server that ended, for `ok`, for a summary, and for a request to
 /// stop that was sent; 1 where its input was cut short or was no messages, where its start was refused, or where more bytes were wanted than are
-/// read, for a breach or a fault of a log, and where a simulation made 4,294,967,295 steps without coming to its end; 2 for the usage line; 3 where
-/// reading failed; 4 where writing failed; 5 where memory ran out; and 6 where the host counted that it gave no link or file, or the network that
+/// read, for a breach or a fault of a log, where the setup of a server failed or left too much, and where a simulation made 4,294,967,295 steps
+/// without coming to its end; 2 for the usage line; 3 where reading failed; 4 where writing failed; 5 where memory ran out; and 6 where the host counted that it gave no link or file, or the network that
 /// it opened no doors or sent no request, or where accepting a link failed.
 pub fn monkey_main<R: Threads + Wait + Eprint + Sync, H: Host, N: Network>(
     rt: &R,

@@ -1,5 +1,5 @@
 -- The committed writers of each cell, listed session by session, as the transactions come one after another.
-use Rattle.std.proofs.Common.{◌≡◌, ℕ, ◌+◌, ◌<◌, ◌≤◌, List, [], ◌∷◌, ◌++◌, length, get_or, set, Some, None, arith, refl, ap, sym, ◌∙◌, subst, inl, inr, ◌⊎◌}
+use Rattle.std.proofs.Common.{◌≡◌, ℕ, ◌+◌, List, [], ◌∷◌, ◌++◌, length, set, Some, None, arith, ap, sym, ◌∙◌, subst, inl, inr, ◌⊎◌}
 use Rattle.std.specs.List.{Contains, slice_get}
 use Rattle.std.specs.List.Sorted.{IsStrictlyIncreasing}
 use Rattle.std.proofs.lemmas.Bool.{cases_eq}
@@ -13,7 +13,6 @@ use Rattle.cell_writers.specs.Writers.{numbers_at, AreAscending}
 use Rattle.history_core.specs.declared.event.Event.{Event}
 use Rattle.history_core.specs.declared.txn.Txn.{Txn}
 use Rattle.history_core.specs.declared.txn.TxnState.TheVariants.{Committed}
-use Rattle.history_core.specs.Events.{begun}
 use Rattle.history_core.specs.Kept.{ChangesOne, StandsForTxns}
 use Rattle.history_core.proofs.Places.{start_session}
 use Rattle.order_test.specs.declared.pasts.Pasts.{Pasts}

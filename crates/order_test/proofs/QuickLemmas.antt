@@ -1,7 +1,7 @@
 -- What the lists of writers show of a read at once.
-use Rattle.std.proofs.Common.{◌≡◌, ◌≢◌, ℕ, ◌+◌, ◌-◌, ◌<◌, ◌≤◌, List, length, get_or, set, Some, None, arith, refl, ap, sym, ◌∙◌, subst, inl, inr, ◌⊎◌, Option, replicate}
-use Rattle.std.specs.List.{Contains, slice_get, slice_index, Any}
-use Rattle.std.proofs.lemmas.Bool.{cases_eq, cases_lt}
+use Rattle.std.proofs.Common.{◌≡◌, ℕ, ◌+◌, ◌-◌, ◌<◌, ◌≤◌, List, length, get_or, set, Some, arith, refl, ap, sym, ◌∙◌, subst, inl, inr, ◌⊎◌, Option, replicate}
+use Rattle.std.specs.List.{Contains, slice_get, slice_index}
+use Rattle.std.proofs.lemmas.Bool.{cases_eq}
 use Rattle.std.proofs.lemmas.Option.{slice_get_within, slice_get_cases, slice_get_read}
 use Rattle.graph_base.specs.Order.{place_of}
 use Rattle.cell_base.specs.declared.level.Level.{Level}
@@ -9,26 +9,25 @@ use Rattle.cell_base.specs.declared.level.Level.TheVariants.{Rc, Ra, Cc}
 use Rattle.cell_base.specs.declared.cell.Cell.{Cell}
 use Rattle.cell_base.specs.declared.value.Value.{Value}
 use Rattle.cell_writers.specs.declared.writers.CellWriters.{CellWriters}
-use Rattle.cell_writers.specs.Writers.{numbers_at, AreAscending, IsLastUpTo}
+use Rattle.cell_writers.specs.Writers.{numbers_at, IsLastUpTo}
 use Rattle.history_core.specs.declared.event.Event.{Event}
 use Rattle.history_core.specs.declared.event.Event.TheVariants.{Read}
 use Rattle.history_core.specs.declared.txn.Txn.{Txn}
 use Rattle.history_core.specs.declared.txn.Seen.{Seen}
-use Rattle.history_core.specs.declared.txn.TxnState.TheVariants.{Committed}
 use Rattle.history_core.specs.Events.{begun}
-use Rattle.history_core.specs.Relations.{Gives, Writes, Precedes, PrecedesCausally, IsVisible, IsVisibleAt, ReadsFrom, IsSessionOrdered}
+use Rattle.history_core.specs.Relations.{Gives, Writes, Precedes, PrecedesCausally, IsVisibleAt, ReadsBefore, ReadsFrom, IsSessionOrdered}
 use Rattle.history_core.specs.Transactions.{RunsAt}
 use Rattle.history_core.specs.Records.{IsRecordOf}
 use Rattle.history_core.proofs.Places.{start_session}
-use Rattle.saturation.specs.Views.{IsReadFrom}
+use Rattle.saturation.specs.Views.{number_of, IsReadFrom}
 use Rattle.saturation.proofs.Chains.{chained_one}
-use Rattle.saturation.proofs.Sights.{none_from_record, writes_later, record_reads_from}
+use Rattle.saturation.proofs.Sights.{none_from_record, writes_later, record_reads_from, record_before}
 use Rattle.order_test.specs.declared.places.Places.{Places}
 use Rattle.order_test.specs.declared.pasts.Past.{Past}
-use Rattle.order_test.specs.Unkept.{KeepsSessions, StandsBefore, IsUnmet}
+use Rattle.order_test.specs.Unkept.{KeepsSessions, StandsBefore}
 use Rattle.order_test.specs.Pasts.{IsPastOf}
 use Rattle.order_test.specs.Sights.{IsScene, IsReadAt, IsRival, origin_of}
-use Rattle.order_test.specs.Listed.{AreTxnsWithin, IsTxnOf, ListsCommitted, HasNoLate, HasNoRival, HasNoDirectRival, IsHarmless, AreHarmless, AreKeptUpTo, listed_at, numbers_in}
+use Rattle.order_test.specs.Listed.{AreTxnsWithin, ListsCommitted, HasNoLate, HasNoRival, HasNoDirectRival, IsHarmless, AreHarmless, AreKeptUpTo, listed_at, numbers_in}
 use Rattle.order_test.proofs.SightLemmas.{record_at, ordered_from_records, records_from_ordered, out_bounds, visible_at}
 use Rattle.order_test.proofs.PastSteps.{at_set}
 use Rattle.order_test.proofs.SearchLemmas.{less_unless, rival_bounds}
@@ -227,15 +226,47 @@ sources_clear events order txns places scene place event reader read txn is all 
     let any = record_reads_from events reader other txn bounds.0 is from in
     all any.0 any.1 any.2 (slice_get_read txn.seen (length txn.seen) any.0 any.1 refl any.2 (sym any.3)) other any.4 rival
 
+-- none of the first n of these was read from a rival before the event at the place
+abbrev pub AreHarmlessEarly : List Event → List ℕ → ℕ → Event → ℕ → ℕ → List Seen → Type 0
+AreHarmlessEarly events order place event reader n all =
+    (at : ℕ) (seen : Seen) (other : ℕ) → at < n → slice_get all at ≡ Some seen → number_of seen < place + 1 → IsReadFrom seen other →
+    IsRival events order place (origin_of event) reader other → ⊥
+
+pub early_none : (events : List Event) (order : List ℕ) (place : ℕ) (event : Event) (reader : ℕ) (all : List Seen) → AreHarmlessEarly events order place event reader 0 all
+early_none events order place event reader all at seen other below is early from rival = absurd (omega arith)
+
+pub early_step :
+    (events : List Event) (order : List ℕ) (place : ℕ) (event : Event) (reader n : ℕ) (all : List Seen) (seen : Seen) → slice_get all n ≡ Some seen →
+    ((other : ℕ) → number_of seen < place + 1 → IsReadFrom seen other → IsRival events order place (origin_of event) reader other → ⊥) →
+    AreHarmlessEarly events order place event reader n all → AreHarmlessEarly events order place event reader (n + 1) all
+early_step events order place event reader n all seen is here before at last other below at_is early from rival =
+    elim (cases_eq at n) [
+      | inr apart ↦ before at last other (omega arith) at_is early from rival
+      | inl same ↦
+          let both : Some last ≡ Some seen = sym at_is ∙ ap (λ (k : ℕ). slice_get all k) same ∙ is in
+          let one : last ≡ seen = cc in
+          here other (subst (λ (x : Seen). number_of x < place + 1) one early) (subst (λ (x : Seen). IsReadFrom x other) one from) rival
+    ]
+
+pub early_sources_clear :
+    (events : List Event) (order : List ℕ) (txns : List Txn) (places : Places) → IsScene events order txns places → (place : ℕ) (event : Event) (reader : ℕ) →
+    IsReadAt events place event reader → (txn : Txn) → IsRecordOf events reader txn →
+    ((at : ℕ) (seen : Seen) (other : ℕ) → slice_get txn.seen at ≡ Some seen → number_of seen < place + 1 → IsReadFrom seen other →
+    IsRival events order place (origin_of event) reader other → ⊥) →
+    (other : ℕ) → ReadsBefore events reader place other → IsRival events order place (origin_of event) reader other → ⊥
+early_sources_clear events order txns places scene place event reader read txn is all other before rival =
+    let bounds = rival_bounds events order place event reader other scene.holds read rival in
+    let any = record_before events reader place other txn bounds.0 is before in
+    all any.0 any.1 other (slice_get_read txn.seen (length txn.seen) any.0 any.1 refl any.2 (sym any.3)) any.4.0 any.4.1 rival
+
 -- ---- by levels
 
 pub clear_at_rc :
     (events : List Event) (order : List ℕ) (place : ℕ) (event : Event) (reader : ℕ) (txn : Txn) → IsRecordOf events reader txn → txn.level ≡ Rc →
-    ((other : ℕ) → ReadsFrom events other reader → IsRival events order place (origin_of event) reader other → ⊥) → HasNoRival events order place event reader
+    ((other : ℕ) → ReadsBefore events reader place other → IsRival events order place (origin_of event) reader other → ⊥) → HasNoRival events order place event reader
 clear_at_rc events order place event reader txn is level none other rival =
     let runs : RunsAt events reader Rc = subst (λ (l : Level). RunsAt events reader l) level is.level in
-    let before = (visible_at events reader place other Rc runs).1 rival.1.visible in
-    none other record { place = before.earlier; cell = before.cell; reads = before.reads } rival
+    none other ((visible_at events reader place other Rc runs).1 rival.1.visible) rival
 
 pub clear_at_ra :
     (events : List Event) (order : List ℕ) (place : ℕ) (event : Event) (reader : ℕ) (txn : Txn) → IsRecordOf events reader txn → txn.level ≡ Ra →

@@ -1,6 +1,5 @@
 -- How the committed writers of each cell are listed session by session, and what the lists show of a read at once.
-use Rattle.std.specs.Prelude.{◌≡◌, ◌<◌, ◌≤◌, ◌+◌, ◌⊎◌, [], ℕ, Option, Some, None, List, Contains, length, slice_get, slice_index}
-use Rattle.std.specs.List.Sorted.{IsStrictlyIncreasing}
+use Rattle.std.specs.Prelude.{◌≡◌, ◌<◌, ◌≤◌, ◌+◌, ◌⊎◌, [], ℕ, Option, Some, None, List, Contains, slice_get, slice_index}
 use Rattle.graph_base.specs.Order.{place_of}
 use Rattle.cell_base.specs.declared.cell.Cell.{Cell}
 use Rattle.cell_base.specs.declared.value.Value.{Value}

@@ -1,6 +1,8 @@
 // What is seen at once of a read: that it has no rival. Where that isn't seen, a search decides.
-ghost use Rattle.std.specs.Prelude.{◌<◌, ℕ, IsTrue, length, slice_index};
-ghost use Rattle.history_core.specs.Relations.{IsSessionOrdered, ReadsFrom};
+ghost use Rattle.std.specs.Prelude.{◌≡◌, ◌<◌, ◌+◌, ℕ, Some, IsTrue, length, slice_get, slice_index};
+ghost use Rattle.history_core.specs.declared.txn.Seen.{Seen as SeenOf};
+ghost use Rattle.saturation.specs.Views.{number_of, IsReadFrom};
+ghost use Rattle.history_core.specs.Relations.{IsSessionOrdered, ReadsBefore, ReadsFrom};
 ghost use Rattle.order_test.specs.Unkept.{KeepsSessions};
 ghost use Rattle.order_test.specs.Pasts.{ArePasts};
 ghost use Rattle.order_test.specs.Sights.{IsScene, IsReadAt, IsRival, origin_of};
@@ -10,7 +12,7 @@ use crate::listed::last_listed;
 use crate::pasts::{Past, Pasts};
 use crate::places::Places;
 use crate::sessions::txn_of;
-use crate::sight::{past_of, top_of};
+use crate::sight::{number_in, past_of, top_of};
 use crate::unmet::is_rival;
 use cell_base::{Cell, Level};
 use cell_writers::CellWriters;
@@ -236,6 +238,89 @@ fn sources_are_clear(
     )
 }
 
+/// Whether this wasn't read from a rival before the event at the place. Events are numbered from 1.
+fn is_harmless_early(
+    events: &[Event],
+    order: &[u32],
+    txns: &[Txn],
+    places: &Places,
+    pasts: &Pasts,
+    place: usize,
+    event: &Event,
+    reader: u32,
+    seen: &Seen,
+) -> bool
+    requires scene { IsScene events.now order.now txns.now places.now }
+    requires pasts { ArePasts events.now pasts.now }
+    requires read { IsReadAt events.now place event.now reader }
+    ensures { IsTrue result → (other : ℕ) → number_of seen.now < place + 1 → IsReadFrom seen.now other → ¬ IsRival events.now order.now place (origin_of event.now) reader other }
+{
+    if number_in(seen) as usize > place {
+        return true;
+    }
+    is_harmless(
+        events, order, txns, places, pasts, place, event, reader, seen,
+    )
+}
+
+/// Whether none of these was read from a rival before the event at the place.
+fn all_are_harmless_early(
+    events: &[Event],
+    order: &[u32],
+    txns: &[Txn],
+    places: &Places,
+    pasts: &Pasts,
+    place: usize,
+    event: &Event,
+    reader: u32,
+    all: &[Seen],
+) -> bool
+    requires scene { IsScene events.now order.now txns.now places.now }
+    requires pasts { ArePasts events.now pasts.now }
+    requires read { IsReadAt events.now place event.now reader }
+    ensures { IsTrue result → (at : ℕ) (seen : SeenOf) (other : ℕ) → slice_get all.now at ≡ Some seen → number_of seen < place + 1 → IsReadFrom seen other →
+        ¬ IsRival events.now order.now place (origin_of event.now) reader other }
+{
+    for at in 0..all.len() {
+        if !is_harmless_early(
+            events, order, txns, places, pasts, place, event, reader, &all[at],
+        ) {
+            return false;
+        }
+    }
+    true
+}
+
+/// Whether the reader has read from no rival before the event at the place.
+fn earlier_sources_are_clear(
+    events: &[Event],
+    order: &[u32],
+    txns: &[Txn],
+    places: &Places,
+    pasts: &Pasts,
+    place: usize,
+    event: &Event,
+    reader: u32,
+) -> bool
+    requires scene { IsScene events.now order.now txns.now places.now }
+    requires pasts { ArePasts events.now pasts.now }
+    requires read { IsReadAt events.now place event.now reader }
+    ensures { IsTrue result → (other : ℕ) → ReadsBefore events.now reader place other → ¬ IsRival events.now order.now place (origin_of event.now) reader other }
+{
+    let txn = txn_of(events, order, txns, places, reader);
+    all_are_harmless_early(
+        events,
+        order,
+        txns,
+        places,
+        pasts,
+        place,
+        event,
+        reader,
+        txn.seen.as_slice(),
+    )
+}
+
 /// Whether none that directly precedes the reader, in its session or as a source, is a rival.
 fn is_clear_directly(
     events: &[Event],
@@ -264,8 +349,8 @@ fn is_clear_directly(
     sources_are_clear(events, order, txns, places, pasts, place, event, reader)
 }
 
-/// Whether it is seen at once that the read has no rival, whatever its level: its causal past has none that is late, or at a lower level
-/// neither its sources nor its session have one.
+/// Whether it is seen at once that the read has no rival, whatever its level: its causal past has none that is late, or at Read Atomic
+/// neither its sources nor its session have one, or at Read Committed none of its earlier sources is one.
 pub fn is_clear(
     events: &[Event],
     order: &[u32],
@@ -291,7 +376,9 @@ pub fn is_clear(
         return true;
     }
     match txn_of(events, order, txns, places, reader).level {
-        Level::Rc => sources_are_clear(events, order, txns, places, pasts, place, event, reader),
+        Level::Rc => {
+            earlier_sources_are_clear(events, order, txns, places, pasts, place, event, reader)
+        }
         Level::Ra => is_clear_directly(
             events, order, txns, places, pasts, lists, place, event, reader,
         ),

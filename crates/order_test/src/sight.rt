@@ -23,7 +23,7 @@ fn is_read_from(seen: &Seen, source: u32) -> bool
 }
 
 /// The number of the event that showed it.
-fn number_in(seen: &Seen) -> u32
+pub fn number_in(seen: &Seen) -> u32
     ensures { result ≡ number_of seen.now }
 {
     match seen {

@@ -1,5 +1,5 @@
-//! No read of the histories that the program makes shows a field without a value: neither in a simulation nor in a session over the
-//! standard link. There is no code here.
+//! No read of a simulation, nor of a session that is served alone over the standard link, shows a field without a value. There is no code
+//! here.
 #![tactic(auto)]
 
 mod law;

@@ -142,7 +142,7 @@ pub fn stops<R: Threads + Wait + Eprint + Sync>(
     let mut network = MemNetwork::new(alloc, Vec::new(alloc), Vec::from_slice(alloc, fails)?);
     let status = monkey_main(rt, alloc, &mut host, &mut network, words.as_slice());
     let told = match network.stops() {
-        [call] => call.address.as_bytes() == address && call.sent == (code == 0),
+        [call] => call.address.as_str().as_bytes() == address && call.sent == (code == 0),
         _ => false,
     };
     Ok(told && status.code == code && host.back().is_empty() && is_silent(&host))

@@ -27,7 +27,7 @@ use Rattle.session_core.specs.Requests.{Request, encryption, cancel, start, user
 use Rattle.session_core.specs.Replies.{no_encryption, startup_reply, fatal_reply}
 use Rattle.session_core.specs.Told as told
 use Rattle.session_core.specs.Told.{outside_of, owed_by, stop_end, refusal_end, told as told_is}
-use Rattle.session_ends.specs.Causes.{GoesOn, Has, IsUnsent, EndsBy}
+use Rattle.session_ends.specs.Causes.{IsHeardOn, Has, IsUnsent, EndsBy}
 use Rattle.session_ends.proofs.Scripts.{Why, Is, IsFit, Holds, EndsIn, EndsBehind, lifted, lost_ends, ask_ends, tell_ends, short_ends, behind_short}
 use Rattle.session_ends.proofs.StatementsEnd.{fails}
 use Rattle.session_ends.proofs.MessagesEnd.{Encloses, readied, message}
@@ -57,7 +57,7 @@ by_is_fit requests = record { lifts = lifts; unsent_is = λ n entries. inl tt }
     lifts e ends.Memory entries h = inr h
 
 -- a request before the others changes no cause, where it isn't the end
-further : (asked : Request) (requests : Requests) → GoesOn asked → (end : End) (entries : List Entry) → By requests end entries → By (asks asked requests) end entries
+further : (asked : Request) (requests : Requests) → IsHeardOn asked → (end : End) (entries : List Entry) → By requests end entries → By (asks asked requests) end entries
 further asked requests on ends.Terminated entries h = inr (on, h)
 further asked requests on ends.Cancelled entries h = inr (on, h)
 further asked requests on ends.Closed entries h = ((on, h.0), h.1)
@@ -72,7 +72,7 @@ further asked requests on ends.Spent entries h = h
 further asked requests on ends.WriteFault entries h = h
 further asked requests on ends.Memory entries h = h
 
-goes_further : (asked : Request) (requests : Requests) → GoesOn asked → (script : Script) → EndsIn (By requests) script → EndsIn (By (asks asked requests)) script
+goes_further : (asked : Request) (requests : Requests) → IsHeardOn asked → (script : Script) → EndsIn (By requests) script → EndsIn (By (asks asked requests)) script
 goes_further asked requests on script h = record { at = λ said entries. through entries (script said entries).1 (h.at said entries) }
   where
     through : (entries : List Entry) (next : Next) → Holds (By requests) entries next → Holds (By (asks asked requests)) entries next

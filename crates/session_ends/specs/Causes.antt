@@ -16,9 +16,9 @@ use Rattle.session_core.specs.Told.{told}
 -- ---- what the client said
 
 -- behind a Terminate nothing is heard
-abbrev pub GoesOn : Request → Type 0
-GoesOn terminate = ⊥
-GoesOn _ = Unit {0}
+abbrev pub IsHeardOn : Request → Type 0
+IsHeardOn terminate = ⊥
+IsHeardOn _ = Unit {0}
 
 abbrev pub IsTerminate : Request → Type 0
 IsTerminate terminate = Unit {0}
@@ -40,19 +40,19 @@ IsVersion _ = ⊥
 
 -- one of the requests that were heard is such a one
 abbrev pub Asked : (Request → Type 0) → Requests → Type 0
-Asked Is (asks asked requests) = Is asked ⊎ (GoesOn asked × Asked Is requests)
+Asked Is (asks asked requests) = Is asked ⊎ (IsHeardOn asked × Asked Is requests)
 Asked Is _ = ⊥
 
 -- what was heard ends between two messages, or inside of one
 abbrev pub EndsBetween : Requests → Type 0
-EndsBetween (asks asked requests) = GoesOn asked × EndsBetween requests
+EndsBetween (asks asked requests) = IsHeardOn asked × EndsBetween requests
 EndsBetween (partial []) = Unit {0}
 EndsBetween (partial (byte ∷ bytes)) = ⊥
 EndsBetween (faulty fault) = ⊥
 EndsBetween unread = ⊥
 
 abbrev pub EndsInside : Requests → Type 0
-EndsInside (asks asked requests) = GoesOn asked × EndsInside requests
+EndsInside (asks asked requests) = IsHeardOn asked × EndsInside requests
 EndsInside (partial []) = ⊥
 EndsInside (partial (byte ∷ bytes)) = Unit {0}
 EndsInside (faulty fault) = ⊥
@@ -60,7 +60,7 @@ EndsInside unread = ⊥
 
 -- the bytes behind what was heard have this fault
 abbrev pub HasFault : FrameFault → Requests → Type 0
-HasFault fault (asks asked requests) = GoesOn asked × HasFault fault requests
+HasFault fault (asks asked requests) = IsHeardOn asked × HasFault fault requests
 HasFault fault (faulty found) = found ≡ fault
 HasFault fault _ = ⊥
 

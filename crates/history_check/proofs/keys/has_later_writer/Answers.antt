@@ -1,25 +1,22 @@
-use Rattle.std.proofs.Common.{refl, sym, ◌∙◌, arith}
-use Rattle.std.proofs.lemmas.Bool.{false≢true}
-use Rattle.history_check.proofs.KeyLemmas.{no_writer_step, no_later_writer}
+use Rattle.std.proofs.Common.{◌≡◌, ℕ, List, length, refl, arith, ap, sym, ◌∙◌, eq-eqb, inl, inr}
+use Rattle.std.proofs.lemmas.Bool.{false≢true, eqb-true, cases_eq}
+use Rattle.history_check.proofs.Committed.{later_writer, no_later}
 use Rattle.history_check.proofs.keys.has_later_writer.Goals as goal
 
-pub loop-number-init : goal.loop-number-init
-loop-number-init c = λ txn positive under. absurd (omega arith)
-
-pub loop-number-preserved : goal.loop-number-preserved
-loop-number-preserved c =
-    no_writer_step c.args.before.now c.args.cell.now c.loop-number.number (λ writes. false≢true (sym c.if-is_writer.false ∙ c.is_writer.ensures.1 writes)) c.loop-number.invariant
-
-pub returns-then-is_writer : goal.returns-then-is_writer
-returns-then-is_writer c = (
-  λ h. (c.loop-number.number, let p = c.loop-number.auto.number in omega arith, c.is_writer.ensures.0 c.if-is_writer.true),
-  λ has. refl,
-)
+pub returns-then-is_empty : goal.returns-then-is_empty
+returns-then-is_empty c =
+    let none : length c.writers_at.result.now ≡ 0 = eqb-true (length c.writers_at.result.now) 0 (sym c.is_empty.ensures ∙ c.if-is_empty.true) in
+    let same = ap (λ (ns : List ℕ). length ns) c.writers_at.ensures in (
+      λ h. absurd (false≢true h),
+      λ has. let some = no_later c.args.before.now c.args.cell.now c.args.notes.now.writers c.requires.notes.writers has in absurd (omega arith),
+    )
 
 pub returns : goal.returns
 returns c =
-    let n = c.count_begun-number-end.ensures in
-    let end = c.loop-number-test.false in (
-      λ h. absurd (false≢true h),
-      λ has. absurd (no_later_writer c.args.before.now c.args.cell.now c.loop-number.number (omega arith) c.loop-number.invariant has),
+    let same = ap (λ (ns : List ℕ). length ns) c.writers_at.ensures in (
+      λ h. elim (cases_eq (length c.writers_at.result.now) 0) [
+        | inl none ↦ absurd (false≢true (sym c.if-is_empty.false ∙ c.is_empty.ensures ∙ eq-eqb (length c.writers_at.result.now) 0 none))
+        | inr some ↦ later_writer c.args.before.now c.args.cell.now c.args.notes.now.writers c.requires.notes.writers (omega arith)
+      ],
+      λ has. refl,
     )

@@ -7,7 +7,7 @@ txn_of-requires-clause-number c = reader_number c.args.events.now c.args.place c
 
 pub returns-in-Rc : goal.returns-in-Rc
 returns-in-Rc c = λ h.
-    clear_at_rc c.args.events.now c.args.order.now c.args.place c.args.event.now c.args.reader c.txn_of.result.now c.txn_of.ensures c.in-Rc.is (c.sources_are_clear.ensures h)
+    clear_at_rc c.args.events.now c.args.order.now c.args.place c.args.event.now c.args.reader c.txn_of.result.now c.txn_of.ensures c.in-Rc.is (c.earlier_sources_are_clear.ensures h)
 
 pub returns-in-Ra : goal.returns-in-Ra
 returns-in-Ra c = λ h.

@@ -1,0 +1,56 @@
+//! The parts of a check, each measured by itself.
+ghost use Rattle.std.specs.Prelude.{◌≡◌};
+ghost use Rattle.link_traits.specs.Host.{objects_out};
+
+use anyhow::Result;
+use cell_base::Text;
+use history_check::check;
+use history_log::read;
+use host_calls::read_file;
+use link_traits::Host;
+use std::io;
+use std::time::{CpuClock, Duration};
+
+/// The greatest number of bytes of a log.
+const MOST_BYTES: usize = 268_435_456;
+
+/// How many lines the bytes are split into.
+fn count_lines(bytes: &[u8]) -> usize {
+    bytes.split(|byte| *byte == b'\n').count()
+}
+
+/// Microseconds since `start`.
+fn micros(rt: &impl CpuClock, start: Duration) -> io::Result<u64> {
+    let spent = rt.thread_cpu_time()?.saturating_sub(start);
+    Ok(u64::try_from(spent.as_micros()).unwrap_or(u64::MAX))
+}
+
+/// Prints what each part takes.
+pub(crate) fn measure<H: Host>(
+    rt: &(impl CpuClock + Print + AllocGlobal),
+    host: &mut H,
+    path: &Text,
+) -> Result<()>
+    requires { objects_out (H.hosted host.old) ≡ 0 }
+{
+    let start = rt.thread_cpu_time()?;
+    let Ok(bytes) = read_file(rt.alloc(), host, path, MOST_BYTES) else {
+        println!(rt; "the file wasn't read")?;
+        return Ok(());
+    };
+    let lines = count_lines(&bytes);
+    println!(rt; "file and {lines} lines: {} us", micros(rt, start)?)?;
+    let start = rt.thread_cpu_time()?;
+    let Ok(trace) = read(rt.alloc(), &bytes) else {
+        println!(rt; "it is no log")?;
+        return Ok(());
+    };
+    println!(rt; "history: {} us", micros(rt, start)?)?;
+    if trace.events.len() >= 4_294_967_296 {
+        return Ok(());
+    }
+    let start = rt.thread_cpu_time()?;
+    let right = check(rt.alloc(), &trace).is_ok();
+    println!(rt; "check {right}: {} us", micros(rt, start)?)?;
+    Ok(())
+}

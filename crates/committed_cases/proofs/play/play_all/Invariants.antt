@@ -1,0 +1,5 @@
+use Rattle.history_core.specs.Book.{IsIdle}
+use Rattle.committed_cases.proofs.play.play_all.Given as goal
+
+abbrev pub invariant-loop-transaction : goal.invariant-loop-transaction
+invariant-loop-transaction l = IsIdle l.book.state
