@@ -17,7 +17,8 @@ use Rattle.door_workers.specs.Visits.{AreVisits, events_of_visits, went_of, came
 use Rattle.door_workers.specs.declared.worker.Worker.{Worker}
 use Rattle.door_workers.specs.Workers.{AreNextOf, faults_after, Ceases}
 use Rattle.shared_book.specs.declared.entry.Entry.{Entry}
-use Rattle.shared_book.specs.Entries.{events_of, event_lists, key_of}
+use Rattle.shared_book.specs.Entries.{events_of, event_lists, key_of, chronicle_of}
+use Rattle.shared_book.specs.Fronts.{IsFrontOf}
 use Rattle.shared_book.specs.Books.{BookValue, fresh_book, past_of}
 use Rattle.serve_command.specs.Parts.{Part, IsPart, AreParts, begins_with, worse, worst_of}
 use Rattle.serve_command.specs.Manning.{HasEnded, HaveEnded}
@@ -25,20 +26,20 @@ use Rattle.door_workers.proofs.Visiting.{own_of_visits}
 
 -- ---- parts
 
-pub parts_push : (level : Level) (history : Chronicle) (seed most stream : ℕ) (befores : List Passage) (parts : List Part) (afters : List Passage) (before : Passage) (part : Part)
-    (after : Passage) → AreParts level history seed most stream befores parts afters → IsPart level history seed most (stream + length befores) before part after →
-    AreParts level history seed most stream (befores ++ before ∷ []) (parts ++ part ∷ []) (afters ++ after ∷ [])
-parts_push level history seed most stream [] [] [] before part after are is =
-    (subst (λ (n : ℕ). IsPart level history seed most n before part after) (omega arith) is, tt)
-parts_push level history seed most stream (b ∷ befores) (p ∷ parts) (a ∷ afters) before part after are is = (
+pub parts_push : (level : Level) (begun history : Chronicle) (seed most stream : ℕ) (befores : List Passage) (parts : List Part) (afters : List Passage) (before : Passage) (part : Part)
+    (after : Passage) → AreParts level begun history seed most stream befores parts afters → IsPart level begun history seed most (stream + length befores) before part after →
+    AreParts level begun history seed most stream (befores ++ before ∷ []) (parts ++ part ∷ []) (afters ++ after ∷ [])
+parts_push level begun history seed most stream [] [] [] before part after are is =
+    (subst (λ (n : ℕ). IsPart level begun history seed most n before part after) (omega arith) is, tt)
+parts_push level begun history seed most stream (b ∷ befores) (p ∷ parts) (a ∷ afters) before part after are is = (
   are.0,
-  parts_push level history seed most (suc stream) befores parts afters before part after are.1
-      (subst (λ (n : ℕ). IsPart level history seed most n before part after) (omega arith) is),
+  parts_push level begun history seed most (suc stream) befores parts afters before part after are.1
+      (subst (λ (n : ℕ). IsPart level begun history seed most n before part after) (omega arith) is),
 )
-parts_push level history seed most stream [] [] (a ∷ afters) before part after are is = absurd are
-parts_push level history seed most stream [] (p ∷ parts) afters before part after are is = absurd are
-parts_push level history seed most stream (b ∷ befores) [] afters before part after are is = absurd are
-parts_push level history seed most stream (b ∷ befores) (p ∷ parts) [] before part after are is = absurd are
+parts_push level begun history seed most stream [] [] (a ∷ afters) before part after are is = absurd are
+parts_push level begun history seed most stream [] (p ∷ parts) afters before part after are is = absurd are
+parts_push level begun history seed most stream (b ∷ befores) [] afters before part after are is = absurd are
+parts_push level begun history seed most stream (b ∷ befores) (p ∷ parts) [] before part after are is = absurd are
 
 worse_none : (fault : Option HostFault) → worse fault None ≡ fault
 worse_none None = refl
@@ -60,24 +61,25 @@ worst_push (p ∷ parts) part = ap (λ (f : Option HostFault). worse p.fault f) 
 
 -- ---- a worker's part
 
-pub record ItsPart {D : Type 0} (passage : D → Passage) (level : Level) (history : Chronicle) (seed accept stream : ℕ) (before : Passage) (worker : Worker BookValue D ChaCha) : Type 0 where
+pub record ItsPart {D : Type 0} (passage : D → Passage) (level : Level) (begun history : Chronicle) (seed accept stream : ℕ) (before : Passage) (worker : Worker BookValue D ChaCha) : Type 0 where
   pub part : Part
-  pub is : IsPart level history seed accept stream before part (passage worker.door)
+  pub is : IsPart level begun history seed accept stream before part (passage worker.door)
   pub own : events_of worker.book.pass.own ≡ events_of_visits part.visits
   pub kept : worker.book.pass.kept ≡ []
   pub fault : part.fault ≡ worker.fault
 
-module _ {D : Type 0} (passage : D → Passage) (level : Level) (history : Chronicle) (pass : PassValue Entry) (seed accept : ℕ)
-    (new : past_of (fresh_book pass) ≡ begins_with history) (none_kept : pass.kept ≡ []) where
+module _ {D : Type 0} (passage : D → Passage) (level : Level) (begun history : Chronicle) (pass : PassValue Entry) (seed accept : ℕ)
+    (new : past_of (fresh_book pass) ≡ begins_with begun) (none_kept : pass.kept ≡ []) where
   pub its_part : (stream : ℕ) (before : Passage) (worker : Worker BookValue D ChaCha) → IsUnused before →
-      HasEnded passage level pass seed accept stream before worker → ItsPart passage level history seed accept stream before worker
-  its_part stream before worker unused has_ended =
+      IsFrontOf (chronicle_of worker.book.pass.seen) history → HasEnded passage level pass seed accept stream before worker →
+      ItsPart passage level begun history seed accept stream before worker
+  its_part stream before worker unused saw has_ended =
       let began = has_ended.began in
       let attended = has_ended.worked.attended in
-      let first : past_of began.book ≡ begins_with history = ap past_of has_ended.begins.book ∙ new in
+      let first : past_of began.book ≡ begins_with begun = ap past_of has_ended.begins.book ∙ new in
       let door : passage began.door ≡ before = ap passage has_ended.begins.door_is ∙ has_ended.before_is in
-      let visits : AreVisits Draws level (begins_with history) (stream_front seed stream) attended.visits (past_of worker.book) worker.words =
-      subst (λ (w : ChaCha). AreVisits Draws level (begins_with history) w attended.visits (past_of worker.book) worker.words) has_ended.begins.words
+      let visits : AreVisits Draws level (begins_with begun) (stream_front seed stream) attended.visits (past_of worker.book) worker.words =
+      subst (λ (w : ChaCha). AreVisits Draws level (begins_with begun) w attended.visits (past_of worker.book) worker.words) has_ended.begins.words
       (subst (λ (p : Past). AreVisits Draws level p began.words attended.visits (past_of worker.book) worker.words) first attended.are_visits) in
       let none_accepted : (passage began.door).accepted ≡ 0 = ap (λ (p : Passage). p.accepted) door ∙ unused.accepted in
       record {
@@ -86,6 +88,7 @@ module _ {D : Type 0} (passage : D → Passage) (level : Level) (history : Chron
           past = past_of worker.book;
           words = worker.words;
           are_visits = visits;
+          saw = saw;
           accepted = omega (arith, attended.accepted, none_accepted, attended.number_is);
           back = attended.back ∙ ap (λ (p : Passage). p.back ++ map went_of attended.visits) door
               ∙ ap (λ l. l ++ map went_of attended.visits) unused.back;
@@ -95,7 +98,7 @@ module _ {D : Type 0} (passage : D → Passage) (level : Level) (history : Chron
           ceases = subst (λ (n : ℕ). Ceases worker.fault n accept (passage worker.door).to_come) (sym attended.number_is)
               (subst (λ (n : ℕ). Ceases worker.fault has_ended.worked.number n (passage worker.door).to_come) has_ended.begins.accept_is has_ended.worked.ceases);
         };
-        own = own_of_visits Draws level (begins_with history) (stream_front seed stream) attended.visits (past_of worker.book) worker.words visits;
+        own = own_of_visits Draws level (begins_with begun) (stream_front seed stream) attended.visits (past_of worker.book) worker.words visits;
         kept = attended.stays.kept ∙ ap (λ (b : BookValue). b.pass.kept) has_ended.begins.book ∙ none_kept;
         fault = refl;
       }
@@ -114,12 +117,12 @@ unused_at : (gone : List Passage) (before : Passage) (rest : List Passage) → A
 unused_at [] before rest unused = All-head IsUnused before rest unused
 unused_at (g ∷ gone) before rest unused = unused_at gone before rest (All-tail IsUnused g (gone ++ before ∷ rest) unused)
 
-module _ {D : Type 0} (passage : D → Passage) (level : Level) (history : Chronicle) (start : PassValue Entry) (seed accept : ℕ) where
+module _ {D : Type 0} (passage : D → Passage) (level : Level) (begun history : Chronicle) (start : PassValue Entry) (seed accept : ℕ) where
   -- these doors are back, and these workers are still there
   abbrev pub IsLeft : List Passage → List D → List (Worker BookValue D ChaCha) → PassValue Entry → PassValue Entry → Option HostFault → Type 0
   IsLeft opened doors workers first pass fault =
       (gone : List Passage) × (rest : List Passage) × (parts : List Part) × (opened ≡ gone ++ rest)
-      × AreParts level history seed accept 0 gone parts (map passage doors)
+      × AreParts level begun history seed accept 0 gone parts (map passage doors)
       × HaveEnded passage level start seed accept (length gone) rest workers
       × (event_lists pass ≡ event_lists first ++ map (λ part. events_of_visits part.visits) parts) × (fault ≡ worst_of parts)
 
@@ -140,21 +143,22 @@ module _ {D : Type 0} (passage : D → Passage) (level : Level) (history : Chron
       ((λ i. heads i ∷ later.0 i), later.1)
 
   pub left_one_more : (opened : List Passage) (doors more : List D) (workers fewer : List (Worker BookValue D ChaCha)) (worker : Worker BookValue D ChaCha)
-      (first pass after : PassValue Entry) (fault now : Option HostFault) → past_of (fresh_book start) ≡ begins_with history → start.kept ≡ [] →
-      All IsUnused opened → workers ≡ fewer ++ worker ∷ [] → more ≡ doors ++ worker.door ∷ [] → Joined key_of pass worker.book.pass after →
-      now ≡ worse fault worker.fault → IsLeft opened doors workers first pass fault → IsLeft opened more fewer first after now
-  left_one_more opened doors more workers fewer worker first pass after fault now new kept unused is grown joined decided
+      (first pass after : PassValue Entry) (fault now : Option HostFault) → past_of (fresh_book start) ≡ begins_with begun → start.kept ≡ [] →
+      All IsUnused opened → IsFrontOf (chronicle_of worker.book.pass.seen) history → workers ≡ fewer ++ worker ∷ [] →
+      more ≡ doors ++ worker.door ∷ [] → Joined key_of pass worker.book.pass after → now ≡ worse fault worker.fault → IsLeft opened doors workers first pass fault → IsLeft opened more fewer first after now
+  left_one_more opened doors more workers fewer worker first pass after fault now new kept unused saw is grown joined decided
       (gone, [], parts, whole, are, ended, lists, fault_is) =
       absurd (none_is fewer worker (sym is ∙ ended))
     where
       none_is : (xs : List (Worker BookValue D ChaCha)) (x : Worker BookValue D ChaCha) → xs ++ x ∷ [] ≡ [] → ⊥
       none_is [] x e = absurd (cc)
       none_is (a ∷ xs) x e = absurd (cc)
-  left_one_more opened doors more workers fewer worker first pass after fault now new kept unused is grown joined decided
+  left_one_more opened doors more workers fewer worker first pass after fault now new kept unused saw is grown joined decided
       (gone, before ∷ rest, parts, whole, are, (front, last, last_is, has_ended, others), lists, fault_is) =
       let same = last_same fewer front worker last (sym is ∙ last_is) in
-      let mine = its_part passage level history start seed accept new kept (length gone) before last
-      (unused_at gone before rest (subst (λ (l : List Passage). All IsUnused l) whole unused)) has_ended in
+      let mine = its_part passage level begun history start seed accept new kept (length gone) before last
+      (unused_at gone before rest (subst (λ (l : List Passage). All IsUnused l) whole unused))
+      (subst (λ (w : Worker BookValue D ChaCha). IsFrontOf (chronicle_of w.book.pass.seen) history) same.1 saw) has_ended in
       let door : worker.door ≡ last.door = ap (λ (w : Worker BookValue D ChaCha). w.door) same.1 in
       let pass_is : worker.book.pass ≡ last.book.pass = ap (λ (w : Worker BookValue D ChaCha). w.book.pass) same.1 in
       let count : length (gone ++ before ∷ []) ≡ suc (length gone) = omega (arith, length-append gone (before ∷ [])) in
@@ -168,9 +172,9 @@ module _ {D : Type 0} (passage : D → Passage) (level : Level) (history : Chron
         rest,
         parts ++ mine.part ∷ [],
         whole ∙ sym (append_assoc gone (before ∷ []) rest),
-        subst (λ (l : List Passage). AreParts level history seed accept 0 (gone ++ before ∷ []) (parts ++ mine.part ∷ []) l) (sym back)
-            (parts_push level history seed accept 0 gone parts (map passage doors) before mine.part (passage last.door) are
-            (subst (λ (n : ℕ). IsPart level history seed accept n before mine.part (passage last.door)) at_zero mine.is)),
+        subst (λ (l : List Passage). AreParts level begun history seed accept 0 (gone ++ before ∷ []) (parts ++ mine.part ∷ []) l) (sym back)
+            (parts_push level begun history seed accept 0 gone parts (map passage doors) before mine.part (passage last.door) are
+            (subst (λ (n : ℕ). IsPart level begun history seed accept n before mine.part (passage last.door)) at_zero mine.is)),
         subst (λ (n : ℕ). HaveEnded passage level start seed accept n rest fewer) (sym count)
             (subst (λ (l : List (Worker BookValue D ChaCha)). HaveEnded passage level start seed accept (suc (length gone)) rest l) (sym same.0) others),
         lists_joined pass worker.book.pass after joined no_kept ∙ ap (λ l. l ++ events_of worker.book.pass.own ∷ []) lists
@@ -184,9 +188,9 @@ module _ {D : Type 0} (passage : D → Passage) (level : Level) (history : Chron
   -- where no worker is left, all doors are back
   pub none_left_over : (opened gone rest : List Passage) (parts : List Part) (afters : List Passage) (workers : List (Worker BookValue D ChaCha)) →
       opened ≡ gone ++ rest → workers ≡ [] → HaveEnded passage level start seed accept (length gone) rest workers →
-      AreParts level history seed accept 0 gone parts afters → AreParts level history seed accept 0 opened parts afters
+      AreParts level begun history seed accept 0 gone parts afters → AreParts level begun history seed accept 0 opened parts afters
   none_left_over opened gone [] parts afters workers whole none ended are =
-      subst (λ (l : List Passage). AreParts level history seed accept 0 l parts afters) (sym (whole ∙ append-nil gone)) are
+      subst (λ (l : List Passage). AreParts level begun history seed accept 0 l parts afters) (sym (whole ∙ append-nil gone)) are
   none_left_over opened gone (before ∷ rest) parts afters workers whole none (front, last, last_is, has_ended, others) are =
       absurd (never front last (sym last_is ∙ none))
     where

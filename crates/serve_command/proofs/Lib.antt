@@ -7,4 +7,5 @@ pub mod OneOpening
 pub mod Opens
 pub mod Joined
 pub mod OneHistory
+pub mod Earlier
 pub mod Fronts

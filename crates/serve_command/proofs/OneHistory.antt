@@ -20,17 +20,17 @@ use Rattle.serve_command.proofs.Joined.{joined_append, has_at, alone, one_place,
 abbrev lists_made : List Part → List (List Event)
 lists_made parts = [] ∷ map (λ part. events_of_visits part.visits) parts
 
-records_open : (level : Level) (start : Chronicle) (seed most stream : ℕ) (befores : List Passage) (parts : List Part) (afters : List Passage) →
-    AreParts level start seed most stream befores parts afters → All OpensItsSessions (records_of parts)
-records_open level start seed most stream [] [] [] are = All-nil OpensItsSessions
-records_open level start seed most stream (before ∷ befores) (part ∷ parts) (after ∷ afters) are =
+records_open : (level : Level) (start history : Chronicle) (seed most stream : ℕ) (befores : List Passage) (parts : List Part) (afters : List Passage) →
+    AreParts level start history seed most stream befores parts afters → All OpensItsSessions (records_of parts)
+records_open level start history seed most stream [] [] [] are = All-nil OpensItsSessions
+records_open level start history seed most stream (before ∷ befores) (part ∷ parts) (after ∷ afters) are =
     All-append OpensItsSessions (map record_of part.visits) (records_of parts)
     (visits_open Draws level (begins_with start) (stream_front seed stream) part.visits are.0.past are.0.words refl are.0.are_visits)
-    (records_open level start seed most (suc stream) befores parts afters are.1)
-records_open level start seed most stream [] [] (after ∷ afters) are = absurd are
-records_open level start seed most stream [] (part ∷ parts) afters are = absurd are
-records_open level start seed most stream (before ∷ befores) [] afters are = absurd are
-records_open level start seed most stream (before ∷ befores) (part ∷ parts) [] are = absurd are
+    (records_open level start history seed most (suc stream) befores parts afters are.1)
+records_open level start history seed most stream [] [] (after ∷ afters) are = absurd are
+records_open level start history seed most stream [] (part ∷ parts) afters are = absurd are
+records_open level start history seed most stream (before ∷ befores) [] afters are = absurd are
+records_open level start history seed most stream (before ∷ befores) (part ∷ parts) [] are = absurd are
 
 joined_visits : (visits : List Visit) → joined (map record_of visits) ≡ events_of_visits visits
 joined_visits [] = refl
@@ -66,7 +66,7 @@ of_records start parts history s finished has =
 
 pub one_history :
     (start : Chronicle) (level : Level) (seed most stream : ℕ) (befores afters : List Passage) (parts : List Part) (history : Chronicle) →
-    AreParts level start seed most stream befores parts afters →
+    AreParts level start history seed most stream befores parts afters →
     Finished start ([] ∷ map (λ part. events_of_visits part.visits) parts) history →
     Finished start (records_of parts) history
 one_history start level seed most stream befores afters parts history are finished = record {
@@ -95,4 +95,4 @@ one_history start level seed most stream befores afters parts history are finish
 }
   where
     opens : All OpensItsSessions (records_of parts)
-    opens = records_open level start seed most stream befores parts afters are
+    opens = records_open level start history seed most stream befores parts afters are

@@ -9,6 +9,7 @@ use Rattle.history_core.specs.Book.{Past, no_session}
 use Rattle.link_traits.specs.declared.host.HostFault.{HostFault}
 use Rattle.link_traits.specs.declared.host.HostFault.TheVariants as faults
 use Rattle.session_core.specs.Record.{events_of}
+use Rattle.shared_book.specs.Fronts.{IsFrontOf}
 use Rattle.doors.specs.Passage.{Passage}
 use Rattle.door_workers.specs.Visits.{Visit, AreVisits, came_of, went_of}
 use Rattle.door_workers.specs.Workers.{AreNextOf, Ceases, faults_after}
@@ -22,13 +23,16 @@ pub record Part : Type 0 where
   pub visits : List Visit
   pub fault : Option HostFault
 
--- A worker served its links one after another, from this history on, that others added to as well, with the words of its own stream of the
--- seed. They came in by its door and went back to it. It accepted as many as it may, or no further one came, or accepting failed, which its
--- door counted.
-pub record IsPart (level : Level) (start : Chronicle) (seed most stream : ℕ) (before : Passage) (part : Part) (after : Passage) : Type 0 where
+-- A worker served its links one after another, from this start of a history on, that others added to as well, with the words of its own stream
+-- of the seed. What its book saw at last is a front of the history: so is what it saw at each call before, since a book's calls only add to what
+-- it has seen. The links came in by its door and went back to it. It accepted as many as it may, or no further one came, or accepting failed,
+-- which its door counted.
+pub record IsPart (level : Level) (start history : Chronicle) (seed most stream : ℕ) (before : Passage) (part : Part) (after : Passage) :
+    Type 0 where
   pub past : Past
   pub words : ChaCha
   pub are_visits : AreVisits Draws level (begins_with start) (stream_front seed stream) part.visits past words
+  pub saw : IsFrontOf past.seen history
   pub accepted : after.accepted ≡ length part.visits
   pub back : after.back ≡ map went_of part.visits
   pub to_come : AreNextOf (map came_of part.visits) before.to_come after.to_come
@@ -36,14 +40,14 @@ pub record IsPart (level : Level) (start : Chronicle) (seed most stream : ℕ) (
   pub ceases : Ceases part.fault (length part.visits) most after.to_come
 
 -- the same of each worker, whose streams are numbered from this one on
-abbrev pub AreParts : Level → Chronicle → ℕ → ℕ → ℕ → List Passage → List Part → List Passage → Type 0
-AreParts level start seed most stream [] [] [] = Unit {0}
-AreParts level start seed most stream (before ∷ befores) (part ∷ parts) (after ∷ afters) =
-    IsPart level start seed most stream before part after × AreParts level start seed most (suc stream) befores parts afters
-AreParts level start seed most stream [] [] (after ∷ afters) = ⊥
-AreParts level start seed most stream [] (part ∷ parts) afters = ⊥
-AreParts level start seed most stream (before ∷ befores) [] afters = ⊥
-AreParts level start seed most stream (before ∷ befores) (part ∷ parts) [] = ⊥
+abbrev pub AreParts : Level → Chronicle → Chronicle → ℕ → ℕ → ℕ → List Passage → List Part → List Passage → Type 0
+AreParts level start history seed most stream [] [] [] = Unit {0}
+AreParts level start history seed most stream (before ∷ befores) (part ∷ parts) (after ∷ afters) =
+    IsPart level start history seed most stream before part after × AreParts level start history seed most (suc stream) befores parts afters
+AreParts level start history seed most stream [] [] (after ∷ afters) = ⊥
+AreParts level start history seed most stream [] (part ∷ parts) afters = ⊥
+AreParts level start history seed most stream (before ∷ befores) [] afters = ⊥
+AreParts level start history seed most stream (before ∷ befores) (part ∷ parts) [] = ⊥
 
 -- the events of the record of one link's session
 abbrev pub record_of : Visit → List Event

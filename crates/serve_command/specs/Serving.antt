@@ -35,19 +35,20 @@ abbrev pub Ends : ServeOptions → Chronicle → Hosted → ℕ → Hosted → T
 Ends options history before code after =
     LogsAndPrints options.log history (served_line history.events) before code after ⊎ ((code ≡ 5) × (after ≡ before))
 
--- The doors were opened, the workers served the links that came in by them, from this history on, these lists of events came of their passes, the first of which made
--- none, and the doors were given back.
-pub record Ran (options : ServeOptions) (start : Chronicle) (before : Networked) (lists : List (List Event)) (fault : Option HostFault) (after : Networked) : Type 0 where
+-- The doors were opened, the workers served the links that came in by them, from this start of the history on, these lists of events came of
+-- their passes, the first of which made none, and the doors were given back.
+pub record Ran (options : ServeOptions) (start history : Chronicle) (before : Networked) (lists : List (List Event)) (fault : Option HostFault)
+    (after : Networked) : Type 0 where
   pub opened : List Passage
   pub returned : List Passage
   pub parts : List Part
   pub doors : Opened options before opened returned after
-  pub are_parts : AreParts options.level start options.seed options.accept 0 opened parts returned
+  pub are_parts : AreParts options.level start history options.seed options.accept 0 opened parts returned
   pub lists_are : lists ≡ [] ∷ map (λ part. events_of_visits part.visits) parts
   pub fault_is : fault ≡ worst_of parts
 
--- The workers served the links of their doors over one history, which is legal and goes on from the one that the server starts from. The records
--- of the links hold all events that came to it: of each session that has an event in a record, the history has just that record's events, in
+-- The workers served the links of their doors over one history, which is legal and goes on from the one that the server starts from. What each
+-- worker's book saw is a front of this history. The records of the links hold all events that came to it: of each session that has an event in a record, the history has just that record's events, in
 -- their order, and no session stands in two records.
 pub record Served (options : ServeOptions) (start : Chronicle) (before : Networked) (host_before : Hosted) (code : ℕ) (after : Networked)
     (host_after : Hosted) : Type 0 where
@@ -56,7 +57,7 @@ pub record Served (options : ServeOptions) (start : Chronicle) (before : Network
   pub parts : List Part
   pub history : Chronicle
   pub doors : Opened options before opened returned after
-  pub are_parts : AreParts options.level start options.seed options.accept 0 opened parts returned
+  pub are_parts : AreParts options.level start history options.seed options.accept 0 opened parts returned
   pub one_history : Finished start (records_of parts) history
   pub end_code : ℕ
   pub ends : Ends options history host_before end_code host_after

@@ -3,12 +3,13 @@ ghost use Rattle.std.specs.Prelude.{◌≡◌, ◌≤◌, ◌++◌, ℕ, List, [
 ghost use Rattle.cell_base.specs.declared.level.Level.{Level as AtLevel};
 ghost use Rattle.link_traits.specs.declared.host.HostFault.{HostFault as Fault};
 ghost use Rattle.link_traits.specs.Host.{objects_out};
-ghost use Rattle.history_core.specs.Chronicle.{Chronicle};
+ghost use Rattle.history_core.specs.Chronicle.{Chronicle, IsLegalChronicle};
 ghost use Rattle.turn_lock.specs.Passes.{first_pass};
 ghost use Rattle.turn_lock.specs.Views.{all_parts};
 ghost use Rattle.doors.specs.Network.{open_failed};
 ghost use Rattle.shared_book.specs.Books.{HasSeenLegal};
 ghost use Rattle.shared_book.specs.Entries.{chronicle_of, event_lists};
+ghost use Rattle.shared_book.specs.Fronts.{GoesOnFrom};
 ghost use Rattle.serve_command.specs.Serving.{status_of as status_behind, Ran, Ends, GoesOn, Serves};
 
 use crate::line::line_of;
@@ -67,7 +68,8 @@ fn run<R: Threads + Wait + Eprint + Sync, N: Network>(
 ) -> Result<Option<HostFault>, HostFault>
     requires workers { options.now.workers ≤ 64 }
     requires pass { pass.old ≡ first_pass shared.now }
-    ensures ok { IfOk result (λ fault. Ran options.now (chronicle_of shared.now.start) (N.networked network.old) (event_lists pass.new) fault (N.networked network.new)) }
+    ensures ok { IfOk result (λ fault. (history : Chronicle) → IsLegalChronicle history → GoesOnFrom history pass.new →
+        Ran options.now (chronicle_of shared.now.start) history (N.networked network.old) (event_lists pass.new) fault (N.networked network.new)) }
     ensures failed { IfErr result (λ fault. fault ≡ HostFault.Failed → N.networked network.new ≡ open_failed options.now.listen options.now.workers (N.networked network.old)) }
     ensures memory { IfErr result (λ fault. fault ≡ HostFault.Memory → N.networked network.new ≡ N.networked network.old) }
     ensures lock { IfOk result (λ fault. pass.new.lock ≡ shared.now) }

@@ -1,12 +1,13 @@
 // The workers of a server: each gets a door, a book and its words, and leaves them when it has ended.
 ghost use Rattle.std.specs.Prelude.{◌≡◌, ◌+◌, ◌<◌, ◌≤◌, ◌++◌, ℕ, List, [], All, IfOk, length, map, vec_len, vec_capacity};
 ghost use Rattle.cell_base.specs.declared.level.Level.{Level as AtLevel};
-ghost use Rattle.history_core.specs.Chronicle.{Chronicle};
+ghost use Rattle.history_core.specs.Chronicle.{Chronicle, IsLegalChronicle};
 ghost use Rattle.turn_lock.specs.Passes.{PassValue, split_off};
 ghost use Rattle.doors.specs.Passage.{Passage, IsUnused};
 ghost use Rattle.door_workers.specs.Visits.{events_of_visits};
 ghost use Rattle.shared_book.specs.declared.entry.Entry.{Entry};
 ghost use Rattle.shared_book.specs.Entries.{event_lists};
+ghost use Rattle.shared_book.specs.Fronts.{GoesOnFrom};
 ghost use Rattle.serve_command.specs.Parts.{Part, AreParts, begins_with, worse as worse_of, worst_of};
 ghost use Rattle.serve_command.specs.Manning.{AreManned, HaveEnded, MayLeave};
 ghost use Rattle.shared_book.specs.Books.{fresh_book, past_of};
@@ -88,8 +89,8 @@ fn worse(one: Option<HostFault>, other: Option<HostFault>) -> Option<HostFault>
     }
 }
 
-/// Takes the doors of workers that have ended back, in their order, and joins their passes into one. Answers the fault that decides. Takes no
-/// memory.
+/// Takes the doors of workers that have ended back, in their order, and joins their passes into one. Answers the fault that decides. What the
+/// workers' books saw are fronts of each legal history that goes on from what the one pass has seen then. Takes no memory.
 pub fn leave<R: Wait, D: Door>(
     shared: &Shared,
     pass: &mut Pass,
@@ -100,10 +101,11 @@ pub fn leave<R: Wait, D: Door>(
     requires workers { All (MayLeave shared.now) workers.old.items }
     requires none { doors.old.items ≡ [] }
     requires capacity { vec_len workers.old ≤ vec_capacity doors.old }
-    ensures left { (level : AtLevel) (history : Chronicle) (start : PassValue Entry) (seed accept : ℕ) (opened : List Passage) →
-        past_of (fresh_book start) ≡ begins_with history → start.kept ≡ [] → All IsUnused opened →
+    ensures left { (level : AtLevel) (begun history : Chronicle) (start : PassValue Entry) (seed accept : ℕ) (opened : List Passage) →
+        IsLegalChronicle history → GoesOnFrom history pass.new →
+        past_of (fresh_book start) ≡ begins_with begun → start.kept ≡ [] → All IsUnused opened →
         HaveEnded D.passage level start seed accept 0 opened workers.old.items →
-        (parts : List Part) × AreParts level history seed accept 0 opened parts (map D.passage doors.new.items)
+        (parts : List Part) × AreParts level begun history seed accept 0 opened parts (map D.passage doors.new.items)
         × (event_lists pass.new ≡ event_lists pass.old ++ map (λ part. events_of_visits part.visits) parts) × (result ≡ worst_of parts) }
     ensures lock { pass.new.lock ≡ shared.now }
     ensures parts { pass.new.parts ≡ pass.old.parts + vec_len workers.old }

@@ -3,7 +3,6 @@ use Rattle.std.proofs.Common.{◌≡◌, ℕ, zero, suc, ◌<◌, ◌≤◌, ◌
 use Rattle.std.specs.List.{Any, Contains, slice_get}
 use Rattle.std.specs.Prelude.{map}
 use Rattle.std.proofs.lemmas.List.Elements.{All-map, All-weaker}
-use mathlib.Core.List.{IsPrefix}
 use Rattle.sql_tree.specs.declared.table.Table.{Table}
 use Rattle.history_core.specs.declared.event.Event.{Event}
 use Rattle.history_core.specs.Events.{session_in}
@@ -135,11 +134,3 @@ finished lock pass history start legal closed =
           (subst (λ (n : ℕ). Any (HasKey key_of n) (lists_of pass)) (sym has.4)
           (any_back (HasEventOf session) (HasKey key_of session) (λ l there. has_entry session l there) (lists_of pass) any));
     }
-
--- the history goes on from what the pass has seen
-pub goes_on_from : (lock : LockValue Entry) (pass : PassValue Entry) (history : Chronicle) → Closed key_of lock pass (entries_of history) →
-    IsPrefix (events_of pass.seen) history.events
-goes_on_from lock pass history closed = (
-  events_of closed.begins.0,
-  sym (events_join pass.seen closed.begins.0) ∙ ap events_of closed.begins.1 ∙ events_with history.events history.tables,
-)

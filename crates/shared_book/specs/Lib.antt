@@ -5,3 +5,4 @@ pub mod Turns
 pub mod Calls
 pub mod Lifts
 pub mod Finish
+pub mod Fronts

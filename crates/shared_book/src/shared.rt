@@ -1,12 +1,12 @@
 // A history that many sessions share.
 ghost use Rattle.std.specs.Prelude.{◌≡◌, ◌-◌, ◌≤◌, IfOk, IfErr};
-ghost use mathlib.Core.List.{IsPrefix};
 ghost use Rattle.turn_lock.specs.Passes.{first_pass, split_off, SeesStart, Joined};
 ghost use Rattle.turn_lock.specs.Views.{all_parts};
 ghost use Rattle.shared_book.specs.Entries.{entries_of, key_of, chronicle_of, event_lists};
 ghost use Rattle.shared_book.specs.Books.{HasSeenLegal, fresh_book};
 ghost use Rattle.shared_book.specs.Finish.{Finished};
-ghost use Rattle.history_core.specs.Chronicle.{IsLegalChronicle};
+ghost use Rattle.shared_book.specs.Fronts.{IsFrontOf, GoesOnFrom};
+ghost use Rattle.history_core.specs.Chronicle.{Chronicle, IsLegalChronicle};
 
 use crate::book::SharedBook;
 use crate::kept::Kept;
@@ -78,24 +78,34 @@ impl Shared {
         SharedBook::new(&self.lock, rt, pass)
     }
 
-    /// Takes in what the other pass has seen, its own list, the lists that it keeps, and its parts. It doesn't wait.
+    /// Takes in what the other pass has seen, its own list, the lists that it keeps, and its parts. It doesn't wait. What either had seen is a
+    /// front of each legal history that goes on from what the joined pass has seen.
     pub fn join(&self, into: &mut Pass, from: Pass)
         requires lock { (into.old.lock ≡ self.now) × (from.lock ≡ self.now) }
         ensures joined { Joined key_of into.old from into.new }
+        ensures fronts { (history : Chronicle) → IsLegalChronicle history → GoesOnFrom history into.new →
+            IsFrontOf (chronicle_of into.old.seen) history × IsFrontOf (chronicle_of from.seen) history }
         ensures legal { HasSeenLegal into.old → HasSeenLegal from → HasSeenLegal into.new }
     {
+        // Only for its contract: both have seen the history that the lock was made with.
+        into.sees_start();
+        from.sees_start();
         self.lock.join(into, from);
     }
 
-    /// Gives the store, once all passes are joined into one. It takes no memory and doesn't wait.
+    /// Gives the store, once all passes are joined into one. Its history goes on from what the pass has seen. It takes no memory and doesn't
+    /// wait.
     #[tactic(auto, using(crate::proofs::Ending::finished))]
     pub fn finish(self, pass: Pass) -> Store
         requires lock { pass.lock ≡ self }
         requires parts { pass.parts ≡ all_parts }
         ensures finished { Finished (chronicle_of self.start) (event_lists pass) result }
-        ensures seen { IsPrefix (chronicle_of pass.seen).events result.events }
+        ensures goes_on { GoesOnFrom result pass }
+        ensures front { IsFrontOf (chronicle_of pass.seen) result }
     {
         let Shared { lock } = self;
+        // Only for its contract: the pass has seen the history that the lock was made with.
+        pass.sees_start();
         let store = lock.close(pass).into_store();
         // Only for its contract: the history is legal.
         let _ = store.history();

@@ -52,7 +52,7 @@ leave-fault-requires-clause-workers g c κs within =
     (map g.N.Door.Door.passage c.in-Ok.doors.items) c.serve_doors.new.workers refl have))
 
 pub returns-clause-ok : goal.returns-clause-ok
-returns-clause-ok g c =
+returns-clause-ok g c = λ history legal goes.
     let start = split_off c.args.pass.now in
     let opened = map g.N.Door.Door.passage c.in-Ok.doors.items in
     let pairs = subst (λ workers. EachPair (WorkedTo g.N.Door.Door.passage c.args.options.now.level start c.args.options.now.seed
@@ -63,10 +63,10 @@ returns-clause-ok g c =
     let back = subst (λ workers. HaveEnded g.N.Door.Door.passage c.args.options.now.level start c.args.options.now.seed c.args.options.now.accept 0 opened workers)
     (sym (written_back c.man.new.workers.items c.serve_doors.new.workers c.man.new.workers.len pairs.0 many)) have in
     let unused : All IsUnused opened = All-map IsUnused g.N.Door.Door.passage c.in-Ok.doors.items c.in-Ok.ensures.unused in
-    let history = ap (λ (p : PassValue Entry). chronicle_of p.seen) c.requires.pass in
-    let left = c.leave-fault.ensures.left c.args.options.now.level (chronicle_of c.args.shared.now.start) start c.args.options.now.seed
-    c.args.options.now.accept opened
-    (ap (λ (h : Chronicle). record { seen = h; own = []; state = no_session }) history) refl unused back in
+    let begun = ap (λ (p : PassValue Entry). chronicle_of p.seen) c.requires.pass in
+    let left = c.leave-fault.ensures.left c.args.options.now.level (chronicle_of c.args.shared.now.start) history start c.args.options.now.seed
+    c.args.options.now.accept opened legal goes
+    (ap (λ (h : Chronicle). record { seen = h; own = []; state = no_session }) begun) refl unused back in
     let whats : Part → List Event = λ part. events_of_visits part.visits in
     let before = ap (λ (p : PassValue Entry). event_lists p) c.man.ensures.pass ∙ ap (λ (p : PassValue Entry). event_lists p) c.requires.pass in
     record {

@@ -13,10 +13,12 @@ pub returns-clause-goes_on : goal.returns-clause-goes_on
 returns-clause-goes_on g c =
     let start = c.args.store in
     let begun : chronicle_of c.in-Ok.shared.start ≡ start = c.in-Ok.ensures.is in
-    let ran : Ran c.args.options.now start (g.N.Network.networked c.args.network.now) (event_lists c.run.new.pass) c.in-Ok-run.fault
+    let history = c.finish-store.result in
+    let ran : Ran c.args.options.now start history (g.N.Network.networked c.args.network.now) (event_lists c.run.new.pass) c.in-Ok-run.fault
     (g.N.Network.networked c.run.new.network) =
-    subst (λ (h : Chronicle). Ran c.args.options.now h (g.N.Network.networked c.args.network.now) (event_lists c.run.new.pass) c.in-Ok-run.fault
-    (g.N.Network.networked c.run.new.network)) begun c.in-Ok-run.ensures.ok in
+    subst (λ (h : Chronicle). Ran c.args.options.now h history (g.N.Network.networked c.args.network.now) (event_lists c.run.new.pass) c.in-Ok-run.fault
+    (g.N.Network.networked c.run.new.network)) begun
+    (c.in-Ok-run.ensures.ok history c.finish-store.ensures.finished.legal c.finish-store.ensures.goes_on) in
     let finished = subst (λ (lists : List (List Event)). Finished start lists c.finish-store.result) ran.lists_are
     (subst (λ (h : Chronicle). Finished h (event_lists c.run.new.pass) c.finish-store.result) begun c.finish-store.ensures.finished) in
     inr (inr (record {

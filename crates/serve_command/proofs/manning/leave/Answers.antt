@@ -3,9 +3,11 @@ use Rattle.std.specs.Prelude.{Some}
 use Rattle.std.proofs.lemmas.List.{append-nil}
 use Rattle.std.proofs.lemmas.List.Elements.{All-pop}
 use Rattle.turn_lock.specs.Passes.{PassValue, Joined}
+use Rattle.turn_lock.proofs.Keys.{prefix_trans}
 use Rattle.doors.specs.Passage.{Passage}
 use Rattle.shared_book.specs.declared.entry.Entry.{Entry}
-use Rattle.shared_book.specs.Entries.{event_lists, key_of}
+use Rattle.shared_book.specs.Entries.{event_lists, key_of, entries_of, chronicle_of}
+use Rattle.shared_book.specs.Fronts.{IsFrontOf}
 use Rattle.serve_command.specs.Parts.{AreParts}
 use Rattle.serve_command.specs.Manning.{MayLeave}
 use Rattle.serve_command.proofs.Fronts.{no_items}
@@ -17,12 +19,12 @@ loop-worker-init g c =
     let many : vec_len c.args.workers.now ≡ length c.args.workers.now.items = c.args.workers.now.ok.0 in
     let none : length c.args.doors.now.items ≡ 0 = ap length c.requires.none in
     record {
-      left = λ level history start seed accept opened new kept unused ended. (
+      left = λ level begun history start seed accept opened legal goes new kept unused ended. (
         [],
         opened,
         [],
         refl,
-        subst (λ (l : List Passage). AreParts level history seed accept 0 [] [] l) (sym (ap (map g.D.Door.passage) c.requires.none)) tt,
+        subst (λ (l : List Passage). AreParts level begun history seed accept 0 [] [] l) (sym (ap (map g.D.Door.passage) c.requires.none)) tt,
         ended,
         sym (append-nil (event_lists c.args.pass.now)),
         refl,
@@ -49,11 +51,13 @@ loop-worker-preserved g c =
     let from_is : c.into_pass.result ≡ c.in-Some.worker.book.pass = c.into_pass.ensures in
     let from_parts : c.into_pass.result.parts ≡ 1 = ap (λ (p : PassValue Entry). p.parts) from_is ∙ may.parts in
     record {
-      left = λ level history start seed accept opened new kept unused ended.
-          let before = is.left level history start seed accept opened new kept unused ended in
-          left_one_more g.D.Door.passage level history start seed accept opened c.loop-worker.doors.items c.push_reserved.new.self.items
+      left = λ level begun history start seed accept opened legal goes new kept unused ended.
+          let earlier = prefix_trans c.loop-worker.pass.seen c.join.new.into.seen (entries_of history) c.join.ensures.joined.begins_with_both.0 goes in
+          let before = is.left level begun history start seed accept opened legal earlier new kept unused ended in
+          let saw = subst (λ (p : PassValue Entry). IsFrontOf (chronicle_of p.seen) history) from_is (c.join.ensures.fronts history legal goes).1 in
+          left_one_more g.D.Door.passage level begun history start seed accept opened c.loop-worker.doors.items c.push_reserved.new.self.items
           c.loop-worker.workers.items c.pop.new.self.items c.in-Some.worker c.args.pass.now c.loop-worker.pass c.join.new.into c.loop-worker.fault
-          c.worse-fault.result new kept unused c.in-Some.ensures.items c.push_reserved.ensures.items
+          c.worse-fault.result new kept unused saw c.in-Some.ensures.items c.push_reserved.ensures.items
           (subst (λ (p : PassValue Entry). Joined key_of c.loop-worker.pass p c.join.new.into) from_is c.join.ensures.joined) c.worse-fault.ensures before;
       lock = c.join.ensures.joined.lock ∙ is.lock;
       parts = omega (arith, is.parts, c.join.ensures.joined.parts, from_parts, workers_old, workers_new, c.in-Some.ensures.len);
@@ -72,12 +76,12 @@ loop-worker-preserved g c =
     }
 
 pub returns-clause-left : goal.returns-clause-left
-returns-clause-left g c = λ level history start seed accept opened new kept unused ended.
+returns-clause-left g c = λ level begun history start seed accept opened legal goes new kept unused ended.
     let many : vec_len c.loop-worker.workers ≡ length c.loop-worker.workers.items = c.loop-worker.workers.ok.0 in
     let none : c.loop-worker.workers.items ≡ [] = no_items c.loop-worker.workers.items (omega (arith, many, c.in_default.ensures.cases.0)) in
-    let (gone, rest, parts, whole, are, left, lists, fault) = c.loop-worker.invariant.left level history start seed accept opened new kept unused ended in (
+    let (gone, rest, parts, whole, are, left, lists, fault) = c.loop-worker.invariant.left level begun history start seed accept opened legal goes new kept unused ended in (
       parts,
-      none_left_over g.D.Door.passage level history start seed accept opened gone rest parts (map g.D.Door.passage c.loop-worker.doors.items)
+      none_left_over g.D.Door.passage level begun history start seed accept opened gone rest parts (map g.D.Door.passage c.loop-worker.doors.items)
           c.loop-worker.workers.items whole none left are,
       lists,
       fault,
