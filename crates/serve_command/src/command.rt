@@ -124,6 +124,19 @@ fn status_after(fault: Option<HostFault>, status: Status) -> Status
     }
 }
 
+// Tells on standard error where the log couldn't be made or written, of which the status alone would say little.
+fn tell_log<R: Eprint>(rt: &R, options: &ServeOptions, code: u8) {
+    let Some(path) = &options.log else {
+        return;
+    };
+    let path = path.as_str();
+    let _ = match code {
+        4 => eprintln!(rt; "the log at {path} or the line after it couldn't be written whole"),
+        6 => eprintln!(rt; "the log couldn't be made at {path}"),
+        _ => Ok(()),
+    };
+}
+
 // Serves with this store, and ends.
 fn serve_with<R: Threads + Wait + Eprint + Sync, H: Host, N: Network>(
     rt: &R,
@@ -148,6 +161,7 @@ fn serve_with<R: Threads + Wait + Eprint + Sync, H: Host, N: Network>(
     };
     let store = shared.finish(pass);
     let status = end(alloc, host, options, &store);
+    tell_log(rt, options, status.code);
     status_after(fault, status)
 }
 
