@@ -24,9 +24,9 @@ pub record Part : Type 0 where
   pub fault : Option HostFault
 
 -- A worker served its links one after another, from this start of a history on, that others added to as well, with the words of its own stream
--- of the seed. What its book saw at last is a front of the history: so is what it saw at each call before, since a book's calls only add to what
--- it has seen. The links came in by its door and went back to it. It accepted as many as it may, or no further one came, or accepting failed,
--- which its door counted.
+-- of the seed. What its book saw last is a front of the history. So the history begins as the book saw it at each call before, since a book's
+-- calls only add to what it has seen. The links came in by its door and went back to it. It accepted as many as it may, or no further one came,
+-- or accepting failed, which its door counted.
 pub record IsPart (level : Level) (start history : Chronicle) (seed most stream : ℕ) (before : Passage) (part : Part) (after : Passage) :
     Type 0 where
   pub past : Past

@@ -1,13 +1,12 @@
 -- What a pass has seen is a front of each legal history that goes on from it.
-use Rattle.std.proofs.Common.{◌≡◌, ℕ, ◌<◌, List, [], ◌∷◌, ◌++◌, length, map, Option, Some, None, refl, ap, sym, ◌∙◌, subst, arith, length-append}
-use Rattle.std.specs.List.{All, cons_option}
-use Rattle.std.proofs.lemmas.List.{map-append}
+use Rattle.std.proofs.Common.{◌≡◌, ℕ, ◌<◌, List, [], ◌∷◌, ◌++◌, length, Option, Some, None, refl, ap, sym, ◌∙◌, subst, arith, length-append}
+use Rattle.std.specs.List.{cons_option}
 use mathlib.Core.List.{IsPrefix}
 use Rattle.sql_tree.specs.declared.table.Table.{Table}
 use Rattle.history_core.specs.declared.event.Event.{Event}
 use Rattle.history_core.specs.Events.{names, defined_name, defined}
 use Rattle.history_core.specs.Chronicle.{Chronicle, IsLegalChronicle}
-use Rattle.turn_lock.specs.Passes.{PassValue, SeesStart, Joined}
+use Rattle.turn_lock.specs.Passes.{PassValue, Joined}
 use Rattle.turn_lock.proofs.Keys.{prefix_trans}
 use Rattle.shared_book.specs.declared.entry.Entry.{Entry}
 use Rattle.shared_book.specs.declared.entry.Entry.TheVariants.{Start, Happened}

@@ -3,6 +3,7 @@ pub mod Sessions
 pub mod Found
 pub mod Ending
 pub mod Fronts
+pub mod LegalFronts
 pub mod Making
 pub mod Seating
 pub mod Sending

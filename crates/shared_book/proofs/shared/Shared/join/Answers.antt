@@ -1,6 +1,6 @@
 use Rattle.std.proofs.Common.{◌≡◌, ◌∙◌, subst, sym}
 use mathlib.Core.List.{IsPrefix}
-use Rattle.turn_lock.specs.Passes.{LockValue, PassValue}
+use Rattle.turn_lock.specs.Passes.{LockValue}
 use Rattle.shared_book.specs.declared.entry.Entry.{Entry}
 use Rattle.shared_book.proofs.Fronts.{both_fronts}
 use Rattle.shared_book.proofs.shared.Shared.join.Goals as goal
