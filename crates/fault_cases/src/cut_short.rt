@@ -1,5 +1,5 @@
 // Inputs that are cut short, and reads and writes that fail.
-use crate::sessions::{CLIENT, Ended, Events, ended};
+use crate::sessions::{CLIENT, Ended, Events, serve_client};
 use session_core::End;
 use std::test::Fail;
 
@@ -25,7 +25,7 @@ fn ends_where_its_input_ends(rt: HostRuntime) -> Result<(), Fail> {
     assert_eq!(rt; CLIENT.len(), 27);
     for length in 0..28 {
         assert_eq!(rt;
-            ended(rt.alloc(), &CLIENT[..length], &[], &[])?,
+            serve_client(rt.alloc(), &CLIENT[..length], &[], &[])?,
             expected(length)
         );
     }
@@ -46,8 +46,8 @@ fn ends_where_a_read_fails(rt: HostRuntime) -> Result<(), Fail> {
         events: Events::RolledBack,
         sent: 208,
     };
-    assert_eq!(rt; ended(rt.alloc(), CLIENT, &[1], &[])?, first);
-    assert_eq!(rt; ended(rt.alloc(), CLIENT, &[2], &[])?, second);
+    assert_eq!(rt; serve_client(rt.alloc(), CLIENT, &[1], &[])?, first);
+    assert_eq!(rt; serve_client(rt.alloc(), CLIENT, &[2], &[])?, second);
     Ok(())
 }
 
@@ -60,15 +60,15 @@ fn ends_where_a_write_fails(rt: HostRuntime) -> Result<(), Fail> {
         sent,
     };
     assert_eq!(rt;
-        ended(rt.alloc(), CLIENT, &[], &[1])?,
+        serve_client(rt.alloc(), CLIENT, &[], &[1])?,
         broken(Events::Idle, 0)
     );
     assert_eq!(rt;
-        ended(rt.alloc(), CLIENT, &[], &[2])?,
+        serve_client(rt.alloc(), CLIENT, &[], &[2])?,
         broken(Events::RolledBack, 191)
     );
     assert_eq!(rt;
-        ended(rt.alloc(), CLIENT, &[], &[3])?,
+        serve_client(rt.alloc(), CLIENT, &[], &[3])?,
         broken(Events::RolledBack, 202)
     );
     Ok(())

@@ -85,7 +85,12 @@ fn events_of(events: &[Event]) -> Events {
 }
 
 /// Serves the client of this input over a new history.
-pub fn ended(alloc: Global, input: &[u8], reads: &[u64], writes: &[u64]) -> Result<Ended, Fail> {
+pub fn serve_client(
+    alloc: Global,
+    input: &[u8],
+    reads: &[u64],
+    writes: &[u64],
+) -> Result<Ended, Fail> {
     let mut link = link(alloc, input, reads, writes)?;
     let mut book = new_book(alloc)?;
     let mut words = ListWords::new(Items::new(alloc));
