@@ -6,8 +6,6 @@
 #![tactic(auto)]
 
 #[cfg(test)]
-mod broken_links;
-#[cfg(test)]
 mod command_lines;
 #[cfg(test)]
 mod hosts;
