@@ -1,5 +1,5 @@
 // Lists of choice words that the command line may have, told by what a session reads with them, and texts that are none.
-use crate::hosts::{answers, answers_at, prints, stops};
+use crate::hosts::{answers, answers_at, prints};
 use cell_base::Memory;
 use std::alloc::Global;
 use std::sync::Wait;
@@ -109,14 +109,5 @@ fn refuses_other_texts(rt: HostRuntime) -> Result<(), Fail> {
     assert!(rt; refuses(&rt, alloc, b"-1")?);
     assert!(rt; refuses(&rt, alloc, b"1a")?);
     assert!(rt; refuses(&rt, alloc, b"4294967296")?);
-    Ok(())
-}
-
-#[test]
-fn asks_a_server_to_stop(rt: HostRuntime) -> Result<(), Fail> {
-    let alloc = rt.alloc();
-    assert!(rt; stops(&rt, alloc, b"127.0.0.1:5433", &[], 0)?);
-    assert!(rt; stops(&rt, alloc, b"a", &[1], 6)?);
-    assert!(rt; stops(&rt, alloc, b"", &[2], 0)?);
     Ok(())
 }

@@ -127,35 +127,6 @@ pub fn prints<R: Threads + Wait + Eprint + Sync>(
     })
 }
 
-// Whether `stop ADDRESS` ends with this status, takes no link and prints nothing, at a network whose calls of these numbers fail and which tells
-// then that the request to this address alone was made, and whether it was sent.
-pub fn stops<R: Threads + Wait + Eprint + Sync>(
-    rt: &R,
-    alloc: Global,
-    address: &[u8],
-    fails: &[u64],
-    code: u8,
-) -> Result<bool, Memory> {
-    let link = link(alloc, b"", 64)?;
-    let mut host = host(alloc, link)?;
-    let words = [text(alloc, b"stop")?, text(alloc, address)?];
-    let mut network = MemNetwork::new(alloc, Vec::new(alloc), Vec::from_slice(alloc, fails)?);
-    let status = monkey_main(rt, alloc, &mut host, &mut network, words.as_slice());
-    let told = match network.stops() {
-        [call] => call.address.as_str().as_bytes() == address && call.sent == (code == 0),
-        _ => false,
-    };
-    Ok(told && status.code == code && host.back().is_empty() && is_silent(&host))
-}
-
-// Whether nothing was printed.
-fn is_silent(host: &MemHost) -> bool {
-    match host.output() {
-        Some(out) => out.written().is_empty(),
-        None => false,
-    }
-}
-
 // The number of events of a session with these words at Read Committed.
 pub fn events(alloc: Global, words: &[u32], input: &[u8]) -> Result<usize, Memory> {
     let mut book = Store::new(alloc, Level::Rc, InitialState::empty(alloc))?.seat(None);
