@@ -1,0 +1,5 @@
+pub mod SamePast
+pub mod Scripts
+pub mod StatementsTell
+pub mod MessagesTell
+pub mod SessionsTell

@@ -1,0 +1,37 @@
+-- A past to which nothing came is the same.
+use Rattle.std.proofs.Common.{◌≡◌, ℕ, List, [], ◌∷◌, ◌++◌, map, length, refl, sym, ap, ◌∙◌, arith, length-append, length-map}
+use Rattle.std.proofs.lemmas.List.{append-nil, append_cancel_left}
+use Rattle.sql_tree.specs.declared.table.Table.{Table}
+use Rattle.history_core.specs.declared.event.Event.{Event}
+use Rattle.history_core.specs.Events.{names}
+use Rattle.history_core.specs.Chronicle.{Chronicle, IsLegalChronicle}
+use Rattle.history_core.specs.Book.{Past, GoesOn}
+use Rattle.valid_writes.specs.Owning.{OwnsAllThatComes}
+
+nothing_added : {X : Type 0} (xs ys : List X) → xs ≡ xs ++ ys → ys ≡ []
+nothing_added xs ys same = append_cancel_left xs ys [] (sym same ∙ sym (append-nil xs))
+
+none_of_none : {X : Type 0} (xs : List X) → length xs ≡ 0 → xs ≡ []
+none_of_none [] none = refl
+none_of_none (x ∷ xs) none = absurd (omega arith)
+
+names_of : List Table → List (List ℕ)
+names_of tables = map (λ t. t.name) tables
+
+-- as many names, as many tables
+as_many : (xs ys : List Table) → names_of (xs ++ ys) ≡ names_of xs → ys ≡ []
+as_many xs ys same = none_of_none ys (omega (arith, sym (length-map (λ t. t.name) (xs ++ ys)) ∙ ap length same ∙ length-map (λ t. t.name) xs, length-append xs ys))
+
+pub same_past : (old new : Past) → IsLegalChronicle old.seen → IsLegalChronicle new.seen → GoesOn old new → OwnsAllThatComes old new → new ≡ old
+same_past old new legal_old legal_new goes owns =
+    grind (goes.level, goes.initial, events_same, tables_same, goes.own, goes.state)
+  where
+    none : owns.added ≡ []
+    none = nothing_added old.own owns.added (sym goes.own ∙ owns.own)
+    events_same : new.seen.events ≡ old.seen.events
+    events_same = owns.seen ∙ ap (λ (es : List Event). old.seen.events ++ es) none ∙ append-nil old.seen.events
+    no_more : goes.more ≡ []
+    no_more = as_many old.seen.tables goes.more
+        (ap names_of (sym goes.tables) ∙ legal_new.tables.named ∙ ap names events_same ∙ sym legal_old.tables.named)
+    tables_same : new.seen.tables ≡ old.seen.tables
+    tables_same = goes.tables ∙ ap (λ (ts : List Table). old.seen.tables ++ ts) no_more ∙ append-nil old.seen.tables
