@@ -32,7 +32,7 @@ ends : (outside : Outside) → Encloses outside → (block : Block) (known : Kno
 ends outside h (Implicit false) known = readied outside h ready.Idle known
 ends outside h (Implicit true) known =
     ask_fits calls.Commit (λ _. told.readied ready.Idle known outside) (λ a. readied outside h ready.Idle known)
-    (λ a has. tell_replies calls.Commit (ready_reply ready.Idle) (outside.broken owes.Close) (outside.next ready.Idle known) (inr (inr refl)) (h.next ready.Idle known))
+    (λ a has. tell_replies calls.Commit (ready_reply ready.Idle) (outside.broken owes.Close) (outside.next ready.Idle known) (inr (inr refl)) (h.broken owes.Close) (h.next ready.Idle known))
 ends outside h Regular known = readied outside h ready.Block known
 ends outside h Failed known = readied outside h ready.Failed known
 

@@ -1,6 +1,6 @@
 -- A past to which nothing came is the same.
-use Rattle.std.proofs.Common.{◌≡◌, ℕ, List, [], ◌∷◌, ◌++◌, map, length, refl, sym, ap, ◌∙◌, arith, length-append, length-map}
-use Rattle.std.proofs.lemmas.List.{append-nil, append_cancel_left}
+use Rattle.std.proofs.Common.{◌≡◌, ℕ, List, [], ◌∷◌, ◌++◌, map, length, refl, sym, ap, ◌∙◌, arith, length-append}
+use Rattle.std.proofs.lemmas.List.{append-nil, append_cancel_left, length-map}
 use Rattle.sql_tree.specs.declared.table.Table.{Table}
 use Rattle.history_core.specs.declared.event.Event.{Event}
 use Rattle.history_core.specs.Events.{names}
@@ -13,14 +13,14 @@ nothing_added xs ys same = append_cancel_left xs ys [] (sym same ∙ sym (append
 
 none_of_none : {X : Type 0} (xs : List X) → length xs ≡ 0 → xs ≡ []
 none_of_none [] none = refl
-none_of_none (x ∷ xs) none = absurd (omega arith)
+none_of_none (x ∷ xs) none = absurd (omega (arith, none))
 
 names_of : List Table → List (List ℕ)
 names_of tables = map (λ t. t.name) tables
 
 -- as many names, as many tables
 as_many : (xs ys : List Table) → names_of (xs ++ ys) ≡ names_of xs → ys ≡ []
-as_many xs ys same = none_of_none ys (omega (arith, sym (length-map (λ t. t.name) (xs ++ ys)) ∙ ap length same ∙ length-map (λ t. t.name) xs, length-append xs ys))
+as_many xs ys same = none_of_none ys (omega (arith, sym (length-map (xs ++ ys) (λ (t : Table). t.name)) ∙ ap length same ∙ length-map xs (λ (t : Table). t.name), length-append xs ys))
 
 pub same_past : (old new : Past) → IsLegalChronicle old.seen → IsLegalChronicle new.seen → GoesOn old new → OwnsAllThatComes old new → new ≡ old
 same_past old new legal_old legal_new goes owns =

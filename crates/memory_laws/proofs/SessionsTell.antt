@@ -1,5 +1,5 @@
 -- What a session tells behind the answers whose effect has to be told.
-use Rattle.std.proofs.Common.{◌≡◌, ◌≢◌, Bool, true, false, ℕ, List, [], ◌∷◌, ◌++◌, length, refl, sym, ap, subst, ◌∙◌, arith}
+use Rattle.std.proofs.Common.{◌≡◌, ◌≢◌, ◌≤◌, ◌==◌, Bool, true, false, cond, ℕ, List, [], ◌∷◌, ◌++◌, length, refl, sym, ap, subst, ◌∙◌, arith}
 use Rattle.cell_base.specs.declared.sql_state.SqlState.{SqlState}
 use Rattle.cell_base.specs.declared.sql_state.SqlState.TheVariants as states
 use Rattle.cell_base.specs.declared.level.Level.{Level}
@@ -10,7 +10,7 @@ use Rattle.pg_framing.specs.declared.replies.TransactionState.TheVariants as blo
 use Rattle.block_machine.specs.Calls.{Call}
 use Rattle.block_machine.specs.Calls as calls
 use Rattle.block_machine.specs.Knowledge.{Knowledge, at_start}
-use Rattle.block_machine.specs.Script.{Entry, did, refused, short, unsent, stop, Said, Next, more, call, ended, astray, Script}
+use Rattle.block_machine.specs.Script.{Entry, did, refused, short, unsent, stop, Said, Next, more, call, ended, astray, with_bytes, unless_unsent, Script}
 use Rattle.block_machine.specs.Messages.{owed_between, block_at, message as told_message}
 use Rattle.block_machine.specs.declared.block.Owed.{Owed}
 use Rattle.block_machine.specs.declared.block.Owed.TheVariants as owes
@@ -26,7 +26,7 @@ use Rattle.session_core.specs.Replies.{no_encryption, startup_reply, fatal_reply
 use Rattle.session_core.specs.Told as told
 use Rattle.session_core.specs.Told.{outside_of, owed_by, stop_end, refusal_end, told as told_is}
 use Rattle.memory_laws.specs.Telling.{HasToBeTold, IsToldWithin}
-use Rattle.memory_laws.proofs.Scripts.{IsTold, Adds, Fit, adds_none, no_call, lost_fits, ask_fits, quiet_fits, tell_fits, short_fits, next_call_replies, opened_fits}
+use Rattle.memory_laws.proofs.Scripts.{Later, lack, ends_with, entries_of, IsTold, Adds, Fit, Over, adds_none, no_call, not_a_call, lost_fits, ask_fits, quiet_fits, tell_fits, short_fits, last_call_replies, opened_fits}
 use Rattle.memory_laws.proofs.StatementsTell.{fails}
 use Rattle.memory_laws.proofs.MessagesTell.{Encloses, readied, message}
 
@@ -36,16 +36,74 @@ done_adds : (end : End) (said : Said) (entries : List Entry) → Adds said.bytes
 done_adds end said [] = adds_none said.bytes
 done_adds end said (e ∷ entries) = adds_none said.bytes
 
-done_tells : (end : End) (said : Said) (before : List Entry) (asked : Said) (c : Call) (a : Answer) (e : Event) (entries : List Entry) → HasToBeTold c a →
-    told.done end said before ≡ (asked, call c) → IsTold c asked.bytes entries (told.done end said (before ++ did a e ∷ entries))
-done_tells end said [] asked c a e entries has is = no_call said asked (ended end) c _ (λ same. omega (arith, same)) is
-done_tells end said (f ∷ before) asked c a e entries has is = no_call said asked astray c _ (λ same. omega (arith, same)) is
+done_tells : (end : End) (said : Said) (before : List Entry) (asked : Said) (c : Call) (a : Answer) (e : Event) (later : Later) → HasToBeTold c a →
+    told.done end said before ≡ (asked, call c) → IsTold c asked.bytes later (told.done end said (before ++ did a e ∷ entries_of later))
+done_tells end said [] asked c a e later has is = no_call said asked (ended end) c _ (λ same. omega (arith, same)) is
+done_tells end said (f ∷ before) asked c a e later has is = no_call said asked astray c _ (λ same. omega (arith, same)) is
+
+done_deaf : (end : End) (said : Said) (before : List Entry) (final : Bool) (n : ℕ) (after : List Entry) →
+    (told.done end said (before ++ short final n ∷ after)).1 ≡ astray
+done_deaf end said [] final n after = refl
+done_deaf end said (e ∷ before) final n after = refl
+
+done_asks : (end : End) (said : Said) (entries : List Entry) (further : Call) → (told.done end said entries).1 ≡ call further → ⊥
+done_asks end said [] further is = not_a_call (ended end) further (λ same. omega (arith, same)) is
+done_asks end said (e ∷ entries) further is = not_a_call astray further (λ same. omega (arith, same)) is
+
+done_over : (end : End) → Over (told.done end)
+done_over end = record { deaf = done_deaf end; asks_none = done_asks end }
 
 done_fits : (end : End) → Fit (told.done end)
-done_fits end = record { adds = done_adds end; late = λ said final n entries not. absurd (not refl); tells = done_tells end }
+done_fits end = record { adds = done_adds end; late = λ said before final n after not. absurd (not (done_deaf end said before final n after)); tells = done_tells end }
 
 fatal_fits : (state : SqlState) (end : End) → Fit (told.fatal state end)
 fatal_fits state end = tell_fits (fatal_reply state) (told.done ends.WriteFault) (told.done end) (done_fits ends.WriteFault) (done_fits end)
+
+-- a last reply
+fatal_deaf : (k : ℕ) (end : End) (said : Said) (before : List Entry) (final : Bool) (n : ℕ) (after : List Entry) →
+    (unless_unsent k (told.done ends.WriteFault) (told.done end) said (before ++ short final n ∷ after)).1 ≡ astray
+fatal_deaf k end said [] final n after = refl
+fatal_deaf k end said (did a e ∷ before) final n after = refl
+fatal_deaf k end said (refused why ∷ before) final n after = refl
+fatal_deaf k end said (short heard m ∷ before) final n after = refl
+fatal_deaf k end said (unsent m ∷ before) final n after = both (m == k)
+  where
+    both : (b : Bool) → (cond b (told.done ends.WriteFault said (before ++ short final n ∷ after))
+        (told.done end said (unsent m ∷ (before ++ short final n ∷ after)))).1 ≡ astray
+    both true = done_deaf ends.WriteFault said before final n after
+    both false = refl
+fatal_deaf k end said (stop cause ∷ before) final n after = refl
+
+fatal_asks : (k : ℕ) (end : End) (said : Said) (entries : List Entry) (further : Call) →
+    (unless_unsent k (told.done ends.WriteFault) (told.done end) said entries).1 ≡ call further → ⊥
+fatal_asks k end said [] further is = done_asks end said [] further is
+fatal_asks k end said (did a e ∷ entries) further is = done_asks end said (did a e ∷ entries) further is
+fatal_asks k end said (refused why ∷ entries) further is = done_asks end said (refused why ∷ entries) further is
+fatal_asks k end said (short heard m ∷ entries) further is = done_asks end said (short heard m ∷ entries) further is
+fatal_asks k end said (unsent m ∷ entries) further is = both (m == k) is
+  where
+    both : (b : Bool) → (cond b (told.done ends.WriteFault said entries) (told.done end said (unsent m ∷ entries))).1 ≡ call further → ⊥
+    both true one = done_asks ends.WriteFault said entries further one
+    both false other = done_asks end said (unsent m ∷ entries) further other
+fatal_asks k end said (stop cause ∷ entries) further is = done_asks end said (stop cause ∷ entries) further is
+
+fatal_over : (state : SqlState) (end : End) → Over (told.fatal state end)
+fatal_over state end = record {
+  deaf = λ said before final n after. fatal_deaf (length said.bytes) end (with_bytes said (fatal_reply state)) before final n after;
+  asks_none = λ said entries further is. fatal_asks (length said.bytes) end (with_bytes said (fatal_reply state)) entries further is;
+}
+
+closed_over : (end : End) → Over (told.closed end)
+closed_over (ends.Protocol fault) = fatal_over states.S08P01 (ends.Protocol fault)
+closed_over (ends.Refused state) = fatal_over state (ends.Refused state)
+closed_over ends.Spent = fatal_over states.S54000 ends.Spent
+closed_over ends.Terminated = done_over ends.Terminated
+closed_over ends.Closed = done_over ends.Closed
+closed_over ends.Cut = done_over ends.Cut
+closed_over ends.Cancelled = done_over ends.Cancelled
+closed_over ends.ReadFault = done_over ends.ReadFault
+closed_over ends.WriteFault = done_over ends.WriteFault
+closed_over ends.Memory = done_over ends.Memory
 
 closed_fits : (end : End) → Fit (told.closed end)
 closed_fits (ends.Protocol fault) = fatal_fits states.S08P01 (ends.Protocol fault)
@@ -68,7 +126,7 @@ ending_fits owes.Nothing end = closed_fits end
 ending_fits owes.Close end = closing_fits end
 ending_fits owes.Rollback end =
     ask_fits calls.Rollback (λ _. told.closing end) (λ a. closing_fits end)
-    (λ a has. next_call_replies calls.Rollback calls.Close (λ _. told.closed end) (λ may. may))
+    (λ a has. last_call_replies calls.Rollback calls.Close (told.closed end) (closed_over end) (λ may. may))
 
 broken_fits : (owed : Owed) → Fit (told.broken owed)
 broken_fits owed = ending_fits owed ends.WriteFault
@@ -145,21 +203,31 @@ waiting_adds phase held said (refused why ∷ entries) = adds_none said.bytes
 waiting_adds phase held said (short final n ∷ entries) = adds_none said.bytes
 waiting_adds phase held said (unsent n ∷ entries) = adds_none said.bytes
 
-waiting_tells : (phase : Phase) (held : ℕ) (said : Said) (before : List Entry) (asked : Said) (c : Call) (a : Answer) (e : Event) (entries : List Entry) →
+waiting_late : (phase : Phase) (held : ℕ) (said : Said) (before : List Entry) (final : Bool) (n : ℕ) (after : List Entry) →
+    (told.waiting phase held said (before ++ short final n ∷ after)).1 ≢ astray → length said.bytes ≤ n
+waiting_late phase held said [] final n after not = absurd (not refl)
+waiting_late phase held said (stop cause ∷ before) final n after not =
+    (ending_fits (owed_by phase) (stop_end cause held)).late said before final n after not
+waiting_late phase held said (did b f ∷ before) final n after not = absurd (not refl)
+waiting_late phase held said (refused why ∷ before) final n after not = absurd (not refl)
+waiting_late phase held said (short heard m ∷ before) final n after not = absurd (not refl)
+waiting_late phase held said (unsent m ∷ before) final n after not = absurd (not refl)
+
+waiting_tells : (phase : Phase) (held : ℕ) (said : Said) (before : List Entry) (asked : Said) (c : Call) (a : Answer) (e : Event) (later : Later) →
     HasToBeTold c a → told.waiting phase held said before ≡ (asked, call c) →
-    IsTold c asked.bytes entries (told.waiting phase held said (before ++ did a e ∷ entries))
-waiting_tells phase held said [] asked c a e entries has is = no_call said asked more c _ (λ same. omega (arith, same)) is
-waiting_tells phase held said (stop cause ∷ before) asked c a e entries has is =
-    (ending_fits (owed_by phase) (stop_end cause held)).tells said before asked c a e entries has is
-waiting_tells phase held said (did b f ∷ before) asked c a e entries has is = no_call said asked astray c _ (λ same. omega (arith, same)) is
-waiting_tells phase held said (refused why ∷ before) asked c a e entries has is = no_call said asked astray c _ (λ same. omega (arith, same)) is
-waiting_tells phase held said (short final n ∷ before) asked c a e entries has is = no_call said asked astray c _ (λ same. omega (arith, same)) is
-waiting_tells phase held said (unsent n ∷ before) asked c a e entries has is = no_call said asked astray c _ (λ same. omega (arith, same)) is
+    IsTold c asked.bytes later (told.waiting phase held said (before ++ did a e ∷ entries_of later))
+waiting_tells phase held said [] asked c a e later has is = no_call said asked more c _ (λ same. omega (arith, same)) is
+waiting_tells phase held said (stop cause ∷ before) asked c a e later has is =
+    (ending_fits (owed_by phase) (stop_end cause held)).tells said before asked c a e later has is
+waiting_tells phase held said (did b f ∷ before) asked c a e later has is = no_call said asked astray c _ (λ same. omega (arith, same)) is
+waiting_tells phase held said (refused why ∷ before) asked c a e later has is = no_call said asked astray c _ (λ same. omega (arith, same)) is
+waiting_tells phase held said (short final n ∷ before) asked c a e later has is = no_call said asked astray c _ (λ same. omega (arith, same)) is
+waiting_tells phase held said (unsent n ∷ before) asked c a e later has is = no_call said asked astray c _ (λ same. omega (arith, same)) is
 
 waiting_fits : (phase : Phase) (held : ℕ) → Fit (told.waiting phase held)
 waiting_fits phase held = record {
   adds = waiting_adds phase held;
-  late = λ said final n entries not. absurd (not refl);
+  late = waiting_late phase held;
   tells = waiting_tells phase held;
 }
 
@@ -173,22 +241,22 @@ session unread phase known = unless_memory_ends phase _ lost_fits
 
 -- ---- what is told
 
-told_so : (level : Level) (requests : Requests) (before : List Entry) (c : Call) (a : Answer) (e : Event) (entries : List Entry) (asked : Said) →
-    HasToBeTold c a → told_is level requests before ≡ (asked, call c) → IsTold c asked.bytes entries (told_is level requests (before ++ did a e ∷ entries))
+told_so : (level : Level) (requests : Requests) (before : List Entry) (c : Call) (a : Answer) (e : Event) (later : Later) (asked : Said) →
+    HasToBeTold c a → told_is level requests before ≡ (asked, call c) → IsTold c asked.bytes later (told_is level requests (before ++ did a e ∷ entries_of later))
 unfolding told_is
-told_so level requests before c a e entries asked has is =
-    (session requests phases.Startup (at_start level)).tells (record { bytes = []; calls = [] }) before asked c a e entries has is
+told_so level requests before c a e later asked has is =
+    (session requests phases.Startup (at_start level)).tells (record { bytes = []; calls = [] }) before asked c a e later has is
 
-pub before_lacks : (level : Level) (requests : Requests) (before after : List Entry) (c : Call) (a : Answer) (e : Event) (final : Bool) (n : ℕ)
+pub before_lacks : (level : Level) (requests : Requests) (before between after : List Entry) (c : Call) (a : Answer) (e : Event) (final : Bool) (n : ℕ)
     (asked said : Said) (next : Next) → HasToBeTold c a → told_is level requests before ≡ (asked, call c) →
-    told_is level requests (before ++ did a e ∷ short final n ∷ after) ≡ (said, next) → next ≢ astray → IsToldWithin c asked.bytes n said.bytes
-before_lacks level requests before after c a e final n asked said next has at is not =
+    told_is level requests (before ++ did a e ∷ (between ++ short final n ∷ after)) ≡ (said, next) → next ≢ astray → IsToldWithin c asked.bytes n said.bytes
+before_lacks level requests before between after c a e final n asked said next has at is not =
     subst (λ (x : Said × Next). x.1 ≢ astray → IsToldWithin c asked.bytes n x.0.bytes) is
-    (told_so level requests before c a e (short final n ∷ after) asked has at) not
+    (told_so level requests before c a e (lack between final n after) asked has at) not
 
-pub before_refusals : (level : Level) (requests : Requests) (before : List Entry) (c further : Call) (a : Answer) (e : Event) (asked said : Said) →
+pub before_refusals : (level : Level) (requests : Requests) (before between : List Entry) (c further : Call) (a : Answer) (e : Event) (asked said : Said) →
     HasToBeTold c a → may_be_refused further → told_is level requests before ≡ (asked, call c) →
-    told_is level requests (before ++ did a e ∷ []) ≡ (said, call further) → IsToldWithin c asked.bytes (length said.bytes) said.bytes
-before_refusals level requests before c further a e asked said has may at is =
+    told_is level requests (before ++ did a e ∷ between) ≡ (said, call further) → IsToldWithin c asked.bytes (length said.bytes) said.bytes
+before_refusals level requests before between c further a e asked said has may at is =
     subst (λ (x : Said × Next). x.1 ≡ call further → IsToldWithin c asked.bytes (length x.0.bytes) x.0.bytes) is
-    (λ same. told_so level requests before c a e [] asked has at further same may) refl
+    (λ same. told_so level requests before c a e (ends_with between) asked has at further same may) refl

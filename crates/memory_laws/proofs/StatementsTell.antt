@@ -56,10 +56,10 @@ pub fails : (around : Around) → Surrounds around → (code : SqlState) (block 
 fails around h code (Implicit false) known = refused_with around h code ready.Idle known
 fails around h code (Implicit true) known =
     ask_fits calls.Rollback (λ _. told.refused_with code ready.Idle known around) (λ a. refused_with around h code ready.Idle known)
-    (λ a has. tell_replies calls.Rollback (error_reply code) (around.broken owes.Close) (around.failed ready.Idle known) (inr (inr (code, refl))) (h.failed ready.Idle known))
+    (λ a has. tell_replies calls.Rollback (error_reply code) (around.broken owes.Close) (around.failed ready.Idle known) (inr (inr (code, refl))) (h.broken owes.Close) (h.failed ready.Idle known))
 fails around h code Regular known =
     ask_fits calls.Rollback (λ _. told.refused_with code ready.Failed known around) (λ a. refused_with around h code ready.Failed known)
-    (λ a has. tell_replies calls.Rollback (error_reply code) (around.broken owes.Close) (around.failed ready.Failed known) (inr (inr (code, refl))) (h.failed ready.Failed known))
+    (λ a has. tell_replies calls.Rollback (error_reply code) (around.broken owes.Close) (around.failed ready.Failed known) (inr (inr (code, refl))) (h.broken owes.Close) (h.failed ready.Failed known))
 fails around h code Failed known = refused_with around h code ready.Failed known
 
 declined : (around : Around) → Surrounds around → (block : Block) (known : Knowledge) (why : BookFault) →
@@ -88,18 +88,18 @@ commits : (around : Around) → Surrounds around → (block : Block) (known : Kn
 commits around h (Implicit false) known = succeeds around h needless_commit_reply (Implicit false) known
 commits around h (Implicit true) known =
     ask_fits calls.Commit _ (λ a. succeeds around h needless_commit_reply (Implicit false) known)
-    (λ a has. tell_replies calls.Commit needless_commit_reply (around.broken owes.Close) (around.succeeded (Implicit false) known) (inr (inl refl)) (h.succeeded (Implicit false) known))
+    (λ a has. tell_replies calls.Commit needless_commit_reply (around.broken owes.Close) (around.succeeded (Implicit false) known) (inr (inl refl)) (h.broken owes.Close) (h.succeeded (Implicit false) known))
 commits around h Regular known = ask_fits calls.Commit _ (λ a. succeeds around h commit_reply (Implicit false) known)
-    (λ a has. tell_replies calls.Commit commit_reply (around.broken owes.Close) (around.succeeded (Implicit false) known) (inl refl) (h.succeeded (Implicit false) known))
+    (λ a has. tell_replies calls.Commit commit_reply (around.broken owes.Close) (around.succeeded (Implicit false) known) (inl refl) (h.broken owes.Close) (h.succeeded (Implicit false) known))
 commits around h Failed known = succeeds around h rollback_reply (Implicit false) known
 
 rolls_back : (around : Around) → Surrounds around → (block : Block) (known : Knowledge) → Fit (told.rolls_back block known around)
 rolls_back around h (Implicit false) known = succeeds around h needless_rollback_reply (Implicit false) known
 rolls_back around h (Implicit true) known =
     ask_fits calls.Rollback _ (λ a. succeeds around h needless_rollback_reply (Implicit false) known)
-    (λ a has. tell_replies calls.Rollback needless_rollback_reply (around.broken owes.Close) (around.succeeded (Implicit false) known) (inr (inl refl)) (h.succeeded (Implicit false) known))
+    (λ a has. tell_replies calls.Rollback needless_rollback_reply (around.broken owes.Close) (around.succeeded (Implicit false) known) (inr (inl refl)) (h.broken owes.Close) (h.succeeded (Implicit false) known))
 rolls_back around h Regular known = ask_fits calls.Rollback _ (λ a. succeeds around h rollback_reply (Implicit false) known)
-    (λ a has. tell_replies calls.Rollback rollback_reply (around.broken owes.Close) (around.succeeded (Implicit false) known) (inl refl) (h.succeeded (Implicit false) known))
+    (λ a has. tell_replies calls.Rollback rollback_reply (around.broken owes.Close) (around.succeeded (Implicit false) known) (inl refl) (h.broken owes.Close) (h.succeeded (Implicit false) known))
 rolls_back around h Failed known = succeeds around h rollback_reply (Implicit false) known
 
 -- ---- CREATE TABLE
@@ -113,7 +113,7 @@ defines around h (Ok table) block known =
     (succeeds around h created_reply block known) (fails around h states.S42P07 block known)
     (λ why. declined around h block known why))
     (defined_replies table (told.succeeds created_reply block known around) (told.fails states.S42P07 block known around) (told.declined block known around)
-    (tell_replies (calls.Define table) created_reply (around.broken (owed_in block)) (around.succeeded block known) refl (h.succeeded block known)))
+    (tell_replies (calls.Define table) created_reply (around.broken (owed_in block)) (around.succeeded block known) refl (h.broken (owed_in block)) (h.succeeded block known)))
 
 -- ---- SELECT, INSERT, UPDATE, DELETE
 

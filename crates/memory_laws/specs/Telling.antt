@@ -1,4 +1,4 @@
--- What stands between a call whose effect lasts and the next lack of memory: the reply that tells it.
+-- What stands between a call whose effect lasts and a lack of memory behind it: the reply that tells it.
 use Rattle.std.specs.Prelude.{◌≡◌, ◌≢◌, ◌⊎◌, ◌≤◌, ℕ, List, [], ◌∷◌, ◌++◌, length, Bool}
 use Rattle.cell_base.specs.declared.level.Level.{Level}
 use Rattle.cell_base.specs.declared.sql_state.SqlState.{SqlState}
@@ -38,22 +38,22 @@ pub record IsToldWithin (c : Call) (before : List ℕ) (n : ℕ) (whole : List �
   pub whole_is : whole ≡ before ++ (reply ++ behind)
   pub within : length (before ++ reply) ≤ n
 
--- Where a session's record has a lack of memory of the session's own right behind the answer of such a call, the reply had been told by then:
--- it stands within the bytes that the lack says were told.
+-- Where a session's record has a lack of memory of the session's own anywhere behind the answer of such a call, the reply had been told by
+-- then: it stands within the bytes that the lack says were told.
 abbrev pub RepliesComeBeforeLacks : Type 0
 RepliesComeBeforeLacks =
-    (level : Level) (requests : Requests) (before after : List Entry) (c : Call) (answer : Answer) (event : Event) (final : Bool) (n : ℕ)
+    (level : Level) (requests : Requests) (before between after : List Entry) (c : Call) (answer : Answer) (event : Event) (final : Bool) (n : ℕ)
     (asked said : Said) (next : Next) → HasToBeTold c answer
     → told level requests before ≡ (asked, call c)
-    → told level requests (before ++ did answer event ∷ short final n ∷ after) ≡ (said, next) → next ≢ astray
+    → told level requests (before ++ did answer event ∷ (between ++ short final n ∷ after)) ≡ (said, next) → next ≢ astray
     → IsToldWithin c asked.bytes n said.bytes
 
--- Where such an answer is the last entry, and the next call may be refused, the reply is told before that call is asked. So no lack of memory of
--- the book stands between them.
+-- Where a call that may be refused is asked anywhere behind such an answer, the reply had been told before. So no lack of memory of the book
+-- stands between them.
 abbrev pub RepliesComeBeforeRefusals : Type 0
 RepliesComeBeforeRefusals =
-    (level : Level) (requests : Requests) (before : List Entry) (c further : Call) (answer : Answer) (event : Event) (asked said : Said)
+    (level : Level) (requests : Requests) (before between : List Entry) (c further : Call) (answer : Answer) (event : Event) (asked said : Said)
     → HasToBeTold c answer → may_be_refused further
     → told level requests before ≡ (asked, call c)
-    → told level requests (before ++ did answer event ∷ []) ≡ (said, call further)
+    → told level requests (before ++ did answer event ∷ between) ≡ (said, call further)
     → IsToldWithin c asked.bytes (length said.bytes) said.bytes
