@@ -15,7 +15,7 @@ none_of_none : {X : Type 0} (xs : List X) → length xs ≡ 0 → xs ≡ []
 none_of_none [] none = refl
 none_of_none (x ∷ xs) none = absurd (omega (arith, none))
 
-names_of : List Table → List (List ℕ)
+abbrev names_of : List Table → List (List ℕ)
 names_of tables = map (λ t. t.name) tables
 
 -- as many names, as many tables

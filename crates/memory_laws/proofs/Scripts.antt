@@ -99,7 +99,7 @@ call_of other (call c) = c
 call_of other (ended end) = other
 call_of other astray = other
 
-pub no_call : (said asked : Said) (next : Next) (c : Call) (A : Type 0) → place_of next ≢ 1 → (said, next) ≡ (asked, call c) → A
+pub no_call : (said asked : Said) (next : Next) (c : Call) (A : Type 0) → place_of next ≢ 1 → ◌≡◌ {A = Said × Next} (said, next) (asked, call c) → A
 no_call said asked next c A not is = absurd (not (ap (λ (x : Said × Next). place_of x.1) is))
 
 pub not_a_call : (next : Next) (c : Call) → place_of next ≢ 1 → next ≡ call c → ⊥
@@ -110,7 +110,7 @@ not_a_call next c not is = not (ap place_of is)
 pub lost_fits : Fit lost
 lost_fits = record {
   adds = λ said entries. adds_none said.bytes;
-  late = λ said final n entries not. absurd (not refl);
+  late = λ said before final n after not. absurd (not refl);
   tells = λ said before asked c a e later has is. no_call said asked astray c _ (λ same. omega (arith, same)) is;
 }
 
