@@ -7,7 +7,7 @@ use Rattle.cell_base.specs.declared.value.Value.{Value}
 use Rattle.sql_tree.specs.declared.table.Table.{Table}
 use Rattle.history_core.specs.declared.event.Event.{Event}
 use Rattle.history_core.specs.Events.{names}
-use Rattle.history_core.specs.Chronicle.{Chronicle, IsLegalChronicle}
+use Rattle.history_core.specs.Chronicle.{IsLegalChronicle}
 use Rattle.history_core.specs.Book.{Past, SessionState, GoesOn}
 use Rattle.valid_writes.specs.Owning.{OwnsAllThatComes}
 
@@ -47,10 +47,13 @@ same_past old new legal_old legal_new goes owns =
   where
     none : owns.added ≡ []
     none = nothing_added old.own owns.added (sym goes.own ∙ owns.own)
+
     events_same : new.seen.events ≡ old.seen.events
     events_same = owns.seen ∙ ap (λ (es : List Event). old.seen.events ++ es) none ∙ append-nil old.seen.events
+
     no_more : goes.more ≡ []
     no_more = as_many old.seen.tables goes.more
         (ap names_of (sym goes.tables) ∙ legal_new.tables.named ∙ ap names events_same ∙ sym legal_old.tables.named)
+
     tables_same : new.seen.tables ≡ old.seen.tables
     tables_same = goes.tables ∙ ap (λ (ts : List Table). old.seen.tables ++ ts) no_more ∙ append-nil old.seen.tables

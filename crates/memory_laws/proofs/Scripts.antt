@@ -192,8 +192,11 @@ pub tell_fits : (bytes : List ℕ) (fault rest : Script) → Fit fault → Fit r
 tell_fits bytes fault rest bad good = record {
   adds = λ said entries. adds_behind said.bytes bytes _ (unsent_adds (length said.bytes) fault rest bad good (with_bytes said bytes) entries);
   late = λ said before final n after not.
-      omega (arith, length-append said.bytes bytes,
-      unsent_late (length said.bytes) fault rest bad good (with_bytes said bytes) before final n after not);
+      omega (
+        arith,
+        length-append said.bytes bytes,
+        unsent_late (length said.bytes) fault rest bad good (with_bytes said bytes) before final n after not,
+      );
   tells = λ said before asked c a e later has is.
       unsent_tells (length said.bytes) fault rest bad good (with_bytes said bytes) before asked c a e later has is;
 }
