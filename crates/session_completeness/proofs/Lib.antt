@@ -1,0 +1,5 @@
+pub mod Following
+pub mod Hearing
+pub mod TurnedAway
+pub mod Complete
+pub mod Replied
