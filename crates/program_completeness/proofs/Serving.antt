@@ -18,7 +18,12 @@ use Rattle.host_calls.specs.declared.writing.WriteFault.{WriteFault}
 use Rattle.host_calls.specs.declared.writing.WriteFault.TheVariants as writes
 use Rattle.log_file.specs.Logging.{Logs, LogWritten, LogUnwritten, LogsAndPrints, status_after}
 use Rattle.doors.specs.Network.{Networked}
+use Rattle.command_line.specs.Commands.{IsServe}
+use Rattle.command_line.specs.declared.reading.CommandLine.{CommandLine}
+use Rattle.command_line.specs.declared.reading.CommandLine.TheVariants as lines
 use Rattle.command_line.specs.declared.serve.ServeOptions.{ServeOptions}
+use Rattle.command_line.proofs.OneCommand.{one_command}
+use Rattle.monkey_server.specs.Program.{Obeys, Does}
 use Rattle.setup_client.specs.Client.{most_text}
 use Rattle.setup_session.specs.declared.fault.SetupFault.TheVariants as setups
 use Rattle.serve_command.specs.declared.start.StartFault.{StartFault}
@@ -26,20 +31,15 @@ use Rattle.serve_command.specs.declared.start.StartFault.TheVariants as starts
 use Rattle.serve_command.specs.Starting.{StartsBy, SetUp, Unstarted, status_of_start}
 use Rattle.serve_command.specs.Parts.{worst_of}
 use Rattle.serve_command.specs.Serving.{status_of, Ends, Served, StoodBack, GoesOn, Started, Serves}
-use Rattle.program_completeness.specs.Programs.{CountsFault, unopened, unaccepted, no_setup, unread, no_log, unwritten, unprinted, BlamesSetup, ServersAreComplete}
+use Rattle.program_completeness.specs.Programs.{CountsFault, unopened, unaccepted, no_setup, unread, no_log, unwritten, unprinted, AnswersWell, ServersAreComplete, ServeRunsAreComplete}
 use Rattle.program_completeness.proofs.Counting.{one_more, last_in}
 use Rattle.program_completeness.proofs.Doors.{some_failed}
-
--- what is said of the status
-abbrev Answers : ServeOptions → Networked → Hosted → ℕ → Networked → Hosted → Type 0
-Answers options before host_before code after host_after =
-    ((code ≡ 0) ⊎ (code ≡ 5)) ⊎ (CountsFault before after host_before host_after ⊎ BlamesSetup options code)
 
 -- ---- a server that didn't start
 
 unstarted : (options : ServeOptions) (before : Networked) (host_before : Hosted) (code : ℕ) (after : Networked) (host_after : Hosted) (path : Option (List ℕ)) →
     options.setup ≡ path → (fault : StartFault) → Unstarted path options.level host_before fault host_after → code ≡ status_of_start fault →
-    Answers options before host_before code after host_after
+    AnswersWell options before host_before code after host_after
 unstarted options before host_before code after host_after None setup starts.Memory un is = inl (inr is)
 unstarted options before host_before code after host_after None setup (starts.File fault) un is = absurd un
 unstarted options before host_before code after host_after None setup (starts.Setup fault) un is = absurd un
@@ -119,7 +119,7 @@ ended before host_before start between code printed_code after host_after line h
 
 served : (options : ServeOptions) (before : Networked) (host_before start : Hosted) (code end_code : ℕ) (after : Networked) (host_after : Hosted) (history : Chronicle)
     (worst : Option HostFault) → IsKept host_before start → Ends options history start end_code host_after → code ≡ status_of worst end_code →
-    (worst ≡ Some lacks.Failed → CountsFault before after host_before host_after) → Answers options before host_before code after host_after
+    (worst ≡ Some lacks.Failed → CountsFault before after host_before host_after) → AnswersWell options before host_before code after host_after
 served options before host_before start code end_code after host_after history None kept (inl all) is failed =
     elim (ended before host_before start all.between end_code all.printed_code after host_after _ history options.log all.fault kept all.logs all.printed all.code_is) [
     | inl good ↦ elim good [ inl zero ↦ inl (inl (is ∙ zero)) | inr five ↦ inl (inr (is ∙ five)) ]
@@ -130,7 +130,7 @@ served options before host_before start code end_code after host_after history (
 served options before host_before start code end_code after host_after history (Some lacks.Failed) kept all is failed = inr (inl (failed refl))
 
 goes_on : (options : ServeOptions) (before : Networked) (host_before start : Hosted) (code : ℕ) (after : Networked) (host_after : Hosted) (history : Chronicle) →
-    IsKept host_before start → GoesOn options history before start code after host_after → Answers options before host_before code after host_after
+    IsKept host_before start → GoesOn options history before start code after host_after → AnswersWell options before host_before code after host_after
 goes_on options before host_before start code after host_after history kept (inl none) = inl (inr none.0)
 goes_on options before host_before start code after host_after history kept (inr (inl closed)) =
     inr (inl (unopened (one_more before.faults after.faults (ap (λ (n : Networked). n.faults) closed.1))))
@@ -148,3 +148,9 @@ serves options before host_before code after host_after (inl back) =
 serves options before host_before code after host_after (inr started) =
     goes_on options before host_before started.between code after host_after started.start
     (kept_start options.setup options.level host_before started.start started.between started.starts) started.goes_on
+
+pub runs : ServeRunsAreComplete
+runs args options before host_before code after host_after is (inl (line, line_is, obeys)) =
+    let same : line ≡ lines.Serve options = one_command args line (lines.Serve options) line_is is in
+    serves options before host_before code after host_after (subst (λ (l : CommandLine). Obeys l before host_before code after host_after) same obeys)
+runs args options before host_before code after host_after is (inr untouched) = inl (inr untouched.0.0)

@@ -7,7 +7,7 @@ use Rattle.link_traits.specs.Host.{Hosted, open_file_called, make_file_called, l
 use Rattle.doors.specs.Passage.{Passage}
 use Rattle.doors.specs.Network.{Networked}
 use Rattle.block_machine.specs.declared.end.End.{End}
-use Rattle.command_line.specs.Commands.{IsPipe}
+use Rattle.command_line.specs.Commands.{IsPipe, IsServe}
 use Rattle.command_line.specs.declared.serve.ServeOptions.{ServeOptions}
 use Rattle.monkey_server.specs.Program.{Piped, Does}
 use Rattle.serve_command.specs.Serving.{Serves}
@@ -63,9 +63,19 @@ pub data CountsFault (before after : Networked) (host_before host_after : Hosted
 abbrev pub BlamesSetup : ServeOptions → ℕ → Type 0
 BlamesSetup options code = (path : List ℕ) × (options.setup ≡ Some path) × (code ≡ 1)
 
--- The status of `serve` is 0 or 5; or a fault was counted; or the setup is at fault.
+-- the status is 0 or 5; or a fault was counted; or the setup is at fault
+abbrev pub AnswersWell : ServeOptions → Networked → Hosted → ℕ → Networked → Hosted → Type 0
+AnswersWell options before host_before code after host_after =
+    ((code ≡ 0) ⊎ (code ≡ 5)) ⊎ (CountsFault before after host_before host_after ⊎ BlamesSetup options code)
+
+-- so `serve` answers
 abbrev pub ServersAreComplete : Type 0
 ServersAreComplete =
     (options : ServeOptions) (before : Networked) (host_before : Hosted) (code : ℕ) (after : Networked) (host_after : Hosted)
-    → Serves options before host_before code after host_after
-    → ((code ≡ 0) ⊎ (code ≡ 5)) ⊎ (CountsFault before after host_before host_after ⊎ BlamesSetup options code)
+    → Serves options before host_before code after host_after → AnswersWell options before host_before code after host_after
+
+-- and so does the program with the words `serve` and its options
+abbrev pub ServeRunsAreComplete : Type 0
+ServeRunsAreComplete =
+    (args : List (List ℕ)) (options : ServeOptions) (before : Networked) (host_before : Hosted) (code : ℕ) (after : Networked) (host_after : Hosted)
+    → IsServe args options → Does args before host_before code after host_after → AnswersWell options before host_before code after host_after

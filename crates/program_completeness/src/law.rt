@@ -1,6 +1,6 @@
 // What holds of the program where no fault is counted.
 ghost use Rattle.program_completeness.specs.Visits.{VisitsAreComplete};
-ghost use Rattle.program_completeness.specs.Programs.{PipedAreComplete, PipesAreComplete, ServersAreComplete};
+ghost use Rattle.program_completeness.specs.Programs.{PipedAreComplete, PipesAreComplete, ServersAreComplete, ServeRunsAreComplete};
 
 use link_traits::Words;
 
@@ -19,7 +19,8 @@ pub fn visits_are_complete<W: Words>()
 {}
 
 /// The status of `serve` is 0 or 5; or the network, a door, the host, a file or the output counted a fault; or the setup that was asked for is at
-/// fault.
+/// fault. So it is of the whole program with the words `serve` and its options.
 pub fn servers_are_complete()
-    ensures { ServersAreComplete }
+    ensures serve { ServersAreComplete }
+    ensures program { ServeRunsAreComplete }
 {}
