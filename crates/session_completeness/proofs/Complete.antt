@@ -38,11 +38,11 @@ some_same : (old new : Traffic) → Some old ≡ Some new → old ≡ new
 some_same old new is = cc
 
 -- a link that told its bytes before tells them after
-carried : {R : Traffic → Traffic → Type 0} → (before after : Option Traffic) (old : Traffic) → before ≡ Some old → Both R before after →
+carried : (R : Traffic → Traffic → Type 0) → (before after : Option Traffic) (old : Traffic) → before ≡ Some old → Both R before after →
     (new : Traffic) × (after ≡ Some new) × R old new
-carried {R} None after old is both = absurd (none-some old is)
-carried {R} (Some t) None old is both = absurd both
-carried {R} (Some t) (Some new) old is both = (new, refl, subst (λ (x : Traffic). R x new) (some_same t old is) both)
+carried R None after old is both = absurd (none-some old is)
+carried R (Some t) None old is both = absurd both
+carried R (Some t) (Some new) old is both = (new, refl, subst (λ (x : Traffic). R x new) (some_same t old is) both)
 
 -- all was written, where nothing is lost
 written_whole : (level : Level) (account : Account) → account.lost ≡ [] → (before after : Option Traffic) → Both (Carries level account) before after →
@@ -123,9 +123,9 @@ by_end level end fronts bytes before after account requests past k ends.Memory b
 pub complete : {W : Type 0} → (gives : W → ℕ → W → Type 0) (level : Level) (before : Scene W) (outcome : Served) (after : Scene W) (account : Account)
     → (s : Serves gives level before outcome after account) → IsComplete gives level before outcome after account s
 complete {W} gives level before outcome after account s end bytes w u =
-    let went = carried before.link.traffic after.link.traffic u.traffic u.told s.carries in
+    let went = carried (Carries level account) before.link.traffic after.link.traffic u.traffic u.told s.carries in
     let whole : account.taken ++ went.0.left ≡ bytes = sym went.2.left ∙ u.left in
-    let known = record {
+    let known : Known level end (w.encryption ++ Startup w.pairs ∷ w.messages) bytes before.link after.link account s.requests after.past = record {
       left = went.0.left;
       whole = whole;
       follows = stream_follows end bytes account.taken went.0.left s.requests w whole s.requests_are;
@@ -137,9 +137,9 @@ complete {W} gives level before outcome after account s end bytes w u =
           let turned = told_turned level s.requests account.entries (record { bytes = account.sent; calls = account.calls }) is in
           turned_away gives account before.past after.past before.words after.words turned.opening turned.calls_are s.valid;
     } in
-    let ended = by_end level end (w.encryption ++ Startup w.pairs ∷ w.messages) bytes before.link after.link account s.requests after.past known outcome.end
+    let so = by_end level end (w.encryption ++ Startup w.pairs ∷ w.messages) bytes before.link after.link account s.requests after.past known outcome.end
         (told_ends level s.requests account.entries _ outcome.end s.told_is) s.lacks s.blames s.told_is in
-    (record { lost = ended.0; written = written_whole level account ended.0 before.link.traffic after.link.traffic s.carries }, ended.1)
+    (record { lost = so.0; written = written_whole level account so.0 before.link.traffic after.link.traffic s.carries }, so.1)
   where
     at_end : (traffic : Option Traffic) (new : Traffic) → traffic ≡ Some new → IsAtEnd traffic → new.left ≡ []
     at_end None new is end = absurd (none-some new is)

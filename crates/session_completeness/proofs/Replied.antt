@@ -54,9 +54,9 @@ replied reply _ end (rolled_back entry acts next) = refl
 
 told_so : (left : Course) (acts : List Act) (end : End) → IsFine acts → Ends described.Told left acts (ended end) →
     (outcome : Outcome) × (left ≡ done outcome) × AreToldNext (reply_for described.Told outcome) acts
-told_so _ acts end fine (finished outcome acts next replies) = (outcome, refl, replied (reply_for described.Told outcome) acts end replies)
-told_so left _ end fine (declined left entry why acts next cells refuses replies) = absurd (fine (inl (refusal_amiss entry why refuses)))
-told_so left _ end fine (short_of left n acts next replies) = absurd (fine (inl (inl tt)))
+told_so _ _ end fine (finished outcome acts next replies) = (outcome, refl, replied (reply_for described.Told outcome) acts end replies)
+told_so _ _ end fine (declined left entry why acts next cells refuses replies) = absurd (fine (inl (refusal_amiss entry why refuses)))
+told_so _ _ end fine (short_of left n acts next replies) = absurd (fine (inl (inl tt)))
 
 -- ---- all of them
 
@@ -76,6 +76,9 @@ parted (e ∷ entries) has = elim has [
   | inl one ↦ elim one [ inl lacks ↦ inl (inl lacks) | inr fills ↦ inr (inl fills) ]
   | inr other ↦ elim (parted entries other) [ inl lacks ↦ inl (inr lacks) | inr fills ↦ inr (inr fills) ]
 ]
+
+pub both_fine : (entries : List Entry) → ¬ (Has LacksMemory entries) → ¬ (Has IsFull entries) → Has IsAmiss entries → ⊥
+both_fine entries memory full has = elim (parted entries has) [ inl lacks ↦ memory lacks | inr fills ↦ full fills ]
 
 -- the record of acts and of what follows them
 pub record_fine : (acts : List Act) (entries rest : List Entry) → entries ≡ entries_of acts ++ rest → ¬ (Has LacksMemory entries) → ¬ (Has IsFull entries) → IsFine acts

@@ -12,7 +12,7 @@ use Rattle.block_machine.specs.Calls.{Call}
 use Rattle.block_machine.specs.Calls as calls
 use Rattle.block_machine.specs.Knowledge.{Knowledge, at_start}
 use Rattle.block_machine.specs.Messages.{owed_between, block_at, message as told_message}
-use Rattle.block_machine.specs.Script.{Entry, did, refused, short, unsent, stop, Said, Next, more, call, ended, astray, Script, with_bytes, with_call, on_opened, tell, unless_short, unless_unsent}
+use Rattle.block_machine.specs.Script.{Entry, did, refused, short, unsent, stop, Said, Next, more, call, ended, astray, Script, lost, with_bytes, with_call, on_opened, tell, unless_short, unless_unsent}
 use Rattle.block_machine.specs.declared.block.Owed.{Owed}
 use Rattle.block_machine.specs.declared.block.Owed.TheVariants as owes
 use Rattle.block_machine.specs.declared.call.Answer.{Answer}
@@ -121,18 +121,17 @@ discarding sync state known rest well = readied Other fit (outside_of rest) (enc
 discarding _ state known rest well = (well state known).1
 
 stop_other : (cause : Stop) (held : ℕ) → IsOther (stop_end cause held)
-stop_other stops.EndOfInput held = either (held == 0)
+stop_other stops.EndOfInput held = by_held (held == 0)
   where
-    either : (b : Bool) → IsOther (cond b ends.Closed ends.Cut)
-    either true = tt
-    either false = tt
+    by_held : (b : Bool) → IsOther (cond b ends.Closed ends.Cut)
+    by_held true = tt
+    by_held false = tt
 stop_other stops.ReadFault held = tt
 stop_other stops.Spent held = tt
 
 waits_at : (phase : Phase) (held : ℕ) (said : Said) (entries : List Entry) → Holds Other entries (told.waiting phase held said entries).1
 waits_at phase held said [] = tt
 waits_at phase held said (stop cause ∷ entries) =
-    let P : List Entry → Type 0 = λ (es : List Entry). Holds Other es (told.ending (owed_by phase) (stop_end cause held) said entries).1 in
     same entries (stop cause ∷ entries) (told.ending (owed_by phase) (stop_end cause held) said entries).1
     ((ending_other (owed_by phase) (stop_end cause held) (stop_other cause held)).at said entries)
   where
@@ -152,20 +151,22 @@ waits phase held = record { at = waits_at phase held }
 main : (requests : Requests) (state : TransactionState) (known : Knowledge) →
     EndsIn Other (told.session (phases.Normal state) known requests) × EndsIn Other (told.session (phases.Discarding state) known requests)
 main (asks asked requests) state known = (
-  unless_memory_ends (phases.Normal state) _ (serving asked state known (λ p k. told.session p k requests) (λ s k. main requests s k)),
-  unless_memory_ends (phases.Discarding state) _ (discarding asked state known (λ p k. told.session p k requests) (λ s k. main requests s k)),
+  unless_memory_ends (phases.Normal state) (told.serving asked state known (λ p k. told.session p k requests))
+  (serving asked state known (λ p k. told.session p k requests) (λ s k. main requests s k)),
+  unless_memory_ends (phases.Discarding state) (told.discarding asked state known (λ p k. told.session p k requests))
+  (discarding asked state known (λ p k. told.session p k requests) (λ s k. main requests s k)),
 )
 main (partial rest) state known = (
   unless_memory_ends (phases.Normal state) (told.waiting (phases.Normal state) (length rest)) (waits (phases.Normal state) (length rest)),
   unless_memory_ends (phases.Discarding state) (told.waiting (phases.Discarding state) (length rest)) (waits (phases.Discarding state) (length rest)),
 )
 main (faulty fault) state known = (
-  unless_memory_ends (phases.Normal state) _ (ending_other (owed_by (phases.Normal state)) (ends.Protocol fault) tt),
-  unless_memory_ends (phases.Discarding state) _ (ending_other (owed_by (phases.Discarding state)) (ends.Protocol fault) tt),
+  unless_memory_ends (phases.Normal state) (told.ending (owed_by (phases.Normal state)) (ends.Protocol fault)) (ending_other (owed_by (phases.Normal state)) (ends.Protocol fault) tt),
+  unless_memory_ends (phases.Discarding state) (told.ending (owed_by (phases.Discarding state)) (ends.Protocol fault)) (ending_other (owed_by (phases.Discarding state)) (ends.Protocol fault) tt),
 )
 main unread state known = (
-  unless_memory_ends (phases.Normal state) _ (lost_ends Other),
-  unless_memory_ends (phases.Discarding state) _ (lost_ends Other),
+  unless_memory_ends (phases.Normal state) lost (lost_ends Other),
+  unless_memory_ends (phases.Discarding state) lost (lost_ends Other),
 )
 
 -- ---- the one call
@@ -211,15 +212,14 @@ short_turns short_of rest bad good = record { at = go }
 not_written : (entries : List Entry) (all : Said) (it : Said × Next) → Holds (Is ends.WriteFault) entries it.1 → it ≡ (all, ended full_end) → ⊥
 not_written entries all it h is =
     let clash : full_end ≡ ends.WriteFault = subst (λ (x : Said × Next). Holds (Is ends.WriteFault) entries x.1) is h in
-    subst (λ (x : End). Not x) (sym clash) tt
-  where
-    abbrev Not : End → Type 0
-    Not (ends.Refused state) = ⊥
-    Not _ = Unit {0}
+    subst (λ (x : End). IsOther x) (sym clash) tt
 
 tell_turns : (bytes : List ℕ) (fault rest : Script) → EndsIn (Is ends.WriteFault) fault → Turns rest → Turns (tell bytes fault rest)
 tell_turns bytes fault rest bad good = record { at = λ said entries all is. go (length said.bytes) said entries all is }
   where
+    up : (said : Said) (entries : List Entry) (all : Said) → Turned (with_bytes said bytes) entries all → Turned said entries all
+    up said entries all t = record { opening = t.opening; calls_are = t.calls_are }
+
     go : (before : ℕ) (said : Said) (entries : List Entry) (all : Said) → unless_unsent before fault rest (with_bytes said bytes) entries ≡ (all, ended full_end) →
         Turned said entries all
     go before said [] all is = up said [] all (good.at (with_bytes said bytes) [] all is)
@@ -233,9 +233,6 @@ tell_turns bytes fault rest bad good = record { at = λ said entries all is. go 
         (λ same. up said (unsent n ∷ entries) all (good.at (with_bytes said bytes) (unsent n ∷ entries) all same)) is
     go before said (stop cause ∷ entries) all is = up said (stop cause ∷ entries) all (good.at (with_bytes said bytes) (stop cause ∷ entries) all is)
 
-    up : (said : Said) (entries : List Entry) (all : Said) → Turned (with_bytes said bytes) entries all → Turned said entries all
-    up said entries all t = record { opening = t.opening; calls_are = t.calls_are }
-
 -- the session has ended so
 abbrev IsEndedSo : Next → Type 0
 IsEndedSo (ended (ends.Refused states.S54000)) = Unit {0}
@@ -248,8 +245,9 @@ closes said (did a e ∷ entries) all is = absurd (subst (λ (x : Said × Next).
 closes said (refused why ∷ entries) all is = absurd (subst (λ (x : Said × Next). IsEndedSo x.1) (sym is) tt)
 closes said (short final n ∷ entries) all is = absurd (subst (λ (x : Said × Next). IsEndedSo x.1) (sym is) tt)
 closes said (unsent n ∷ entries) all is =
-    absurd (either (n == length said.bytes) _ _ (all, ended full_end) ⊥
-    (λ same. not_written entries all _ (write_at (with_bytes said (fatal_reply states.S54000)) entries) same)
+    let after : Said = with_bytes said (fatal_reply states.S54000) in
+    absurd (either (n == length said.bytes) (told.done ends.WriteFault after entries) (told.done full_end after (unsent n ∷ entries)) (all, ended full_end) ⊥
+    (λ same. not_written entries all (told.done ends.WriteFault after entries) (write_at after entries) same)
     (λ same. subst (λ (x : Said × Next). IsEndedSo x.1) (sym same) tt) is)
 closes said (stop cause ∷ entries) all is = absurd (subst (λ (x : Said × Next). IsEndedSo x.1) (sym is) tt)
 
@@ -302,20 +300,21 @@ starting cancel known rest turns well = never_turns (told.closed ends.Cancelled)
 starting start known rest turns well = opens_turns (rest (phases.Normal block_states.Idle) known) (well block_states.Idle known).0
 starting userless known rest turns well = never_turns (told.closed (ends.Refused states.S28000)) (closed_other (ends.Refused states.S28000) tt)
 starting version known rest turns well = never_turns (told.closed (ends.Refused states.S0A000)) (closed_other (ends.Refused states.S0A000) tt)
-starting asked known rest turns well = never_turns _ (lost_ends Other)
+starting _ known rest turns well = never_turns lost (lost_ends Other)
 
 session_turns : (requests : Requests) (known : Knowledge) → Turns (told.session phases.Startup known requests)
 session_turns (asks asked requests) known =
-    short_turns (told.ending owes.Nothing ends.Memory) _ (ending_other owes.Nothing ends.Memory tt)
+    short_turns (told.ending owes.Nothing ends.Memory) (told.handled asked phases.Startup known (λ p k. told.session p k requests))
+    (ending_other owes.Nothing ends.Memory tt)
     (starting asked known (λ p k. told.session p k requests) (λ k. session_turns requests k) (λ s k. main requests s k))
 session_turns (partial rest) known =
-    short_turns (told.ending owes.Nothing ends.Memory) _ (ending_other owes.Nothing ends.Memory tt)
+    short_turns (told.ending owes.Nothing ends.Memory) (told.waiting phases.Startup (length rest)) (ending_other owes.Nothing ends.Memory tt)
     (never_turns (told.waiting phases.Startup (length rest)) (waits phases.Startup (length rest)))
 session_turns (faulty fault) known =
-    short_turns (told.ending owes.Nothing ends.Memory) _ (ending_other owes.Nothing ends.Memory tt)
+    short_turns (told.ending owes.Nothing ends.Memory) (told.ending owes.Nothing (ends.Protocol fault)) (ending_other owes.Nothing ends.Memory tt)
     (never_turns (told.ending owes.Nothing (ends.Protocol fault)) (ending_other owes.Nothing (ends.Protocol fault) tt))
 session_turns unread known =
-    short_turns (told.ending owes.Nothing ends.Memory) _ (ending_other owes.Nothing ends.Memory tt) (never_turns _ (lost_ends Other))
+    short_turns (told.ending owes.Nothing ends.Memory) lost (ending_other owes.Nothing ends.Memory tt) (never_turns lost (lost_ends Other))
 
 pub told_turned : (level : Level) (requests : Requests) (entries : List Entry) (said : Said) → told_is level requests entries ≡ (said, ended (ends.Refused states.S54000)) →
     Turned (record { bytes = []; calls = [] }) entries said

@@ -1,5 +1,6 @@
 // What holds of sessions in which nothing fails.
 ghost use Rattle.session_completeness.specs.Sessions.{SessionsAreComplete};
+ghost use Rattle.session_completeness.specs.Conversations.{MessagesAreAnswered};
 ghost use Rattle.session_completeness.specs.Statements.{StatementsAreTold};
 
 use link_traits::Words;
@@ -15,4 +16,11 @@ pub fn sessions_are_complete<W: Words>()
 /// refusal by a full history.
 pub fn statements_are_told()
     ensures { StatementsAreTold }
+{}
+
+/// What a client is told, message by message, in a session that ends as its client said, whose record has no lack of memory and no refusal by a full
+/// history: of a query that isn't discarded each statement is told its reply, its rows and its tag; or one is told a code that it is given, and those
+/// after it are skipped.
+pub fn messages_are_answered()
+    ensures { MessagesAreAnswered }
 {}

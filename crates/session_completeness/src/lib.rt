@@ -4,4 +4,4 @@
 
 mod law;
 
-pub use law::{sessions_are_complete, statements_are_told};
+pub use law::{messages_are_answered, sessions_are_complete, statements_are_told};
