@@ -66,13 +66,13 @@ piped_complete level words before code after end bytes p w undisturbed =
     let all = complete DrawsFirst level (scene_of (no_past level) words p.given) p.outcome (scene_of p.serves.past p.serves.rest p.returned) p.serves.account s end bytes w undisturbed in (
       all.0,
       elim all.1 [
-      | inl well ↦ elim (good_status end w.rest w.last p.outcome.short) [
-        | inl zero ↦ inl (p.code_is ∙ (ap (λ (e : End). status_of e p.outcome.short) well.0 ∙ zero), well.0)
-        | inr five ↦ inr (p.code_is ∙ (ap (λ (e : End). status_of e p.outcome.short) well.0 ∙ five))
+        | inl well ↦ elim (good_status end w.rest w.last p.outcome.short) [
+          | inl zero ↦ inl (p.code_is ∙ (ap (λ (e : End). status_of e p.outcome.short) well.0 ∙ zero), well.0)
+          | inr five ↦ inr (p.code_is ∙ (ap (λ (e : End). status_of e p.outcome.short) well.0 ∙ five))
         ]
-      | inr other ↦ elim other [
-        | inl lacks ↦ inr (p.code_is ∙ (ap (λ (e : End). status_of e p.outcome.short) lacks.0 ∙ memory_status p.outcome.short))
-        | inr turned ↦ absurd (never_turned level words p.given p.outcome p.returned p.serves turned.1)
+        | inr other ↦ elim other [
+          | inl lacks ↦ inr (p.code_is ∙ (ap (λ (e : End). status_of e p.outcome.short) lacks.0 ∙ memory_status p.outcome.short))
+          | inr turned ↦ absurd (never_turned level words p.given p.outcome p.returned p.serves turned.1)
         ]
       ],
     )

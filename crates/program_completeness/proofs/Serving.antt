@@ -94,18 +94,18 @@ ended : (before : Networked) (host_before start between : Hosted) (code printed_
     ((code ≡ 0) ⊎ (code ≡ 5)) ⊎ CountsFault before after host_before host_after
 ended before host_before start between code printed_code after host_after line history None None kept logs p is =
     elim (printed before host_before between printed_code after host_after line (ap (λ (h : Hosted). h.out) logs.1 ∙ kept.out) p) [
-    | inl zero ↦ inl (inl (is ∙ zero))
-    | inr counts ↦ inr counts
+      | inl zero ↦ inl (inl (is ∙ zero))
+      | inr counts ↦ inr counts
     ]
 ended before host_before start between code printed_code after host_after line history None (Some fault) kept logs p is = absurd (none-some fault (sym logs.0))
 ended before host_before start between code printed_code after host_after line history (Some path) None kept logs p is =
     elim (printed before host_before between printed_code after host_after line (ap (λ (h : Hosted). h.out) logs.written.made.after_is ∙ kept.out) p) [
-    | inl zero ↦ inl (inl (is ∙ zero))
-    | inr counts ↦ inr counts
+      | inl zero ↦ inl (inl (is ∙ zero))
+      | inr counts ↦ inr counts
     ]
 ended before host_before start between code printed_code after host_after line history (Some path) (Some writes.Make) kept logs p is =
     inr (no_log (one_more host_before.faults.make_file host_after.faults.make_file (
-      ap (λ (h : Hosted). h.faults.make_file) p.after_is ∙ (ap (λ (h : Hosted). h.faults.make_file) logs.unwritten ∙ ap (λ (f : HostFaults). counted f.make_file) kept.faults)
+    ap (λ (h : Hosted). h.faults.make_file) p.after_is ∙ (ap (λ (h : Hosted). h.faults.make_file) logs.unwritten ∙ ap (λ (f : HostFaults). counted f.make_file) kept.faults)
     )))
 ended before host_before start between code printed_code after host_after line history (Some path) (Some writes.Write) kept logs p is =
     let w = logs.unwritten in
@@ -122,8 +122,8 @@ served : (options : ServeOptions) (before : Networked) (host_before start : Host
     (worst ≡ Some lacks.Failed → CountsFault before after host_before host_after) → AnswersWell options before host_before code after host_after
 served options before host_before start code end_code after host_after history None kept (inl all) is failed =
     elim (ended before host_before start all.between end_code all.printed_code after host_after _ history options.log all.fault kept all.logs all.printed all.code_is) [
-    | inl good ↦ elim good [ inl zero ↦ inl (inl (is ∙ zero)) | inr five ↦ inl (inr (is ∙ five)) ]
-    | inr counts ↦ inr (inl counts)
+      | inl good ↦ elim good [ inl zero ↦ inl (inl (is ∙ zero)) | inr five ↦ inl (inr (is ∙ five)) ]
+      | inr counts ↦ inr (inl counts)
     ]
 served options before host_before start code end_code after host_after history None kept (inr none) is failed = inl (inr (is ∙ none.0))
 served options before host_before start code end_code after host_after history (Some lacks.Memory) kept all is failed = inl (inr is)

@@ -138,7 +138,7 @@ complete {W} gives level before outcome after account s end bytes w u =
           turned_away gives account before.past after.past before.words after.words turned.opening turned.calls_are s.valid;
     } in
     let so = by_end level end (w.encryption ++ Startup w.pairs ∷ w.messages) bytes before.link after.link account s.requests after.past known outcome.end
-        (told_ends level s.requests account.entries _ outcome.end s.told_is) s.lacks s.blames s.told_is in
+    (told_ends level s.requests account.entries _ outcome.end s.told_is) s.lacks s.blames s.told_is in
     (record { lost = so.0; written = written_whole level account so.0 before.link.traffic after.link.traffic s.carries }, so.1)
   where
     at_end : (traffic : Option Traffic) (new : Traffic) → traffic ≡ Some new → IsAtEnd traffic → new.left ≡ []

@@ -271,25 +271,25 @@ from_then (asks asked requests) state known =
     let rest : Phase → Knowledge → Script = λ p k. told.session p k requests in
     let h : Goes requests rest = record { normal = λ s k. (from_then requests s k).0; skipping = λ s k. (from_then requests s k).1 } in (
       short_told (Converses serving (asks asked requests)) true (told.ending (owed_by (phases.Normal state)) ends.Memory) (told.serving asked state known rest)
-      (serves asked requests rest h state known),
+          (serves asked requests rest h state known),
       short_told (Converses discarding (asks asked requests)) true (told.ending (owed_by (phases.Discarding state)) ends.Memory) (told.discarding asked state known rest)
-      (discards asked requests rest h state known),
+          (discards asked requests rest h state known),
     )
 from_then (partial rest) state known = (
   short_told IsNothing true (told.ending (owed_by (phases.Normal state)) ends.Memory) (told.waiting (phases.Normal state) (length rest))
-  (waits (phases.Normal state) (length rest)),
+      (waits (phases.Normal state) (length rest)),
   short_told IsNothing true (told.ending (owed_by (phases.Discarding state)) ends.Memory) (told.waiting (phases.Discarding state) (length rest))
-  (waits (phases.Discarding state) (length rest)),
+      (waits (phases.Discarding state) (length rest)),
 )
 from_then (faulty fault) state known = (
   short_told (Converses serving (faulty fault)) true (told.ending (owed_by (phases.Normal state)) ends.Memory)
-  (told.ending (owed_by (phases.Normal state)) (ends.Protocol fault))
-  (otherwise_told (Converses serving (faulty fault)) (told.ending (owed_by (phases.Normal state)) (ends.Protocol fault))
-  (ending_otherwise (owed_by (phases.Normal state)) (ends.Protocol fault) (λ good. good))),
+      (told.ending (owed_by (phases.Normal state)) (ends.Protocol fault))
+      (otherwise_told (Converses serving (faulty fault)) (told.ending (owed_by (phases.Normal state)) (ends.Protocol fault))
+      (ending_otherwise (owed_by (phases.Normal state)) (ends.Protocol fault) (λ good. good))),
   short_told (Converses discarding (faulty fault)) true (told.ending (owed_by (phases.Discarding state)) ends.Memory)
-  (told.ending (owed_by (phases.Discarding state)) (ends.Protocol fault))
-  (otherwise_told (Converses discarding (faulty fault)) (told.ending (owed_by (phases.Discarding state)) (ends.Protocol fault))
-  (ending_otherwise (owed_by (phases.Discarding state)) (ends.Protocol fault) (λ good. good))),
+      (told.ending (owed_by (phases.Discarding state)) (ends.Protocol fault))
+      (otherwise_told (Converses discarding (faulty fault)) (told.ending (owed_by (phases.Discarding state)) (ends.Protocol fault))
+      (ending_otherwise (owed_by (phases.Discarding state)) (ends.Protocol fault) (λ good. good))),
 )
 from_then unread state known = (
   short_told (Converses serving unread) true (told.ending (owed_by (phases.Normal state)) ends.Memory) lost (lost_told (Converses serving unread)),

@@ -98,7 +98,7 @@ begins : (started : Bool) (front : FrontendMessage) (bytes taken left more : Lis
     AreRequests started taken requests → Begins started front left more requests
 begins started front bytes taken left more (asks asked requests) whole t are =
     let other : TakesFront started bytes are.0 (are.1 ++ left) =
-        subst (λ (x : List ℕ). TakesFront started x are.0 (are.1 ++ left)) whole (front_stays started taken are.1 left are.0 are.2) in
+    subst (λ (x : List ℕ). TakesFront started x are.0 (are.1 ++ left)) whole (front_stays started taken are.1 left are.0 are.2) in
     let same : are.0 ≡ front = front_unique started are.0 front bytes (are.1 ++ left) more other t in
     let behind : are.1 ++ left ≡ more = behind_unique started are.0 front bytes (are.1 ++ left) more other t in (
       subst (λ (x : FrontendMessage). Says x asked) same are.3,
@@ -251,7 +251,7 @@ opening_follows end [] pairs messages bytes taken left rest requests whole takes
     requests (begins false (Startup pairs) bytes taken left takes.0 requests whole takes.1 are)
 opening_follows end (front ∷ fronts) pairs messages bytes taken left rest requests whole takes secure user on is are =
     let behind : TakesFronts false takes.0 (fronts ++ Startup pairs ∷ messages) rest =
-        subst (λ (x : Bool). TakesFronts x takes.0 (fronts ++ Startup pairs ∷ messages) rest) (stays_before front secure.0) takes.2 in
+    subst (λ (x : Bool). TakesFronts x takes.0 (fronts ++ Startup pairs ∷ messages) rest) (stays_before front secure.0) takes.2 in
     one_follows false end front (fronts ++ Startup pairs ∷ messages) left takes.0 (encryption_calm front secure.0)
     (λ further later joined heard. opening_follows end fronts pairs messages takes.0 further left rest later joined behind secure.1 user on is
     (subst (λ (x : Bool). AreRequests x further later) (stays_before front secure.0) heard))

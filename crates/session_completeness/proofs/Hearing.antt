@@ -147,10 +147,10 @@ pub terminated_so : (end : End) (left : List ℕ) (fronts : List FrontendMessage
 terminated_so end left [] requests follows asked = (terminate_last end left requests follows asked, tt)
 terminated_so end left (front ∷ fronts) (asks one requests) follows asked =
     elim asked [
-      inl is ↦ absurd (calm_on one follows.1 is)
-    | inr other ↦
-      let further = terminated_so end left fronts requests follows.2 other.1 in
-      (further.0, (follows.0, further.1))
+      | inl is ↦ absurd (calm_on one follows.1 is)
+      | inr other ↦
+          let further = terminated_so end left fronts requests follows.2 other.1 in
+          (further.0, (follows.0, further.1))
     ]
 terminated_so end left (front ∷ fronts) (partial rest) follows asked = absurd asked
 terminated_so end left (front ∷ fronts) (faulty fault) follows asked = absurd asked

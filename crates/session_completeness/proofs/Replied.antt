@@ -84,6 +84,6 @@ both_fine entries memory full has = elim (parted entries has) [ inl lacks ↦ me
 pub record_fine : (acts : List Act) (entries rest : List Entry) → entries ≡ entries_of acts ++ rest → ¬ (Has LacksMemory entries) → ¬ (Has IsFull entries) → IsFine acts
 record_fine acts entries rest same memory full has =
     elim (parted (entries_of acts) has) [
-      inl lacks ↦ memory (subst (λ (es : List Entry). Has LacksMemory es) (sym same) (has_before LacksMemory (entries_of acts) rest lacks))
-    | inr fills ↦ full (subst (λ (es : List Entry). Has IsFull es) (sym same) (has_before IsFull (entries_of acts) rest fills))
+      | inl lacks ↦ memory (subst (λ (es : List Entry). Has LacksMemory es) (sym same) (has_before LacksMemory (entries_of acts) rest lacks))
+      | inr fills ↦ full (subst (λ (es : List Entry). Has IsFull es) (sym same) (has_before IsFull (entries_of acts) rest fills))
     ]

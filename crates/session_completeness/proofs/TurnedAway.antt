@@ -152,9 +152,9 @@ main : (requests : Requests) (state : TransactionState) (known : Knowledge) →
     EndsIn Other (told.session (phases.Normal state) known requests) × EndsIn Other (told.session (phases.Discarding state) known requests)
 main (asks asked requests) state known = (
   unless_memory_ends (phases.Normal state) (told.serving asked state known (λ p k. told.session p k requests))
-  (serving asked state known (λ p k. told.session p k requests) (λ s k. main requests s k)),
+      (serving asked state known (λ p k. told.session p k requests) (λ s k. main requests s k)),
   unless_memory_ends (phases.Discarding state) (told.discarding asked state known (λ p k. told.session p k requests))
-  (discarding asked state known (λ p k. told.session p k requests) (λ s k. main requests s k)),
+      (discarding asked state known (λ p k. told.session p k requests) (λ s k. main requests s k)),
 )
 main (partial rest) state known = (
   unless_memory_ends (phases.Normal state) (told.waiting (phases.Normal state) (length rest)) (waits (phases.Normal state) (length rest)),
