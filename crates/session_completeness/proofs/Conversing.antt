@@ -11,7 +11,7 @@ use Rattle.outcome_replies.specs.declared.description.RowDescription.TheVariants
 use Rattle.block_machine.specs.Calls as calls
 use Rattle.block_machine.specs.Knowledge.{Knowledge, at_start}
 use Rattle.block_machine.specs.Replies.{ready_reply, error_reply, empty_reply}
-use Rattle.block_machine.specs.Script.{Entry, did, refused, short, unsent, stop, Said, Next, more, call, ended, astray, Script, lost, on_opened, tell}
+use Rattle.block_machine.specs.Script.{Entry, did, refused, short, unsent, stop, Said, Next, ended, Script, lost, on_opened, tell}
 use Rattle.block_machine.specs.Statements as statement
 use Rattle.block_machine.specs.Messages as message
 use Rattle.block_machine.specs.Messages.{Outside, owed_between, block_at, before}
@@ -171,7 +171,7 @@ statements outside R h (s ∷ more) block known =
           tell_told (IsToldOf (s ∷ more) R) (IsToldOf more R) reply (outside.broken (statement.owed_in b)) (message.statements more b k outside) (h.broken (statement.owed_in b))
           (one_more s more R reply is) (statements outside R h more b k);
       coded = λ code is b k. fails (IsToldOf (s ∷ more) R) R outside h more code
-          (λ rest told. (error_reply code, is_refused s more code is, joins (error_reply code) (TellsReady R) rest told)) b k;
+          (λ rest it. (error_reply code, is_refused s more code is, joins (error_reply code) (TellsReady R) rest it)) b k;
     })
     block known
 
@@ -183,11 +183,11 @@ answers_message : (outside : Outside) (R : List ℕ → Type 0) → StandsOutsid
     Told (IsToldOfMessage asked R) (message.message asked state known outside)
 answers_message outside R h (messages.Unread code) state known =
     fails (IsToldOfMessage (messages.Unread code) R) R outside h [] code
-    (λ rest told. (error_reply code, refl, joins (error_reply code) (TellsReady R) rest told)) (block_at state) known
+    (λ rest it. (error_reply code, refl, joins (error_reply code) (TellsReady R) rest it)) (block_at state) known
 answers_message outside R h (messages.Statements []) state known =
     tell_told (IsToldOfMessage (messages.Statements []) R) (TellsReady R) empty_reply (outside.broken (statement.owed_in (block_at state)))
     (message.statements [] (block_at state) known outside) (h.broken (statement.owed_in (block_at state)))
-    (λ rest told. (empty_reply, refl, joins empty_reply (TellsReady R) rest told)) (finishes outside R h (block_at state) known)
+    (λ rest it. (empty_reply, refl, joins empty_reply (TellsReady R) rest it)) (finishes outside R h (block_at state) known)
 answers_message outside R h (messages.Statements (s ∷ more)) state known = statements outside R h (s ∷ more) (block_at state) known
 
 -- ---- after the startup

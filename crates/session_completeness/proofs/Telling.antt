@@ -1,6 +1,6 @@
 -- What a script tells to an end that the client says, where memory doesn't run out and no call is refused.
 use Rattle.std.proofs.Common.{◌≡◌, inl, inr, Bool, true, false, cond, ℕ, List, [], ◌∷◌, ◌++◌, length, refl, sym, ◌∙◌, ap, subst, append_assoc, ◌==◌}
-use Rattle.std.proofs.lemmas.List.{append-nil}
+use Rattle.std.proofs.lemmas.Bool.{cond_both}
 use Rattle.cell_base.specs.declared.key.Key.{Key}
 use Rattle.cell_base.specs.declared.value.Value.{Value}
 use Rattle.sql_tree.specs.declared.table.Table.{Table}
@@ -9,7 +9,7 @@ use Rattle.history_core.specs.declared.fault.BookFault.{BookFault}
 use Rattle.history_core.specs.declared.fault.BookFault.TheVariants as faults
 use Rattle.history_core.specs.declared.fault.DefineAnswer.TheVariants as defines
 use Rattle.block_machine.specs.Calls.{Call}
-use Rattle.block_machine.specs.Script.{Entry, did, refused, short, unsent, stop, Said, Next, more, call, ended, astray, with_bytes, with_call, Script, lost, ask, tell, unless_unsent, unless_short, on_opened, on_looked, on_defined, on_begun, on_listed, on_found, on_written, on_shown}
+use Rattle.block_machine.specs.Script.{Entry, did, refused, short, unsent, stop, Said, Next, call, ended, astray, with_bytes, with_call, Script, lost, ask, tell, unless_unsent, unless_short, on_opened, on_looked, on_defined, on_begun, on_listed, on_found, on_written, on_shown}
 use Rattle.block_machine.specs.declared.call.Answer.{Answer}
 use Rattle.block_machine.specs.declared.call.Answer.TheVariants as answers
 use Rattle.block_machine.specs.declared.end.End.{End}
@@ -94,10 +94,6 @@ ask_at R c rest h said (stop cause ∷ entries) all end is good fine = absurd (n
 pub ask_told : (R : List ℕ → Type 0) (c : Call) (rest : Answer → Script) → ((a : Answer) → IsGiven a → Told R (rest a)) → Told R (ask c rest)
 ask_told R c rest h = record { at = ask_at R c rest h }
 
-either : (b : Bool) (one other it : Said × Next) (T : Type 0) → (one ≡ it → T) → (other ≡ it → T) → cond b one other ≡ it → T
-either true one other it T first second is = first is
-either false one other it T first second is = second is
-
 -- the end of a failed write is none of the client's
 never_unsent : (it : Said × Next) (entries : List Entry) (all : Said) (end : End) → Holds (Is ends.WriteFault) entries it.1 → it ≡ (all, ended end) → IsClientsEnd end → ⊥
 never_unsent it entries all end h is good =
@@ -111,9 +107,9 @@ unsent_at R before fault rest bad h said (did a e ∷ entries) all end is good f
 unsent_at R before fault rest bad h said (refused why ∷ entries) all end is good fine = h.at said (refused why ∷ entries) all end is good fine
 unsent_at R before fault rest bad h said (short final n ∷ entries) all end is good fine = h.at said (short final n ∷ entries) all end is good fine
 unsent_at R before fault rest bad h said (unsent n ∷ entries) all end is good fine =
-    either (n == before) (fault said entries) (rest said (unsent n ∷ entries)) (all, ended end) (Adds R said all)
-    (λ same. absurd (never_unsent (fault said entries) entries all end (bad.at said entries) same good))
-    (λ same. h.at said (unsent n ∷ entries) all end same good fine) is
+    cond_both (n == before) (fault said entries) (rest said (unsent n ∷ entries)) (λ (x : Said × Next). x ≡ (all, ended end) → Adds R said all)
+    (λ _ same. absurd (never_unsent (fault said entries) entries all end (bad.at said entries) same good))
+    (λ _ same. h.at said (unsent n ∷ entries) all end same good fine) is
 unsent_at R before fault rest bad h said (stop cause ∷ entries) all end is good fine = h.at said (stop cause ∷ entries) all end is good fine
 
 -- bytes, and then what follows

@@ -1,5 +1,6 @@
 -- A session that is refused since the history is full made one call, which opens a session, and that call was refused.
 use Rattle.std.proofs.Common.{◌≡◌, ◌⊎◌, inl, inr, Bool, true, false, cond, ℕ, List, [], ◌∷◌, ◌++◌, length, refl, sym, ap, subst, ◌==◌}
+use Rattle.std.proofs.lemmas.Bool.{cond_both}
 use Rattle.cell_base.specs.declared.level.Level.{Level}
 use Rattle.cell_base.specs.declared.sql_state.SqlState.{SqlState}
 use Rattle.cell_base.specs.declared.sql_state.SqlState.TheVariants as states
@@ -189,10 +190,6 @@ record Turns (script : Script) : Type 0 where
 never_turns : (script : Script) → EndsIn Other script → Turns script
 never_turns script h = record { at = λ said entries all is. absurd (subst (λ (x : Said × Next). Holds Other entries x.1) is (h.at said entries)) }
 
-either : (b : Bool) (one other it : Said × Next) (R : Type 0) → (one ≡ it → R) → (other ≡ it → R) → cond b one other ≡ it → R
-either true one other it R first second is = first is
-either false one other it R first second is = second is
-
 short_turns : (short_of rest : Script) → EndsIn Other short_of → Turns rest → Turns (unless_short true short_of rest)
 short_turns short_of rest bad good = record { at = go }
   where
@@ -201,9 +198,10 @@ short_turns short_of rest bad good = record { at = go }
     go said (did a e ∷ entries) all is = good.at said (did a e ∷ entries) all is
     go said (refused why ∷ entries) all is = good.at said (refused why ∷ entries) all is
     go said (short true n ∷ entries) all is =
-        either (n == length said.bytes) (short_of said entries) (rest said (short true n ∷ entries)) (all, ended full_end) (Turned said (short true n ∷ entries) all)
-        (λ same. absurd (subst (λ (x : Said × Next). Holds Other entries x.1) same (bad.at said entries)))
-        (λ same. good.at said (short true n ∷ entries) all same) is
+        cond_both (n == length said.bytes) (short_of said entries) (rest said (short true n ∷ entries))
+        (λ (x : Said × Next). x ≡ (all, ended full_end) → Turned said (short true n ∷ entries) all)
+        (λ _ same. absurd (subst (λ (x : Said × Next). Holds Other entries x.1) same (bad.at said entries)))
+        (λ _ same. good.at said (short true n ∷ entries) all same) is
     go said (short false n ∷ entries) all is = good.at said (short false n ∷ entries) all is
     go said (unsent n ∷ entries) all is = good.at said (unsent n ∷ entries) all is
     go said (stop cause ∷ entries) all is = good.at said (stop cause ∷ entries) all is
@@ -227,10 +225,10 @@ tell_turns bytes fault rest bad good = record { at = λ said entries all is. go 
     go before said (refused why ∷ entries) all is = up said (refused why ∷ entries) all (good.at (with_bytes said bytes) (refused why ∷ entries) all is)
     go before said (short final n ∷ entries) all is = up said (short final n ∷ entries) all (good.at (with_bytes said bytes) (short final n ∷ entries) all is)
     go before said (unsent n ∷ entries) all is =
-        either (n == before) (fault (with_bytes said bytes) entries) (rest (with_bytes said bytes) (unsent n ∷ entries)) (all, ended full_end)
-        (Turned said (unsent n ∷ entries) all)
-        (λ same. absurd (not_written entries all (fault (with_bytes said bytes) entries) (bad.at (with_bytes said bytes) entries) same))
-        (λ same. up said (unsent n ∷ entries) all (good.at (with_bytes said bytes) (unsent n ∷ entries) all same)) is
+        cond_both (n == before) (fault (with_bytes said bytes) entries) (rest (with_bytes said bytes) (unsent n ∷ entries))
+        (λ (x : Said × Next). x ≡ (all, ended full_end) → Turned said (unsent n ∷ entries) all)
+        (λ _ same. absurd (not_written entries all (fault (with_bytes said bytes) entries) (bad.at (with_bytes said bytes) entries) same))
+        (λ _ same. up said (unsent n ∷ entries) all (good.at (with_bytes said bytes) (unsent n ∷ entries) all same)) is
     go before said (stop cause ∷ entries) all is = up said (stop cause ∷ entries) all (good.at (with_bytes said bytes) (stop cause ∷ entries) all is)
 
 -- the session has ended so
@@ -246,9 +244,10 @@ closes said (refused why ∷ entries) all is = absurd (subst (λ (x : Said × Ne
 closes said (short final n ∷ entries) all is = absurd (subst (λ (x : Said × Next). IsEndedSo x.1) (sym is) tt)
 closes said (unsent n ∷ entries) all is =
     let after : Said = with_bytes said (fatal_reply states.S54000) in
-    absurd (either (n == length said.bytes) (told.done ends.WriteFault after entries) (told.done full_end after (unsent n ∷ entries)) (all, ended full_end) ⊥
-    (λ same. not_written entries all (told.done ends.WriteFault after entries) (write_at after entries) same)
-    (λ same. subst (λ (x : Said × Next). IsEndedSo x.1) (sym same) tt) is)
+    absurd (cond_both (n == length said.bytes) (told.done ends.WriteFault after entries) (told.done full_end after (unsent n ∷ entries))
+    (λ (x : Said × Next). x ≡ (all, ended full_end) → ⊥)
+    (λ _ same. not_written entries all (told.done ends.WriteFault after entries) (write_at after entries) same)
+    (λ _ same. subst (λ (x : Said × Next). IsEndedSo x.1) (sym same) tt) is)
 closes said (stop cause ∷ entries) all is = absurd (subst (λ (x : Said × Next). IsEndedSo x.1) (sym is) tt)
 
 -- the session that is opened, or the refusal
