@@ -54,6 +54,7 @@ unstarted options before host_before code after host_after (Some path) setup (st
 unstarted options before host_before code after host_after (Some path) setup (starts.Setup setups.Memory) un is = inl (inr is)
 unstarted options before host_before code after host_after (Some path) setup (starts.Setup setups.TooLong) un is = inr (inr (path, setup, is))
 unstarted options before host_before code after host_after (Some path) setup (starts.Setup (setups.Statement fault)) un is = inr (inr (path, setup, is))
+unstarted options before host_before code after host_after (Some path) setup (starts.Setup setups.Unfinished) un is = inr (inr (path, setup, is))
 unstarted options before host_before code after host_after (Some path) setup (starts.Setup (setups.Ended end)) un is = inr (inr (path, setup, is))
 unstarted options before host_before code after host_after (Some path) setup starts.Heavy un is = inr (inr (path, setup, is))
 unstarted options before host_before code after host_after (Some path) setup starts.Memory un is = inl (inr is)
