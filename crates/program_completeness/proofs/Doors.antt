@@ -4,7 +4,6 @@ use Rattle.std.specs.Prelude.{Contains}
 use Rattle.std.proofs.lemmas.Option.{none-some}
 use Rattle.cell_base.specs.declared.level.Level.{Level}
 use Rattle.history_core.specs.Chronicle.{Chronicle}
-use Rattle.link_traits.specs.Faults.{counted}
 use Rattle.link_traits.specs.declared.host.HostFault.{HostFault}
 use Rattle.link_traits.specs.declared.host.HostFault.TheVariants as faults
 use Rattle.doors.specs.Passage.{Passage}

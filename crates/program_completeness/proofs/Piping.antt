@@ -1,5 +1,5 @@
 -- What `pipe` answers where no fault is counted.
-use Rattle.std.proofs.Common.{◌≡◌, ◌⊎◌, inl, inr, Bool, true, false, ℕ, List, [], ◌∷◌, ◌++◌, Option, Some, None, arith, refl, sym, ◌∙◌, ap, subst}
+use Rattle.std.proofs.Common.{◌≡◌, ◌⊎◌, inl, inr, Bool, true, false, ℕ, List, [], Option, Some, arith, refl, sym, ◌∙◌, ap, subst}
 use Rattle.std.specs.Prelude.{IfSome}
 use Rattle.std.proofs.lemmas.Option.{none-some}
 use Rattle.cell_base.specs.declared.cell.Cell.{Cell}
@@ -7,29 +7,24 @@ use Rattle.cell_base.specs.declared.level.Level.{Level}
 use Rattle.cell_base.specs.declared.value.Value.{Value}
 use Rattle.link_traits.specs.Faults.{Rose, counted}
 use Rattle.link_traits.specs.Traffic.{Sight}
-use Rattle.link_traits.specs.Host.{Hosted, link_returned}
-use Rattle.doors.specs.Network.{Networked}
+use Rattle.link_traits.specs.Host.{Hosted}
 use Rattle.history_core.specs.declared.event.Event.{Event}
 use Rattle.history_core.specs.declared.event.Event.TheVariants.{Open}
-use Rattle.history_core.specs.declared.fault.BookFault.TheVariants as faults
 use Rattle.history_core.specs.declared.fault.Limit.{Limit}
-use Rattle.history_core.specs.Book.{Past}
 use Rattle.history_core.specs.Legal.{full_for}
-use Rattle.block_machine.specs.Script.{Entry, refused}
 use Rattle.block_machine.specs.declared.end.End.{End}
 use Rattle.block_machine.specs.declared.end.End.TheVariants as ends
 use Rattle.session_core.specs.declared.served.Served.{Served}
 use Rattle.session_core.specs.Record.{events_of}
 use Rattle.session_core.specs.Serve.{scene_of}
 use Rattle.choice_stream.specs.Choices.{DrawsFirst}
-use Rattle.command_line.specs.Commands.{IsPipe}
 use Rattle.command_line.specs.declared.pipe.PipeCommand.{PipeCommand}
 use Rattle.command_line.specs.declared.reading.CommandLine.{CommandLine}
 use Rattle.command_line.specs.declared.reading.CommandLine.TheVariants as lines
 use Rattle.command_line.proofs.OneCommand.{one_command}
-use Rattle.monkey_server.specs.Program.{no_past, ServesAlone, status_of, Piped, Linkless, Pipes, Obeys, Does}
+use Rattle.monkey_server.specs.Program.{no_past, ServesAlone, status_of, Linkless, Pipes, Obeys, Does}
 use Rattle.session_completeness.specs.Streams.{IsLast, IsWholeStream}
-use Rattle.session_completeness.specs.Sessions.{IsUndisturbed, IsSentWhole, IsTurnedAway}
+use Rattle.session_completeness.specs.Sessions.{IsUndisturbed, IsTurnedAway}
 use Rattle.session_completeness.proofs.Complete.{complete}
 use Rattle.program_completeness.specs.Programs.{PipedAreComplete, PipesUndisturbed, PipesAreComplete}
 

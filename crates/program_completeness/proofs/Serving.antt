@@ -1,36 +1,32 @@
 -- What `serve` answers where no fault is counted.
-use Rattle.std.proofs.Common.{◌≡◌, ◌⊎◌, inl, inr, ◌<◌, ℕ, List, [], ◌∷◌, ◌++◌, Option, Some, None, refl, sym, ◌∙◌, ap, subst}
-use Rattle.std.specs.Prelude.{Contains}
+use Rattle.std.proofs.Common.{◌≡◌, ◌⊎◌, inl, inr, ℕ, List, Option, Some, None, refl, sym, ◌∙◌, ap, subst}
 use Rattle.std.proofs.lemmas.Option.{none-some}
 use Rattle.cell_base.specs.declared.level.Level.{Level}
-use Rattle.link_traits.specs.Faults.{Rose, counted}
-use Rattle.link_traits.specs.Traffic.{Sight}
-use Rattle.link_traits.specs.Host.{HostCall, open_file_called, make_file_called, Returned, file_returned, new_file_returned, Hosted}
+use Rattle.link_traits.specs.Faults.{counted}
+use Rattle.link_traits.specs.Host.{open_file_called, make_file_called, file_returned, new_file_returned, Hosted}
 use Rattle.link_traits.specs.declared.faults.HostFaults.{HostFaults}
 use Rattle.link_traits.specs.declared.host.HostFault.{HostFault}
 use Rattle.link_traits.specs.declared.host.HostFault.TheVariants as lacks
 use Rattle.history_core.specs.Chronicle.{Chronicle}
-use Rattle.host_calls.specs.Printing.{Printed, Prints}
-use Rattle.host_calls.specs.Reading.{FileRead, ReadFailed, Unread}
+use Rattle.host_calls.specs.Printing.{Printed}
+use Rattle.host_calls.specs.Reading.{FileRead}
 use Rattle.host_calls.specs.declared.reading.FileFault.TheVariants as files
-use Rattle.host_calls.specs.Writing.{FileWritten, WriteFailed}
 use Rattle.host_calls.specs.declared.writing.WriteFault.{WriteFault}
 use Rattle.host_calls.specs.declared.writing.WriteFault.TheVariants as writes
-use Rattle.log_file.specs.Logging.{Logs, LogWritten, LogUnwritten, LogsAndPrints, status_after}
+use Rattle.log_file.specs.Logging.{Logs, status_after}
 use Rattle.doors.specs.Network.{Networked}
-use Rattle.command_line.specs.Commands.{IsServe}
 use Rattle.command_line.specs.declared.reading.CommandLine.{CommandLine}
 use Rattle.command_line.specs.declared.reading.CommandLine.TheVariants as lines
 use Rattle.command_line.specs.declared.serve.ServeOptions.{ServeOptions}
 use Rattle.command_line.proofs.OneCommand.{one_command}
-use Rattle.monkey_server.specs.Program.{Obeys, Does}
+use Rattle.monkey_server.specs.Program.{Obeys}
 use Rattle.setup_client.specs.Client.{most_text}
 use Rattle.setup_session.specs.declared.fault.SetupFault.TheVariants as setups
 use Rattle.serve_command.specs.declared.start.StartFault.{StartFault}
 use Rattle.serve_command.specs.declared.start.StartFault.TheVariants as starts
-use Rattle.serve_command.specs.Starting.{StartsBy, SetUp, Unstarted, status_of_start}
+use Rattle.serve_command.specs.Starting.{StartsBy, Unstarted, status_of_start}
 use Rattle.serve_command.specs.Parts.{worst_of}
-use Rattle.serve_command.specs.Serving.{status_of, Ends, Served, StoodBack, GoesOn, Started, Serves}
+use Rattle.serve_command.specs.Serving.{status_of, Ends, GoesOn}
 use Rattle.program_completeness.specs.Programs.{CountsFault, unopened, unaccepted, no_setup, unread, no_log, unwritten, unprinted, AnswersWell, ServersAreComplete, ServeRunsAreComplete}
 use Rattle.program_completeness.proofs.Counting.{one_more, last_in}
 use Rattle.program_completeness.proofs.Doors.{some_failed}

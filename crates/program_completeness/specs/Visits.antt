@@ -1,5 +1,5 @@
 -- What becomes of the links that a worker serves one after another.
-use Rattle.std.specs.Prelude.{◌≡◌, ℕ, List, [], ◌∷◌}
+use Rattle.std.specs.Prelude.{ℕ, List, [], ◌∷◌}
 use Rattle.cell_base.specs.declared.level.Level.{Level}
 use Rattle.history_core.specs.Book.{Past}
 use Rattle.session_core.specs.Serve.{scene_of}

@@ -1,5 +1,5 @@
 -- A session over a link that tells its bytes and counts no fault, whose client says all that it has to say, is complete.
-use Rattle.std.proofs.Common.{◌≡◌, ◌⊎◌, inl, inr, ℕ, ◌<◌, List, [], ◌∷◌, ◌++◌, length, Option, Some, None, refl, sym, ◌∙◌, ap, subst, arith}
+use Rattle.std.proofs.Common.{◌≡◌, inl, inr, ℕ, ◌<◌, List, [], ◌∷◌, ◌++◌, length, Option, Some, None, refl, sym, ◌∙◌, ap, subst, arith}
 use Rattle.std.proofs.lemmas.List.{append-nil, length-append}
 use Rattle.std.proofs.lemmas.Option.{none-some}
 use Rattle.cell_base.specs.declared.level.Level.{Level}
@@ -8,26 +8,21 @@ use Rattle.link_traits.specs.Faults.{Rose}
 use Rattle.link_traits.specs.Traffic.{Traffic, Both, Sight}
 use Rattle.client_framing.specs.declared.frontend_message.FrontendMessage.{FrontendMessage}
 use Rattle.client_framing.specs.declared.frontend_message.FrontendMessage.TheVariants.{Startup}
-use Rattle.history_core.specs.declared.event.Event.{Event}
-use Rattle.history_core.specs.declared.fault.BookFault.TheVariants as faults
-use Rattle.history_core.specs.declared.fault.Limit.{Limit}
 use Rattle.history_core.specs.Book.{Past}
 use Rattle.block_machine.specs.Calls.{Call}
 use Rattle.block_machine.specs.Calls as calls
-use Rattle.block_machine.specs.Script.{Entry, did, refused, Said, ended}
-use Rattle.block_machine.specs.declared.call.Answer.TheVariants as answers
+use Rattle.block_machine.specs.Script.{Entry, ended}
 use Rattle.block_machine.specs.declared.end.End.{End}
 use Rattle.block_machine.specs.declared.end.End.TheVariants as ends
 use Rattle.session_core.specs.declared.served.Served.{Served}
 use Rattle.session_core.specs.Ends.{LacksBy, outer_end}
-use Rattle.session_core.specs.Requests.{Requests, AreRequests}
+use Rattle.session_core.specs.Requests.{Requests}
 use Rattle.session_core.specs.Record.{IsValidRecord, limit_for}
 use Rattle.session_core.specs.Told.{told}
 use Rattle.session_core.specs.Serve.{most_read, Scene, Account, Serves, Carries, IsAtEnd, Blames}
-use Rattle.session_ends.specs.Causes.{Has, LacksMemory, EndsBy}
+use Rattle.session_ends.specs.Causes.{EndsBy}
 use Rattle.session_ends.proofs.SessionsEnd.{told_ends}
-use Rattle.session_completeness.specs.Streams.{IsWholeStream}
-use Rattle.session_completeness.specs.Sessions.{IsUndisturbed, IsSentWhole, Hears, IsTurnedAway, EndsAsSaid, IsComplete}
+use Rattle.session_completeness.specs.Sessions.{IsTurnedAway, EndsAsSaid, IsComplete}
 use Rattle.session_completeness.proofs.Following.{Follows, stream_follows}
 use Rattle.session_completeness.proofs.Hearing.{never_cancelled, never_userless, never_of_version, never_faulty, never_inside, closed_so, terminated_so}
 use Rattle.session_completeness.proofs.TurnedAway.{IsFullOpening, refuses_it, answers_so, told_turned}

@@ -1,13 +1,11 @@
 -- What a client is told of its messages, where memory doesn't run out and no call is refused.
 use Rattle.std.proofs.Common.{◌≡◌, true, false, ℕ, List, [], ◌∷◌, ◌++◌, length, refl, sym, ◌∙◌, ap, subst, append_assoc, inr}
 use Rattle.std.proofs.lemmas.List.{append-nil}
-use Rattle.cell_base.specs.declared.level.Level.{Level}
 use Rattle.cell_base.specs.declared.sql_state.SqlState.{SqlState}
 use Rattle.cell_base.specs.declared.sql_state.SqlState.TheVariants as states
 use Rattle.pg_framing.specs.declared.replies.TransactionState.{TransactionState}
 use Rattle.pg_framing.specs.declared.replies.TransactionState.TheVariants as ready
 use Rattle.sql_tree.specs.declared.statement.Statement.{Statement}
-use Rattle.outcome_replies.specs.declared.description.RowDescription.TheVariants as described
 use Rattle.block_machine.specs.Calls as calls
 use Rattle.block_machine.specs.Knowledge.{Knowledge, at_start}
 use Rattle.block_machine.specs.Replies.{ready_reply, error_reply, empty_reply}
@@ -21,7 +19,6 @@ use Rattle.block_machine.specs.declared.block.Owed.{Owed}
 use Rattle.block_machine.specs.declared.block.Owed.TheVariants as owes
 use Rattle.block_machine.specs.declared.end.End.{End}
 use Rattle.block_machine.specs.declared.end.End.TheVariants as ends
-use Rattle.block_machine.specs.declared.end.Stop.{Stop}
 use Rattle.block_machine.specs.declared.message.Message.{Message}
 use Rattle.block_machine.specs.declared.message.Message.TheVariants as messages
 use Rattle.session_core.specs.declared.phase.Phase.{Phase}
@@ -30,13 +27,12 @@ use Rattle.session_core.specs.Requests.{Request, encryption, cancel, start, user
 use Rattle.session_core.specs.Replies.{no_encryption, startup_reply, fatal_reply}
 use Rattle.session_core.specs.Told as told
 use Rattle.session_core.specs.Told.{outside_of, owed_by, stop_end, refusal_end, told as told_is}
-use Rattle.session_ends.specs.Causes.{Has}
 use Rattle.session_ends.proofs.Scripts.{Is, EndsIn, Holds, IsFit, ask_ends, tell_ends}
 use Rattle.session_ends.proofs.SessionsEnd.{broken_ends}
-use Rattle.session_completeness.specs.Conversations.{IsReply, GivesCode, AreAnswered, none, replied, refused as is_refused, IsAnswer, Mode, opening, serving, discarding, Tells, TellsReady, Converses, IsClientsEnd, MessagesAreAnswered}
+use Rattle.session_completeness.specs.Conversations.{IsReply, AreAnswered, none, replied, refused as is_refused, IsAnswer, opening, serving, discarding, Tells, TellsReady, Converses, IsClientsEnd, MessagesAreAnswered}
 use Rattle.session_completeness.proofs.Replied.{both_fine}
 use Rattle.session_completeness.proofs.Telling.{IsFine, IsOver, Adds, Told, Otherwise, told_more, lost_told, otherwise_told, ask_told, tell_told, short_told, opened_told}
-use Rattle.session_completeness.proofs.Answering.{Stands, answers}
+use Rattle.session_completeness.proofs.Answering.{answers}
 
 -- bytes, and then what follows, as they are told
 joins : (first : List ℕ) (Rest : List ℕ → Type 0) (more : List ℕ) → Rest more → Tells first Rest (first ++ more)

@@ -1,11 +1,11 @@
 -- What an end says of a stream that is whole: which end it is, and that all its messages were heard.
-use Rattle.std.proofs.Common.{◌≡◌, ◌⊎◌, inl, inr, ℕ, List, [], ◌∷◌, ◌++◌, refl, subst}
+use Rattle.std.proofs.Common.{◌≡◌, inl, inr, ℕ, List, [], ◌∷◌, refl, subst}
 use Rattle.client_framing.specs.declared.frontend_message.FrontendMessage.{FrontendMessage}
 use Rattle.client_framing.specs.declared.frontend_message.FrameFault.{FrameFault}
 use Rattle.block_machine.specs.declared.end.End.{End}
 use Rattle.block_machine.specs.declared.end.End.TheVariants as ends
-use Rattle.session_core.specs.Requests.{Request, encryption, cancel, start, userless, version, query, unread_query, terminate, sync, nothing, extended, function, Requests, asks, partial, faulty, unread, Says}
-use Rattle.session_ends.specs.Causes.{IsHeardOn, IsTerminate, IsCancel, IsUserless, IsVersion, Asked, EndsBetween, EndsInside, HasFault}
+use Rattle.session_core.specs.Requests.{Request, cancel, userless, version, terminate, Requests, asks, partial, faulty, unread}
+use Rattle.session_ends.specs.Causes.{IsTerminate, IsCancel, IsUserless, IsVersion, Asked, EndsBetween, EndsInside, HasFault}
 use Rattle.session_completeness.specs.Sessions.{Hears}
 use Rattle.session_completeness.proofs.Following.{IsCalm, IsEnd, Ending, Follows}
 

@@ -1,6 +1,5 @@
 -- Each statement that ran is told what it came to, where no call was refused and memory didn't run out.
-use Rattle.std.proofs.Common.{◌≡◌, ◌⊎◌, inl, inr, true, false, ℕ, List, [], ◌∷◌, ◌++◌, refl, sym, ap, subst}
-use Rattle.std.proofs.lemmas.List.{append-nil}
+use Rattle.std.proofs.Common.{◌≡◌, ◌⊎◌, inl, inr, ℕ, List, [], ◌∷◌, ◌++◌, refl, sym, subst}
 use Rattle.history_core.specs.declared.fault.BookFault.{BookFault}
 use Rattle.history_core.specs.declared.fault.BookFault.TheVariants as faults
 use Rattle.sql_tree.specs.declared.statement.Statement.{Statement}
@@ -8,14 +7,12 @@ use Rattle.sql_tree.specs.declared.table.Table.{Table}
 use Rattle.statement_course.specs.declared.demand.Outcome.{Outcome}
 use Rattle.statement_course.specs.Course.{Course, done}
 use Rattle.outcome_replies.specs.declared.description.RowDescription.TheVariants as described
-use Rattle.block_machine.specs.Calls.{Call}
-use Rattle.block_machine.specs.Calls as calls
-use Rattle.block_machine.specs.Script.{Entry, did, refused, short, unsent, stop, Next, more, call, ended, astray}
+use Rattle.block_machine.specs.Script.{Entry, did, refused, ended}
 use Rattle.block_machine.specs.declared.call.Answer.TheVariants as answers
 use Rattle.block_machine.specs.declared.end.End.{End}
 use Rattle.session_ends.specs.Causes.{Has, LacksMemory, IsFull}
 use Rattle.session_pictures.specs.Acts.{Act, tells, asks, meets, runs, entries_of, entries_in}
-use Rattle.session_pictures.specs.Transcripts.{Replies, at_once, rolled_back, unsaid, lost_before, reply_for, Refuses, Ends, finished, declined, short_of, unanswered, misplaced, IsTranscript}
+use Rattle.session_pictures.specs.Transcripts.{Replies, at_once, rolled_back, reply_for, Refuses, Ends, finished, declined, short_of, IsTranscript}
 use Rattle.session_completeness.specs.Statements.{AreToldNext, EachIsTold}
 
 -- an entry of a record is a lack of memory, or a refusal by a full history

@@ -25,7 +25,7 @@ use Rattle.block_machine.specs.declared.end.End.TheVariants as ends
 use Rattle.block_machine.specs.declared.message.Message.{Message}
 use Rattle.block_machine.specs.declared.message.Message.TheVariants as messages
 use Rattle.session_core.specs.Replies.{no_encryption, startup_reply}
-use Rattle.session_core.specs.Requests.{Request, encryption, start, query, terminate, sync, nothing, extended, function, Requests, asks, partial}
+use Rattle.session_core.specs.Requests.{encryption, start, query, terminate, sync, nothing, extended, function, Requests, asks, partial}
 use Rattle.session_core.specs.Told.{told}
 use Rattle.session_ends.specs.Causes.{Has, LacksMemory, IsFull}
 
