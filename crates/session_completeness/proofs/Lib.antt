@@ -6,3 +6,4 @@ pub mod Replied
 pub mod Telling
 pub mod Answering
 pub mod Conversing
+pub mod Answered

@@ -3,6 +3,7 @@ use Rattle.std.specs.Prelude.{◌≡◌, ℕ, Bool, List, [], ◌∷◌, ◌++�
 use Rattle.cell_base.specs.declared.level.Level.{Level}
 use Rattle.cell_base.specs.declared.sql_state.SqlState.{SqlState}
 use Rattle.cell_base.specs.declared.sql_state.SqlState.TheVariants as states
+use Rattle.client_framing.specs.declared.frontend_message.FrontendMessage.TheVariants.{Startup}
 use Rattle.pg_framing.specs.declared.replies.TransactionState.{TransactionState}
 use Rattle.sql_tree.specs.declared.statement.CreateTable.{CreateTable}
 use Rattle.sql_tree.specs.declared.statement.Statement.{Statement}
@@ -26,8 +27,12 @@ use Rattle.block_machine.specs.declared.message.Message.{Message}
 use Rattle.block_machine.specs.declared.message.Message.TheVariants as messages
 use Rattle.session_core.specs.Replies.{no_encryption, startup_reply}
 use Rattle.session_core.specs.Requests.{encryption, start, query, terminate, sync, nothing, extended, function, Requests, asks, partial}
+use Rattle.session_core.specs.Serve.{Scene, Account, Serves}
 use Rattle.session_core.specs.Told.{told}
+use Rattle.session_core.specs.declared.served.Served.{Served}
 use Rattle.session_ends.specs.Causes.{Has, LacksMemory, IsFull}
+use Rattle.session_completeness.specs.Streams.{IsWholeStream}
+use Rattle.session_completeness.specs.Sessions.{IsUndisturbed, IsSentWhole, Hears}
 
 -- ---- one statement
 
@@ -127,3 +132,14 @@ MessagesAreAnswered =
     (level : Level) (requests : Requests) (entries : List Entry) (said : Said) (end : End)
     → told level requests entries ≡ (said, ended end) → IsClientsEnd end → ¬ (Has LacksMemory entries) → ¬ (Has IsFull entries)
     → Converses opening requests said.bytes
+
+-- A session was served over a link that told its bytes and counted no fault, these bytes are all that a client has to say, and its record has no lack
+-- of memory and no refusal by a full history: then it ended as its client said, heard all its messages, answered each of them, and all of that was
+-- written.
+abbrev pub ServedMessagesAreAnswered : {W : Type 0} → (W → ℕ → W → Type 0) → Type 0
+ServedMessagesAreAnswered {W} gives =
+    (level : Level) (before : Scene W) (outcome : Served) (after : Scene W) (account : Account) (end : End) (bytes : List ℕ)
+    → (s : Serves gives level before outcome after account) → (w : IsWholeStream end bytes) → IsUndisturbed bytes before.link after.link
+    → ¬ (Has LacksMemory account.entries) → ¬ (Has IsFull account.entries)
+    → (outcome.end ≡ end) × Hears (w.encryption ++ Startup w.pairs ∷ w.messages) s.requests × IsSentWhole account before.link after.link
+    × Converses opening s.requests account.sent

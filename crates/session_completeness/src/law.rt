@@ -1,6 +1,6 @@
 // What holds of sessions in which nothing fails.
 ghost use Rattle.session_completeness.specs.Sessions.{SessionsAreComplete};
-ghost use Rattle.session_completeness.specs.Conversations.{MessagesAreAnswered};
+ghost use Rattle.session_completeness.specs.Conversations.{MessagesAreAnswered, ServedMessagesAreAnswered};
 ghost use Rattle.session_completeness.specs.Statements.{StatementsAreTold};
 
 use link_traits::Words;
@@ -20,7 +20,9 @@ pub fn statements_are_told()
 
 /// What a client is told, message by message, in a session that ends as its client said, whose record has no lack of memory and no refusal by a full
 /// history: of a query that isn't discarded each statement is told its reply, its rows and its tag; or one is told a code that it is given, and those
-/// after it are skipped.
-pub fn messages_are_answered()
-    ensures { MessagesAreAnswered }
+/// after it are skipped. So it is of a session that was served over a link that tells its bytes and counts no fault, where these are all that its
+/// client has to say: it ends as the client said, and all of that was written.
+pub fn messages_are_answered<W: Words>()
+    ensures told { MessagesAreAnswered }
+    ensures served { ServedMessagesAreAnswered W.gives }
 {}
