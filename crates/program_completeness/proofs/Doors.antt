@@ -1,6 +1,7 @@
 -- Where a worker's door accepted no further link, a door counted that.
 use Rattle.std.proofs.Common.{◌≡◌, ◌<◌, ℕ, suc, List, [], ◌∷◌, Option, Some, None, arith, rules}
 use Rattle.std.specs.Prelude.{Contains}
+use Rattle.std.proofs.lemmas.List.Elements.{Contains-append_right}
 use Rattle.std.proofs.lemmas.Option.{none-some}
 use Rattle.cell_base.specs.declared.level.Level.{Level}
 use Rattle.history_core.specs.Chronicle.{Chronicle}
@@ -20,7 +21,7 @@ memory_failed : Some faults.Memory ≡ Some faults.Failed → ⊥
 memory_failed clash = cc
 
 later_failed : (door : Passage) (doors : List Passage) → HasFailed doors → HasFailed (door ∷ doors)
-later_failed door doors failed = record { door = failed.door; inside = search (rules, failed.inside); some = failed.some }
+later_failed door doors failed = record { door = failed.door; inside = Contains-append_right (door ∷ []) doors failed.door failed.inside; some = failed.some }
 
 first_failed : (door : Passage) (doors : List Passage) → door.faults ≡ faults_after (Some faults.Failed) 0 → HasFailed (door ∷ doors)
 first_failed door doors is = record { door = door; inside = search rules; some = omega (arith, is) }
