@@ -1,4 +1,3 @@
-pub mod SamePast
 pub mod Scripts
 pub mod StatementsTell
 pub mod MessagesTell

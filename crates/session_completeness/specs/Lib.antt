@@ -1,0 +1,4 @@
+pub mod Streams
+pub mod Sessions
+pub mod Statements
+pub mod Conversations
