@@ -1,0 +1,4 @@
+pub mod ServedOn
+pub mod OneEach
+pub mod WholeStart
+pub mod Rows
