@@ -3,7 +3,7 @@ ghost use Rattle.std.specs.Prelude.{◌≡◌, ◌<◌, IfOk};
 
 use cell_base::{Items, Memory};
 use link_traits::{MemLink, MemPlan};
-use std::alloc::{AllocError, Global};
+use std::alloc::Global;
 
 // The calls of these numbers, from 1 on, fail.
 fn plan(alloc: Global, piece: u32, fails: &[u64]) -> Result<MemPlan, Memory>
@@ -40,13 +40,4 @@ pub fn failing_link(
         plan(alloc, piece, reads)?,
         plan(alloc, 64, writes)?,
     )
-}
-
-/// The messages as one stream.
-pub fn joined(alloc: Global, messages: &[&[u8]]) -> Result<Vec<u8>, AllocError> {
-    let mut out = Vec::new(alloc);
-    for message in messages {
-        out.extend_from_slice(message)?;
-    }
-    Ok(out)
 }

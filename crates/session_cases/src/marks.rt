@@ -1,28 +1,38 @@
-// What had been read and written before each read of a link: no reply is held back over a read, and no read takes more than 8,192 bytes.
-ghost use Rattle.std.specs.Prelude.{◌≡◌, IfOk};
-ghost use Rattle.history_core.specs.Book.{no_session};
+// What had been written before each read: a reply that is held back over a read would show here.
+ghost use Rattle.std.specs.Prelude.{◌<◌};
 
-use crate::links::{joined, link};
-use crate::rows::{STARTUP, TERMINATE};
-use cell_base::{Items, Level, Memory};
-use choice_stream::ListWords;
-use history_core::InitialState;
-use session_core::{End, serve_link};
-use std::alloc::{AllocError, Global};
+use crate::links::link;
+use crate::serving::difference;
+use session_text::{Session, read_sessions};
+use std::alloc::Global;
 use std::test::Fail;
-use valid_writes::{SeatBook, Store};
 
-/// A query without a statement, of 8 bytes. It is told EmptyQueryResponse and ReadyForQuery: 5 and 6 bytes.
-const EMPTY: &[u8] = b"Q\0\0\0\x07  \0";
+// In pieces of 8 bytes. The startup message has 16 bytes and is told 191. The query without a statement has 8 bytes and is told 5 and 6;
+// BEGIN has 16, and is told 11 and 6; SELECT has 16, and is told 34, 12, 14 and 6.
+const SHORT_QUERIES: &str = r"
+# queries of 8 and 16 bytes
+> StartupMessage user=a
++ started
+> Query \x20\x20
+< EmptyQueryResponse
+< ReadyForQuery I
+> Query BEGIN\x20\x20\x20\x20\x20
+* begin 1 rc
+< CommandComplete BEGIN
+< ReadyForQuery T
+> Query SELECT 1\x20\x20
+< RowDescription ?column? integer
+< DataRow 1
+< CommandComplete SELECT 1
+< ReadyForQuery T
+> Terminate
+* rollback 1
+* close 1
+= session 1: Terminated
+";
 
-/// `BEGIN`, of 16 bytes. It is told its tag and ReadyForQuery: 11 and 6 bytes.
-const BEGIN: &[u8] = b"Q\0\0\0\x0fBEGIN     \0";
-
-/// `SELECT 1`, of 16 bytes. It is told a row description, a row, its tag and ReadyForQuery: 34, 12, 14 and 6 bytes.
-const SELECT: &[u8] = b"Q\0\0\0\x0fSELECT 1  \0";
-
-/// Before each read, in pieces of 8 bytes: how many bytes had been read, and how many written. The startup message has 16 bytes and
-/// is told 191; what each message is told stands before the next read, and the Terminate of 5 bytes is the last that is read.
+// Before each read, in pieces of 8 bytes: how many bytes had been read, and how many written. What each message is told stands before the
+// next read, and the Terminate of 5 bytes is the last that is read.
 const MARKS: &[(usize, usize)] = &[
     (0, 0),
     (8, 0),
@@ -34,45 +44,56 @@ const MARKS: &[(usize, usize)] = &[
     (56, 285),
 ];
 
-// The book of a new history without a row.
-fn new_book(alloc: Global) -> Result<SeatBook, Memory>
-    ensures { IfOk result (λ book. book.state ≡ no_session) }
+// A query of 9,000 bytes. The first read takes the startup message and a part of the query.
+const LONG_QUERY: &str = r"
+# a query of 9,000 bytes
+> StartupMessage user=a
++ started
+> RepeatedQuery 8994 \x20
+< EmptyQueryResponse
+< ReadyForQuery I
+> Terminate
+* close 1
+= session 1: Terminated
+";
+
+// Whether the session is as its text says over a link that gives so many bytes at a time, with these marks.
+fn has_marks(
+    alloc: Global,
+    session: &Session,
+    piece: u32,
+    marks: &[(usize, usize)],
+) -> Result<bool, Fail>
+    requires { 0 < piece }
 {
-    Ok(Store::new(alloc, Level::Rc, InitialState::empty(alloc))?.seat(None))
+    let mut link = link(alloc, &session.input, piece)?;
+    let found = difference(alloc, session, &mut link)?;
+    Ok(found.as_str().is_empty() && link.marks() == marks)
+}
+
+// The same of each session of a text.
+fn have_marks(alloc: Global, text: &str, piece: u32, marks: &[(usize, usize)]) -> Result<bool, Fail>
+    requires { 0 < piece }
+{
+    let sessions = read_sessions(alloc, text)?;
+    for session in sessions.iter() {
+        if !has_marks(alloc, session, piece, marks)? {
+            return Ok(false);
+        }
+    }
+    Ok(true)
 }
 
 #[test]
 fn holds_no_reply_back(rt: HostRuntime) -> Result<(), Fail> {
     let alloc = rt.alloc();
-    let input = joined(alloc, &[STARTUP, EMPTY, BEGIN, SELECT, TERMINATE])?;
-    let mut link = link(alloc, input.as_slice(), 8)?;
-    let mut book = new_book(alloc)?;
-    let mut words = ListWords::new(Items::from_slice(alloc, &[])?);
-    let served = serve_link(alloc, Level::Rc, &mut book, &mut link, &mut words);
-    assert_eq!(rt; served.end, End::Terminated);
-    assert_eq!(rt; link.marks(), MARKS);
-    assert_eq!(rt; link.written().len(), 285);
+    assert!(rt; have_marks(alloc, SHORT_QUERIES, 8, MARKS)?);
     Ok(())
-}
-
-// A query without a statement, of 9,000 bytes.
-fn long_query(alloc: Global) -> Result<Vec<u8>, AllocError> {
-    let spaces = vec![in alloc; b' '; 8994]?;
-    joined(alloc, &[b"Q\0\0\x23\x27", spaces.as_slice(), b"\0"])
 }
 
 #[test]
 fn reads_8192_bytes_at_once(rt: HostRuntime) -> Result<(), Fail> {
     let alloc = rt.alloc();
-    let query = long_query(alloc)?;
-    let input = joined(alloc, &[STARTUP, query.as_slice(), TERMINATE])?;
-    let mut link = link(alloc, input.as_slice(), 10_000)?;
-    let mut book = new_book(alloc)?;
-    let mut words = ListWords::new(Items::from_slice(alloc, &[])?);
-    let served = serve_link(alloc, Level::Rc, &mut book, &mut link, &mut words);
-    assert_eq!(rt; served.end, End::Terminated);
-    // The first read takes the startup message and a part of the query.
-    assert_eq!(rt; link.marks(), [(0, 0), (8192, 191)].as_slice());
-    assert_eq!(rt; link.written().len(), 202);
+    assert!(rt; have_marks(alloc, LONG_QUERY, 10_000, &[(0, 0), (8192, 191)])?);
     Ok(())
 }
