@@ -116,7 +116,7 @@ module _ (name : List ℕ) (first second : Key) where
   p9 = pending_kept h8 (Commit 2) 1 1 (λ same. absurd (not_two same)) p8
     where
       not_two : 2 ≡ 1 → ⊥
-      not_two same = omega
+      not_two same = omega arith
 
   q6 : IsPending h6 2 2
   q6 = pending_begin h5 2 Ra
@@ -147,25 +147,39 @@ module _ (name : List ℕ) (first second : Key) where
   writer (suc (suc (suc (suc (suc (suc (suc (suc zero)))))))) s x v is = cc
   writer (suc (suc (suc (suc (suc (suc (suc (suc (suc n))))))))) s x v is = cc
 
-  begins : (n s : ℕ) (level : Level) → slice_get h9 n ≡ Some (Begin s level) → begun (take n h9) + 1 ≡ s
-  begins zero s level is = cc
-  begins (suc zero) s level is = cc
-  begins (suc (suc zero)) s level is = cc
-  begins (suc (suc (suc zero))) s level is = cc
-  begins (suc (suc (suc (suc zero)))) s level is = cc
-  begins (suc (suc (suc (suc (suc zero))))) s level is = cc
-  begins (suc (suc (suc (suc (suc (suc zero)))))) s level is = cc
-  begins (suc (suc (suc (suc (suc (suc (suc zero))))))) s level is = cc
-  begins (suc (suc (suc (suc (suc (suc (suc (suc zero)))))))) s level is = cc
-  begins (suc (suc (suc (suc (suc (suc (suc (suc (suc n))))))))) s level is = cc
+  first_begin : (n : ℕ) (level : Level) → slice_get h9 n ≡ Some (Begin 1 level) → n ≡ 3
+  first_begin zero level is = cc
+  first_begin (suc zero) level is = cc
+  first_begin (suc (suc zero)) level is = cc
+  first_begin (suc (suc (suc zero))) level is = refl
+  first_begin (suc (suc (suc (suc zero)))) level is = cc
+  first_begin (suc (suc (suc (suc (suc zero))))) level is = cc
+  first_begin (suc (suc (suc (suc (suc (suc zero)))))) level is = cc
+  first_begin (suc (suc (suc (suc (suc (suc (suc zero))))))) level is = cc
+  first_begin (suc (suc (suc (suc (suc (suc (suc (suc zero)))))))) level is = cc
+  first_begin (suc (suc (suc (suc (suc (suc (suc (suc (suc n))))))))) level is = cc
+
+  second_begin : (n : ℕ) (level : Level) → slice_get h9 n ≡ Some (Begin 2 level) → n ≡ 5
+  second_begin zero level is = cc
+  second_begin (suc zero) level is = cc
+  second_begin (suc (suc zero)) level is = cc
+  second_begin (suc (suc (suc zero))) level is = cc
+  second_begin (suc (suc (suc (suc zero)))) level is = cc
+  second_begin (suc (suc (suc (suc (suc zero))))) level is = refl
+  second_begin (suc (suc (suc (suc (suc (suc zero)))))) level is = cc
+  second_begin (suc (suc (suc (suc (suc (suc (suc zero))))))) level is = cc
+  second_begin (suc (suc (suc (suc (suc (suc (suc (suc zero)))))))) level is = cc
+  second_begin (suc (suc (suc (suc (suc (suc (suc (suc (suc n))))))))) level is = cc
 
   unwritten : ¬ WroteItself h9 1 two
   unwritten wrote =
       let of = wrote.written.write in
-      let own : wrote.number ≡ 1 = wrote.pending.starts.counts ∙ begins wrote.pending.start 1 wrote.pending.starts.level wrote.pending.starts.is in
-      let theirs : wrote.number ≡ wrote.written.session = of.starts.counts ∙ begins of.start wrote.written.session of.starts.level of.starts.is in
-      let two_is : wrote.written.session ≡ 2 = writer wrote.written.place wrote.written.session two wrote.written.value of.is in
-      absurd (omega)
+      let theirs : wrote.written.session ≡ 2 = writer wrote.written.place wrote.written.session two wrote.written.value of.is in
+      let own_start : wrote.pending.start ≡ 3 = first_begin wrote.pending.start wrote.pending.starts.level wrote.pending.starts.is in
+      let their_start : of.start ≡ 5 = second_begin of.start of.starts.level (of.starts.is ∙ ap (λ (s : ℕ). Some (Begin s of.starts.level)) theirs) in
+      let one_is : wrote.number ≡ 1 = wrote.pending.starts.counts ∙ ap (λ (n : ℕ). begun (take n h9) + 1) own_start in
+      let two_is : wrote.number ≡ 2 = of.starts.counts ∙ ap (λ (n : ℕ). begun (take n h9) + 1) their_start in
+      absurd (omega arith)
 
   l8 : LastWrites h8 2 two (Flag true)
   l8 = (last_new h7 2 2 two (Flag true) q7 two (Flag true)).1 (inl (refl, refl))

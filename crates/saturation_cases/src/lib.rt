@@ -4,6 +4,6 @@
 #![tactic(auto)]
 
 #[cfg(test)]
-mod fractured;
+mod cycles;
 #[cfg(test)]
 mod tests;

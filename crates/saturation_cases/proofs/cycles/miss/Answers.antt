@@ -1,7 +1,7 @@
 use Rattle.std.proofs.Common.{pos, codes}
 use Rattle.cell_base.specs.declared.key.Key.TheVariants.{Int as KeyInt}
 use Rattle.saturation_cases.proofs.Fractured.{fits4, fits5}
-use Rattle.saturation_cases.proofs.fractured.miss.Goals as goal
+use Rattle.saturation_cases.proofs.cycles.miss.Goals as goal
 
 pub push-requires-3-clause-follows : goal.push-requires-3-clause-follows
 push-requires-3-clause-follows c =

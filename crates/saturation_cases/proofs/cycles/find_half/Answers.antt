@@ -1,7 +1,7 @@
 use Rattle.std.proofs.Common.{pos, codes}
 use Rattle.cell_base.specs.declared.key.Key.TheVariants.{Int as KeyInt}
 use Rattle.saturation_cases.proofs.Fractured.{fits6, fits7, fits8, fits9, fits10}
-use Rattle.saturation_cases.proofs.fractured.find_half.Goals as goal
+use Rattle.saturation_cases.proofs.cycles.find_half.Goals as goal
 
 pub push-requires-clause-follows : goal.push-requires-clause-follows
 push-requires-clause-follows c = rw c.requires.events (fits6 (codes "t") (KeyInt (pos 1)) (KeyInt (pos 2)))
