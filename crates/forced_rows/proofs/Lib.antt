@@ -8,3 +8,4 @@ pub mod Counting
 pub mod Candidates
 pub mod LateScans
 pub mod Ordering
+pub mod Passing

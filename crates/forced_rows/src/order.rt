@@ -9,7 +9,7 @@ ghost use Rattle.history_core.specs.Relations.{Meets};
 ghost use Rattle.history_core.specs.Legal.{IsLegal};
 ghost use Rattle.saturation.specs.Laws.{AreForced};
 ghost use Rattle.forced_rows.specs.Rows.{AreRowsOf};
-ghost use Rattle.forced_rows.specs.Marks.{IsReadyBy, MayBeMarked};
+ghost use Rattle.forced_rows.specs.Marks.{MayBeMarked, IsPassed, ArePassed, AreMarkedBelow};
 
 use crate::ForcedRows;
 use cell_base::Memory;
@@ -27,42 +27,61 @@ fn blocks(reach: &Reach, marks: &[bool], first: u32, second: u32) -> bool
     !marks[first as usize] && reach.reaches(first, second)
 }
 
-/// Whether all that are before the number are marked.
-fn is_ready(reach: &Reach, marks: &[bool], number: u32) -> bool
+/// The first number from `from` on that is before the number and isn't marked; the size, where there is none.
+fn first_blocker(reach: &Reach, marks: &[bool], from: u32, number: u32) -> u32
     requires size { length marks.now ≡ reach.now.size }
+    requires from { from ≤ reach.now.size }
     requires number { number < reach.now.size }
-    ensures { IsTrue result ↔ IsReadyBy reach.now.pairs marks.now number }
+    requires passed { IsPassed reach.now.pairs marks.now number from }
+    ensures within { result ≤ reach.now.size }
+    ensures passed { IsPassed reach.now.pairs marks.now number result }
+    ensures blocks { result < reach.now.size → IsUnmarked marks.now result × Reaches reach.now.pairs result number }
 {
-    for first in 0..reach.size() {
+    for first in from..reach.size() {
         if blocks(reach, marks, first, number) {
-            return false;
+            return first;
         }
     }
-    true
+    reach.size()
 }
 
-/// Whether the number isn't marked, and all that are before it are.
-fn may_be_marked(reach: &Reach, marks: &[bool], number: u32) -> bool
+/// The least number that may be marked next. All below `from` are marked. Of each number `passed` has how far those before it were found marked, so
+/// that none is looked at twice.
+fn next_marked(reach: &Reach, marks: &[bool], passed: &mut [u32], from: u32) -> Option<u32>
     requires size { length marks.now ≡ reach.now.size }
-    requires number { number < reach.now.size }
-    ensures { IsTrue result ↔ MayBeMarked reach.now.pairs marks.now number }
-{
-    !marks[number as usize] && is_ready(reach, marks, number)
-}
-
-/// The least number that may be marked next.
-fn next_marked(reach: &Reach, marks: &[bool]) -> Option<u32>
-    requires size { length marks.now ≡ reach.now.size }
+    requires passed { ArePassed reach.now.size reach.now.pairs marks.now passed.old }
+    requires within { from ≤ reach.now.size }
+    requires from { AreMarkedBelow marks.now from }
+    ensures kept { ArePassed reach.now.size reach.now.pairs marks.now passed.new }
     ensures may { IfSome result (λ n. MayBeMarked reach.now.pairs marks.now n) }
     ensures least { IfSome result (λ n. (m : ℕ) → MayBeMarked reach.now.pairs marks.now m → n ≤ m) }
     ensures none { IfNone result ((m : ℕ) → ¬ MayBeMarked reach.now.pairs marks.now m) }
 {
-    for number in 0..reach.size() {
-        if may_be_marked(reach, marks, number) {
-            return Some(number);
+    for number in from..reach.size() {
+        if !marks[number as usize] {
+            let blocker = first_blocker(reach, marks, passed[number as usize], number);
+            passed[number as usize] = blocker;
+            if blocker == reach.size() {
+                return Some(number);
+            }
         }
     }
     None
+}
+
+/// How many numbers from the first on are marked, given that so many are.
+fn marked_below(marks: &[bool], from: u32) -> u32
+    requires size { length marks.now < 4294967296 }
+    requires within { from ≤ length marks.now }
+    requires from { AreMarkedBelow marks.now from }
+    ensures within { result ≤ length marks.now }
+    ensures marked { AreMarkedBelow marks.now result }
+{
+    let mut below = from;
+    while (below as usize) < marks.len() && marks[below as usize] {
+        below += 1;
+    }
+    below
 }
 
 impl ForcedRows {
@@ -78,10 +97,13 @@ impl ForcedRows {
     {
         let size = self.reach.size();
         let mut marks = vec![in alloc; false; size as usize]?;
+        let mut passed = vec![in alloc; 0; size as usize]?;
+        let mut below = 0;
         let mut order: Vec<u32> = Vec::new(alloc);
-        while let Some(number) = next_marked(&self.reach, &marks) {
+        while let Some(number) = next_marked(&self.reach, &marks, &mut passed, below) {
             order.push(number)?;
             marks[number as usize] = true;
+            below = marked_below(&marks, below);
         }
         Ok(order)
     }

@@ -66,6 +66,7 @@ status_of_start (faults.File files.Read) = 3
 status_of_start (faults.File files.Memory) = 5
 status_of_start (faults.Setup setups.TooLong) = 1
 status_of_start (faults.Setup (setups.Statement fault)) = 1
+status_of_start (faults.Setup setups.Unfinished) = 1
 status_of_start (faults.Setup (setups.Ended end)) = 1
 status_of_start (faults.Setup setups.Memory) = 5
 status_of_start faults.Heavy = 1

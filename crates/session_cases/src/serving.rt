@@ -71,11 +71,11 @@ fn compared(
     let common = common_lines(events, session.events.as_str());
     if events != session.events.as_str() {
         let event = events.lines().nth(common).unwrap_or("none");
-        return format!(in alloc; "behind {common} events: {event}");
+        return format!(in alloc; "after {common} events: {event}");
     }
     if sent != session.sent.as_slice() {
         let common = common_bytes(sent, &session.sent);
-        return format!(in alloc; "behind {common} bytes another one is sent");
+        return format!(in alloc; "after {common} bytes another one is sent");
     }
     if end != session.end.as_str() {
         return format!(in alloc; "end: {end}");

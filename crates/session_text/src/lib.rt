@@ -7,7 +7,7 @@
 //! |---|---|
 //! | `# a failed block` | the first one is the session's name, others are comments |
 //! | `level cc` | the level of the server: `rc`, `ra` or `cc`; without this line `rc` |
-//! | `words 1 0` | the next choice words; behind the last one all are 0 |
+//! | `words 1 0` | the next choice words; after the last one all are 0 |
 //! | `+ table t` | the lines of a set-up of this name (`src/setups.rt`) |
 //! | `> Query SELECT 1` | a message of the client |
 //! | `< ReadyForQuery I` | a message of the server |

@@ -80,7 +80,7 @@ pub fn push_value(out: &mut Vec<u8>, bytes: &[u8]) -> Result<(), Unread> {
     Ok(())
 }
 
-/// A body behind its length, which counts its own four bytes too.
+/// A length, which counts its own four bytes too, and the body.
 pub fn push_body(out: &mut Vec<u8>, body: &[u8]) -> Result<(), Unread> {
     out.extend_from_slice(&length(body, 4))?;
     out.extend_from_slice(body)?;

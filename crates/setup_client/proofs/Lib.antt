@@ -1,2 +1,3 @@
+pub mod BlockWalks
 pub mod Spelled
 pub mod Walks

@@ -1,3 +1,4 @@
+pub mod Blocks
 pub mod Client
 pub mod Errors
 pub mod Spelled

@@ -94,7 +94,7 @@ fn number_behind_kind(bytes: &[u8]) -> usize
 }
 
 // How many bytes the message at the front has. `None` comes where none stands there whole.
-fn size_of(bytes: &[u8]) -> Option<usize>
+pub(crate) fn size_of(bytes: &[u8]) -> Option<usize>
     ensures some { IfSome result (λ size. (has_message bytes.now ≡ true) × (size ≡ 1 + number_at 1 bytes.now)) }
     ensures within { IfSome result (λ size. (5 ≤ size) × (size ≤ length bytes.now)) }
     ensures none { IfNone result (has_message bytes.now ≡ false) }

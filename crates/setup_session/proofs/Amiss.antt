@@ -12,6 +12,8 @@ pub amiss : (text : List ℕ) (outcome : Served) (told : List ℕ) (history : Ch
 amiss text outcome told history faults.TooLong few ran cause = absurd cause
 amiss text outcome told history (faults.Statement error) few ran cause =
     record { few = few; outcome = outcome; told = told; history = history; ran = ran; cause = cause }
+amiss text outcome told history faults.Unfinished few ran cause =
+    record { few = few; outcome = outcome; told = told; history = history; ran = ran; cause = cause }
 amiss text outcome told history (faults.Ended end) few ran cause =
     record { few = few; outcome = outcome; told = told; history = history; ran = ran; cause = cause }
 amiss text outcome told history faults.Memory few ran cause = few

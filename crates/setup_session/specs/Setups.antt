@@ -1,5 +1,5 @@
 -- What the setup of a server comes to.
-use Rattle.std.specs.Prelude.{◌≡◌, ◌≢◌, ◌≤◌, ◌<◌, ℕ, List, [], length, None, Some, false}
+use Rattle.std.specs.Prelude.{◌≡◌, ◌≢◌, ◌≤◌, ◌<◌, ℕ, List, [], length, None, Some, true, false}
 use Rattle.cell_base.specs.declared.level.Level.TheVariants as levels
 use Rattle.link_traits.specs.Traffic.{Traffic, Sight}
 use Rattle.history_core.specs.Chronicle.{Chronicle, IsLegalChronicle}
@@ -11,6 +11,7 @@ use Rattle.session_core.specs.Serve.{scene_of, Account, Serves}
 use Rattle.choice_stream.specs.Choices.{DrawsFirst}
 use Rattle.setup_client.specs.Client.{most_text, link_of}
 use Rattle.setup_client.specs.Errors.{first_error}
+use Rattle.setup_client.specs.Blocks.{tells_block}
 use Rattle.setup_session.specs.declared.fault.SetupFault.{SetupFault}
 use Rattle.setup_session.specs.declared.fault.SetupFault.TheVariants as faults
 
@@ -36,14 +37,15 @@ pub record Ran (text : List ℕ) (outcome : Served) (told : List ℕ) (history :
   pub events : history.events ≡ events_of account.entries
   pub closed : past.state ≡ no_session
 
--- the session ended as its client said, memory didn't run out, and no error was told
+-- the session ended as its client said, memory didn't run out, no error was told, and the text doesn't end inside a block
 pub record WentWell (outcome : Served) (told : List ℕ) : Type 0 where
   pub end : outcome.end ≡ ends.Terminated
   pub memory : outcome.short ≡ false
   pub no_error : first_error told ≡ None
+  pub no_block : tells_block told ≡ false
 
--- The text was run by a session of its own, which ended as its client said, without an error and without a lack of memory, and left this
--- history.
+-- The text was run by a session of its own, which ended as its client said, without an error, outside of a block and without a lack of memory, and
+-- left this history.
 pub record SetsUp (text : List ℕ) (history : Chronicle) : Type 0 where
   pub few : length text ≤ most_text
   pub outcome : Served
@@ -51,13 +53,14 @@ pub record SetsUp (text : List ℕ) (history : Chronicle) : Type 0 where
   pub ran : Ran text outcome told history
   pub well : WentWell outcome told
 
--- Why a session that was told these bytes is no setup: memory ran out; or it was told this error, which is its first; or it was told none, and
--- ended in another way than its client said.
+-- Why a session that was told these bytes is no setup: memory ran out; or it was told this error, which is its first; or it was told none, but
+-- that it stands inside a block; or neither, and it ended in another way than its client said.
 abbrev pub IsCause : Served → List ℕ → SetupFault → Type 0
 IsCause outcome told faults.TooLong = ⊥
 IsCause outcome told (faults.Statement fault) = (outcome.short ≡ false) × (first_error told ≡ Some fault)
+IsCause outcome told faults.Unfinished = (outcome.short ≡ false) × (first_error told ≡ None) × (tells_block told ≡ true)
 IsCause outcome told (faults.Ended end) =
-    (outcome.short ≡ false) × (first_error told ≡ None) × (outcome.end ≡ end) × (end ≢ ends.Terminated)
+    (outcome.short ≡ false) × (first_error told ≡ None) × (tells_block told ≡ false) × (outcome.end ≡ end) × (end ≢ ends.Terminated)
 IsCause outcome told faults.Memory = Unit {0}
 
 -- the text was run, and the session's outcome has this cause
@@ -73,5 +76,6 @@ pub record RanAmiss (text : List ℕ) (fault : SetupFault) : Type 0 where
 abbrev pub FailsSetup : List ℕ → SetupFault → Type 0
 FailsSetup text faults.TooLong = most_text < length text
 FailsSetup text (faults.Statement fault) = RanAmiss text (faults.Statement fault)
+FailsSetup text faults.Unfinished = RanAmiss text faults.Unfinished
 FailsSetup text (faults.Ended end) = RanAmiss text (faults.Ended end)
 FailsSetup text faults.Memory = length text ≤ most_text

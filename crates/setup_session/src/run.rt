@@ -11,7 +11,7 @@ use choice_stream::ListWords;
 use history_core::InitialState;
 use link_traits::MemLink;
 use session_core::{Served, serve_link};
-use setup_client::{MOST_TEXT, first_error, link_of};
+use setup_client::{MOST_TEXT, first_error, link_of, tells_block};
 use std::alloc::Global;
 use valid_writes::{SeatBook, Store};
 
@@ -46,6 +46,9 @@ fn judge(alloc: Global, served: Served, told: &[u8]) -> Result<(), SetupFault>
     if let Some(fault) = first_error(alloc, told)? {
         return Err(SetupFault::Statement(fault));
     }
+    if tells_block(told) {
+        return Err(SetupFault::Unfinished);
+    }
     match served.end {
         End::Terminated => Ok(()),
         end => Err(SetupFault::Ended(end)),
@@ -55,8 +58,8 @@ fn judge(alloc: Global, served: Served, told: &[u8]) -> Result<(), SetupFault>
 /// Runs the statements of a text by one session alone, over a store of its own at Causal Consistency, and answers the store. The text is one
 /// query message: its statements are one transaction, where it has no BEGIN and COMMIT.
 ///
-/// An error comes where the text has more than [`MOST_TEXT`] bytes, where a statement fails or the text can't be read, where the session ends
-/// otherwise than its client said, and out of memory.
+/// An error comes where the text has more than [`MOST_TEXT`] bytes, where a statement fails or the text can't be read, where the text ends inside a
+/// block, where the session ends otherwise than its client said, and out of memory.
 pub fn run_setup(alloc: Global, text: &[u8]) -> Result<Store, SetupFault>
     ensures ok { IfOk result (λ store. SetsUp text.now store) }
     ensures err { IfErr result (λ e. FailsSetup text.now e) }

@@ -1,6 +1,9 @@
 use Rattle.std.proofs.Common.{ℕ, ◌<◌}
-use Rattle.forced_rows.specs.Marks.{MayBeMarked}
+use Rattle.forced_rows.specs.Marks.{MayBeMarked, ArePassed}
 use Rattle.forced_rows.proofs.order.next_marked.Given as goal
 
 abbrev pub invariant-loop-number : goal.invariant-loop-number
-invariant-loop-number l = (m : ℕ) → m < l.number → MayBeMarked l.reach.pairs l.marks m → ⊥
+invariant-loop-number l = record {
+  kept : ArePassed l.reach.size l.reach.pairs l.marks l.passed;
+  none : (m : ℕ) → m < l.number → MayBeMarked l.reach.pairs l.marks m → ⊥;
+}
