@@ -116,7 +116,9 @@ fn push_plain_line(alloc: Global, parts: &mut Parts, line: &str) -> Result<(), U
 
 fn push_setup(alloc: Global, parts: &mut Parts, session: &str, name: &str) -> Result<(), Unread> {
     let lines = setup(name)?.replace(alloc, "{session}", session)?;
-    let lines = lines.as_str().replace(alloc, "{level}", level_name(parts.level))?;
+    let lines = lines
+        .as_str()
+        .replace(alloc, "{level}", level_name(parts.level))?;
     for line in lines.as_str().lines() {
         push_plain_line(alloc, parts, line)?;
     }
