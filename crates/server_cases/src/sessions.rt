@@ -5,7 +5,7 @@ use crate::hosts::answers;
 use cell_base::Level;
 use session_text::{
     Session, block_sessions, delete_sessions, duplicate_key_sessions, level_sessions,
-    message_sessions, query_sessions, read_sessions, refusal_sessions, row_sessions,
+    lone_sessions, message_sessions, query_sessions, read_sessions, refusal_sessions, row_sessions,
     statement_sessions,
 };
 use std::alloc::{AllocError, Global};
@@ -143,6 +143,7 @@ fn serves_statements(rt: HostRuntime) -> Result<(), Fail> {
     );
     assert_eq!(rt; outcome(&rt, alloc, block_sessions())?.as_str(), "6 held");
     assert_eq!(rt; outcome(&rt, alloc, level_sessions())?.as_str(), "4 held");
+    assert_eq!(rt; outcome(&rt, alloc, lone_sessions())?.as_str(), "3 held");
     Ok(())
 }
 

@@ -2,10 +2,10 @@
 ghost use Rattle.std.specs.Prelude.{◌≡◌, IfOk};
 ghost use Rattle.history_core.specs.Book.{no_session};
 
-use crate::events::push_event;
 use cell_base::{Items, Level, Memory};
 use choice_stream::ListWords;
-use history_core::{Event, InitialState};
+use event_text::event_lines;
+use history_core::InitialState;
 use link_traits::MemLink;
 use session_core::{Served, serve_link};
 use session_text::Session;
@@ -18,16 +18,6 @@ fn new_book(alloc: Global, level: Level) -> Result<SeatBook, Memory>
     ensures { IfOk result (λ book. book.state ≡ no_session) }
 {
     Ok(Store::new(alloc, level, InitialState::empty(alloc))?.seat(None))
-}
-
-// The events, one a line.
-fn shown(alloc: Global, events: &[Event]) -> Result<String, AllocError> {
-    let mut out = String::new(alloc);
-    for event in events {
-        push_event(alloc, &mut out, event)?;
-        out.push_str("\n")?;
-    }
-    Ok(out)
 }
 
 // The number of the session, and its end.
@@ -98,7 +88,7 @@ pub fn difference(alloc: Global, session: &Session, link: &mut MemLink) -> Resul
     let mut book = new_book(alloc, session.level)?;
     let mut words = ListWords::new(Items::from_slice(alloc, &session.words)?);
     let served = serve_link(alloc, session.level, &mut book, link, &mut words);
-    let events = shown(alloc, book.history().events())?;
+    let events = event_lines(alloc, book.history().events())?;
     let end = ended(alloc, &served)?;
     let found = compared(
         alloc,

@@ -5,7 +5,7 @@ use crate::links::link;
 use crate::serving::difference;
 use session_text::{
     Session, block_sessions, delete_sessions, duplicate_key_sessions, level_sessions,
-    message_sessions, query_sessions, read_sessions, refusal_sessions, row_sessions,
+    lone_sessions, message_sessions, query_sessions, read_sessions, refusal_sessions, row_sessions,
     statement_sessions,
 };
 use std::alloc::Global;
@@ -98,6 +98,7 @@ fn refuses_what_is_not_supported(rt: HostRuntime) -> Result<(), Fail> {
 fn chooses_levels(rt: HostRuntime) -> Result<(), Fail> {
     let alloc = rt.alloc();
     assert_eq!(rt; outcome(alloc, level_sessions())?.as_str(), "4 held");
+    assert_eq!(rt; outcome(alloc, lone_sessions())?.as_str(), "3 held");
     Ok(())
 }
 

@@ -1,5 +1,10 @@
-// Events as text, one a line: `begin 1 cc` begins a transaction of session 1 at Causal Consistency; `read 1 p.0.1 0 2 1 true` is a read in session 1 of the presence of key 1 in table 0, from transaction 0,
-// of 2 that were offered, by the word 1, which found true; `f.0.1.1` is column 1 of that row. Text is shown in hexadecimal after an `x`.
+//! Events of a history as text, a line each, for tests that compare whole histories.
+//!
+//! `begin 1 cc` begins a transaction of session 1 at Causal Consistency. `read 1 p.0.1 0 2 1 true` is a read in session 1 of the presence
+//! of key 1 in table 0, from transaction 0, of 2 that were offered, by the word 1, which found true; `f.0.1.1` is column 1 of that row.
+//! Text is shown in hexadecimal after an `x`.
+#![tactic(auto)]
+
 use cell_base::{Cell, Items, Key, Level, Text, Value};
 use history_core::Event;
 use std::alloc::{AllocError, Global};
@@ -97,8 +102,7 @@ fn push_begin(
     out.push_str(level_word(level))
 }
 
-/// The event as one line.
-pub fn push_event(alloc: Global, out: &mut String, event: &Event) -> Result<(), AllocError> {
+fn push_event(alloc: Global, out: &mut String, event: &Event) -> Result<(), AllocError> {
     match event {
         Event::Open { session } => push_name(alloc, out, "open", *session)?,
         Event::Close { session } => push_name(alloc, out, "close", *session)?,
@@ -158,4 +162,14 @@ pub fn push_event(alloc: Global, out: &mut String, event: &Event) -> Result<(), 
         }
     }
     Ok(())
+}
+
+/// The events, one a line. Fails where memory runs out.
+pub fn event_lines(alloc: Global, events: &[Event]) -> Result<String, AllocError> {
+    let mut out = String::new(alloc);
+    for event in events {
+        push_event(alloc, &mut out, event)?;
+        out.push_str("\n")?;
+    }
+    Ok(out)
 }

@@ -1,0 +1,185 @@
+// Halls, step by step, beside what the texts of their interleavings say.
+ghost use Rattle.std.specs.Prelude.{◌≡◌, ◌<◌, ◌≤◌, All, IfOk};
+ghost use Rattle.session_hall.specs.declared.client.Client.{Client as Known};
+ghost use Rattle.session_hall.specs.Halls.{IsHall, clients_of};
+
+use crate::reading::Interleaving;
+use cell_base::Memory;
+use event_text::event_lines;
+use session_hall::{Client, Hall};
+use session_text::Session;
+use std::alloc::{AllocError, Global};
+use std::test::Fail;
+
+fn client(alloc: Global, session: &Session, piece: u32) -> Result<Client, AllocError>
+    ensures { IfOk result (λ client. client.piece ≡ piece) }
+{
+    Ok(Client {
+        stream: Vec::from_slice(alloc, &session.input)?,
+        piece,
+        words: Vec::from_slice(alloc, &session.words)?,
+    })
+}
+
+fn clients(alloc: Global, sessions: &[Session], piece: u32) -> Result<Vec<Client>, Fail>
+    requires { 0 < piece }
+    ensures { IfOk result (λ clients. All (λ (c : Known). 0 < c.piece) clients.items) }
+{
+    let mut out = Vec::new(alloc);
+    for session in sessions {
+        out.push(client(alloc, session, piece)?)?;
+    }
+    Ok(out)
+}
+
+// The client of the session that the event names, counted from 0.
+fn client_of(event: &str) -> Option<u32> {
+    let session = event.split(' ').nth(1)?;
+    session.parse::<u32>().ok()?.checked_sub(1)
+}
+
+// The client whose event comes next makes a step. Nothing happens where there is no such client.
+fn go(hall: &mut Hall, count: u32, event: &str) -> Result<(), Memory>
+    requires hall { IsHall hall.old }
+    requires count { count ≤ clients_of hall.old }
+    ensures hall { IsHall hall.new }
+    ensures range { clients_of hall.new ≡ clients_of hall.old }
+{
+    if let Some(client) = client_of(event) {
+        if client < count {
+            hall.step(client)?;
+        }
+    }
+    Ok(())
+}
+
+// The clients go on in the order of these events.
+fn take_turns(hall: &mut Hall, count: u32, events: &str) -> Result<(), Memory>
+    requires hall { IsHall hall.old }
+    requires count { count ≤ clients_of hall.old }
+    ensures hall { IsHall hall.new }
+    ensures range { clients_of hall.new ≡ clients_of hall.old }
+{
+    for event in events.lines() {
+        go(hall, count, event)?;
+    }
+    Ok(())
+}
+
+// How many lines both have in common, up to the first that differs.
+fn common_lines(found: &str, expected: &str) -> usize {
+    let mut common: usize = 0;
+    for (one, other) in found.lines().zip(expected.lines()) {
+        if one != other {
+            return common;
+        }
+        common = common.saturating_add(1);
+    }
+    common
+}
+
+// What isn't as these events say.
+fn other_event(alloc: Global, found: &str, expected: &str) -> Result<String, AllocError> {
+    if found == expected {
+        return Ok(String::new(alloc));
+    }
+    let common = common_lines(found, expected);
+    let event = found.lines().nth(common).unwrap_or("none");
+    format!(in alloc; "behind {common} events: {event}")
+}
+
+// How many bytes both have in common, up to the first that differs.
+fn common_bytes(found: &[u8], expected: &[u8]) -> usize {
+    let mut common: usize = 0;
+    for (one, other) in found.iter().zip(expected.iter()) {
+        if *one != *other {
+            return common;
+        }
+        common = common.saturating_add(1);
+    }
+    common
+}
+
+// How a client ended, as a line.
+fn ended(alloc: Global, hall: &Hall, client: u32) -> Result<String, AllocError>
+    requires { client < clients_of hall.now }
+{
+    if hall.short(client) {
+        return String::from_str(alloc, "out of memory\n");
+    }
+    match hall.end(client) {
+        Some(end) => format!(in alloc; "{end:?}\n"),
+        None => String::from_str(alloc, "none\n"),
+    }
+}
+
+// What isn't as the client's session says, of the bytes that it was sent and its end.
+fn other_reply(
+    alloc: Global,
+    hall: &Hall,
+    client: u32,
+    session: &Session,
+) -> Result<String, AllocError>
+    requires { client < clients_of hall.now }
+{
+    let (number, sent) = (client.saturating_add(1), hall.sent(client));
+    if sent != session.sent.as_slice() {
+        let common = common_bytes(sent, &session.sent);
+        return format!(in alloc; "session {number}, behind {common} bytes: another one is sent");
+    }
+    let end = ended(alloc, hall, client)?;
+    if end.as_str() != session.end.as_str() {
+        let end = end.as_str();
+        return format!(in alloc; "session {number}, end: {end}");
+    }
+    Ok(String::new(alloc))
+}
+
+// What isn't as the sessions of the clients say.
+fn other_replies(
+    alloc: Global,
+    hall: &Hall,
+    count: u32,
+    sessions: &[Session],
+) -> Result<String, AllocError>
+    requires { count ≤ clients_of hall.now }
+{
+    for client in 0..count {
+        if let Some(session) = sessions.get(client as usize) {
+            let found = other_reply(alloc, hall, client, session)?;
+            if !found.as_str().is_empty() {
+                return Ok(found);
+            }
+        }
+    }
+    Ok(String::new(alloc))
+}
+
+// What isn't as the text says, once the clients have gone on in the order of its events: nothing, where all of it is.
+fn found_in(alloc: Global, row: &Interleaving, piece: u32) -> Result<String, Fail>
+    requires { 0 < piece }
+{
+    let clients = clients(alloc, &row.clients, piece)?;
+    let Ok(count) = u32::try_from(clients.len()) else {
+        return Ok(String::from_str(alloc, "too many clients")?);
+    };
+    let mut hall = Hall::new(alloc, row.level, clients)?;
+    take_turns(&mut hall, count, row.events.as_str())?;
+    let events = event_lines(alloc, hall.history().events())?;
+    let found = other_event(alloc, events.as_str(), row.events.as_str())?;
+    if !found.as_str().is_empty() {
+        return Ok(found);
+    }
+    Ok(other_replies(alloc, &hall, count, &row.clients)?)
+}
+
+/// What isn't as the interleaving's text says, where the streams of its clients come in pieces of this length: nothing, where all of it is.
+pub fn difference(alloc: Global, row: &Interleaving, piece: u32) -> Result<String, Fail>
+    requires { 0 < piece }
+{
+    let unread = row.unread.as_str();
+    if !unread.is_empty() {
+        return Ok(format!(in alloc; "unread: {unread}")?);
+    }
+    found_in(alloc, row, piece)
+}
