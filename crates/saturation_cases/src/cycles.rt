@@ -140,10 +140,12 @@ fn is_in_range(graph: &Graph) -> bool
 
 /// Whether each of the pairs is an edge, and each edge one of them.
 fn are_pairs(edges: &[Edge], pairs: &[(u32, u32)]) -> bool {
-    edges.iter().all(|edge| pairs.contains(&(edge.before, edge.after)))
-        && pairs
+    edges
+        .iter()
+        .all(|edge| pairs.contains(&(edge.before, edge.after)))
+        && pairs.iter().all(|pair| edges
             .iter()
-            .all(|pair| edges.iter().any(|edge| edge.before == pair.0 && edge.after == pair.1))
+            .any(|edge| edge.before == pair.0 && edge.after == pair.1))
 }
 
 /// Whether these pairs, in this order, are the cycle that the graph is answered.
@@ -159,10 +161,7 @@ fn has_cycle(alloc: Global, graph: &Graph, pairs: &[(u32, u32)]) -> Result<bool,
 
 fn is_list(edges: &[Edge], pairs: &[(u32, u32)]) -> bool {
     edges.len() == pairs.len()
-        && edges
-            .iter()
-            .zip(pairs)
-            .all(|(edge, pair)| edge.before == pair.0 && edge.after == pair.1)
+        && edges.iter().zip(pairs).all(|(edge, pair)| edge.before == pair.0 && edge.after == pair.1)
 }
 
 /// At Read Atomic transaction 1 sees transaction 2 once it has read from it. It has missed the row of key 1, which 2 wrote, so 2 would have to
