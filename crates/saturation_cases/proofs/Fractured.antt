@@ -115,7 +115,7 @@ module _ (name : List ℕ) (first second : Key) where
   p9 : IsPending h9 1 1
   p9 = pending_kept h8 (Commit 2) 1 1 (λ same. absurd (not_two same)) p8
     where
-      not_two : 2 ≡ 1 → ⊥
+      not_two : ◌≡◌ {A = ℕ} 2 1 → ⊥
       not_two same = omega arith
 
   q6 : IsPending h6 2 2
