@@ -8,4 +8,5 @@ pub mod SearchLemmas
 pub mod UnkeptLaws
 pub mod Prefixed
 pub mod ListedLemmas
+pub mod FirstLemmas
 pub mod QuickLemmas

@@ -76,11 +76,14 @@ fn written<'a>(cell: &'a Cell, writer: &Txn) -> Option<&'a Cell>
     }
 }
 
-/// Whether the key is listed.
-fn contains_key(keys: &[Key], key: &Key) -> bool
+/// Whether the key is listed. Keys of a right history ascend, so that a search finds it at once.
+pub fn contains_key(keys: &[Key], key: &Key) -> bool
     ensures { IsTrue result ↔ Contains keys.now key.now }
 {
-    keys.iter().any(|own| own.is_same(key))
+    match keys.binary_search(key) {
+        Ok(_at) => true,
+        Err(_at) => keys.iter().any(|own| own.is_same(key)),
+    }
 }
 
 /// Whether the cell is the presence of a key that the scan of the table doesn't list.

@@ -7,9 +7,10 @@ ghost use Rattle.order_test.specs.Unkept.{KeepsSessions, IsFirstOutOfSession, Is
 ghost use Rattle.order_test.specs.Pasts.{ArePasts, IsReading};
 ghost use Rattle.order_test.specs.Sights.{IsScene, IsNumber, IsReadAt, IsRival, IsAxiomOf, IsFoundAt, IsFoundAmong, origin_of};
 ghost use Rattle.order_test.specs.Listed.{AreTxnsWithin, ListsCommitted};
+ghost use Rattle.order_test.specs.Firsts.{AreIndexes};
 
 use crate::Unkept;
-use crate::listed::lists_of;
+use crate::listed::{Lists, lists_of};
 use crate::pasts::{Pasts, pasts_of};
 use crate::places::{Places, places_of};
 use crate::quick::is_clear;
@@ -17,7 +18,6 @@ use crate::rivals::{is_reading, origin, rival_cell};
 use crate::sessions::{first_out_of_session, is_late, keeps_sessions, txn_of};
 use crate::unmet::is_rival;
 use cell_base::Memory;
-use cell_writers::CellWriters;
 use history_core::{Event, Txn};
 use std::alloc::Global;
 
@@ -91,7 +91,7 @@ fn found_of(
     txns: &[Txn],
     places: &Places,
     pasts: &Pasts,
-    lists: &[CellWriters],
+    lists: &Lists,
     place: usize,
     event: &Event,
     reader: u32,
@@ -99,8 +99,9 @@ fn found_of(
     requires scene { IsScene events.now order.now txns.now places.now }
     requires pasts { ArePasts events.now pasts.now }
     requires sessions { KeepsSessions events.now order.now }
-    requires lists { ListsCommitted txns.now (length txns.now) lists.now }
-    requires txns_within { AreTxnsWithin (length lists.now) txns.now }
+    requires lists { ListsCommitted txns.now (length txns.now) lists.now.writers.items }
+    requires firsts { AreIndexes lists.now.writers.items (length txns.now) lists.now.firsts.items }
+    requires txns_within { AreTxnsWithin (length lists.now.writers.items) txns.now }
     requires orderly { IsOrderly events.now }
     requires read { IsReadAt events.now place event.now reader }
     requires reading { IsReading event.now }
@@ -139,14 +140,15 @@ fn found_at(
     txns: &[Txn],
     places: &Places,
     pasts: &Pasts,
-    lists: &[CellWriters],
+    lists: &Lists,
     place: usize,
 ) -> Result<Option<Unkept>, Memory>
     requires scene { IsScene events.now order.now txns.now places.now }
     requires pasts { ArePasts events.now pasts.now }
     requires sessions { KeepsSessions events.now order.now }
-    requires lists { ListsCommitted txns.now (length txns.now) lists.now }
-    requires txns_within { AreTxnsWithin (length lists.now) txns.now }
+    requires lists { ListsCommitted txns.now (length txns.now) lists.now.writers.items }
+    requires firsts { AreIndexes lists.now.writers.items (length txns.now) lists.now.firsts.items }
+    requires txns_within { AreTxnsWithin (length lists.now.writers.items) txns.now }
     requires orderly { IsOrderly events.now }
     requires within { place < length events.now }
     requires few { length events.now < 4294967296 }
@@ -170,13 +172,14 @@ fn found_among(
     txns: &[Txn],
     places: &Places,
     pasts: &Pasts,
-    lists: &[CellWriters],
+    lists: &Lists,
 ) -> Result<Option<Unkept>, Memory>
     requires scene { IsScene events.now order.now txns.now places.now }
     requires pasts { ArePasts events.now pasts.now }
     requires sessions { KeepsSessions events.now order.now }
-    requires lists { ListsCommitted txns.now (length txns.now) lists.now }
-    requires txns_within { AreTxnsWithin (length lists.now) txns.now }
+    requires lists { ListsCommitted txns.now (length txns.now) lists.now.writers.items }
+    requires firsts { AreIndexes lists.now.writers.items (length txns.now) lists.now.firsts.items }
+    requires txns_within { AreTxnsWithin (length lists.now.writers.items) txns.now }
     requires orderly { IsOrderly events.now }
     requires few { length events.now < 4294967296 }
     ensures { IfOk result (IsFoundAmong events.now order.now) }
