@@ -1,5 +1,5 @@
 -- The keys of presences that the transactions of a session wrote, as they are noted.
-use Rattle.std.proofs.Common.{◌≡◌, cond, ℕ, zero, suc, ◌+◌, ◌<◌, ◌≤◌, List, [], ◌∷◌, ◌++◌, Bool, true, false, Some, None, length, get_or, arith, refl, ap, sym, ◌∙◌, subst, inl, inr, ◌⊎◌, Option, set}
+use Rattle.std.proofs.Common.{rules, ◌≡◌, cond, ℕ, zero, suc, ◌+◌, ◌<◌, ◌≤◌, List, [], ◌∷◌, ◌++◌, Bool, true, false, Some, None, length, get_or, arith, refl, ap, sym, ◌∙◌, subst, inl, inr, ◌⊎◌, Option, set}
 use Rattle.std.specs.Prelude.{nat_eq}
 use Rattle.std.specs.List.{Contains, slice_get, slice_index}
 use Rattle.std.specs.HashMap.{get}
@@ -59,7 +59,7 @@ has_push pairs number key = record {
   where
     at_end : (xs : List (ℕ × Key)) (x : ℕ × Key) → slice_get (xs ++ x ∷ []) (length xs) ≡ Some x
     at_end [] x = refl
-    at_end (z ∷ xs) x = let more : length (z ∷ xs) ≡ 1 + length xs = omega arith in ap (λ (n : ℕ). slice_get (z ∷ (xs ++ x ∷ [])) n) more ∙ at_end xs x
+    at_end (z ∷ xs) x = let more : length (z ∷ xs) ≡ suc (length xs) = omega arith in ap (λ (n : ℕ). slice_get (z ∷ (xs ++ x ∷ [])) n) more ∙ at_end xs x
 
 keeps_push : (pairs : List (ℕ × Key)) (last pair : ℕ × Key) → Contains pairs pair → Contains (pairs ++ last ∷ []) pair
 keeps_push pairs last pair there =

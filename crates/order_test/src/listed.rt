@@ -100,8 +100,9 @@ fn list_txn(
     if !is_committed(txn) {
         return Ok(());
     }
-    note_presences(firsts, lists, txn.session, txn.buffer.writes(), number)?;
-    note_session(lists, txn.session, txn.buffer.writes(), number)
+    let written = txn.buffer.writes();
+    note_presences(firsts, lists, txn.session, written, number)?;
+    note_session(lists, txn.session, written, number)
 }
 
 /// The committed writers of each cell. All sessions are below the width.
