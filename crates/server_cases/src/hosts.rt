@@ -38,7 +38,7 @@ fn link(alloc: Global, input: &[u8], piece: u32) -> Result<MemLink, Memory>
 }
 
 // A host that has this link, and no files. Nothing is out.
-fn host(alloc: Global, link: MemLink) -> Result<MemHost, Memory>
+pub fn host(alloc: Global, link: MemLink) -> Result<MemHost, Memory>
     ensures { IfOk result (λ host. objects_out (mem_hosted host) ≡ 0) }
 {
     let out = MemSink::new(alloc, plan(alloc, 64))?;
@@ -54,7 +54,7 @@ fn no_network(alloc: Global) -> MemNetwork {
     MemNetwork::new(alloc, Vec::new(alloc), Vec::new(alloc))
 }
 
-fn text(alloc: Global, bytes: &[u8]) -> Result<Text, Memory> {
+pub fn text(alloc: Global, bytes: &[u8]) -> Result<Text, Memory> {
     match Text::from_bytes(alloc, bytes) {
         Ok(text) => Ok(text),
         Err(_) => Err(Memory),

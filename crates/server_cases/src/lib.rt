@@ -6,6 +6,8 @@
 #![tactic(auto)]
 
 #[cfg(test)]
+mod broken_links;
+#[cfg(test)]
 mod command_lines;
 #[cfg(test)]
 mod hosts;
