@@ -37,11 +37,11 @@
 //! | `bytes N` | bytes that need be no message |
 #![tactic(auto)]
 
+mod alone;
 mod blocks;
 mod deletes;
 mod duplicate_keys;
 mod levels;
-mod lone_sessions;
 mod many_queries;
 mod messages;
 mod one_row;
@@ -54,11 +54,11 @@ mod setups;
 mod statements;
 mod unread;
 
+pub use alone::lone_sessions;
 pub use blocks::block_sessions;
 pub use deletes::delete_sessions;
 pub use duplicate_keys::duplicate_key_sessions;
 pub use levels::level_sessions;
-pub use lone_sessions::lone_sessions;
 pub use many_queries::query_sessions;
 pub use messages::message_sessions;
 pub use one_row::row_sessions;
