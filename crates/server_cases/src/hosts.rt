@@ -3,13 +3,17 @@ ghost use Rattle.std.specs.Prelude.{◌≡◌, ◌<◌, IfOk};
 ghost use Rattle.link_traits.specs.Host.{objects_out};
 ghost use Rattle.link_traits.specs.Hosts.{mem_hosted};
 
-use cell_base::{Items, Memory, Text};
+use cell_base::{Items, Level, Memory, Text};
+use choice_stream::ListWords;
 use doors::MemNetwork;
+use history_core::InitialState;
 use link_traits::{MemHost, MemLink, MemPlan, MemReturned, MemSink};
 use monkey_server::monkey_main;
+use session_core::serve_link;
 use std::alloc::Global;
 use std::sync::Wait;
 use std::thread::Threads;
+use valid_writes::Store;
 
 fn plan(alloc: Global, piece: u32) -> MemPlan
     ensures { result.piece ≡ piece }
@@ -58,7 +62,7 @@ fn text(alloc: Global, bytes: &[u8]) -> Result<Text, Memory> {
 }
 
 // Whether `pipe LEVEL LIST` ends with this status and has sent these bytes, for an input that comes in pieces of this length.
-pub fn answers<R: Threads + Wait + Eprint + Sync>(
+pub fn answers_at<R: Threads + Wait + Eprint + Sync>(
     rt: &R,
     alloc: Global,
     level: &[u8],
@@ -85,6 +89,21 @@ pub fn answers<R: Threads + Wait + Eprint + Sync>(
     })
 }
 
+// The same for `pipe rc LIST`.
+pub fn answers<R: Threads + Wait + Eprint + Sync>(
+    rt: &R,
+    alloc: Global,
+    list: &[u8],
+    input: &[u8],
+    piece: u32,
+    code: u8,
+    sent: &[u8],
+) -> Result<bool, Memory>
+    requires { 0 < piece }
+{
+    answers_at(rt, alloc, b"rc", list, input, piece, code, sent)
+}
+
 // Whether `pipe LEVEL LIST` ends with status 2, takes no link, and prints these bytes.
 pub fn prints<R: Threads + Wait + Eprint + Sync>(
     rt: &R,
@@ -106,4 +125,13 @@ pub fn prints<R: Threads + Wait + Eprint + Sync>(
         Some(out) => status.code == 2 && host.back().is_empty() && out.written() == line,
         None => false,
     })
+}
+
+// The number of events of a session with these words at Read Committed.
+pub fn events(alloc: Global, words: &[u32], input: &[u8]) -> Result<usize, Memory> {
+    let mut book = Store::new(alloc, Level::Rc, InitialState::empty(alloc))?.seat(None);
+    let mut link = link(alloc, input, 64)?;
+    let mut words = ListWords::new(Items::from_slice(alloc, words)?);
+    serve_link(alloc, Level::Rc, &mut book, &mut link, &mut words);
+    Ok(book.history().events().len())
 }
