@@ -2,7 +2,7 @@
 """Clerks move money between two accounts, and an auditor adds them up: every audit has to find 200.
 
 Each transfer is a transaction that takes from one account and gives to the other, and each audit is one that reads both. An audit, or a
-transfer, that sees one account before a transfer and the other one behind it has seen half of that transfer. usage:
+transfer, that sees one account before a transfer and the other one after it has seen half of that transfer. usage:
 fractured_read.py HOST:PORT, over the fixture fractured_read.sql.
 """
 

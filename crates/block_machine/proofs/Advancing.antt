@@ -8,7 +8,7 @@ use Rattle.sql_tree.specs.declared.table.Table.{Table}
 use Rattle.typing_rules.specs.Typed.{typed}
 use Rattle.statement_course.specs.declared.demand.Outcome.{Outcome}
 use Rattle.statement_course.specs.declared.demand.PlanAnswer.{PlanAnswer}
-use Rattle.statement_course.specs.Course.{Course, first_demand, behind, FitsDemand}
+use Rattle.statement_course.specs.Course.{Course, first_demand, following, FitsDemand}
 use Rattle.statement_course.specs.Course as course
 use Rattle.cell_compile.specs.declared.plan.Plan.{Plan}
 use Rattle.cell_compile.specs.Plans.{rest_of}
@@ -42,7 +42,7 @@ said_call d c next built known around outside said es h = ap (λ (x : Call). res
 
 -- the answer to a demand
 pub run_advances : (run : Run) (p : Pending) (answer : Answer) (b : PlanAnswer) (next : MessageStage) (w : Bool) (built : List ℕ) (known : Knowledge) → answer ≡ answer_with b → FitsDemand (rest_of run.plan) b →
-    LeadsTo (λ around. unless_short_in (block_of p) known around (runs run.description (behind (rest_of run.plan) b) (block_of p) known around)) next w built known →
+    LeadsTo (λ around. unless_short_in (block_of p) known around (runs run.description (following (rest_of run.plan) b) (block_of p) known around)) next w built known →
     Advances (stages.Running run p) known answer next w built known
 run_advances run p answer b next w built known is fits goes =
     subst (λ (a : Answer). Advances (stages.Running run p) known a next w built known) (sym is)

@@ -9,7 +9,7 @@ use Rattle.statement_course.specs.declared.demand.Outcome.{Outcome}
 use Rattle.statement_course.specs.declared.demand.Outcome.TheVariants as outcomes
 use Rattle.statement_course.specs.declared.demand.PlanAnswer.{PlanAnswer}
 use Rattle.statement_course.specs.declared.demand.PlanAnswer.TheVariants as plan_answers
-use Rattle.statement_course.specs.Course.{Course, scan, touch, write, first_demand, behind, FitsDemand}
+use Rattle.statement_course.specs.Course.{Course, scan, touch, write, first_demand, following, FitsDemand}
 use Rattle.statement_course.specs.Course as course
 use Rattle.statement_course.specs.Laws.{ReadsFirst, OnlyWrites}
 use Rattle.outcome_replies.specs.Replies.{outcome_reply}
@@ -59,29 +59,29 @@ only_first n (touch cell next) h = absurd h
 only_first n (write cell value next) h = h
 only_first n (course.done outcome) h = tt
 
-pub behind_first : (n : ℕ) (c : Course) (b : PlanAnswer) → FitsDemand c b → ReadsFirst n c → ReadsFirst n (behind c b)
-behind_first n (scan table next) (plan_answers.Keys keys) f h = h.1 keys
-behind_first n (touch cell next) (plan_answers.Value value) f h = h.1 value
-behind_first n (write cell value next) plan_answers.Written f h = only_first n next h.2
-behind_first n (course.done outcome) b f h = absurd f
-behind_first n (scan table next) (plan_answers.Value value) f h = absurd f
-behind_first n (scan table next) plan_answers.Written f h = absurd f
-behind_first n (touch cell next) (plan_answers.Keys keys) f h = absurd f
-behind_first n (touch cell next) plan_answers.Written f h = absurd f
-behind_first n (write cell value next) (plan_answers.Keys keys) f h = absurd f
-behind_first n (write cell value next) (plan_answers.Value v) f h = absurd f
+pub after_first : (n : ℕ) (c : Course) (b : PlanAnswer) → FitsDemand c b → ReadsFirst n c → ReadsFirst n (following c b)
+after_first n (scan table next) (plan_answers.Keys keys) f h = h.1 keys
+after_first n (touch cell next) (plan_answers.Value value) f h = h.1 value
+after_first n (write cell value next) plan_answers.Written f h = only_first n next h.2
+after_first n (course.done outcome) b f h = absurd f
+after_first n (scan table next) (plan_answers.Value value) f h = absurd f
+after_first n (scan table next) plan_answers.Written f h = absurd f
+after_first n (touch cell next) (plan_answers.Keys keys) f h = absurd f
+after_first n (touch cell next) plan_answers.Written f h = absurd f
+after_first n (write cell value next) (plan_answers.Keys keys) f h = absurd f
+after_first n (write cell value next) (plan_answers.Value v) f h = absurd f
 
-pub behind_ends : (P : Outcome → Type 0) (c : Course) (b : PlanAnswer) → FitsDemand c b → EndsIn P c → EndsIn P (behind c b)
-behind_ends P (scan table next) (plan_answers.Keys keys) f h = h keys
-behind_ends P (touch cell next) (plan_answers.Value value) f h = h value
-behind_ends P (write cell value next) plan_answers.Written f h = h
-behind_ends P (course.done outcome) b f h = absurd f
-behind_ends P (scan table next) (plan_answers.Value value) f h = absurd f
-behind_ends P (scan table next) plan_answers.Written f h = absurd f
-behind_ends P (touch cell next) (plan_answers.Keys keys) f h = absurd f
-behind_ends P (touch cell next) plan_answers.Written f h = absurd f
-behind_ends P (write cell value next) (plan_answers.Keys keys) f h = absurd f
-behind_ends P (write cell value next) (plan_answers.Value v) f h = absurd f
+pub after_ends : (P : Outcome → Type 0) (c : Course) (b : PlanAnswer) → FitsDemand c b → EndsIn P c → EndsIn P (following c b)
+after_ends P (scan table next) (plan_answers.Keys keys) f h = h keys
+after_ends P (touch cell next) (plan_answers.Value value) f h = h value
+after_ends P (write cell value next) plan_answers.Written f h = h
+after_ends P (course.done outcome) b f h = absurd f
+after_ends P (scan table next) (plan_answers.Value value) f h = absurd f
+after_ends P (scan table next) plan_answers.Written f h = absurd f
+after_ends P (touch cell next) (plan_answers.Keys keys) f h = absurd f
+after_ends P (touch cell next) plan_answers.Written f h = absurd f
+after_ends P (write cell value next) (plan_answers.Keys keys) f h = absurd f
+after_ends P (write cell value next) (plan_answers.Value v) f h = absurd f
 
 pub ends_done : (P : Outcome → Type 0) (c : Course) (outcome : Outcome) → c ≡ course.done outcome → EndsIn P c → P outcome
 ends_done P c outcome is h = subst (EndsIn P) is h
@@ -95,7 +95,7 @@ runs_asks description (write cell value next) block known around said h = refl
 runs_asks description (course.done outcome) block known around said h = absurd (cc h)
 
 pub runs_answered : (description : RowDescription) (c : Course) (b : PlanAnswer) (block : Block) (known : Knowledge) (around : Around) (said : Said) (e : Event) (es : List Entry) → FitsDemand c b →
-    runs description c block known around said (entry_for (answer_with b) e ∷ es) ≡ continues description (behind c b) block known around (with_call said (call_for (first_demand c))) es
+    runs description c block known around said (entry_for (answer_with b) e ∷ es) ≡ continues description (following c b) block known around (with_call said (call_for (first_demand c))) es
 runs_answered description (scan table next) (plan_answers.Keys keys) block known around said e es f = refl
 runs_answered description (touch cell next) (plan_answers.Value value) block known around said e es f = refl
 runs_answered description (write cell value next) plan_answers.Written block known around said e es f = refl

@@ -10,7 +10,7 @@ use Rattle.sql_tree.specs.declared.statement.Statement.{Statement}
 use Rattle.sql_tree.specs.declared.table.Table.{Table}
 use Rattle.typing_rules.specs.Typed.{typed}
 use Rattle.statement_course.specs.declared.demand.PlanAnswer.{PlanAnswer}
-use Rattle.statement_course.specs.Course.{first_demand, behind, FitsDemand}
+use Rattle.statement_course.specs.Course.{first_demand, following, FitsDemand}
 use Rattle.cell_compile.specs.declared.plan.Plan.{Plan}
 use Rattle.cell_compile.specs.Plans.{rest_of}
 use Rattle.outcome_replies.specs.declared.description.RowDescription.{RowDescription}
@@ -58,14 +58,14 @@ demand_fits run answer b is fits =
 
 pub pursue_goes : (run : Run) (p : Pending) (answer : Answer) (b : PlanAnswer) (block : Block) (r : Result MessageStage Memory) (next : MessageStage) (w : Bool) (built : List ℕ) (known : Knowledge) →
     answer ≡ answer_with b → Fits (call_for (first_demand (rest_of run.plan))) answer → block ≡ block_of p →
-    IfOk r (λ stage. IsScriptOf (runs run.description (behind (rest_of run.plan) b) (block_of p)) stage built) →
+    IfOk r (λ stage. IsScriptOf (runs run.description (following (rest_of run.plan) b) (block_of p)) stage built) →
     ((script : Around → Script) (bytes : List ℕ) (other : Knowledge) → IfOk r (λ it. IsScriptAt script it bytes other) →
     LeadsTo (λ around. unless_short_in block other around (script around)) next w bytes other) →
     Advances (stages.Running run p) known answer next w built known
 pursue_goes run p answer b block r next w built known is fits same goes leads =
     run_advances run p answer b next w built known is (demand_fits run answer b is fits)
-    (subst (λ (x : Block). LeadsTo (λ around. unless_short_in x known around (runs run.description (behind (rest_of run.plan) b) (block_of p) known around)) next w built known) same
-    (leads (runs run.description (behind (rest_of run.plan) b) (block_of p) known) built known (ok_at r (runs run.description (behind (rest_of run.plan) b) (block_of p)) built known goes)))
+    (subst (λ (x : Block). LeadsTo (λ around. unless_short_in x known around (runs run.description (following (rest_of run.plan) b) (block_of p) known around)) next w built known) same
+    (leads (runs run.description (following (rest_of run.plan) b) (block_of p) known) built known (ok_at r (runs run.description (following (rest_of run.plan) b) (block_of p)) built known goes)))
 
 pub pursue_refused : (run : Run) (p : Pending) (answer : Answer) (why : BookFault) (code : SqlState) (block : Block) (next : MessageStage) (built : List ℕ) (known : Knowledge) →
     answer ≡ answers.Refused why → code ≡ refusal_state why → block ≡ block_of p →

@@ -9,7 +9,7 @@ ghost use Rattle.outcome_replies.specs.Replies.{CanBeTold};
 ghost use Rattle.outcome_replies.specs.Ends.{EndsIn};
 ghost use Rattle.statement_course.specs.declared.demand.Demand.{Demand as Demanded};
 ghost use Rattle.statement_course.specs.Laws.{ReadsFirst};
-ghost use Rattle.statement_course.specs.Course.{first_demand, behind, FitsDemand};
+ghost use Rattle.statement_course.specs.Course.{first_demand, following, FitsDemand};
 ghost use Rattle.statement_course.specs.Statements.{course_of};
 ghost use Rattle.cell_compile.specs.Narrow.{AreNarrow};
 ghost use Rattle.cell_compile.specs.Plans.{rest_of, left_of};
@@ -132,12 +132,12 @@ fn go_on(
     requires fits { FitsDemand (rest_of plan) answer }
     requires told { EndsIn CanBeTold (rest_of plan) }
     ensures goes { IfOk result (λ stage.
-        IsScriptOf (runs description (behind (rest_of plan) answer) (stages_spec.block_of pending)) stage built.new.items) }
+        IsScriptOf (runs description (following (rest_of plan) answer) (stages_spec.block_of pending)) stage built.new.items) }
     ensures owed { IfOk result (λ stage. owed_at stage ≡ Owed.Rollback) }
     ensures work { IfOk result (λ stage. work_at stage ≤ 4 + running_at stage) }
     ensures left { IfOk result (λ stage. left_at stage ≤ left_of plan) }
     ensures knows { IfOk result (λ stage. (tables : List Defined) →
-        ReadsFirst (length tables) (behind (rest_of plan) answer) → KnowsTables stage tables) }
+        ReadsFirst (length tables) (following (rest_of plan) answer) → KnowsTables stage tables) }
     ensures sound { IfOk result IsSoundStage }
     ensures busy { IfOk result IsBusy }
     ensures some { IfOk result (λ stage. HasReply stage built.new.items) }

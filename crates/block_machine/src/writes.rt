@@ -9,7 +9,7 @@ ghost use Rattle.history_core.specs.Chronicle.{IsLegalChronicle};
 ghost use Rattle.statement_course.specs.declared.demand.Demand.TheVariants as demands;
 ghost use Rattle.statement_course.specs.declared.demand.PlanAnswer.TheVariants as answers;
 ghost use Rattle.statement_course.specs.Laws.{ReadsFirst};
-ghost use Rattle.statement_course.specs.Course.{first_demand, behind};
+ghost use Rattle.statement_course.specs.Course.{first_demand, following};
 ghost use Rattle.cell_compile.specs.Plans.{rest_of, left_of};
 ghost use Rattle.block_machine.specs.Knowledge.{Knowledge};
 ghost use Rattle.block_machine.specs.Stages.{Advances, HasReply, IsBusy, IsSoundStage, KnowsTables, left_at, owed_at, running_at, work_at};
@@ -47,7 +47,7 @@ pub struct WriteStep {
 fn take_write(plan: Kept<Plan>) -> (Cell, Value, Kept<Plan>)
     requires { (cell : cells.Cell) × (value : values.Value) × (first_demand (rest_of plan) ≡ demands.Write cell value) }
     ensures write { first_demand (rest_of plan) ≡ demands.Write result.0 result.1 }
-    ensures course { rest_of result.2 ≡ behind (rest_of plan) answers.Written }
+    ensures course { rest_of result.2 ≡ following (rest_of plan) answers.Written }
     ensures less { left_of result.2 < left_of plan }
 {
     let mut plan = plan.into_box();

@@ -5,7 +5,7 @@ ghost use Rattle.cell_base.specs.declared.value.Value as values;
 ghost use Rattle.statement_course.specs.declared.demand.Demand.TheVariants as demands;
 ghost use Rattle.statement_course.specs.declared.demand.Outcome as outcomes;
 ghost use Rattle.statement_course.specs.declared.demand.PlanAnswer.TheVariants as answers;
-ghost use Rattle.statement_course.specs.Course.{FitsDemand, behind};
+ghost use Rattle.statement_course.specs.Course.{FitsDemand, following};
 ghost use Rattle.cell_compile.specs.declared.next.Next.TheVariants as nexts;
 ghost use Rattle.cell_compile.specs.Plans.{left_of, next_answers, next_course, rest_of};
 ghost use Rattle.cell_compile.specs.Together.{go_together};
@@ -28,7 +28,7 @@ pub fn with_keys(
 ) -> Result<Plan, Memory>
     requires together { go_together demand next ≡ true }
     requires fits { FitsDemand (next_course demand next) (answers.Keys keys) }
-    ensures course { IfOk result (λ plan. rest_of plan ≡ behind (next_course demand next) (answers.Keys keys)) }
+    ensures course { IfOk result (λ plan. rest_of plan ≡ following (next_course demand next) (answers.Keys keys)) }
     ensures less { IfOk result (λ plan. left_of plan < next_answers demand next) }
 {
     match (demand, next) {
@@ -43,7 +43,7 @@ pub fn with_keys(
 pub fn with_value(alloc: Global, demand: Demand, next: Next, value: Value) -> Result<Plan, Memory>
     requires together { go_together demand next ≡ true }
     requires fits { FitsDemand (next_course demand next) (answers.Value value) }
-    ensures course { IfOk result (λ plan. rest_of plan ≡ behind (next_course demand next) (answers.Value value)) }
+    ensures course { IfOk result (λ plan. rest_of plan ≡ following (next_course demand next) (answers.Value value)) }
     ensures less { IfOk result (λ plan. left_of plan < next_answers demand next) }
 {
     match next {
@@ -62,7 +62,7 @@ fn read_value(
 ) -> Result<Plan, Memory>
     requires together { go_together demand (nexts.Reads reading purpose) ≡ true }
     requires fits { FitsDemand (next_course demand (nexts.Reads reading purpose)) (answers.Value value) }
-    ensures course { IfOk result (λ plan. rest_of plan ≡ behind (next_course demand (nexts.Reads reading purpose)) (answers.Value value)) }
+    ensures course { IfOk result (λ plan. rest_of plan ≡ following (next_course demand (nexts.Reads reading purpose)) (answers.Value value)) }
     ensures less { IfOk result (λ plan. left_of plan < next_answers demand (nexts.Reads reading purpose)) }
 {
     match demand {
@@ -84,7 +84,7 @@ fn read_presence(
 ) -> Result<Plan, Memory>
     requires together { go_together demand (nexts.Inserts insertion) ≡ true }
     requires fits { FitsDemand (next_course demand (nexts.Inserts insertion)) (answers.Value value) }
-    ensures course { IfOk result (λ plan. rest_of plan ≡ behind (next_course demand (nexts.Inserts insertion)) (answers.Value value)) }
+    ensures course { IfOk result (λ plan. rest_of plan ≡ following (next_course demand (nexts.Inserts insertion)) (answers.Value value)) }
     ensures less { IfOk result (λ plan. left_of plan < next_answers demand (nexts.Inserts insertion)) }
 {
     match demand {
@@ -97,7 +97,7 @@ fn read_presence(
 pub fn with_written(alloc: Global, demand: Demand, next: Next) -> Result<Plan, Memory>
     requires together { go_together demand next ≡ true }
     requires fits { FitsDemand (next_course demand next) answers.Written }
-    ensures course { IfOk result (λ plan. rest_of plan ≡ behind (next_course demand next) answers.Written) }
+    ensures course { IfOk result (λ plan. rest_of plan ≡ following (next_course demand next) answers.Written) }
     ensures less { IfOk result (λ plan. left_of plan < next_answers demand next) }
 {
     match (demand, next) {
@@ -113,7 +113,7 @@ pub fn take_write(alloc: Global, demand: Demand, next: Next) -> (Cell, Value, Pl
     requires together { go_together demand next ≡ true }
     requires writes { (cell : cells.Cell) × (value : values.Value) × (demand ≡ demands.Write cell value) }
     ensures write { demand ≡ demands.Write result.0 result.1 }
-    ensures course { rest_of result.2 ≡ behind (next_course demand next) answers.Written }
+    ensures course { rest_of result.2 ≡ following (next_course demand next) answers.Written }
     ensures less { left_of result.2 < next_answers demand next }
 {
     match (demand, next) {

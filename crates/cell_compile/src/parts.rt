@@ -99,7 +99,7 @@ fn with_number(before: VecDeque<u32>, number: u32) -> Result<VecDeque<u32>, Memo
     Ok(after)
 }
 
-fn behind(parts: Items<Part>, part: Part) -> Result<Items<Part>, Memory>
+fn following(parts: Items<Part>, part: Part) -> Result<Items<Part>, Memory>
     ensures { IfOk result (λ all. map seen all ≡ map seen parts ++ seen part ∷ []) }
 {
     let mut all = parts;
@@ -119,7 +119,7 @@ fn with_part(
     ensures { IfOk result (λ all. map seen all ≡ map seen parts ++ course.part_before number (slice_get tables.now number) columns.now point.now []) }
 {
     match tables.get(number as usize) {
-        Some(table) => behind(parts, part_of(alloc, number, table, columns, point)?),
+        Some(table) => following(parts, part_of(alloc, number, table, columns, point)?),
         None => Ok(parts),
     }
 }

@@ -16,7 +16,7 @@ impl Plan {
     ghost use Rattle.statement_course.specs.declared.demand.Demand.TheVariants as demands;
     ghost use Rattle.statement_course.specs.declared.demand.Outcome as outcomes;
     ghost use Rattle.statement_course.specs.declared.demand.PlanAnswer.TheVariants as answers;
-    ghost use Rattle.statement_course.specs.Course.{FitsDemand, behind, done, first_demand};
+    ghost use Rattle.statement_course.specs.Course.{FitsDemand, following, done, first_demand};
     ghost use Rattle.statement_course.specs.Statements.{course_of};
     ghost use Rattle.cell_compile.specs.Narrow.{AreNarrow};
     ghost use Rattle.cell_compile.specs.Plans.{left_of, next_answers, next_course, rest_of};
@@ -45,7 +45,7 @@ impl Plan {
     /// Goes on with the answer to the demand. Out of memory, the plan is spent.
     pub fn answer(&mut self, answer: PlanAnswer) -> Result<(), Memory>
         requires { FitsDemand (rest_of self.old) answer }
-        ensures course { OnOk result (rest_of self.new ≡ behind (rest_of self.old) answer) }
+        ensures course { OnOk result (rest_of self.new ≡ following (rest_of self.old) answer) }
         ensures less { OnOk result (left_of self.new < left_of self.old) }
     {
         let alloc = self.alloc;
@@ -65,7 +65,7 @@ impl Plan {
     pub fn take_write(&mut self) -> (Cell, Value)
         requires { (cell : cells.Cell) × (value : values.Value) × (first_demand (rest_of self.old) ≡ demands.Write cell value) }
         ensures write { first_demand (rest_of self.old) ≡ demands.Write result.0 result.1 }
-        ensures course { rest_of self.new ≡ behind (rest_of self.old) answers.Written }
+        ensures course { rest_of self.new ≡ following (rest_of self.old) answers.Written }
         ensures less { left_of self.new < left_of self.old }
     {
         let alloc = self.alloc;
@@ -112,7 +112,7 @@ impl Plan {
     fn without_write(self) -> (Cell, Value, Plan)
         requires { (cell : cells.Cell) × (value : values.Value) × (first_demand (rest_of self) ≡ demands.Write cell value) }
         ensures write { first_demand (rest_of self) ≡ demands.Write result.0 result.1 }
-        ensures course { rest_of result.2 ≡ behind (rest_of self) answers.Written }
+        ensures course { rest_of result.2 ≡ following (rest_of self) answers.Written }
         ensures less { left_of result.2 < left_of self }
     {
         let Plan {
@@ -126,7 +126,7 @@ impl Plan {
     #[tactic(auto, unfolding(crate::specs::Plans::rest_of, crate::specs::Plans::left_of))]
     fn answered(self, answer: PlanAnswer) -> Result<Plan, Memory>
         requires { FitsDemand (rest_of self) answer }
-        ensures course { IfOk result (λ plan. rest_of plan ≡ behind (rest_of self) answer) }
+        ensures course { IfOk result (λ plan. rest_of plan ≡ following (rest_of self) answer) }
         ensures less { IfOk result (λ plan. left_of plan < left_of self) }
     {
         let Plan {

@@ -30,7 +30,7 @@ by_name : (same : Bool) (t : Target) (rest : Outcome Target) (i k n : ℕ) → i
 by_name true t rest i k n is later u e =
     let number : n ≡ u.number = cc in
     omega arith
-by_name false t rest i k n is later u e = let behind : u.number < i + 1 + k = later u e in omega arith
+by_name false t rest i k n is later u e = let following : u.number < i + 1 + k = later u e in omega arith
 
 found_within : (name : List ℕ) (i : ℕ) (columns : List Column) (t : Target) → target_from name i columns ≡ Ok t → t.number < i + length columns
 found_within name i [] t e = cc
@@ -82,13 +82,13 @@ listed_columns columns names listed e = listed_are columns [] names listed tt e
 
 -- ---- all columns
 
-behind_all : (n i : ℕ) (columns : List Column) → n < i → is_among n (numbered_from i columns) ≡ false
-behind_all n i [] h = refl
-behind_all n i (c ∷ cs) h = rw (ne_eqb i n (λ e. omega arith)) (behind_all n (i + 1) cs (omega arith))
+after_all : (n i : ℕ) (columns : List Column) → n < i → is_among n (numbered_from i columns) ≡ false
+after_all n i [] h = refl
+after_all n i (c ∷ cs) h = rw (ne_eqb i n (λ e. omega arith)) (after_all n (i + 1) cs (omega arith))
 
 all_are : (count i : ℕ) (columns : List Column) → i + length columns ≤ count → AreColumns count (numbered_from i columns)
 all_are count i [] h = tt
-all_are count i (c ∷ cs) h = (omega arith, (behind_all i (i + 1) cs (omega arith), all_are count (i + 1) cs (omega arith)))
+all_are count i (c ∷ cs) h = (omega arith, (after_all i (i + 1) cs (omega arith), all_are count (i + 1) cs (omega arith)))
 
 pub all_columns : (columns : List Column) (all : List Target) → all ≡ all_targets columns → AreColumns (length columns) all
 all_columns columns all is = rw is (all_are (length columns) 0 columns (omega arith))

@@ -1,5 +1,5 @@
 // Each fault at the byte that shows it.
-use crate::reading::{STARTUP, behind_startup, read};
+use crate::reading::{STARTUP, after_startup, read};
 use cell_base::Memory;
 use client_framing::FrameFault;
 use std::alloc::Global;
@@ -90,7 +90,7 @@ fn messages_are_judged(alloc: Global) -> Result<bool, Memory> {
         (b"Q\x00\x00\x00\x07a\x00b", FrameFault::NoTerminator),
     ];
     for (bytes, fault) in cases {
-        let stream = behind_startup(alloc, bytes)?;
+        let stream = after_startup(alloc, bytes)?;
         if !is_shown(alloc, &stream, 1, fault)? {
             return Ok(false);
         }

@@ -1,5 +1,5 @@
 // Each length from 0 of each type of message, and of each code before the startup's end.
-use crate::reading::{behind_startup, name_of, read};
+use crate::reading::{after_startup, name_of, read};
 use cell_base::Memory;
 use client_framing::{FrameFault, Split};
 use std::alloc::Global;
@@ -39,7 +39,7 @@ fn type_is_judged(
     len: u8,
     wanted: u8,
 ) -> Result<bool, Memory> {
-    let mut stream = behind_startup(alloc, &[kind, 0, 0, 0, len])?;
+    let mut stream = after_startup(alloc, &[kind, 0, 0, 0, len])?;
     let head = read(alloc, 1, &stream)?;
     let body = body_of(len);
     stream.extend_from_slice(body)?;

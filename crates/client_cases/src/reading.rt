@@ -22,7 +22,7 @@ pub fn read(alloc: Global, size: usize, stream: &[u8]) -> Result<Split, Memory> 
 }
 
 /// The bytes after the startup of user `a`.
-pub fn behind_startup(alloc: Global, bytes: &[u8]) -> Result<Vec<u8>, Memory> {
+pub fn after_startup(alloc: Global, bytes: &[u8]) -> Result<Vec<u8>, Memory> {
     let mut stream = Vec::from_slice(alloc, STARTUP)?;
     stream.extend_from_slice(bytes)?;
     Ok(stream)

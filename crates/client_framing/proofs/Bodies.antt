@@ -135,25 +135,25 @@ end_needs room after can = go can.pairs can.each can.fills can.whole
     go (p ∷ ps) h e w = absurd (end_is_no_pair (after ++ can.more) p (pairs_bytes ps) h.0 (w ∙ first_pair p ps))
 
 -- a pair is held, and what stands after it can go on in the room that is left
-pub pair_can : (room left : ℕ) (rest behind : List ℕ) (p : Pair) → IsPair p → rest ≡ pair_bytes p ++ behind → room ≡ length (pair_bytes p) + left → CanBePairs left behind → CanBePairs room rest
-pair_can room left rest behind p is_pair is size can = record {
+pub pair_can : (room left : ℕ) (rest following : List ℕ) (p : Pair) → IsPair p → rest ≡ pair_bytes p ++ following → room ≡ length (pair_bytes p) + left → CanBePairs left following → CanBePairs room rest
+pair_can room left rest following p is_pair is size can = record {
   pairs = p ∷ can.pairs;
   more = can.more;
   each = (is_pair, can.each);
   fills = length-first p can.pairs ∙ omega (arith, can.fills);
-  whole = ap (λ (x : List ℕ). x ++ can.more) is ∙ (append_assoc (pair_bytes p) behind can.more ∙ (ap (λ (x : List ℕ). pair_bytes p ++ x) can.whole ∙ sym (first_pair p can.pairs)));
+  whole = ap (λ (x : List ℕ). x ++ can.more) is ∙ (append_assoc (pair_bytes p) following can.more ∙ (ap (λ (x : List ℕ). pair_bytes p ++ x) can.whole ∙ sym (first_pair p can.pairs)));
 }
 
-pub pair_needs : (room left : ℕ) (rest behind : List ℕ) (p : Pair) → IsPair p → rest ≡ pair_bytes p ++ behind → room ≡ length (pair_bytes p) + left → CanBePairs room rest → CanBePairs left behind
-pair_needs room left rest behind p is_pair is size can = go can.pairs can.each can.fills can.whole
+pub pair_needs : (room left : ℕ) (rest following : List ℕ) (p : Pair) → IsPair p → rest ≡ pair_bytes p ++ following → room ≡ length (pair_bytes p) + left → CanBePairs room rest → CanBePairs left following
+pair_needs room left rest following p is_pair is size can = go can.pairs can.each can.fills can.whole
   where
-    flat : pair_bytes p ++ (behind ++ can.more) ≡ rest ++ can.more
-    flat = sym (ap (λ (x : List ℕ). x ++ can.more) is ∙ append_assoc (pair_bytes p) behind can.more)
+    flat : pair_bytes p ++ (following ++ can.more) ≡ rest ++ can.more
+    flat = sym (ap (λ (x : List ℕ). x ++ can.more) is ∙ append_assoc (pair_bytes p) following can.more)
 
-    go : (ps : List Pair) → AllByRecursion IsPair ps → length (pairs_bytes ps) ≡ room → rest ++ can.more ≡ pairs_bytes ps → CanBePairs left behind
-    go [] h e w = absurd (end_is_no_pair [] p (behind ++ can.more) is_pair (sym w ∙ sym flat))
+    go : (ps : List Pair) → AllByRecursion IsPair ps → length (pairs_bytes ps) ≡ room → rest ++ can.more ≡ pairs_bytes ps → CanBePairs left following
+    go [] h e w = absurd (end_is_no_pair [] p (following ++ can.more) is_pair (sym w ∙ sym flat))
     go (q ∷ qs) h e w =
-        let r = pair_unique p q (behind ++ can.more) (pairs_bytes qs) is_pair h.0 (flat ∙ (w ∙ first_pair q qs)) in
+        let r = pair_unique p q (following ++ can.more) (pairs_bytes qs) is_pair h.0 (flat ∙ (w ∙ first_pair q qs)) in
         let same : length (pair_bytes p) ≡ length (pair_bytes q) = ap (λ (x : Pair). length (pair_bytes x)) r.0 in
         record { pairs = qs; more = can.more; each = h.1; fills = omega (arith, length-first q qs); whole = r.1 }
 
@@ -164,8 +164,8 @@ empty (x ∷ xs) e = absurd (omega arith)
 pub empty_tells : (xs : List ℕ) → true ≡ eqb (length xs) 0 → xs ≡ []
 empty_tells xs e = empty xs (eqb-true (length xs) 0 (sym e))
 
-pub behind_same : {A B C : Type 0} → (A ↔ B) → (B ↔ C) → A ↔ C
-behind_same f g = (λ a. g.0 (f.0 a), λ c. f.1 (g.1 c))
+pub after_same : {A B C : Type 0} → (A ↔ B) → (B ↔ C) → A ↔ C
+after_same f g = (λ a. g.0 (f.0 a), λ c. f.1 (g.1 c))
 
 -- what the code's tests tell
 pub name_tells : (room : ℕ) (rest : List ℕ) → rest ≢ [] → HasNoZero rest → length rest ≤ room → IsTrue (leb 3 (room - length rest)) ↔ CanBePairs room rest
@@ -190,21 +190,21 @@ pub nothing_tells : (room : ℕ) (rest : List ℕ) (b : Type 0) → rest ≡ [] 
 nothing_tells room rest b none tells = rw none (λ t. nothing_can room (tells.0 t), λ can. tells.1 (nothing_needs room can))
 
 -- a pair is read over
-pub record ReadsPair (room : ℕ) (rest behind : List ℕ) : Type 0 where
-  pub shorter : length behind < length rest
-  pub fits : length behind ≤ room - (length rest - length behind)
-  pub same : CanBePairs (room - (length rest - length behind)) behind ↔ CanBePairs room rest
+pub record ReadsPair (room : ℕ) (rest following : List ℕ) : Type 0 where
+  pub shorter : length following < length rest
+  pub fits : length following ≤ room - (length rest - length following)
+  pub same : CanBePairs (room - (length rest - length following)) following ↔ CanBePairs room rest
 
-pub reads_pair : (room : ℕ) (rest name value after behind : List ℕ) → rest ≡ name ++ (0 ∷ after) → after ≡ value ++ (0 ∷ behind) → name ≢ [] → HasNoZero name → HasNoZero value → length rest ≤ room
-    → ReadsPair room rest behind
-reads_pair room rest name value after behind e f some no_zero none fits =
-    let is : rest ≡ pair_bytes (name, value) ++ behind = e ∙ (ap (λ (x : List ℕ). name ++ (0 ∷ x)) f ∙ sym (flat_pair name value behind)) in
-    let long : length rest ≡ length (pair_bytes (name, value)) + length behind = ap length is ∙ length-append (pair_bytes (name, value)) behind in
-    let left = room - (length rest - length behind) in
+pub reads_pair : (room : ℕ) (rest name value after following : List ℕ) → rest ≡ name ++ (0 ∷ after) → after ≡ value ++ (0 ∷ following) → name ≢ [] → HasNoZero name → HasNoZero value → length rest ≤ room
+    → ReadsPair room rest following
+reads_pair room rest name value after following e f some no_zero none fits =
+    let is : rest ≡ pair_bytes (name, value) ++ following = e ∙ (ap (λ (x : List ℕ). name ++ (0 ∷ x)) f ∙ sym (flat_pair name value following)) in
+    let long : length rest ≡ length (pair_bytes (name, value)) + length following = ap length is ∙ length-append (pair_bytes (name, value)) following in
+    let left = room - (length rest - length following) in
     let some_bytes : length (pair_bytes (name, value)) ≡ length name + length value + 2 = length-pair name value in
     let size : room ≡ length (pair_bytes (name, value)) + left = omega arith in
     record {
       shorter = omega arith;
       fits = omega arith;
-      same = (pair_can room left rest behind (name, value) (some, no_zero, none) is size, pair_needs room left rest behind (name, value) (some, no_zero, none) is size);
+      same = (pair_can room left rest following (name, value) (some, no_zero, none) is size, pair_needs room left rest following (name, value) (some, no_zero, none) is size);
     }

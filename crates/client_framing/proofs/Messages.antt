@@ -19,7 +19,7 @@ pub record ReadsMessage (bytes : List ℕ) (front : FrontendMessage) (more : Lis
   pub whole : 1 + number_at 1 bytes ≤ length bytes
   pub kind_is : type_of front ≡ Some (slice_index bytes 0)
   pub body_is : IsBody front (body_at_front bytes)
-  pub behind : more ≡ drop (1 + number_at 1 bytes) bytes
+  pub following : more ≡ drop (1 + number_at 1 bytes) bytes
 
 pub reads_message : (bytes : List ℕ) (front : FrontendMessage) (more : List ℕ) → TakesFront true bytes front more → ReadsMessage bytes front more
 reads_message bytes front more t = go t.spelled
@@ -39,7 +39,7 @@ reads_message bytes front more t = go t.spelled
           whole = omega (arith, n, lens, s.size_is.0);
           kind_is = s.kind_is ∙ ap (λ (i : ℕ). Some i) (sym (ap (λ (x : List ℕ). slice_index x 0) a));
           body_is = (let P : List ℕ → Type 0 = λ (x : List ℕ). IsBody front x in subst P (sym same) s.body_is);
-          behind = sym (sym (ap (λ (i : ℕ). drop i bytes) k) ∙ (sym (drop-drop (length s.body) 5 bytes) ∙ (ap (λ (x : List ℕ). drop (length s.body) x) d ∙ drop_at s.body more (length s.body) refl)));
+          following = sym (sym (ap (λ (i : ℕ). drop i bytes) k) ∙ (sym (drop-drop (length s.body) 5 bytes) ∙ (ap (λ (x : List ℕ). drop (length s.body) x) d ∙ drop_at s.body more (length s.body) refl)));
         }
 
 head_tail : (bytes : List ℕ) → 0 < length bytes → bytes ≡ slice_index bytes 0 ∷ drop 1 bytes

@@ -17,7 +17,7 @@ pub record ReadsOpening (bytes : List ℕ) (front : FrontendMessage) (more : Lis
   pub whole : number_at 0 bytes ≤ length bytes
   pub code_is : code_of front ≡ Some (number_at 4 bytes)
   pub body_is : IsBody front (held_body bytes)
-  pub behind : more ≡ drop (number_at 0 bytes) bytes
+  pub following : more ≡ drop (number_at 0 bytes) bytes
 
 pub reads_opening : (bytes : List ℕ) (front : FrontendMessage) (more : List ℕ) → TakesFront false bytes front more → ReadsOpening bytes front more
 reads_opening bytes front more t = go t.spelled
@@ -38,7 +38,7 @@ reads_opening bytes front more t = go t.spelled
           whole = omega (arith, n, lens, s.size_is.0, s.code_held);
           code_is = s.code_is ∙ ap (λ (i : ℕ). Some i) (sym c);
           body_is = (let P : List ℕ → Type 0 = λ (x : List ℕ). IsBody front x in subst P (sym same) s.body_is);
-          behind = sym (sym (ap (λ (i : ℕ). drop i bytes) k) ∙ (sym (drop-drop (length s.body) 8 bytes) ∙ (ap (λ (x : List ℕ). drop (length s.body) x) d ∙ drop_at s.body more (length s.body) refl)));
+          following = sym (sym (ap (λ (i : ℕ). drop i bytes) k) ∙ (sym (drop-drop (length s.body) 8 bytes) ∙ (ap (λ (x : List ℕ). drop (length s.body) x) d ∙ drop_at s.body more (length s.body) refl)));
         }
 
 -- what the bytes say is a message

@@ -40,8 +40,8 @@ no_pair_at_all bytes h (n, v) more p e =
     contains_zero n (v ++ (0 ∷ more)) (let P : List ℕ → Type 0 = NoZero in subst P f (no_zero_from bytes h))
 
 -- without a second zero byte there is no pair
-pub no_pair_behind : (bytes name after : List ℕ) → bytes ≡ name ++ (0 ∷ after) → HasNoZero name → HasNoZero after → HasNoPair bytes
-no_pair_behind bytes name after e no_zero none (n, v) more p f =
+pub no_pair_after : (bytes name after : List ℕ) → bytes ≡ name ++ (0 ∷ after) → HasNoZero name → HasNoZero after → HasNoPair bytes
+no_pair_after bytes name after e no_zero none (n, v) more p f =
     let g : name ++ (0 ∷ after) ≡ n ++ (0 ∷ (v ++ (0 ∷ more))) = sym e ∙ (f ∙ flat_pair n v more) in
     let r = split_unique name after n (v ++ (0 ∷ more)) (no_zero_from name no_zero) (no_zero_from n p.1) g in
     contains_zero v more (let P : List ℕ → Type 0 = NoZero in subst P r.1 (no_zero_from after none))
@@ -63,8 +63,8 @@ pairs_unique (p ∷ ps) (q ∷ qs) hp hq e =
     cc
 
 -- after a pair stand the pairs that are left
-pub pairs_behind : (rest after : List ℕ) (p : Pair) → ArePairs rest → IsPair p → rest ≡ pair_bytes p ++ after → ArePairs after
-pairs_behind rest after p are is_pair e = go are.pairs are.each are.whole
+pub pairs_after : (rest after : List ℕ) (p : Pair) → ArePairs rest → IsPair p → rest ≡ pair_bytes p ++ after → ArePairs after
+pairs_after rest after p are is_pair e = go are.pairs are.each are.whole
   where
     go : (qs : List Pair) → AllByRecursion IsPair qs → rest ≡ pairs_bytes qs → ArePairs after
     go [] h g = absurd (end_is_no_pair [] p after is_pair (sym g ∙ e))

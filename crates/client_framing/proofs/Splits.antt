@@ -6,17 +6,17 @@ use Rattle.std.proofs.lemmas.List.Concat.{flat_map-append}
 use Rattle.client_framing.specs.declared.frontend_message.FrontendMessage.{FrontendMessage}
 use Rattle.client_framing.specs.declared.frontend_message.FrameFault.{FrameFault}
 use Rattle.client_framing.specs.Spelling.{phase_after}
-use Rattle.client_framing.specs.Fronts.{Held, TakesFront, Stream, IsStream, IsRead, grafted, end_of, phase_behind, TakesFronts}
+use Rattle.client_framing.specs.Fronts.{Held, TakesFront, Stream, IsStream, IsRead, grafted, end_of, phase_following, TakesFronts}
 use Rattle.client_framing.specs.Reading.{SplitsInto, EndsWith}
 use Rattle.client_framing.proofs.Openings.{no_length_yet}
-use Rattle.client_framing.proofs.Streams.{stream_unique, stream_behind, read_behind}
+use Rattle.client_framing.proofs.Streams.{stream_unique, stream_after, read_after}
 
-phase_more : (started : Bool) (fs : List FrontendMessage) (f : FrontendMessage) → phase_behind started (fs ++ f ∷ []) ≡ phase_after (phase_behind started fs) f
+phase_more : (started : Bool) (fs : List FrontendMessage) (f : FrontendMessage) → phase_following started (fs ++ f ∷ []) ≡ phase_after (phase_following started fs) f
 phase_more started [] f = refl
 phase_more started (g ∷ fs) f = phase_more (phase_after started g) fs f
 
 -- one more message comes off
-takes_more : (started : Bool) (bytes : List ℕ) (fs : List FrontendMessage) (f : FrontendMessage) (rest more : List ℕ) → TakesFronts started bytes fs rest → TakesFront (phase_behind started fs) rest f more → TakesFronts started bytes (fs ++ f ∷ []) more
+takes_more : (started : Bool) (bytes : List ℕ) (fs : List FrontendMessage) (f : FrontendMessage) (rest more : List ℕ) → TakesFronts started bytes fs rest → TakesFront (phase_following started fs) rest f more → TakesFronts started bytes (fs ++ f ∷ []) more
 takes_more started bytes [] f rest more t h = (more, (let P : List ℕ → Type 0 = λ (x : List ℕ). TakesFront started x f more in subst P (sym t) h), refl)
 takes_more started bytes (g ∷ fs) f rest more t h = (t.0, t.1, takes_more (phase_after started g) t.0 fs f rest more t.2 h)
 
@@ -47,7 +47,7 @@ splits_nothing held e = rw e (record { takes = refl; phase = refl }, record { ke
 
 -- what is read is the stream
 pub is_read_so : (stream : List ℕ) (fs : List FrontendMessage) (held : Held) (fault : Option FrameFault) → SplitsInto stream fs held → EndsWith held fault → IsStream false stream (grafted fs (end_of held.rest fault))
-is_read_so stream fs held fault s e = stream_behind false stream fs held.rest (end_of held.rest fault) s.takes (subst (λ (b : Bool). IsStream b held.rest (end_of held.rest fault)) s.phase (ending fault e))
+is_read_so stream fs held fault s e = stream_after false stream fs held.rest (end_of held.rest fault) s.takes (subst (λ (b : Bool). IsStream b held.rest (end_of held.rest fault)) s.phase (ending fault e))
   where
     ending : (fault : Option FrameFault) → EndsWith held fault → IsStream held.started held.rest (end_of held.rest fault)
     ending None e = (refl, e.stands)
@@ -57,7 +57,7 @@ is_read_so stream fs held fault s e = stream_behind false stream fs held.rest (e
 pub is_read_only : (stream : List ℕ) (fs : List FrontendMessage) (held : Held) (fault : Option FrameFault) (other : Stream) → SplitsInto stream fs held → EndsWith held fault → IsStream false stream other → IsRead other
     → other ≡ grafted fs (end_of held.rest fault)
 is_read_only stream fs held fault other s e k r =
-    stream_unique false stream other (grafted fs (end_of held.rest fault)) k (is_read_so stream fs held fault s e) r (read_behind fs (end_of held.rest fault) (ending fault))
+    stream_unique false stream other (grafted fs (end_of held.rest fault)) k (is_read_so stream fs held fault s e) r (read_after fs (end_of held.rest fault) (ending fault))
   where
     ending : (fault : Option FrameFault) → IsRead (end_of held.rest fault)
     ending None = tt

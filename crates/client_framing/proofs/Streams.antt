@@ -6,7 +6,7 @@ use Rattle.client_framing.specs.declared.frontend_message.FrontendMessage.{Front
 use Rattle.client_framing.specs.declared.frontend_message.FrameFault.{FrameFault}
 use Rattle.client_framing.specs.declared.frontend_message.FrameFault.TheVariants.{BadLength, BadStartup, TooLong, UnknownType, NoTerminator, Memory}
 use Rattle.client_framing.specs.Spelling.{phase_after}
-use Rattle.client_framing.specs.Fronts.{TakesFront, HasFault, HasCode, HasLength, HasQuery, IsType, CanHaveLength, IsNoText, body_at_front, number_at, Stream, message, partial, faulty, unread, IsStream, IsRead, grafted, phase_behind, TakesFronts}
+use Rattle.client_framing.specs.Fronts.{TakesFront, HasFault, HasCode, HasLength, HasQuery, IsType, CanHaveLength, IsNoText, body_at_front, number_at, Stream, message, partial, faulty, unread, IsStream, IsRead, grafted, phase_following, TakesFronts}
 use Rattle.client_framing.specs.Reading.{held_body}
 use Rattle.client_framing.proofs.Numbers.{number_at-append, first-append}
 use Rattle.client_framing.proofs.Types.{type_unique, query_body, query_can}
@@ -26,9 +26,9 @@ front_unique true f g bytes a b h k =
     type_unique f g (slice_index bytes 0) (body_at_front bytes) o.kind_is p.kind_is o.body_is p.body_is
 
 -- so is what stands after it
-pub behind_unique : (started : Bool) (f g : FrontendMessage) (bytes a b : List ℕ) → TakesFront started bytes f a → TakesFront started bytes g b → a ≡ b
-behind_unique false f g bytes a b h k = (reads_opening bytes f a h).behind ∙ sym ((reads_opening bytes g b k).behind)
-behind_unique true f g bytes a b h k = (reads_message bytes f a h).behind ∙ sym ((reads_message bytes g b k).behind)
+pub after_unique : (started : Bool) (f g : FrontendMessage) (bytes a b : List ℕ) → TakesFront started bytes f a → TakesFront started bytes g b → a ≡ b
+after_unique false f g bytes a b h k = (reads_opening bytes f a h).following ∙ sym ((reads_opening bytes g b k).following)
+after_unique true f g bytes a b h k = (reads_message bytes f a h).following ∙ sym ((reads_message bytes g b k).following)
 
 -- a message has bytes
 pub takes_bytes : (started : Bool) (bytes more : List ℕ) (front : FrontendMessage) → TakesFront started bytes front more → length more < length bytes
@@ -36,12 +36,12 @@ takes_bytes false bytes more front t =
     let o = reads_opening bytes front more t in
     let low : 8 ≤ number_at 0 bytes = o.low in
     let whole : number_at 0 bytes ≤ length bytes = o.whole in
-    omega (arith, ap length o.behind, length-drop (number_at 0 bytes) bytes)
+    omega (arith, ap length o.following, length-drop (number_at 0 bytes) bytes)
 takes_bytes true bytes more front t =
     let o = reads_message bytes front more t in
     let low : 4 ≤ number_at 1 bytes = o.low in
     let whole : 1 + number_at 1 bytes ≤ length bytes = o.whole in
-    omega (arith, ap length o.behind, length-drop (1 + number_at 1 bytes) bytes)
+    omega (arith, ap length o.following, length-drop (1 + number_at 1 bytes) bytes)
 
 -- where a message stands at the front there is no fault
 pub front_no_fault : (started : Bool) (front : FrontendMessage) (fault : FrameFault) (bytes more : List ℕ) → TakesFront started bytes front more → HasFault started bytes fault → ⊥
@@ -134,8 +134,8 @@ fault_unique true bytes f g h k = message_unique bytes f g h k
 pub stream_unique : (started : Bool) (bytes : List ℕ) (s t : Stream) → IsStream started bytes s → IsStream started bytes t → IsRead s → IsRead t → s ≡ t
 stream_unique started bytes (message f s) (message g t) h k r q =
     let same : f ≡ g = front_unique started f g bytes h.0 k.0 h.1 k.1 in
-    let behind : h.0 ≡ k.0 = behind_unique started f g bytes h.0 k.0 h.1 k.1 in
-    let other : IsStream (phase_after started f) h.0 t = subst (λ (x : List ℕ). IsStream (phase_after started f) x t) (sym behind) (subst (λ (x : FrontendMessage). IsStream (phase_after started x) k.0 t) (sym same) k.2) in
+    let following : h.0 ≡ k.0 = after_unique started f g bytes h.0 k.0 h.1 k.1 in
+    let other : IsStream (phase_after started f) h.0 t = subst (λ (x : List ℕ). IsStream (phase_after started f) x t) (sym following) (subst (λ (x : FrontendMessage). IsStream (phase_after started x) k.0 t) (sym same) k.2) in
     let rest : s ≡ t = stream_unique (phase_after started f) h.0 s t h.2 other r q in
     cc
 stream_unique started bytes (message f s) (partial b) h k r q = absurd (k.1.no_front f h.0 h.1)
@@ -152,15 +152,15 @@ stream_unique started bytes (faulty d) unread h k r q = absurd q
 stream_unique started bytes unread t h k r q = absurd r
 
 -- messages, and what is read after them
-pub stream_behind : (started : Bool) (bytes : List ℕ) (fronts : List FrontendMessage) (rest : List ℕ) (s : Stream) → TakesFronts started bytes fronts rest → IsStream (phase_behind started fronts) rest s
+pub stream_after : (started : Bool) (bytes : List ℕ) (fronts : List FrontendMessage) (rest : List ℕ) (s : Stream) → TakesFronts started bytes fronts rest → IsStream (phase_following started fronts) rest s
     → IsStream started bytes (grafted fronts s)
-stream_behind started bytes [] rest s t h = let P : List ℕ → Type 0 = λ (x : List ℕ). IsStream started x s in subst P (sym t) h
-stream_behind started bytes (f ∷ fs) rest s t h = (t.0, t.1, stream_behind (phase_after started f) t.0 fs rest s t.2 h)
+stream_after started bytes [] rest s t h = let P : List ℕ → Type 0 = λ (x : List ℕ). IsStream started x s in subst P (sym t) h
+stream_after started bytes (f ∷ fs) rest s t h = (t.0, t.1, stream_after (phase_after started f) t.0 fs rest s t.2 h)
 
 -- a stream that is grafted is read where its end is
-pub read_behind : (fronts : List FrontendMessage) (s : Stream) → IsRead s → IsRead (grafted fronts s)
-read_behind [] s r = r
-read_behind (f ∷ fs) s r = read_behind fs s r
+pub read_after : (fronts : List FrontendMessage) (s : Stream) → IsRead s → IsRead (grafted fronts s)
+read_after [] s r = r
+read_after (f ∷ fs) s r = read_after fs s r
 
 code_stays : (bytes more : List ℕ) → HasCode bytes → HasCode (bytes ++ more)
 code_stays bytes more h =

@@ -41,6 +41,6 @@ contains_zero [] b h = h.0 refl
 contains_zero (x ∷ a) b h = contains_zero a b h.1
 
 -- with bytes after the first zero byte they are no text
-pub no_text_behind : (bytes text after : List ℕ) → bytes ≡ text ++ (0 ∷ after) → HasNoZero text → after ≢ [] → IsNoText bytes
-no_text_behind bytes text after e no_zero more other is =
+pub no_text_after : (bytes text after : List ℕ) → bytes ≡ text ++ (0 ∷ after) → HasNoZero text → after ≢ [] → IsNoText bytes
+no_text_after bytes text after e no_zero more other is =
     more ((split_unique text after other [] (no_zero_from text no_zero) (no_zero_from other is.0) (sym e ∙ is.1)).1)

@@ -117,9 +117,9 @@ grafted [] stream = stream
 grafted (front ∷ fronts) stream = message front (grafted fronts stream)
 
 -- the phase after the messages
-abbrev pub phase_behind : Bool → List FrontendMessage → Bool
-phase_behind started [] = started
-phase_behind started (front ∷ fronts) = phase_behind (phase_after started front) fronts
+abbrev pub phase_following : Bool → List FrontendMessage → Bool
+phase_following started [] = started
+phase_following started (front ∷ fronts) = phase_following (phase_after started front) fronts
 
 -- the messages come off the front of the bytes one after another, and this is left after them
 abbrev pub TakesFronts : Bool → List ℕ → List FrontendMessage → List ℕ → Type 0

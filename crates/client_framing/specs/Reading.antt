@@ -10,7 +10,7 @@ use Rattle.client_framing.specs.declared.message_type.MessageType.TheVariants.{Q
 use Rattle.client_framing.specs.declared.opening_type.OpeningType.{OpeningType}
 use Rattle.client_framing.specs.declared.opening_type.OpeningType.TheVariants.{Startup, Cancel, Ssl, Gss, Version}
 use Rattle.client_framing.specs.Spelling.{Pair, pair_bytes, pairs_bytes, code_of, IsPair, IsBody, IsOtherVersion}
-use Rattle.client_framing.specs.Fronts.{Held, TakesFronts, IsPartial, HasFault, phase_behind, number_at}
+use Rattle.client_framing.specs.Fronts.{Held, TakesFronts, IsPartial, HasFault, phase_following, number_at}
 
 -- the byte of a message's type
 abbrev pub byte_of : MessageType → ℕ
@@ -74,7 +74,7 @@ held_body bytes = take (number_at 0 bytes - 8) (drop 8 bytes)
 -- the stream is these messages, and after them what is held
 pub record SplitsInto (stream : List ℕ) (fronts : List FrontendMessage) (held : Held) : Type 0 where
   pub takes : TakesFronts false stream fronts held.rest
-  pub phase : held.started ≡ phase_behind false fronts
+  pub phase : held.started ≡ phase_following false fronts
 
 -- what is held begins with this fault, or with neither a message nor a fault
 pub record EndsWith (held : Held) (fault : Option FrameFault) : Type 0 where

@@ -39,7 +39,7 @@ pub fn opening_of(
     }
     let kind = opening_type(number_at(bytes, 4));
     let len = len as usize;
-    let held = held_behind_code(bytes, len);
+    let held = held_after_code(bytes, len);
     if !can_be_body(kind, held, len - 8) {
         return Err(FrameFault::BadStartup);
     }
@@ -51,7 +51,7 @@ pub fn opening_of(
 }
 
 // What is held of a message's bytes after its code.
-fn held_behind_code(bytes: &[u8], len: usize) -> &[u8]
+fn held_after_code(bytes: &[u8], len: usize) -> &[u8]
     requires held { 8 ≤ length bytes.now }
     requires low { 8 ≤ len }
     ensures { result.now ≡ take (len - 8) (drop 8 bytes.now) }

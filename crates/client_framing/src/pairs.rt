@@ -19,11 +19,11 @@ pub fn can_be_pairs(held: &[u8], size: usize) -> bool
         if name.is_empty() {
             return room == 1;
         }
-        let Some((_, behind)) = text_of(after) else {
+        let Some((_, following)) = text_of(after) else {
             return room - rest.len() >= 2;
         };
-        room -= rest.len() - behind.len();
-        rest = behind;
+        room -= rest.len() - following.len();
+        rest = following;
     }
     if rest.is_empty() {
         return has_room_for_end(room);

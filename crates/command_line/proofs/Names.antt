@@ -1,4 +1,4 @@
--- The first word names one command, and the words behind it say one thing.
+-- The first word names one command, and the words after it say one thing.
 use Rattle.std.proofs.Common.{◌≡◌, ◌≢◌, ◌∙◌, ℕ, List, [], ◌∷◌, ap, sym, subst, refl, slice_index, Result, Ok, Err, IfOk}
 use Rattle.std.specs.Prelude.{Option, Some, None, IfSome, IsNone, if◌then◌else◌, ◌==◌}
 use Rattle.cell_base.specs.declared.memory.Memory.{Memory}
@@ -53,7 +53,7 @@ unsaid args none = record {
 pub unnamed : (args : List Text) → ((n : Name) (words : List Text) → ¬ (args ≡ word_of n ∷ words)) → IsNoCommand args
 unnamed args none = unsaid args (λ n s says. none n says.words says.args_are)
 
--- the words behind the name aren't words of its command
+-- the words after the name aren't words of its command
 pub refused : (n : Name) (args words : List Text) → args ≡ word_of n ∷ words → ((s : List Row) → ¬ (Says n (word_of n ∷ words) s)) → IsNoCommand args
 refused n args words e none = unsaid args (λ m s says.
     let heads : word_of n ∷ words ≡ word_of m ∷ says.words = sym e ∙ says.args_are in
@@ -61,7 +61,7 @@ refused n args words e none = unsaid args (λ m s says.
     let same : n ≡ m = word_same n m first in
     none s (subst (λ (a : List Text). Says n a s) e (subst (λ (k : Name). Says k args s) (sym same) says)))
 
--- what `clap` says of the words behind the name
+-- what `clap` says of the words after the name
 pub says_as : (n : Name) (a : App) (words : List Text) (r : Result (Option (List Row)) Memory) → a ≡ arguments_of n
     → IfOk r (λ found. IfSome found (λ said. fault_of a words ≡ [])) → IfOk r (λ found. IfSome found (λ said. said ≡ matches_of a words))
     → IfOk r (λ found. IfSome found (λ said. Says n (word_of n ∷ words) said))

@@ -40,7 +40,7 @@ pub plain_number : (bound n : ℕ) (digits : List ℕ) → IsNumber bound digits
 plain_number bound n [] is = let some = is.some in absurd (omega arith)
 plain_number bound n (x ∷ xs) is = let digit : IsDigit x = is.each 0 0 (omega arith) in plain_from x xs (λ e. omega arith)
 
--- so is what goes on behind a number
+-- so is what goes on after a number
 plain_before : (bound n : ℕ) (front rest : List ℕ) → IsNumber bound front n → Plain (front ++ rest)
 plain_before bound n [] rest is = let some = is.some in absurd (omega arith)
 plain_before bound n (x ∷ xs) rest is = let digit : IsDigit x = is.each 0 0 (omega arith) in plain_from x (xs ++ rest) (λ e. omega arith)
@@ -108,7 +108,7 @@ no_turn s k = refl
 abbrev check_app : App
 check_app = built check_arguments
 
--- where the walk stands behind its words, and what is held there
+-- where the walk stands after its words, and what is held there
 abbrev check_stood_1 : Text → Walk
 check_stood_1 w1 = walked check_app.top.rules [] (at nothing_held 1) w1
 
@@ -138,7 +138,7 @@ check_path w1 p1 = ap (λ (k : Walk). first_of (codes "path") (finished check_ap
 abbrev pipe_app : App
 pipe_app = built pipe_arguments
 
--- where the walk stands behind its words, and what is held there
+-- where the walk stands after its words, and what is held there
 abbrev pipe_stood_1 : Text → Walk
 pipe_stood_1 w1 = walked pipe_app.top.rules [] (at nothing_held 1) w1
 
@@ -183,7 +183,7 @@ pipe_words w1 w2 p1 p2 = ap (λ (k : Walk). first_of (codes "words") (finished p
 abbrev sim_app : App
 sim_app = built sim_arguments
 
--- where the walk stands behind its words, and what is held there
+-- where the walk stands after its words, and what is held there
 abbrev sim_stood_1 : Text → Walk
 sim_stood_1 w1 = walked sim_app.top.rules [] (at nothing_held 1) w1
 
@@ -262,7 +262,7 @@ sim_log w1 w2 w3 w4 p1 p2 p3 p4 = ap (λ (k : Walk). first_of (codes "log") (fin
 abbrev stop_app : App
 stop_app = built stop_arguments
 
--- where the walk stands behind its words, and what is held there
+-- where the walk stands after its words, and what is held there
 abbrev stop_stood_1 : Text → Walk
 stop_stood_1 w1 = walked stop_app.top.rules [] (at nothing_held 1) w1
 

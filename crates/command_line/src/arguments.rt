@@ -38,7 +38,7 @@ fn named(word: &str) -> Option<Name>
     }
 }
 
-/// The name that the first word is, and the words behind it.
+/// The name that the first word is, and the words after it.
 pub fn name_of(args: &[Text]) -> Option<(Name, &[Text])>
     ensures some { IfSome result (λ x. args.now ≡ word_of x.0 ∷ x.1.now) }
     ensures none { IsNone result → (name : Named) (words : List Bytes) → args.now ≢ word_of name ∷ words }

@@ -1,6 +1,6 @@
 //! The words that the program is started with, read as a command.
 //!
-//! The first word names the command. `clap` reads the words behind it, by a simple command of its own for each name, and takes each value
+//! The first word names the command. `clap` reads the words after it, by a simple command of its own for each name, and takes each value
 //! as text. Numbers and levels are read here: decimal digits without a sign, inside their range.
 #![tactic(auto)]
 

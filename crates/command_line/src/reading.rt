@@ -78,7 +78,7 @@ fn stop_line(alloc: Global, said: &Said) -> Result<CommandLine, Memory>
     Ok(CommandLine::Stop { address })
 }
 
-// What the words behind the name give for the command.
+// What the words after the name give for the command.
 fn line_of(alloc: Global, name: Name, said: &Said) -> Result<CommandLine, Memory>
     ensures { IfOk result (λ line. (args : List Bytes) → Says name args said.now → IsCommandLine args line) }
 {

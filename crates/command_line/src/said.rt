@@ -58,7 +58,7 @@ fn said_by<'a>(command: Command<'a>, words: &'a [&'a str]) -> Result<Option<Said
     }
 }
 
-/// What the words behind the name give for the command's arguments. `None` comes exactly where `clap` doesn't take them.
+/// What the words after the name give for the command's arguments. `None` comes exactly where `clap` doesn't take them.
 pub fn said_of<'a>(
     alloc: Global,
     name: Name,

@@ -154,9 +154,9 @@ before_field all done rest table column of_table key of_key value there ascendin
           (sym (slice_get-append_left done ((Field table key column, value) ∷ rest) at.0 before)
           ∙ ap (λ (xs : List (Cell × Value)). slice_get xs at.0) (sym split) ∙ at.1)
       | inr not_before ↦ elim (cases_lt (length done) at.0) [
-        | inl behind ↦
-            let above : Greater ≡ Less = ascending (length done) at.0 (Field table key column, value) (Presence of_table of_key, there) behind next at.1 in cc
-        | inr not_behind ↦
+        | inl following ↦
+            let above : Greater ≡ Less = ascending (length done) at.0 (Field table key column, value) (Presence of_table of_key, there) following next at.1 in cc
+        | inr not_after ↦
             let same : at.0 ≡ length done = omega arith in
             absurd (apart_at of_table table column of_key key there value (slice_get all (length done)) (sym (ap (λ (k : ℕ). slice_get all k) same) ∙ at.1) next)
       ]

@@ -19,7 +19,7 @@ last_defined : (t : Table) (ts : List Table) (rest : List Event) →
 last_defined t [] rest = (Define 1 t.name, refl, refl)
 last_defined t (u ∷ us) rest = last_defined u us rest
 
--- the event behind which the first session is closed
+-- the event after which the first session is closed
 last_event : (ts : List Table) (rest : List Event) →
     (e : Event) × (slice_get (Open 1 ∷ (definitions ts ++ rest)) (length ts) ≡ Some e) × (is_any_end e ≡ false)
 last_event [] rest = (Open 1, refl, refl)

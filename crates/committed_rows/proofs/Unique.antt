@@ -52,9 +52,9 @@ same_head : (x y : Cell × Value) (xs ys : Cells) → IsAscending (x ∷ xs) →
 same_head x y xs ys first second same =
     elim (cons_cases y x ys ((same x).0 (head_in x xs))) [
       | inl is ↦ is
-      | inr behind ↦ elim (cons_cases x y xs ((same y).1 (head_in y ys))) [
+      | inr following ↦ elim (cons_cases x y xs ((same y).1 (head_in y ys))) [
         | inl is ↦ sym is
-        | inr also ↦ absurd (not_below x.0 (cell_total.trans x.0 y.0 x.0 (head_below x y xs first also) (head_below y x ys second behind)))
+        | inr also ↦ absurd (not_below x.0 (cell_total.trans x.0 y.0 x.0 (head_below x y xs first also) (head_below y x ys second following)))
       ]
     ]
 
@@ -64,7 +64,7 @@ tail_in x y e xs ys ascends is same there =
       | inl at_head ↦
           let heads : e ≡ x = at_head ∙ sym is in
           absurd (not_below x.0 (subst (λ (p : Cell × Value). cell_cmp x.0 p.0 ≡ Less) heads (head_below x e xs ascends there)))
-      | inr behind ↦ behind
+      | inr following ↦ following
     ]
 
 same_list : (a b : Cells) → IsAscending a → IsAscending b → Same a b → a ≡ b

@@ -13,7 +13,7 @@ use std::alloc::Global;
 use std::cmp::Ordering;
 
 /// The rows that are there at the end of the history, ascending as cells are ordered: of each row its presence, which is true, and its fields
-/// with their newest values. It goes once through what the transactions wrote, and fails for want of memory alone.
+/// with their newest values. It goes once through what the transactions wrote, and fails where memory runs out, and nowhere else.
 pub fn committed_rows(alloc: Global, history: &History) -> Result<Vec<(Cell, Value)>, Memory>
     ensures { IfOk result (λ cells. AreCommittedRows history.now cells.items) }
 {

@@ -23,8 +23,8 @@ use Rattle.sound_table.proofs.Yields.{IsPlainMark, ArePlain}
 inner : (before ts after : List Mark) → ArePlain (before ++ (ts ++ after)) → ArePlain ts
 inner before ts after h mark at = h mark (Contains-append_right before (ts ++ after) mark (Contains-append_left ts after mark at))
 
-behind : (before ts : List Mark) → ArePlain (before ++ ts) → ArePlain ts
-behind before ts h mark at = h mark (Contains-append_right before ts mark at)
+following : (before ts : List Mark) → ArePlain (before ++ ts) → ArePlain ts
+following before ts h mark at = h mark (Contains-append_right before ts mark at)
 
 first : (mark : Mark) (ts : List Mark) → ArePlain (mark ∷ ts) → IsPlainMark mark
 first mark ts h = h mark (0, omega arith, refl)
@@ -66,7 +66,7 @@ expression_named (Spells.between {x = x} {y = y} {z = z} true a b c) h = seen (E
 expression_named (Spells.between {x = x} {y = y} {z = z} false a b c) h =
     seen (Expr-F.Binary And (e.Binary Ge x y) (e.Binary Le x z)) (e.rolls-Binary And (e.Binary Ge x y) (e.Binary Le x z)) unnamed
 expression_named (Spells.minus {x = x} spelled) h = seen (Expr-F.Neg x) (e.rolls-Neg x) unnamed
-expression_named (Spells.plus {ts = ts} spelled) h = expression_named spelled (behind (m.Sign s.Plus ∷ []) ts h)
+expression_named (Spells.plus {ts = ts} spelled) h = expression_named spelled (following (m.Sign s.Plus ∷ []) ts h)
 expression_named (Spells.number n) h = seen (Expr-F.Int n) (e.rolls-Int n) unnamed
 expression_named (Spells.string t) h = seen (Expr-F.Str t) (e.rolls-Str t) unnamed
 expression_named Spells.truth h = seen (Expr-F.Flag true) (e.rolls-Flag true) unnamed
@@ -75,7 +75,7 @@ expression_named Spells.null h = seen Expr-F.Null e.rolls-Null unnamed
 expression_named (Spells.column mark name reads) h = seen (Expr-F.Column None name) (e.rolls-Column None name) (named mark name reads (first mark [] h))
 expression_named (Spells.qualified mark table other name table_reads reads) h =
     seen (Expr-F.Column (Some table) name) (e.rolls-Column (Some table) name)
-    (named other name reads (first other [] (behind (mark ∷ m.Sign s.Dot ∷ []) (other ∷ []) h)))
+    (named other name reads (first other [] (following (mark ∷ m.Sign s.Dot ∷ []) (other ∷ []) h)))
 expression_named (Spells.call_star mark name reads) h =
     seen (Expr-F.Call name None) (e.rolls-Call name None) (named mark name reads (first mark (m.Sign s.Open ∷ m.Sign s.Star ∷ m.Sign s.Close ∷ []) h))
 expression_named (Spells.call {ts = ts} {x = x} mark name reads spelled) h =

@@ -21,7 +21,7 @@ told_with address number passages network = record {
   to_open = None;
 }
 
--- a call is told behind the others
+-- a call is told after the others
 call_told : (address : List ℕ) (number : ℕ) (network : TcpNetworkState)
     → tcp_networked (tcp_doors_opened address number network) ≡ told_with address number (replicate number (tcp_passage new_tcp_door)) network
 call_told address number network =

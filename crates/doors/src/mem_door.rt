@@ -42,7 +42,7 @@ impl Model for MemDoor {
     ghost invariant = { λ d. d.entered + deque_len d.links ≤ vec_capacity d.returned };
 }
 
-// Puts copies of these links behind the others.
+// Puts copies of these links after the others.
 fn add_copies(alloc: Global, copies: &mut Vec<MemLink>, links: &[MemLink]) -> Result<(), Memory>
     ensures items { OnOk result (copies.new.items ≡ copies.old.items ++ links.now) }
     ensures room { vec_capacity copies.old ≤ vec_capacity copies.new }

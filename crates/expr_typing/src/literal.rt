@@ -12,8 +12,8 @@ fn is_blank(byte: u8) -> bool
     (9..=13).contains(&byte) || byte == b' '
 }
 
-fn behind_blanks(mut bytes: &[u8]) -> &[u8]
-    ensures { result.now ≡ spec.behind_blanks bytes.entry.now }
+fn after_blanks(mut bytes: &[u8]) -> &[u8]
+    ensures { result.now ≡ spec.after_blanks bytes.entry.now }
 {
     while let [first, rest @ ..] = bytes {
         if !is_blank(*first) {
@@ -25,7 +25,7 @@ fn behind_blanks(mut bytes: &[u8]) -> &[u8]
 }
 
 fn before_blanks(mut bytes: &[u8]) -> &[u8]
-    ensures { result.now ≡ reverse (spec.behind_blanks (reverse bytes.entry.now)) }
+    ensures { result.now ≡ reverse (spec.after_blanks (reverse bytes.entry.now)) }
 {
     while let [rest @ .., last] = bytes {
         if !is_blank(*last) {
@@ -100,7 +100,7 @@ fn with_sign(minus: bool, number: u64) -> i64
 fn trimmed(bytes: &[u8]) -> &[u8]
     ensures { result.now ≡ spec.trimmed bytes.now }
 {
-    before_blanks(behind_blanks(bytes))
+    before_blanks(after_blanks(bytes))
 }
 
 /// The integer that a quoted literal stands for: whether its sign is a minus, and the number, or the greatest one of 64 bits.

@@ -1,4 +1,4 @@
-// A driver's session behind another one.
+// A driver's session after another one.
 
 const DRIVERS: &str = r"
 # a driver's session finds the row that another one has made
@@ -53,7 +53,7 @@ level rc
 2 + end
 ";
 
-/// A driver's session behind another one.
+/// A driver's session after another one.
 pub fn drivers() -> &'static str {
     DRIVERS
 }

@@ -85,7 +85,7 @@ fn other_event(alloc: Global, found: &str, expected: &str) -> Result<String, All
     }
     let common = common_lines(found, expected);
     let event = found.lines().nth(common).unwrap_or("none");
-    format!(in alloc; "behind {common} events: {event}")
+    format!(in alloc; "after {common} events: {event}")
 }
 
 // How many bytes both have in common, up to the first that differs.
@@ -125,7 +125,7 @@ fn other_reply(
     let (number, sent) = (client.saturating_add(1), hall.sent(client));
     if sent != session.sent.as_slice() {
         let common = common_bytes(sent, &session.sent);
-        return format!(in alloc; "session {number}, behind {common} bytes: another one is sent");
+        return format!(in alloc; "session {number}, after {common} bytes: another one is sent");
     }
     let end = ended(alloc, hall, client)?;
     if end.as_str() != session.end.as_str() {

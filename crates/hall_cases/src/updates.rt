@@ -47,7 +47,7 @@ level cc
 2 + end
 3 + end
 
-# a transaction never goes back behind what it has read
+# a transaction never goes back after what it has read
 level rc
 1 > StartupMessage user=a
 1 + started

@@ -28,8 +28,8 @@ nothing : (xs : List (List ℕ)) → xs ++ [] ≡ xs
 nothing [] = refl
 nothing (x ∷ xs) = ap (λ zs. x ∷ zs) (nothing xs)
 
-push_behind : (a b : List (List ℕ)) (text : List ℕ) → a ++ (b ++ text ∷ []) ≡ (a ++ b) ++ text ∷ []
-push_behind a b text = sym (append_assoc a b (text ∷ []))
+push_after : (a b : List (List ℕ)) (text : List ℕ) → a ++ (b ++ text ∷ []) ≡ (a ++ b) ++ text ∷ []
+push_after a b text = sym (append_assoc a b (text ∷ []))
 
 three_so_far : (v : Version) (rows : List (Cell × Value)) → v ≡ Three → AreInitialCells rows → IsInitialSoFar v rows
 three_so_far v rows e is = subst (λ (w : Version). IsInitialSoFar w rows) (sym e) is
@@ -76,7 +76,7 @@ event_added d k f words text right body next cut = (
       ap (λ (p : Place). map (event_line d.version) (d.trace.events ++ f ∷ []) ++ ending p d.trace.order) body ∙ nothing (map (event_line d.version) (d.trace.events ++ f ∷ []))
       ∙ map_end (event_line d.version) d.trace.events f ∙ ap (λ (w : List ℕ). map (event_line d.version) d.trace.events ++ w ∷ []) (sym is_event)
       ∙ ap (λ (ls : List (List ℕ)). ls ++ text ∷ []) (sym (ap (λ (p : Place). map (event_line d.version) d.trace.events ++ ending p d.trace.order) body ∙ nothing (map (event_line d.version) d.trace.events))))
-      ∙ ap (λ (ls : List (List ℕ)). head_line d.version d.trace.level ∷ ls) (push_behind (map initial_line d.trace.initial) (map (event_line d.version) d.trace.events ++ ending d.place d.trace.order) text),
+      ∙ ap (λ (ls : List (List ℕ)). head_line d.version d.trace.level ∷ ls) (push_after (map initial_line d.trace.initial) (map (event_line d.version) d.trace.events ++ ending d.place d.trace.order) text),
 ) where
   is_event : text ≡ event_line d.version f
   is_event = joined_cut 32 text (keyword_word k ∷ words) cut ∙ ap (λ (j : Keyword). line (keyword_word j ∷ words)) (sym next.1.2)
@@ -90,7 +90,7 @@ order_added d o words text right body next cut = (
   ap (λ (ls : List (List ℕ)). head_line d.version d.trace.level ∷ (map initial_line d.trace.initial ++ ls)) (
       ap (λ (w : List ℕ). map (event_line d.version) d.trace.events ++ w ∷ []) (sym is_order)
       ∙ ap (λ (ls : List (List ℕ)). ls ++ text ∷ []) (sym (ap (λ (p : Place). map (event_line d.version) d.trace.events ++ ending p d.trace.order) body ∙ nothing (map (event_line d.version) d.trace.events))))
-      ∙ ap (λ (ls : List (List ℕ)). head_line d.version d.trace.level ∷ ls) (push_behind (map initial_line d.trace.initial) (map (event_line d.version) d.trace.events ++ ending d.place d.trace.order) text),
+      ∙ ap (λ (ls : List (List ℕ)). head_line d.version d.trace.level ∷ ls) (push_after (map initial_line d.trace.initial) (map (event_line d.version) d.trace.events ++ ending d.place d.trace.order) text),
 ) where
   is_order : text ≡ order_line o
   is_order = joined_cut 32 text (keyword_word keywords.Order ∷ words) cut ∙ ap (λ (ws : List (List ℕ)). line (keyword_word keywords.Order ∷ ws)) next.1.1
@@ -101,8 +101,8 @@ end_added d text right at is = (
   record { initial = right.initial; begun = λ h. right.begun (inl other); events = right.events; order = right.order },
   ap (λ (ls : List (List ℕ)). head_line d.version d.trace.level ∷ (map initial_line d.trace.initial ++ (map (event_line d.version) d.trace.events ++ ls)))
       (ap (λ (w : List ℕ). order_line d.trace.order ∷ w ∷ []) (sym is) ∙ ap (λ (p : Place). ending p d.trace.order ++ text ∷ []) (sym at))
-      ∙ ap (λ (ls : List (List ℕ)). head_line d.version d.trace.level ∷ (map initial_line d.trace.initial ++ ls)) (push_behind (map (event_line d.version) d.trace.events) (ending d.place d.trace.order) text)
-      ∙ ap (λ (ls : List (List ℕ)). head_line d.version d.trace.level ∷ ls) (push_behind (map initial_line d.trace.initial) (map (event_line d.version) d.trace.events ++ ending d.place d.trace.order) text),
+      ∙ ap (λ (ls : List (List ℕ)). head_line d.version d.trace.level ∷ (map initial_line d.trace.initial ++ ls)) (push_after (map (event_line d.version) d.trace.events) (ending d.place d.trace.order) text)
+      ∙ ap (λ (ls : List (List ℕ)). head_line d.version d.trace.level ∷ ls) (push_after (map initial_line d.trace.initial) (map (event_line d.version) d.trace.events ++ ending d.place d.trace.order) text),
 ) where
   other : d.place ≢ Body
   other e = differ (sym at ∙ e) where

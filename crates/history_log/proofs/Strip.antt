@@ -65,14 +65,14 @@ strip_events v head es [] o after fe ff fo e = (es, fe, e)
 strip_events v head [] (f ∷ fs) o after fe ff fo e = absurd (event_not_order v f o ff.0.0 fo (cc))
 strip_events v head (x ∷ es) (f ∷ fs) o after fe ff fo e = strip_events v head es fs o after fe.1 ff.1 fo (cc)
 
-pub strip_rows : (xs ys : List (Cell × Value)) (behind after : List (List ℕ)) → AllByRecursion IsInitialCell xs → AllByRecursion IsInitialCell ys
-    → ((y : Cell × Value) (more : List (List ℕ)) → IsInitialCell y → behind ≡ initial_line y ∷ more → ⊥)
-    → map initial_line xs ++ behind ≡ map initial_line ys ++ after
-    → (rest : List (Cell × Value)) × AllByRecursion IsInitialCell rest × (map initial_line rest ++ behind ≡ after) × (xs ≡ ys ++ rest)
-strip_rows xs [] behind after fx fy other e = (xs, fx, e, refl)
-strip_rows [] (y ∷ ys) behind after fx fy other e = absurd (other y (map initial_line ys ++ after) fy.0 e)
-strip_rows (x ∷ xs) (y ∷ ys) behind after fx fy other e =
-    let r = strip_rows xs ys behind after fx.1 fy.1 other (cc) in
+pub strip_rows : (xs ys : List (Cell × Value)) (following after : List (List ℕ)) → AllByRecursion IsInitialCell xs → AllByRecursion IsInitialCell ys
+    → ((y : Cell × Value) (more : List (List ℕ)) → IsInitialCell y → following ≡ initial_line y ∷ more → ⊥)
+    → map initial_line xs ++ following ≡ map initial_line ys ++ after
+    → (rest : List (Cell × Value)) × AllByRecursion IsInitialCell rest × (map initial_line rest ++ following ≡ after) × (xs ≡ ys ++ rest)
+strip_rows xs [] following after fx fy other e = (xs, fx, e, refl)
+strip_rows [] (y ∷ ys) following after fx fy other e = absurd (other y (map initial_line ys ++ after) fy.0 e)
+strip_rows (x ∷ xs) (y ∷ ys) following after fx fy other e =
+    let r = strip_rows xs ys following after fx.1 fy.1 other (cc) in
     let same = same_row x y fx.0 fy.0 (cc) in
     (r.0, r.1, r.2, ap (λ (z : Cell × Value). z ∷ xs) same ∙ ap (λ (zs : List (Cell × Value)). y ∷ zs) r.3)
 

@@ -1,4 +1,4 @@
--- The pending transactions, before an event and behind it.
+-- The pending transactions, before an event and after it.
 use Rattle.std.proofs.Common.{◌≡◌, ℕ, ◌+◌, List, [], Some, false, take, arith, refl, ap, sym, ◌∙◌, subst, inl, inr}
 use Rattle.std.specs.List.{slice_get}
 use Rattle.std.proofs.lemmas.Bool.{false≢true}

@@ -1,4 +1,4 @@
--- The latest writers, before an event and behind it.
+-- The latest writers, before an event and after it.
 use Rattle.std.proofs.Common.{◌≡◌, ℕ, ◌+◌, ◌<◌, ◌≤◌, List, Some, arith, sym, ◌∙◌, subst, inl, inr}
 use Rattle.std.specs.List.{slice_get}
 use Rattle.std.proofs.lemmas.Bool.{cases_lt}

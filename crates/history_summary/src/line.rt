@@ -14,7 +14,7 @@ use std::alloc::Global;
 /// events C reads D offered E weak F` and a line feed. LEVEL is `rc`, `ra` or `cc`, and the others are decimal numbers: A, B, C
 /// and D of Open, Begin, all and Read events, E the sum of the counts of offered writes over the reads, and F the number of
 /// reads whose source isn't the committed writer of the cell with the latest Commit before them, or 0 where there is none. It
-/// goes through the events once, and fails for want of memory alone.
+/// goes through the events once, and fails where memory runs out, and nowhere else.
 pub fn summary(alloc: Global, level: Level, seed: u64, history: &History) -> Result<Vec<u8>, Memory>
     ensures { IfOk result (λ line. IsSummary level seed history.now.events line.items) }
 {

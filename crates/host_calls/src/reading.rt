@@ -55,7 +55,7 @@ impl From<Failed> for FileFault {
     }
 }
 
-// Reads the next piece behind the bytes. Answers how many bytes came: 0 exactly at the end.
+// Reads the next piece after the bytes. Answers how many bytes came: 0 exactly at the end.
 fn read_piece<S: Source>(
     source: &mut S,
     room: &mut [u8],

@@ -105,7 +105,7 @@ const READ: &[u8] =
     b"monkey-log 2 cc\nopen 1\nopen 2\ndefine 1 x74\nbegin 1 cc\nwrite 1 p.0.1 true\ncommit 1\nbegin 2 cc\nread 2 p.0.1 1 2 1 true\ncommit 2\norder 0 1 2\nend\n";
 
 #[test]
-fn a_source_behind_its_reader(rt: HostRuntime) -> Result<(), Memory> {
+fn a_source_after_its_reader(rt: HostRuntime) -> Result<(), Memory> {
     assert_eq!(&rt; says(rt.alloc(), READ, "ok"), true);
     assert_eq!(&rt;
         says_with(

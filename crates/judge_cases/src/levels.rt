@@ -163,7 +163,7 @@ fn the_least_rival_is_told(rt: HostRuntime) -> Result<(), Memory> {
         ),
         true
     );
-    // The other session's write is overtaken where it stands behind, and seen by nobody where it stands before.
+    // The other session's write is overtaken where it stands after, and seen by nobody where it stands before.
     assert_eq!(&rt;
         says_with(
             rt.alloc(),

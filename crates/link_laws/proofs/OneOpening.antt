@@ -1,4 +1,4 @@
--- A session asks its opening once, nothing before it and nothing behind its close.
+-- A session asks its opening once, nothing before it and nothing after its close.
 use Rattle.std.proofs.Common.{◌≡◌, inl, inr, ◌⊎◌, false, ℕ, List, [], ◌∷◌, All, Option, Some, None, length, refl, sym, ◌∙◌, ap, subst}
 use Rattle.std.proofs.lemmas.List.Elements.{All-nil, All-cons}
 use Rattle.cell_base.specs.declared.level.Level.{Level}
@@ -52,7 +52,7 @@ IsWithin within = Unit {0}
 IsWithin late = ⊥
 
 abbrev pub once : Rules
-once = record { State = Stage; may = MayAsk; next = goes_to; Fresh = λ s k. IsEarly s; Calm = λ s k. IsWithin s; Runs = λ s k c. IsWithin s }
+once = record { State = Stage; may = MayAsk; next = goes_to; Fresh = λ s k. IsEarly s; Resting = λ s k. IsWithin s; Runs = λ s k c. IsWithin s }
 
 -- neither the opening of the session nor its close
 abbrev pub IsPlain : Call → Type 0
@@ -87,9 +87,9 @@ may_within calls.Rollback is = tt
 may_within calls.Show is = tt
 
 plain : (c : Call) → IsPlain c → (s : Stage) → IsWithin s → MayAsk s c × ((a : Answer) → IsWithin (goes_to s c a))
-plain c is early calm = absurd calm
-plain c is within calm = (may_within c is, λ a. subst IsWithin (sym (stays_within c a is)) tt)
-plain c is late calm = absurd calm
+plain c is early resting = absurd resting
+plain c is within resting = (may_within c is, λ a. subst IsWithin (sym (stays_within c a is)) tt)
+plain c is late resting = absurd resting
 
 opens : (s : Stage) → IsEarly s → MayAsk s calls.Open × ((session : ℕ) → IsWithin (goes_to s calls.Open (answers.Opened session)))
 opens early is = (tt, λ session. tt)
@@ -97,34 +97,34 @@ opens within is = absurd is
 opens late is = absurd is
 
 closes : (s : Stage) → IsWithin s → MayAsk s calls.Close
-closes early calm = absurd calm
-closes within calm = tt
-closes late calm = absurd calm
+closes early resting = absurd resting
+closes within resting = tt
+closes late resting = absurd resting
 
 once_fit : AreFit once
 once_fit = record {
   opens = λ s k fresh. opens s fresh;
-  closes = λ s k calm. closes s calm;
-  looks = λ s k calm. plain (calls.Look (length k.tables)) tt s calm;
-  looked = λ s k tables calm. (plain (calls.Look (length k.tables)) tt s calm).1 (answers.Looked tables);
-  levels = λ s k level calm. calm;
-  defines = λ s k table calm. plain (calls.Define table) tt s calm;
-  begins = λ s k level calm. plain (calls.Begin level) tt s calm;
-  commits = λ s k calm. plain calls.Commit tt s calm;
-  rolls_back = λ s k calm. plain calls.Rollback tt s calm;
-  shows = λ s k calm. plain calls.Show tt s calm;
-  runs = λ s k statement t calm is. calm;
-  scans = λ s k table rest calm.
-      let asks = plain (calls.Scan table) tt s calm in
+  closes = λ s k resting. closes s resting;
+  looks = λ s k resting. plain (calls.Look (length k.tables)) tt s resting;
+  looked = λ s k tables resting. (plain (calls.Look (length k.tables)) tt s resting).1 (answers.Looked tables);
+  levels = λ s k level resting. resting;
+  defines = λ s k table resting. plain (calls.Define table) tt s resting;
+  begins = λ s k level resting. plain (calls.Begin level) tt s resting;
+  commits = λ s k resting. plain calls.Commit tt s resting;
+  rolls_back = λ s k resting. plain calls.Rollback tt s resting;
+  shows = λ s k resting. plain calls.Show tt s resting;
+  runs = λ s k statement t resting is. resting;
+  scans = λ s k table rest resting.
+      let asks = plain (calls.Scan table) tt s resting in
       (asks.0, λ keys. asks.1 (answers.Listed keys), λ why. plain calls.Rollback tt (goes_to s (calls.Scan table) (answers.Refused why)) (asks.1 (answers.Refused why)));
-  touches = λ s k cell rest calm.
-      let asks = plain (calls.Touch cell) tt s calm in
+  touches = λ s k cell rest resting.
+      let asks = plain (calls.Touch cell) tt s resting in
       (asks.0, λ value. asks.1 (answers.Found value), λ why. plain calls.Rollback tt (goes_to s (calls.Touch cell) (answers.Refused why)) (asks.1 (answers.Refused why)));
-  writes = λ s k cell value rest calm.
-      let asks = plain (calls.Write cell value) tt s calm in
+  writes = λ s k cell value rest resting.
+      let asks = plain (calls.Write cell value) tt s resting in
       (asks.0, asks.1 answers.Written, λ why. plain calls.Rollback tt (goes_to s (calls.Write cell value) (answers.Refused why)) (asks.1 (answers.Refused why)));
-  finishes = λ s k outcome calm. calm;
-  breaks = λ s k c calm. plain calls.Rollback tt s calm;
+  finishes = λ s k outcome resting. resting;
+  breaks = λ s k c resting. plain calls.Rollback tt s resting;
 }
 
 -- ---- the events of such a record
@@ -185,7 +185,7 @@ declined : (p : Past) (c : Call) (why : BookFault) (m : Past) → MayAsk within 
 declined p c (faults.Full limit) m may declines = (plain_refused c may declines.0, declines.1.state)
 declined p c faults.Memory m may declines = (plain_refused c may declines.0, declines.1.state)
 
--- behind the close nothing is asked
+-- after the close nothing is asked
 record IsSilent (es : List Entry) : Type 0 where
   none : events_of es ≡ []
   number : (n : Option ℕ) → opened_from n es ≡ n
@@ -272,7 +272,7 @@ inside gives session p v (c ∷ cs) (unsent n ∷ es) q w valid obeys at =
 inside gives session p v (c ∷ cs) (stop cause ∷ es) q w valid obeys at =
     let on = inside gives session p v (c ∷ cs) es q w valid obeys at in record { of_it = on.of_it; number = on.number }
 
--- the opening, and what comes behind it
+-- the opening, and what comes after it
 begins : (session : ℕ) (a : Answer) (e : Event) (es : List Entry) → a ≡ answers.Opened session → e ≡ Open session → IsOfIt session es →
     AreOfOneSession (opened_from None (did a e ∷ es)) (events_of (did a e ∷ es))
 begins session a e es answer event on =

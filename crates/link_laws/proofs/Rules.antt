@@ -32,32 +32,32 @@ pub record Rules : Type 1 where
   -- no session was opened yet, where this is known
   pub Fresh : State → Knowledge → Type 0
   -- between two statements, where this is known
-  pub Calm : State → Knowledge → Type 0
+  pub Resting : State → Knowledge → Type 0
   -- in a statement, of which this is left, where this is known
   pub Runs : State → Knowledge → Course → Type 0
 
--- a transaction may be rolled back, and then it is calm
+-- a transaction may be rolled back, and then it is resting
 abbrev pub Breaks : (r : Rules) → r.State → Knowledge → Type 0
-Breaks r s k = r.may s calls.Rollback × ((a : Answer) → r.Calm (r.next s calls.Rollback a) k)
+Breaks r s k = r.may s calls.Rollback × ((a : Answer) → r.Resting (r.next s calls.Rollback a) k)
 
--- the call may be made, and whatever its answer it is calm then
+-- the call may be made, and whatever its answer it is resting then
 abbrev pub Allows : (r : Rules) → r.State → Knowledge → Call → Type 0
-Allows r s k c = r.may s c × ((a : Answer) → r.Calm (r.next s c a) k)
+Allows r s k c = r.may s c × ((a : Answer) → r.Resting (r.next s c a) k)
 
 -- what the rules have to say of the calls that scripts make
 pub record AreFit (r : Rules) : Type 0 where
-  pub opens : (s : r.State) (k : Knowledge) → r.Fresh s k → r.may s calls.Open × ((session : ℕ) → r.Calm (r.next s calls.Open (answers.Opened session)) k)
-  pub closes : (s : r.State) (k : Knowledge) → r.Calm s k → r.may s calls.Close
-  pub looks : (s : r.State) (k : Knowledge) → r.Calm s k → Allows r s k (calls.Look (length k.tables))
-  pub looked : (s : r.State) (k : Knowledge) (tables : List Table) → r.Calm s k →
-      r.Calm (r.next s (calls.Look (length k.tables)) (answers.Looked tables)) (with_tables k tables)
-  pub levels : (s : r.State) (k : Knowledge) (level : Level) → r.Calm s k → r.Calm s (with_level k level)
-  pub defines : (s : r.State) (k : Knowledge) (table : Table) → r.Calm s k → Allows r s k (calls.Define table)
-  pub begins : (s : r.State) (k : Knowledge) (level : Level) → r.Calm s k → Allows r s k (calls.Begin level)
-  pub commits : (s : r.State) (k : Knowledge) → r.Calm s k → Allows r s k calls.Commit
-  pub rolls_back : (s : r.State) (k : Knowledge) → r.Calm s k → Breaks r s k
-  pub shows : (s : r.State) (k : Knowledge) → r.Calm s k → Allows r s k calls.Show
-  pub runs : (s : r.State) (k : Knowledge) (statement : Statement) (t : Typed) → r.Calm s k → typed k.tables statement ≡ Ok t → r.Runs s k (course_of k.tables t)
+  pub opens : (s : r.State) (k : Knowledge) → r.Fresh s k → r.may s calls.Open × ((session : ℕ) → r.Resting (r.next s calls.Open (answers.Opened session)) k)
+  pub closes : (s : r.State) (k : Knowledge) → r.Resting s k → r.may s calls.Close
+  pub looks : (s : r.State) (k : Knowledge) → r.Resting s k → Allows r s k (calls.Look (length k.tables))
+  pub looked : (s : r.State) (k : Knowledge) (tables : List Table) → r.Resting s k →
+      r.Resting (r.next s (calls.Look (length k.tables)) (answers.Looked tables)) (with_tables k tables)
+  pub levels : (s : r.State) (k : Knowledge) (level : Level) → r.Resting s k → r.Resting s (with_level k level)
+  pub defines : (s : r.State) (k : Knowledge) (table : Table) → r.Resting s k → Allows r s k (calls.Define table)
+  pub begins : (s : r.State) (k : Knowledge) (level : Level) → r.Resting s k → Allows r s k (calls.Begin level)
+  pub commits : (s : r.State) (k : Knowledge) → r.Resting s k → Allows r s k calls.Commit
+  pub rolls_back : (s : r.State) (k : Knowledge) → r.Resting s k → Breaks r s k
+  pub shows : (s : r.State) (k : Knowledge) → r.Resting s k → Allows r s k calls.Show
+  pub runs : (s : r.State) (k : Knowledge) (statement : Statement) (t : Typed) → r.Resting s k → typed k.tables statement ≡ Ok t → r.Runs s k (course_of k.tables t)
   pub scans : (s : r.State) (k : Knowledge) (table : ℕ) (rest : List Key → Course) → r.Runs s k (scan table rest) →
       r.may s (calls.Scan table) × ((keys : List Key) → r.Runs (r.next s (calls.Scan table) (answers.Listed keys)) k (rest keys))
       × ((why : BookFault) → Breaks r (r.next s (calls.Scan table) (answers.Refused why)) k)
@@ -67,7 +67,7 @@ pub record AreFit (r : Rules) : Type 0 where
   pub writes : (s : r.State) (k : Knowledge) (cell : Cell) (value : Value) (rest : Course) → r.Runs s k (write cell value rest) →
       r.may s (calls.Write cell value) × r.Runs (r.next s (calls.Write cell value) answers.Written) k rest
       × ((why : BookFault) → Breaks r (r.next s (calls.Write cell value) (answers.Refused why)) k)
-  pub finishes : (s : r.State) (k : Knowledge) (outcome : Outcome) → r.Runs s k (done outcome) → r.Calm s k
+  pub finishes : (s : r.State) (k : Knowledge) (outcome : Outcome) → r.Runs s k (done outcome) → r.Resting s k
   pub breaks : (s : r.State) (k : Knowledge) (c : Course) → r.Runs s k c → Breaks r s k
 
 -- these calls keep to the rules, which were answered by these entries
@@ -80,7 +80,7 @@ Obeys r s (c ∷ cs) (short final n ∷ es) = Obeys r s (c ∷ cs) es
 Obeys r s (c ∷ cs) (unsent n ∷ es) = Obeys r s (c ∷ cs) es
 Obeys r s (c ∷ cs) (stop cause ∷ es) = Obeys r s (c ∷ cs) es
 
--- the calls that a script asks, behind those that were asked, keep to the rules
+-- the calls that a script asks, after those that were asked, keep to the rules
 pub record Asked (r : Rules) (s : r.State) (before : List Call) (after : List Call) (entries : List Entry) : Type 0 where
   pub more : List Call
   pub whole : after ≡ before ++ more

@@ -49,26 +49,26 @@ closed_keeps r s ends.ReadFault = done_keeps r s ends.ReadFault
 closed_keeps r s ends.WriteFault = done_keeps r s ends.WriteFault
 closed_keeps r s ends.Memory = done_keeps r s ends.Memory
 
-closing_keeps : (r : Rules) → AreFit r → (s : r.State) (end : End) (known : Knowledge) → r.Calm s known → Keeps r s (told.closing end)
-closing_keeps r fit s end known calm =
-    ask_keeps r s calls.Close (λ _. told.closed end) (fit.closes s known calm) (λ a. closed_keeps r (r.next s calls.Close a) end)
+closing_keeps : (r : Rules) → AreFit r → (s : r.State) (end : End) (known : Knowledge) → r.Resting s known → Keeps r s (told.closing end)
+closing_keeps r fit s end known resting =
+    ask_keeps r s calls.Close (λ _. told.closed end) (fit.closes s known resting) (λ a. closed_keeps r (r.next s calls.Close a) end)
 
-ending_keeps : (r : Rules) → AreFit r → (s : r.State) (owed : Owed) (end : End) (known : Knowledge) → r.Calm s known → Keeps r s (told.ending owed end)
-ending_keeps r fit s owes.Nothing end known calm = closed_keeps r s end
-ending_keeps r fit s owes.Close end known calm = closing_keeps r fit s end known calm
-ending_keeps r fit s owes.Rollback end known calm =
-    let asks = fit.rolls_back s known calm in
+ending_keeps : (r : Rules) → AreFit r → (s : r.State) (owed : Owed) (end : End) (known : Knowledge) → r.Resting s known → Keeps r s (told.ending owed end)
+ending_keeps r fit s owes.Nothing end known resting = closed_keeps r s end
+ending_keeps r fit s owes.Close end known resting = closing_keeps r fit s end known resting
+ending_keeps r fit s owes.Rollback end known resting =
+    let asks = fit.rolls_back s known resting in
     ask_keeps r s calls.Rollback (λ _. told.closing end) asks.0 (λ a. closing_keeps r fit (r.next s calls.Rollback a) end known (asks.1 a))
 
-broken_keeps : (r : Rules) → AreFit r → (s : r.State) (owed : Owed) (known : Knowledge) → r.Calm s known → Keeps r s (told.broken owed)
-broken_keeps r fit s owed known calm = ending_keeps r fit s owed ends.WriteFault known calm
+broken_keeps : (r : Rules) → AreFit r → (s : r.State) (owed : Owed) (known : Knowledge) → r.Resting s known → Keeps r s (told.broken owed)
+broken_keeps r fit s owed known resting = ending_keeps r fit s owed ends.WriteFault known resting
 
 -- ---- where a session stands between two messages
 
 abbrev pub Stands : (r : Rules) → r.State → Knowledge → Phase → Type 0
 Stands r s k phases.Startup = r.Fresh s k
-Stands r s k (phases.Normal state) = r.Calm s k
-Stands r s k (phases.Discarding state) = r.Calm s k
+Stands r s k (phases.Normal state) = r.Resting s k
+Stands r s k (phases.Discarding state) = r.Resting s k
 
 ends_keeps : (r : Rules) → AreFit r → (s : r.State) (phase : Phase) (end : End) (known : Knowledge) → Stands r s known phase →
     Keeps r s (told.ending (owed_by phase) end)
@@ -82,13 +82,13 @@ GoesOn r rest = (s : r.State) (phase : Phase) (k : Knowledge) → Stands r s k p
 
 -- ---- before the startup's end
 
-tells_startup : (r : Rules) → AreFit r → (s : r.State) (session : ℕ) (rest : Script) (known : Knowledge) → r.Calm s known → Keeps r s rest →
+tells_startup : (r : Rules) → AreFit r → (s : r.State) (session : ℕ) (rest : Script) (known : Knowledge) → r.Resting s known → Keeps r s rest →
     Keeps r s (told.tells_startup session rest)
-tells_startup r fit s session rest known calm keeps =
-    short_keeps r s true _ _ (closing_keeps r fit s ends.Memory known calm)
-    (tell_keeps r s (startup_reply session) (told.broken owes.Close) rest (broken_keeps r fit s owes.Close known calm) keeps)
+tells_startup r fit s session rest known resting keeps =
+    short_keeps r s true _ _ (closing_keeps r fit s ends.Memory known resting)
+    (tell_keeps r s (startup_reply session) (told.broken owes.Close) rest (broken_keeps r fit s owes.Close known resting) keeps)
 
-opens : (r : Rules) → AreFit r → (s : r.State) (rest : Script) (known : Knowledge) → r.Fresh s known → ((t : r.State) → r.Calm t known → Keeps r t rest) →
+opens : (r : Rules) → AreFit r → (s : r.State) (rest : Script) (known : Knowledge) → r.Fresh s known → ((t : r.State) → r.Resting t known → Keeps r t rest) →
     Keeps r s (told.opens rest)
 opens r fit s rest known fresh keeps =
     let asks = fit.opens s known fresh in
@@ -104,7 +104,7 @@ starting r fit encryption s known rest on fresh =
     tell_keeps r s no_encryption (told.broken owes.Nothing) (rest phases.Startup known) (closed_keeps r s ends.WriteFault) (on s phases.Startup known fresh)
 starting r fit cancel s known rest on fresh = closed_keeps r s ends.Cancelled
 starting r fit start s known rest on fresh =
-    opens r fit s (rest (phases.Normal block_states.Idle) known) known fresh (λ t calm. on t (phases.Normal block_states.Idle) known calm)
+    opens r fit s (rest (phases.Normal block_states.Idle) known) known fresh (λ t resting. on t (phases.Normal block_states.Idle) known resting)
 starting r fit userless s known rest on fresh = closed_keeps r s (ends.Refused states.S28000)
 starting r fit version s known rest on fresh = closed_keeps r s (ends.Refused states.S0A000)
 starting r fit _ s known rest on fresh = lost_keeps r s
@@ -113,39 +113,39 @@ starting r fit _ s known rest on fresh = lost_keeps r s
 
 encloses : (r : Rules) → AreFit r → (rest : Phase → Knowledge → Script) → GoesOn r rest → Encloses r (outside_of rest)
 encloses r fit rest on = record {
-  next = λ s state k calm. on s (phases.Normal state) k calm;
-  broken = λ s owed k calm. broken_keeps r fit s owed k calm;
+  next = λ s state k resting. on s (phases.Normal state) k resting;
+  broken = λ s owed k resting. broken_keeps r fit s owed k resting;
 }
 
-refuses : (r : Rules) → AreFit r → (s : r.State) (state : TransactionState) (known : Knowledge) (rest : Phase → Knowledge → Script) → GoesOn r rest → r.Calm s known →
+refuses : (r : Rules) → AreFit r → (s : r.State) (state : TransactionState) (known : Knowledge) (rest : Phase → Knowledge → Script) → GoesOn r rest → r.Resting s known →
     Keeps r s (told.refuses state known rest)
-refuses r fit s state known rest on calm =
+refuses r fit s state known rest on resting =
     fails r _
     (record {
       succeeded = λ t block k is. lost_keeps r t;
       failed = λ t after k is. on t (phases.Discarding after) k is;
       broken = λ t owed k is. broken_keeps r fit t owed k is;
     })
-    s states.S0A000 (block_at state) known (may_fail r fit s known (block_at state) calm)
+    s states.S0A000 (block_at state) known (may_fail r fit s known (block_at state) resting)
 
 serving : (r : Rules) → AreFit r → (asked : Request) (s : r.State) (state : TransactionState) (known : Knowledge) (rest : Phase → Knowledge → Script) →
-    GoesOn r rest → r.Calm s known → Keeps r s (told.serving asked state known rest)
-serving r fit (query asked) s state known rest on calm = message r fit (outside_of rest) (encloses r fit rest on) asked s state known calm
-serving r fit unread_query s state known rest on calm =
-    short_keeps r s false _ _ (message r fit (outside_of rest) (encloses r fit rest on) (messages.Unread states.S53200) s state known calm) (lost_keeps r s)
-serving r fit terminate s state known rest on calm = ending_keeps r fit s (owed_between state) ends.Terminated known calm
-serving r fit sync s state known rest on calm = readied r (outside_of rest) (encloses r fit rest on) s state known calm
-serving r fit nothing s state known rest on calm = on s (phases.Normal state) known calm
-serving r fit extended s state known rest on calm = refuses r fit s state known rest on calm
-serving r fit function s state known rest on calm =
-    message r fit (outside_of rest) (encloses r fit rest on) (messages.Unread states.S0A000) s state known calm
-serving r fit _ s state known rest on calm = lost_keeps r s
+    GoesOn r rest → r.Resting s known → Keeps r s (told.serving asked state known rest)
+serving r fit (query asked) s state known rest on resting = message r fit (outside_of rest) (encloses r fit rest on) asked s state known resting
+serving r fit unread_query s state known rest on resting =
+    short_keeps r s false _ _ (message r fit (outside_of rest) (encloses r fit rest on) (messages.Unread states.S53200) s state known resting) (lost_keeps r s)
+serving r fit terminate s state known rest on resting = ending_keeps r fit s (owed_between state) ends.Terminated known resting
+serving r fit sync s state known rest on resting = readied r (outside_of rest) (encloses r fit rest on) s state known resting
+serving r fit nothing s state known rest on resting = on s (phases.Normal state) known resting
+serving r fit extended s state known rest on resting = refuses r fit s state known rest on resting
+serving r fit function s state known rest on resting =
+    message r fit (outside_of rest) (encloses r fit rest on) (messages.Unread states.S0A000) s state known resting
+serving r fit _ s state known rest on resting = lost_keeps r s
 
 discarding : (r : Rules) → AreFit r → (asked : Request) (s : r.State) (state : TransactionState) (known : Knowledge) (rest : Phase → Knowledge → Script) →
-    GoesOn r rest → r.Calm s known → Keeps r s (told.discarding asked state known rest)
-discarding r fit terminate s state known rest on calm = ending_keeps r fit s (owed_between state) ends.Terminated known calm
-discarding r fit sync s state known rest on calm = readied r (outside_of rest) (encloses r fit rest on) s state known calm
-discarding r fit _ s state known rest on calm = on s (phases.Discarding state) known calm
+    GoesOn r rest → r.Resting s known → Keeps r s (told.discarding asked state known rest)
+discarding r fit terminate s state known rest on resting = ending_keeps r fit s (owed_between state) ends.Terminated known resting
+discarding r fit sync s state known rest on resting = readied r (outside_of rest) (encloses r fit rest on) s state known resting
+discarding r fit _ s state known rest on resting = on s (phases.Discarding state) known resting
 
 handled : (r : Rules) → AreFit r → (asked : Request) (s : r.State) (phase : Phase) (known : Knowledge) (rest : Phase → Knowledge → Script) → GoesOn r rest →
     Stands r s known phase → Keeps r s (told.handled asked phase known rest)

@@ -38,32 +38,32 @@ use Rattle.link_laws.proofs.Rules.{Rules, Breaks, AreFit, Keeps, lost_keeps, ask
 
 -- what stands around a statement keeps to the rules
 pub record Surrounds (r : Rules) (around : Around) : Type 0 where
-  pub succeeded : (s : r.State) (b : Block) (k : Knowledge) → r.Calm s k → Keeps r s (around.succeeded b k)
-  pub failed : (s : r.State) (state : TransactionState) (k : Knowledge) → r.Calm s k → Keeps r s (around.failed state k)
-  pub broken : (s : r.State) (owed : Owed) (k : Knowledge) → r.Calm s k → Keeps r s (around.broken owed)
+  pub succeeded : (s : r.State) (b : Block) (k : Knowledge) → r.Resting s k → Keeps r s (around.succeeded b k)
+  pub failed : (s : r.State) (state : TransactionState) (k : Knowledge) → r.Resting s k → Keeps r s (around.failed state k)
+  pub broken : (s : r.State) (owed : Owed) (k : Knowledge) → r.Resting s k → Keeps r s (around.broken owed)
 
 -- a statement may fail in this block
 abbrev pub MayFail : (r : Rules) → r.State → Knowledge → Block → Type 0
-MayFail r s k (Implicit false) = r.Calm s k
+MayFail r s k (Implicit false) = r.Resting s k
 MayFail r s k (Implicit true) = Breaks r s k
 MayFail r s k Regular = Breaks r s k
-MayFail r s k Failed = r.Calm s k
+MayFail r s k Failed = r.Resting s k
 
-pub may_fail : (r : Rules) → AreFit r → (s : r.State) (k : Knowledge) (block : Block) → r.Calm s k → MayFail r s k block
-may_fail r fit s k (Implicit false) calm = calm
-may_fail r fit s k (Implicit true) calm = fit.rolls_back s k calm
-may_fail r fit s k Regular calm = fit.rolls_back s k calm
-may_fail r fit s k Failed calm = calm
+pub may_fail : (r : Rules) → AreFit r → (s : r.State) (k : Knowledge) (block : Block) → r.Resting s k → MayFail r s k block
+may_fail r fit s k (Implicit false) resting = resting
+may_fail r fit s k (Implicit true) resting = fit.rolls_back s k resting
+may_fail r fit s k Regular resting = fit.rolls_back s k resting
+may_fail r fit s k Failed resting = resting
 
-pub succeeds : (r : Rules) → (around : Around) → Surrounds r around → (s : r.State) (reply : List ℕ) (block : Block) (known : Knowledge) → r.Calm s known →
+pub succeeds : (r : Rules) → (around : Around) → Surrounds r around → (s : r.State) (reply : List ℕ) (block : Block) (known : Knowledge) → r.Resting s known →
     Keeps r s (told.succeeds reply block known around)
-succeeds r around h s reply block known calm =
-    tell_keeps r s reply (around.broken (owed_in block)) (around.succeeded block known) (h.broken s (owed_in block) known calm) (h.succeeded s block known calm)
+succeeds r around h s reply block known resting =
+    tell_keeps r s reply (around.broken (owed_in block)) (around.succeeded block known) (h.broken s (owed_in block) known resting) (h.succeeded s block known resting)
 
-refused_with : (r : Rules) → (around : Around) → Surrounds r around → (s : r.State) (code : SqlState) (state : TransactionState) (known : Knowledge) → r.Calm s known →
+refused_with : (r : Rules) → (around : Around) → Surrounds r around → (s : r.State) (code : SqlState) (state : TransactionState) (known : Knowledge) → r.Resting s known →
     Keeps r s (told.refused_with code state known around)
-refused_with r around h s code state known calm =
-    tell_keeps r s (error_reply code) (around.broken owes.Close) (around.failed state known) (h.broken s owes.Close known calm) (h.failed s state known calm)
+refused_with r around h s code state known resting =
+    tell_keeps r s (error_reply code) (around.broken owes.Close) (around.failed state known) (h.broken s owes.Close known resting) (h.failed s state known resting)
 
 pub fails : (r : Rules) → (around : Around) → Surrounds r around → (s : r.State) (code : SqlState) (block : Block) (known : Knowledge) → MayFail r s known block →
     Keeps r s (told.fails code block known around)
@@ -87,47 +87,47 @@ at_rest r around h s block known script may keeps =
 
 -- ---- BEGIN, COMMIT, ROLLBACK
 
-starts : (r : Rules) → AreFit r → (around : Around) → Surrounds r around → (s : r.State) (start : Bool) (block : Block) (known : Knowledge) → r.Calm s known →
+starts : (r : Rules) → AreFit r → (around : Around) → Surrounds r around → (s : r.State) (start : Bool) (block : Block) (known : Knowledge) → r.Resting s known →
     Keeps r s (told.starts start block known around)
-starts r fit around h s start (Implicit false) known calm =
-    let asks = fit.begins s known known.level calm in
+starts r fit around h s start (Implicit false) known resting =
+    let asks = fit.begins s known known.level resting in
     ask_keeps r s (calls.Begin known.level) _ asks.0
     (begun_keeps r s (calls.Begin known.level) _ _
     (λ a. succeeds r around h (r.next s (calls.Begin known.level) a) (start_reply start) Regular known (asks.1 a))
     (λ why. declined r around h (r.next s (calls.Begin known.level) (answers.Refused why)) (Implicit false) known why (asks.1 (answers.Refused why))))
-starts r fit around h s start (Implicit true) known calm = succeeds r around h s (start_reply start) Regular known calm
-starts r fit around h s start Regular known calm = succeeds r around h s (needless_start_reply start) Regular known calm
-starts r fit around h s start Failed known calm = fails r around h s states.S25P02 Failed known calm
+starts r fit around h s start (Implicit true) known resting = succeeds r around h s (start_reply start) Regular known resting
+starts r fit around h s start Regular known resting = succeeds r around h s (needless_start_reply start) Regular known resting
+starts r fit around h s start Failed known resting = fails r around h s states.S25P02 Failed known resting
 
-commits : (r : Rules) → AreFit r → (around : Around) → Surrounds r around → (s : r.State) (block : Block) (known : Knowledge) → r.Calm s known →
+commits : (r : Rules) → AreFit r → (around : Around) → Surrounds r around → (s : r.State) (block : Block) (known : Knowledge) → r.Resting s known →
     Keeps r s (told.commits block known around)
-commits r fit around h s (Implicit false) known calm = succeeds r around h s needless_commit_reply (Implicit false) known calm
-commits r fit around h s (Implicit true) known calm =
-    let asks = fit.commits s known calm in
+commits r fit around h s (Implicit false) known resting = succeeds r around h s needless_commit_reply (Implicit false) known resting
+commits r fit around h s (Implicit true) known resting =
+    let asks = fit.commits s known resting in
     ask_keeps r s calls.Commit _ asks.0 (λ a. succeeds r around h (r.next s calls.Commit a) needless_commit_reply (Implicit false) known (asks.1 a))
-commits r fit around h s Regular known calm =
-    let asks = fit.commits s known calm in
+commits r fit around h s Regular known resting =
+    let asks = fit.commits s known resting in
     ask_keeps r s calls.Commit _ asks.0 (λ a. succeeds r around h (r.next s calls.Commit a) commit_reply (Implicit false) known (asks.1 a))
-commits r fit around h s Failed known calm = succeeds r around h s rollback_reply (Implicit false) known calm
+commits r fit around h s Failed known resting = succeeds r around h s rollback_reply (Implicit false) known resting
 
-rolls_back : (r : Rules) → AreFit r → (around : Around) → Surrounds r around → (s : r.State) (block : Block) (known : Knowledge) → r.Calm s known →
+rolls_back : (r : Rules) → AreFit r → (around : Around) → Surrounds r around → (s : r.State) (block : Block) (known : Knowledge) → r.Resting s known →
     Keeps r s (told.rolls_back block known around)
-rolls_back r fit around h s (Implicit false) known calm = succeeds r around h s needless_rollback_reply (Implicit false) known calm
-rolls_back r fit around h s (Implicit true) known calm =
-    let asks = fit.rolls_back s known calm in
+rolls_back r fit around h s (Implicit false) known resting = succeeds r around h s needless_rollback_reply (Implicit false) known resting
+rolls_back r fit around h s (Implicit true) known resting =
+    let asks = fit.rolls_back s known resting in
     ask_keeps r s calls.Rollback _ asks.0 (λ a. succeeds r around h (r.next s calls.Rollback a) needless_rollback_reply (Implicit false) known (asks.1 a))
-rolls_back r fit around h s Regular known calm =
-    let asks = fit.rolls_back s known calm in
+rolls_back r fit around h s Regular known resting =
+    let asks = fit.rolls_back s known resting in
     ask_keeps r s calls.Rollback _ asks.0 (λ a. succeeds r around h (r.next s calls.Rollback a) rollback_reply (Implicit false) known (asks.1 a))
-rolls_back r fit around h s Failed known calm = succeeds r around h s rollback_reply (Implicit false) known calm
+rolls_back r fit around h s Failed known resting = succeeds r around h s rollback_reply (Implicit false) known resting
 
 -- ---- CREATE TABLE
 
-defines : (r : Rules) → AreFit r → (around : Around) → Surrounds r around → (s : r.State) (table : Result Table) (block : Block) (known : Knowledge) → r.Calm s known →
+defines : (r : Rules) → AreFit r → (around : Around) → Surrounds r around → (s : r.State) (table : Result Table) (block : Block) (known : Knowledge) → r.Resting s known →
     Keeps r s (told.defines table block known around)
-defines r fit around h s (Err code) block known calm = fails r around h s code block known (may_fail r fit s known block calm)
-defines r fit around h s (Ok table) block known calm =
-    let asks = fit.defines s known table calm in
+defines r fit around h s (Err code) block known resting = fails r around h s code block known (may_fail r fit s known block resting)
+defines r fit around h s (Ok table) block known resting =
+    let asks = fit.defines s known table resting in
     ask_keeps r s (calls.Define table) _ asks.0
     (defined_keeps r s (calls.Define table) _ _ _
     (λ a. succeeds r around h (r.next s (calls.Define table) a) created_reply block known (asks.1 a))
@@ -138,9 +138,9 @@ defines r fit around h s (Ok table) block known calm =
 -- ---- SELECT, INSERT, UPDATE, DELETE
 
 concludes : (r : Rules) → AreFit r → (around : Around) → Surrounds r around → (s : r.State) (description : RowDescription) (outcome : Outcome) (block : Block) (known : Knowledge) →
-    r.Calm s known → Keeps r s (told.concludes description outcome block known around)
-concludes r fit around h s description (outcomes.Failed code) block known calm = fails r around h s code block known (may_fail r fit s known block calm)
-concludes r fit around h s description outcome block known calm = succeeds r around h s (outcome_reply description outcome) block known calm
+    r.Resting s known → Keeps r s (told.concludes description outcome block known around)
+concludes r fit around h s description (outcomes.Failed code) block known resting = fails r around h s code block known (may_fail r fit s known block resting)
+concludes r fit around h s description outcome block known resting = succeeds r around h s (outcome_reply description outcome) block known resting
 
 -- a transaction is pending in the block
 abbrev Pends : Block → Type 0
@@ -193,9 +193,9 @@ runs r fit around h description (done outcome) s block known pends running =
     concludes r fit around h s description outcome block known (fit.finishes s known outcome running)
 
 begins : (r : Rules) → AreFit r → (around : Around) → Surrounds r around → (description : RowDescription) (statement : Statement) (t : Typed) (s : r.State) (block : Block) (known : Knowledge) →
-    r.Calm s known → typed known.tables statement ≡ Ok t → Keeps r s (told.begins description (course_of known.tables t) block known around)
-begins r fit around h description statement t s (Implicit false) known calm is =
-    let asks = fit.begins s known known.level calm in
+    r.Resting s known → typed known.tables statement ≡ Ok t → Keeps r s (told.begins description (course_of known.tables t) block known around)
+begins r fit around h description statement t s (Implicit false) known resting is =
+    let asks = fit.begins s known known.level resting in
     ask_keeps r s (calls.Begin known.level) _ asks.0
     (begun_keeps r s (calls.Begin known.level) _ _
     (λ a.
@@ -204,59 +204,59 @@ begins r fit around h description statement t s (Implicit false) known calm is =
     (runs r fit around h description (course_of known.tables t) (r.next s (calls.Begin known.level) a) (Implicit true) known tt
     (fit.runs (r.next s (calls.Begin known.level) a) known statement t (asks.1 a) is)))
     (λ why. declined r around h (r.next s (calls.Begin known.level) (answers.Refused why)) (Implicit false) known why (asks.1 (answers.Refused why))))
-begins r fit around h description statement t s (Implicit true) known calm is =
-    runs r fit around h description (course_of known.tables t) s (Implicit true) known tt (fit.runs s known statement t calm is)
-begins r fit around h description statement t s Regular known calm is =
-    runs r fit around h description (course_of known.tables t) s Regular known tt (fit.runs s known statement t calm is)
-begins r fit around h description statement t s Failed known calm is = fails r around h s states.S25P02 Failed known calm
+begins r fit around h description statement t s (Implicit true) known resting is =
+    runs r fit around h description (course_of known.tables t) s (Implicit true) known tt (fit.runs s known statement t resting is)
+begins r fit around h description statement t s Regular known resting is =
+    runs r fit around h description (course_of known.tables t) s Regular known tt (fit.runs s known statement t resting is)
+begins r fit around h description statement t s Failed known resting is = fails r around h s states.S25P02 Failed known resting
 
 judged : (r : Rules) → AreFit r → (around : Around) → Surrounds r around → (description : RowDescription) (statement : Statement) (t : Result Typed) (s : r.State) (block : Block) (known : Knowledge) →
-    r.Calm s known → typed known.tables statement ≡ t → Keeps r s (told.judged description t block known around)
-judged r fit around h description statement (Ok t) s block known calm is = begins r fit around h description statement t s block known calm is
-judged r fit around h description statement (Err code) s block known calm is = fails r around h s code block known (may_fail r fit s known block calm)
+    r.Resting s known → typed known.tables statement ≡ t → Keeps r s (told.judged description t block known around)
+judged r fit around h description statement (Ok t) s block known resting is = begins r fit around h description statement t s block known resting is
+judged r fit around h description statement (Err code) s block known resting is = fails r around h s code block known (may_fail r fit s known block resting)
 
 typed_over : (r : Rules) → AreFit r → (around : Around) → Surrounds r around → (description : RowDescription) (statement : Statement) (s : r.State) (block : Block) (known : Knowledge) (tables : List Table) →
-    r.Calm s known → r.Calm s (with_tables known tables) → Keeps r s (told.typed_over description statement block known tables around)
-typed_over r fit around h description statement s block known tables calm shown =
+    r.Resting s known → r.Resting s (with_tables known tables) → Keeps r s (told.typed_over description statement block known tables around)
+typed_over r fit around h description statement s block known tables resting shown =
     at_rest r around h s block known (told.judged description (typed (known.tables ++ tables) statement) block (with_tables known tables) around)
-    (may_fail r fit s known block calm)
+    (may_fail r fit s known block resting)
     (judged r fit around h description statement (typed (known.tables ++ tables) statement) s block (with_tables known tables) shown refl)
 
 looks : (r : Rules) → AreFit r → (around : Around) → Surrounds r around → (description : RowDescription) (statement : Statement) (s : r.State) (block : Block) (known : Knowledge) →
-    r.Calm s known → Keeps r s (told.looks description statement block known around)
-looks r fit around h description statement s block known calm =
-    let asks = fit.looks s known calm in
+    r.Resting s known → Keeps r s (told.looks description statement block known around)
+looks r fit around h description statement s block known resting =
+    let asks = fit.looks s known resting in
     ask_keeps r s (calls.Look (length known.tables)) _ asks.0
     (looked_keeps r s (calls.Look (length known.tables)) _ _
     (λ tables. typed_over r fit around h description statement (r.next s (calls.Look (length known.tables)) (answers.Looked tables)) block known tables
-    (asks.1 (answers.Looked tables)) (fit.looked s known tables calm))
+    (asks.1 (answers.Looked tables)) (fit.looked s known tables resting))
     (λ why. declined r around h (r.next s (calls.Look (length known.tables)) (answers.Refused why)) block known why
     (may_fail r fit (r.next s (calls.Look (length known.tables)) (answers.Refused why)) known block (asks.1 (answers.Refused why)))))
 
 prepares : (r : Rules) → AreFit r → (around : Around) → Surrounds r around → (description : RowDescription) (statement : Statement) (s : r.State) (block : Block) (known : Knowledge) →
-    r.Calm s known → Keeps r s (told.prepares description statement block known around)
-prepares r fit around h description statement s block known calm =
-    at_rest r around h s block known (told.looks description statement block known around) (may_fail r fit s known block calm)
-    (looks r fit around h description statement s block known calm)
+    r.Resting s known → Keeps r s (told.prepares description statement block known around)
+prepares r fit around h description statement s block known resting =
+    at_rest r around h s block known (told.looks description statement block known around) (may_fail r fit s known block resting)
+    (looks r fit around h description statement s block known resting)
 
 at_once : (r : Rules) → AreFit r → (around : Around) → Surrounds r around → (description : RowDescription) (c : Course) (s : r.State) (block : Block) (known : Knowledge) →
-    r.Calm s known → Keeps r s (told.at_once description c block known around)
-at_once r fit around h description (done outcome) s block known calm = concludes r fit around h s description outcome block known calm
-at_once r fit around h description (scan table rest) s block known calm = lost_keeps r s
-at_once r fit around h description (touch cell rest) s block known calm = lost_keeps r s
-at_once r fit around h description (write cell value rest) s block known calm = lost_keeps r s
+    r.Resting s known → Keeps r s (told.at_once description c block known around)
+at_once r fit around h description (done outcome) s block known resting = concludes r fit around h s description outcome block known resting
+at_once r fit around h description (scan table rest) s block known resting = lost_keeps r s
+at_once r fit around h description (touch cell rest) s block known resting = lost_keeps r s
+at_once r fit around h description (write cell value rest) s block known resting = lost_keeps r s
 
 judged_at_once : (r : Rules) → AreFit r → (around : Around) → Surrounds r around → (description : RowDescription) (t : Result Typed) (s : r.State) (block : Block) (known : Knowledge) →
-    r.Calm s known → Keeps r s (told.judged_at_once description t block known around)
-judged_at_once r fit around h description (Ok t) s block known calm = at_once r fit around h description (course_of [] t) s block known calm
-judged_at_once r fit around h description (Err code) s block known calm = fails r around h s code block known (may_fail r fit s known block calm)
+    r.Resting s known → Keeps r s (told.judged_at_once description t block known around)
+judged_at_once r fit around h description (Ok t) s block known resting = at_once r fit around h description (course_of [] t) s block known resting
+judged_at_once r fit around h description (Err code) s block known resting = fails r around h s code block known (may_fail r fit s known block resting)
 
 selects : (r : Rules) → AreFit r → (around : Around) → Surrounds r around → (description : RowDescription) (entries : List TableRef) (statement : Statement) (s : r.State) (block : Block) (known : Knowledge) →
-    r.Calm s known → Keeps r s (told.selects description entries statement block known around)
-selects r fit around h description [] statement s block known calm =
-    at_rest r around h s block known (told.judged_at_once description (typed [] statement) block known around) (may_fail r fit s known block calm)
-    (judged_at_once r fit around h description (typed [] statement) s block known calm)
-selects r fit around h description (entry ∷ more) statement s block known calm = prepares r fit around h description statement s block known calm
+    r.Resting s known → Keeps r s (told.selects description entries statement block known around)
+selects r fit around h description [] statement s block known resting =
+    at_rest r around h s block known (told.judged_at_once description (typed [] statement) block known around) (may_fail r fit s known block resting)
+    (judged_at_once r fit around h description (typed [] statement) s block known resting)
+selects r fit around h description (entry ∷ more) statement s block known resting = prepares r fit around h description statement s block known resting
 
 -- ---- SET, SHOW
 
@@ -264,29 +264,29 @@ either : (r : Rules) → (s : r.State) (b : Bool) (one other : Script) → Keeps
 either r s true one other first second = first
 either r s false one other first second = second
 
-sets_level : (r : Rules) → AreFit r → (around : Around) → Surrounds r around → (level : Option Level) (s : r.State) (block : Block) (known : Knowledge) → r.Calm s known →
+sets_level : (r : Rules) → AreFit r → (around : Around) → Surrounds r around → (level : Option Level) (s : r.State) (block : Block) (known : Knowledge) → r.Resting s known →
     Keeps r s (told.sets_level level block known around)
-sets_level r fit around h (Some level) s block known calm = succeeds r around h s set_reply block (with_level known level) (fit.levels s known level calm)
-sets_level r fit around h None s block known calm = fails r around h s states.S0A000 block known (may_fail r fit s known block calm)
+sets_level r fit around h (Some level) s block known resting = succeeds r around h s set_reply block (with_level known level) (fit.levels s known level resting)
+sets_level r fit around h None s block known resting = fails r around h s states.S0A000 block known (may_fail r fit s known block resting)
 
 sets : (r : Rules) → AreFit r → (around : Around) → Surrounds r around → (name : List ℕ) (values : List (List ℕ)) (s : r.State) (block : Block) (known : Knowledge) →
-    r.Calm s known → Keeps r s (told.sets name values block known around)
-sets r fit around h name values s block known calm =
-    either r s (bytes_eq name level_name) _ _ (sets_level r fit around h (chosen_level known.served values) s block known calm)
-    (either r s (is_own name) _ _ (fails r around h s states.S0A000 block known (may_fail r fit s known block calm))
-    (succeeds r around h s set_reply block known calm))
+    r.Resting s known → Keeps r s (told.sets name values block known around)
+sets r fit around h name values s block known resting =
+    either r s (bytes_eq name level_name) _ _ (sets_level r fit around h (chosen_level known.served values) s block known resting)
+    (either r s (is_own name) _ _ (fails r around h s states.S0A000 block known (may_fail r fit s known block resting))
+    (succeeds r around h s set_reply block known resting))
 
 shows_value : (r : Rules) → AreFit r → (around : Around) → Surrounds r around → (description : RowDescription) (name : List ℕ) (value : Option (List ℕ)) (s : r.State) (block : Block) (known : Knowledge) →
-    r.Calm s known → Keeps r s (told.shows_value description name value block known around)
-shows_value r fit around h description name None s block known calm = fails r around h s states.S0A000 block known (may_fail r fit s known block calm)
-shows_value r fit around h description name (Some value) s block known calm =
-    at_rest r around h s block known (told.succeeds (show_reply description name value) block known around) (may_fail r fit s known block calm)
-    (succeeds r around h s (show_reply description name value) block known calm)
+    r.Resting s known → Keeps r s (told.shows_value description name value block known around)
+shows_value r fit around h description name None s block known resting = fails r around h s states.S0A000 block known (may_fail r fit s known block resting)
+shows_value r fit around h description name (Some value) s block known resting =
+    at_rest r around h s block known (told.succeeds (show_reply description name value) block known around) (may_fail r fit s known block resting)
+    (succeeds r around h s (show_reply description name value) block known resting)
 
 shows_history : (r : Rules) → AreFit r → (around : Around) → Surrounds r around → (description : RowDescription) (s : r.State) (block : Block) (known : Knowledge) →
-    r.Calm s known → Keeps r s (told.shows_history description block known around)
-shows_history r fit around h description s block known calm =
-    let asks = fit.shows s known calm in
+    r.Resting s known → Keeps r s (told.shows_history description block known around)
+shows_history r fit around h description s block known resting =
+    let asks = fit.shows s known resting in
     ask_keeps r s calls.Show _ asks.0
     (shown_keeps r s calls.Show _ _
     (λ n. at_rest r around h (r.next s calls.Show (answers.Shown n)) block known
@@ -297,37 +297,37 @@ shows_history r fit around h description s block known calm =
     (may_fail r fit (r.next s calls.Show (answers.Refused why)) known block (asks.1 (answers.Refused why)))))
 
 shows : (r : Rules) → AreFit r → (around : Around) → Surrounds r around → (description : RowDescription) (name : List ℕ) (s : r.State) (block : Block) (known : Knowledge) →
-    r.Calm s known → Keeps r s (told.shows description name block known around)
-shows r fit around h description name s block known calm =
-    either r s (bytes_eq name history_name) _ _ (shows_history r fit around h description s block known calm)
-    (shows_value r fit around h description name (value_of known.level name) s block known calm)
+    r.Resting s known → Keeps r s (told.shows description name block known around)
+shows r fit around h description name s block known resting =
+    either r s (bytes_eq name history_name) _ _ (shows_history r fit around h description s block known resting)
+    (shows_value r fit around h description name (value_of known.level name) s block known resting)
 
 -- ---- all of them
 
 performs : (r : Rules) → AreFit r → (around : Around) → Surrounds r around → (description : RowDescription) (statement : Statement) (s : r.State) (block : Block) (known : Knowledge) →
-    r.Calm s known → Keeps r s (told.performs description statement block known around)
-performs r fit around h description (tree.Select select) s block known calm = selects r fit around h description select.from (tree.Select select) s block known calm
-performs r fit around h description (tree.Insert insert) s block known calm = prepares r fit around h description (tree.Insert insert) s block known calm
-performs r fit around h description (tree.Update update) s block known calm = prepares r fit around h description (tree.Update update) s block known calm
-performs r fit around h description (tree.Delete delete) s block known calm = prepares r fit around h description (tree.Delete delete) s block known calm
-performs r fit around h description (tree.Create create) s block known calm =
-    at_rest r around h s block known (told.defines (built create) block known around) (may_fail r fit s known block calm)
-    (defines r fit around h s (built create) block known calm)
-performs r fit around h description (tree.Begin start) s block known calm = starts r fit around h s start block known calm
-performs r fit around h description tree.Commit s block known calm = commits r fit around h s block known calm
-performs r fit around h description tree.Rollback s block known calm = rolls_back r fit around h s block known calm
-performs r fit around h description (tree.Set name values) s block known calm = sets r fit around h name values s block known calm
-performs r fit around h description tree.SetModes s block known calm = succeeds r around h s set_reply block known calm
-performs r fit around h description (tree.Show name) s block known calm = shows r fit around h description name s block known calm
+    r.Resting s known → Keeps r s (told.performs description statement block known around)
+performs r fit around h description (tree.Select select) s block known resting = selects r fit around h description select.from (tree.Select select) s block known resting
+performs r fit around h description (tree.Insert insert) s block known resting = prepares r fit around h description (tree.Insert insert) s block known resting
+performs r fit around h description (tree.Update update) s block known resting = prepares r fit around h description (tree.Update update) s block known resting
+performs r fit around h description (tree.Delete delete) s block known resting = prepares r fit around h description (tree.Delete delete) s block known resting
+performs r fit around h description (tree.Create create) s block known resting =
+    at_rest r around h s block known (told.defines (built create) block known around) (may_fail r fit s known block resting)
+    (defines r fit around h s (built create) block known resting)
+performs r fit around h description (tree.Begin start) s block known resting = starts r fit around h s start block known resting
+performs r fit around h description tree.Commit s block known resting = commits r fit around h s block known resting
+performs r fit around h description tree.Rollback s block known resting = rolls_back r fit around h s block known resting
+performs r fit around h description (tree.Set name values) s block known resting = sets r fit around h name values s block known resting
+performs r fit around h description tree.SetModes s block known resting = succeeds r around h s set_reply block known resting
+performs r fit around h description (tree.Show name) s block known resting = shows r fit around h description name s block known resting
 
-in_failed : (r : Rules) → AreFit r → (around : Around) → Surrounds r around → (statement : Statement) (s : r.State) (known : Knowledge) → r.Calm s known →
+in_failed : (r : Rules) → AreFit r → (around : Around) → Surrounds r around → (statement : Statement) (s : r.State) (known : Knowledge) → r.Resting s known →
     Keeps r s (told.in_failed statement known around)
-in_failed r fit around h tree.Commit s known calm = commits r fit around h s Failed known calm
-in_failed r fit around h tree.Rollback s known calm = rolls_back r fit around h s Failed known calm
-in_failed r fit around h _ s known calm = fails r around h s states.S25P02 Failed known calm
+in_failed r fit around h tree.Commit s known resting = commits r fit around h s Failed known resting
+in_failed r fit around h tree.Rollback s known resting = rolls_back r fit around h s Failed known resting
+in_failed r fit around h _ s known resting = fails r around h s states.S25P02 Failed known resting
 
 pub told_of : (r : Rules) → AreFit r → (around : Around) → Surrounds r around → (description : RowDescription) (statement : Statement) (s : r.State) (block : Block) (known : Knowledge) →
-    r.Calm s known → Keeps r s (told.told_of description statement block known around)
-told_of r fit around h description statement s (Implicit pending) known calm = performs r fit around h description statement s (Implicit pending) known calm
-told_of r fit around h description statement s Regular known calm = performs r fit around h description statement s Regular known calm
-told_of r fit around h description statement s Failed known calm = in_failed r fit around h statement s known calm
+    r.Resting s known → Keeps r s (told.told_of description statement block known around)
+told_of r fit around h description statement s (Implicit pending) known resting = performs r fit around h description statement s (Implicit pending) known resting
+told_of r fit around h description statement s Regular known resting = performs r fit around h description statement s Regular known resting
+told_of r fit around h description statement s Failed known resting = in_failed r fit around h statement s known resting

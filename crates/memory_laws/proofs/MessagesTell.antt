@@ -1,4 +1,4 @@
--- What a message's script tells behind the answers whose effect has to be told, where what stands outside does so.
+-- What a message's script tells after the answers whose effect has to be told, where what stands outside does so.
 use Rattle.std.proofs.Common.{inr, refl, true, false, List, [], ◌∷◌}
 use Rattle.pg_framing.specs.declared.replies.TransactionState.{TransactionState}
 use Rattle.pg_framing.specs.declared.replies.TransactionState.TheVariants as ready

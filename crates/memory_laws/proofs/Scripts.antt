@@ -1,4 +1,4 @@
--- What a script tells behind the answers whose effect has to be told, whatever was said and whatever becomes of it.
+-- What a script tells after the answers whose effect has to be told, whatever was said and whatever becomes of it.
 use Rattle.std.proofs.Common.{◌≡◌, ◌≢◌, ◌≤◌, ◌==◌, Bool, true, false, cond, ℕ, List, [], ◌∷◌, ◌++◌, length, refl, sym, ap, subst, ◌∙◌, arith, append_assoc, length-append}
 use Rattle.std.proofs.lemmas.Bool.{eqb-true}
 use Rattle.std.proofs.lemmas.List.{append-nil}
@@ -18,12 +18,12 @@ use Rattle.memory_laws.specs.Telling.{HasToBeTold, Tells, IsToldWithin}
 
 -- ---- what is claimed
 
--- the bytes that were told before stay, and others come behind them
+-- the bytes that were told before stay, and others come after them
 pub record Adds (before after : List ℕ) : Type 0 where
   pub added : List ℕ
   pub whole : after ≡ before ++ added
 
--- what the record has behind an answer that has to be told: a lack of memory somewhere, or its end, where the next call may be refused
+-- what the record has after an answer that has to be told: a lack of memory somewhere, or its end, where the next call may be refused
 pub data Later : Type 0 where
   lack : List Entry → Bool → ℕ → List Entry → Later
   ends_with : List Entry → Later
@@ -63,8 +63,8 @@ pub record Over (script : Script) : Type 0 where
 pub adds_none : (bytes : List ℕ) → Adds bytes bytes
 adds_none bytes = record { added = []; whole = sym (append-nil bytes) }
 
-adds_behind : (first added after : List ℕ) → Adds (first ++ added) after → Adds first after
-adds_behind first between after adds = record { added = between ++ adds.added; whole = adds.whole ∙ append_assoc first between adds.added }
+adds_after : (first added after : List ℕ) → Adds (first ++ added) after → Adds first after
+adds_after first between after adds = record { added = between ++ adds.added; whole = adds.whole ∙ append_assoc first between adds.added }
 
 adds_either : (before : List ℕ) (one other : Said × Next) → Adds before one.0.bytes → Adds before other.0.bytes → (b : Bool) → Adds before (cond b one other).0.bytes
 adds_either before one other first second true = first
@@ -190,7 +190,7 @@ unsent_tells k fault rest bad good said (stop cause ∷ before) asked c a e late
 
 pub tell_fits : (bytes : List ℕ) (fault rest : Script) → Fit fault → Fit rest → Fit (tell bytes fault rest)
 tell_fits bytes fault rest bad good = record {
-  adds = λ said entries. adds_behind said.bytes bytes _ (unsent_adds (length said.bytes) fault rest bad good (with_bytes said bytes) entries);
+  adds = λ said entries. adds_after said.bytes bytes _ (unsent_adds (length said.bytes) fault rest bad good (with_bytes said bytes) entries);
   late = λ said before final n after not.
       omega (
         arith,
@@ -277,7 +277,7 @@ told_within : (c : Call) (before reply after : List ℕ) (n : ℕ) → Tells c r
     IsToldWithin c before n after
 told_within c before reply after n tells adds within = record {
   reply = reply;
-  behind = adds.added;
+  following = adds.added;
   tells = tells;
   whole_is = adds.whole ∙ append_assoc before reply adds.added;
   within = within;

@@ -1,4 +1,4 @@
--- What a session tells behind the answers whose effect has to be told.
+-- What a session tells after the answers whose effect has to be told.
 use Rattle.std.proofs.Common.{◌≡◌, ◌≢◌, ◌≤◌, ◌==◌, Bool, true, false, cond, ℕ, List, [], ◌∷◌, ◌++◌, length, refl, subst, arith}
 use Rattle.cell_base.specs.declared.sql_state.SqlState.{SqlState}
 use Rattle.cell_base.specs.declared.sql_state.SqlState.TheVariants as states
@@ -119,7 +119,7 @@ closed_fits ends.Memory = done_fits ends.Memory
 closing_fits : (end : End) → Fit (told.closing end)
 closing_fits end = quiet_fits calls.Close (λ _. told.closed end) (λ a has. has) (λ a. closed_fits end)
 
--- behind the rollback that is owed the session is closed, which can't be refused
+-- after the rollback that is owed the session is closed, which can't be refused
 ending_fits : (owed : Owed) (end : End) → Fit (told.ending owed end)
 ending_fits owes.Nothing end = closed_fits end
 ending_fits owes.Close end = closing_fits end

@@ -1,4 +1,4 @@
--- What a statement's script tells behind the answers whose effect has to be told, where what stands around it does so.
+-- What a statement's script tells after the answers whose effect has to be told, where what stands around it does so.
 use Rattle.std.proofs.Common.{inl, inr, refl, Bool, true, false, cond, ℕ, List, [], ◌∷◌, ◌++◌, length, Option, Some, None, Ok, Err}
 use Rattle.std.specs.Fmt.{decimal}
 use Rattle.std.specs.Str.{bytes_eq}

@@ -1,4 +1,4 @@
--- What stands between a call whose effect lasts and a lack of memory behind it: the reply that tells it.
+-- What stands between a call whose effect lasts and a lack of memory after it: the reply that tells it.
 use Rattle.std.specs.Prelude.{◌≡◌, ◌≢◌, ◌⊎◌, ◌≤◌, ℕ, List, ◌∷◌, ◌++◌, length, Bool}
 use Rattle.cell_base.specs.declared.level.Level.{Level}
 use Rattle.cell_base.specs.declared.sql_state.SqlState.{SqlState}
@@ -30,15 +30,15 @@ Tells calls.Commit reply = (reply ≡ commit_reply) ⊎ (reply ≡ needless_comm
 Tells calls.Rollback reply = (reply ≡ rollback_reply) ⊎ (reply ≡ needless_rollback_reply) ⊎ ((code : SqlState) × (reply ≡ error_reply code))
 Tells _ reply = ⊥
 
--- Behind what had been told when the call was asked, its reply is told next; and all of it stands within the first bytes, so many.
+-- Following what had been told when the call was asked, its reply is told next; and all of it stands within the first bytes, so many.
 pub record IsToldWithin (c : Call) (before : List ℕ) (n : ℕ) (whole : List ℕ) : Type 0 where
   pub reply : List ℕ
-  pub behind : List ℕ
+  pub following : List ℕ
   pub tells : Tells c reply
-  pub whole_is : whole ≡ before ++ (reply ++ behind)
+  pub whole_is : whole ≡ before ++ (reply ++ following)
   pub within : length (before ++ reply) ≤ n
 
--- Where a session's record has a lack of memory of the session's own anywhere behind the answer of such a call, the reply had been told by
+-- Where a session's record has a lack of memory of the session's own anywhere after the answer of such a call, the reply had been told by
 -- then: it stands within the bytes that the lack says were told.
 abbrev pub RepliesComeBeforeLacks : Type 0
 RepliesComeBeforeLacks =
@@ -48,7 +48,7 @@ RepliesComeBeforeLacks =
     → told level requests (before ++ did answer event ∷ (between ++ short final n ∷ after)) ≡ (said, next) → next ≢ astray
     → IsToldWithin c asked.bytes n said.bytes
 
--- Where a call that may be refused is asked anywhere behind such an answer, the reply had been told before. So no lack of memory of the book
+-- Where a call that may be refused is asked anywhere after such an answer, the reply had been told before. So no lack of memory of the book
 -- stands between them.
 abbrev pub RepliesComeBeforeRefusals : Type 0
 RepliesComeBeforeRefusals =

@@ -41,10 +41,10 @@ Reached _ n = Unit {0}
 
 -- What was taken stands at the front of the input. Where the session ended for want of more, it is all of it, or as much as may be read.
 record Takes (input taken : List ℕ) (end : End) : Type 0 where
-  pub behind : List ℕ
-  pub split : input ≡ taken ++ behind
+  pub following : List ℕ
+  pub split : input ≡ taken ++ following
   pub within : length taken ≤ most_read
-  pub whole : WantsMore end → (behind ≡ []) ⊎ (length taken ≡ most_read)
+  pub whole : WantsMore end → (following ≡ []) ⊎ (length taken ≡ most_read)
 
 pub carried : (level : Level) (account : Account) (old new : Option Traffic) (t : Traffic) → Both (Carries level account) old new →
     old ≡ Some t → (u : Traffic) × (new ≡ Some u) × Carries level account t u
@@ -73,7 +73,7 @@ takes : (level : Level) (words : List ℕ) (f g : Sight) (outcome : Outcome) (a 
 takes level words f g outcome a t is reads =
     let to = carried level a.account f.traffic g.traffic t a.serves.carries is in
     record {
-      behind = to.0.left;
+      following = to.0.left;
       split = to.2.left;
       within = a.serves.within;
       whole = λ wants. at_end outcome.end f g a.account.taken to.0 a.serves.blames to.1 reads wants;
@@ -114,12 +114,12 @@ none_long [] none = refl
 none_long (x ∷ xs) none = absurd (omega (arith, none))
 
 -- of a session that ended for want of more no other took more
-took_all : (input taken other behind : List ℕ) (end : End) (a : Takes input taken end) (longer : Longer taken other a.behind behind) →
+took_all : (input taken other following : List ℕ) (end : End) (a : Takes input taken end) (longer : Longer taken other a.following following) →
     length other ≤ most_read → (longer.more ≡ []) ⊎ (¬ (WantsMore end))
-took_all input taken other behind end a longer within =
+took_all input taken other following end a longer within =
     elim (wants_or_not end) [
       | inl wants ↦ elim (a.whole wants) [
-        | inl none ↦ inl (no_front longer.more behind (sym longer.between ∙ none))
+        | inl none ↦ inl (no_front longer.more following (sym longer.between ∙ none))
         | inr full ↦ inl (none_long longer.more
             (let sum : length other ≡ length taken + length longer.more = ap length longer.longer ∙ length-append taken longer.more in omega (arith, sum, full, within)))
       ]
@@ -189,12 +189,12 @@ pub piped : PipeHasOneHistory
 piped level words f g h k t u one other a b rest rests at also input written sent reads reads_too =
     let first : Takes t.left a.account.taken one.end = takes level words f g one a t at reads in
     let second : Takes u.left b.account.taken other.end = takes level words h k other b u also reads_too in
-    elim (fronts a.account.taken b.account.taken first.behind second.behind (sym first.split ∙ input ∙ second.split)) [
+    elim (fronts a.account.taken b.account.taken first.following second.following (sym first.split ∙ input ∙ second.split)) [
       | inl on ↦
           run_longer level words f g h k one other a b on.more rest rests written sent reads reads_too on.longer
-          (took_all t.left a.account.taken b.account.taken second.behind one.end first on second.within)
+          (took_all t.left a.account.taken b.account.taken second.following one.end first on second.within)
       | inr on ↦
           let back = run_longer level words h k f g other one b a on.more rests rest sent written reads_too reads on.longer
-          (took_all u.left b.account.taken a.account.taken first.behind other.end second on first.within) in
+          (took_all u.left b.account.taken a.account.taken first.following other.end second on first.within) in
           (sym back.0, sym back.1, sym back.2, sym back.3)
     ]

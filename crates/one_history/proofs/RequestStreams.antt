@@ -8,7 +8,7 @@ use Rattle.client_framing.specs.declared.frontend_message.FrameFault.{FrameFault
 use Rattle.client_framing.specs.declared.frontend_message.FrontendMessage.TheVariants.{Ssl, Gss, Cancel, Startup, Version, Query, Terminate, Sync, Flush, Extended, FunctionCall, Copy}
 use Rattle.client_framing.specs.Spelling.{phase_after}
 use Rattle.client_framing.specs.Fronts.{TakesFront}
-use Rattle.client_framing.proofs.Streams.{front_unique, behind_unique, front_no_fault, fault_unique, fault_stays}
+use Rattle.client_framing.proofs.Streams.{front_unique, after_unique, front_no_fault, fault_unique, fault_stays}
 use Rattle.pg_framing.specs.declared.replies.TransactionState.{TransactionState}
 use Rattle.pg_framing.specs.declared.replies.TransactionState.TheVariants as block_states
 use Rattle.history_core.specs.Book.{Past}
@@ -419,12 +419,12 @@ partial_agrees (z ∷ zs) phase known started bytes rest other a b = record {
 }
 
 -- a message stands at the front, whatever follows
-takes_further : (started : Bool) (bytes extra : List ℕ) (front : FrontendMessage) (behind : List ℕ) → TakesFront started bytes front behind →
-    TakesFront started (bytes ++ extra) front (behind ++ extra)
-takes_further started bytes extra front behind takes = record {
+takes_further : (started : Bool) (bytes extra : List ℕ) (front : FrontendMessage) (following : List ℕ) → TakesFront started bytes front following →
+    TakesFront started (bytes ++ extra) front (following ++ extra)
+takes_further started bytes extra front following takes = record {
   taken = takes.taken;
   spelled = takes.spelled;
-  whole = ap (λ (bs : List ℕ). bs ++ extra) takes.whole ∙ append_assoc takes.taken behind extra;
+  whole = ap (λ (bs : List ℕ). bs ++ extra) takes.whole ∙ append_assoc takes.taken following extra;
 }
 
 -- two request_streams, of the same bytes and of more
@@ -442,12 +442,12 @@ sessions_agree extra phase known started bytes (asks x one) unread a b =
 sessions_agree extra phase known started bytes (asks x one) (asks y other) a b =
     let further = takes_further started bytes extra a.0 a.1 a.2 in
     let front : a.0 ≡ b.0 = front_unique started a.0 b.0 (bytes ++ extra) (a.1 ++ extra) b.1 further b.2 in
-    let behind : a.1 ++ extra ≡ b.1 = behind_unique started a.0 b.0 (bytes ++ extra) (a.1 ++ extra) b.1 further b.2 in
+    let following : a.1 ++ extra ≡ b.1 = after_unique started a.0 b.0 (bytes ++ extra) (a.1 ++ extra) b.1 further b.2 in
     let says : Says a.0 y = subst (λ (f : FrontendMessage). Says f y) (sym front) b.3 in
     let after : AreRequests (phase_after started a.0) b.1 other =
     subst (λ (f : FrontendMessage). AreRequests (phase_after started f) b.1 other) (sym front) b.4 in
     let rest : AreRequests (phase_after started a.0) (a.1 ++ extra) other =
-    subst (λ (bs : List ℕ). AreRequests (phase_after started a.0) bs other) (sym behind) after in
+    subst (λ (bs : List ℕ). AreRequests (phase_after started a.0) bs other) (sym following) after in
     at_rest_memory (IsSpared extra) phase (told.handled x phase known (λ p k. told.session p k one))
     (told.handled y phase known (λ p k. told.session p k other))
     (asked_alike (IsSpared extra) a.0 x y phase known (λ p k. told.session p k one) (λ p k. told.session p k other)

@@ -92,11 +92,11 @@ tables_near a b m n q r c near same (inl one) (inl two) =
     ap (λ (k : ℕ). take k q.seen.tables) one ∙ near.tables ∙ sym (ap (λ (k : ℕ). take k r.seen.tables) one)
 tables_near a b m n q r c near same (inl one) (inr two) =
     let before : defined a.seen.events ≡ defined b.seen.events = ap defined near.events in
-    let behind : defined m.seen.events ≡ defined n.seen.events = ap defined same in
+    let following : defined m.seen.events ≡ defined n.seen.events = ap defined same in
     let h = two.count in absurd (omega (arith, one))
 tables_near a b m n q r c near same (inr one) (inl two) =
     let before : defined a.seen.events ≡ defined b.seen.events = ap defined near.events in
-    let behind : defined m.seen.events ≡ defined n.seen.events = ap defined same in
+    let following : defined m.seen.events ≡ defined n.seen.events = ap defined same in
     let h = one.count in absurd (omega (arith, two))
 tables_near a b m n q r c near same (inr one) (inr two) =
     let before : defined a.seen.events ≡ defined b.seen.events = ap defined near.events in
@@ -180,9 +180,9 @@ refused_words a b v u w _ x y same one two = one ∙ sym two
 both_stopped : (a b m n q r : Past) (v u w : List ℕ) (c : Call) (x y : Answer) → IsNear a b q r → length a.seen.events ≡ length a.own →
     length b.seen.events ≡ length b.own → length m.seen.events ≡ length m.own → length n.seen.events ≡ length n.own →
     Stopped a v c x m u → Stopped b v c y n w → Steps x y u w m n q r
-both_stopped a b m n q r v u w c x y near alone lone after behind one two =
+both_stopped a b m n q r v u w c x y near alone lone after following one two =
     let left : m.seen.events ≡ a.seen.events = goes_alone a m alone after one.declines.1 in
-    let right : n.seen.events ≡ a.seen.events = goes_alone b n lone behind two.declines.1 ∙ sym near.events in
+    let right : n.seen.events ≡ a.seen.events = goes_alone b n lone following two.declines.1 ∙ sym near.events in
     let begun : m.seen.initial ≡ n.seen.initial = one.declines.1.initial ∙ near.initial ∙ sym two.declines.1.initial in
     let limits : one.limit ≡ two.limit = one_refusal m n c one.limit two.limit begun (left ∙ sym right) one.declines.2 two.declines.2 in
     record {
@@ -201,23 +201,23 @@ both_stopped a b m n q r v u w c x y near alone lone after behind one two =
 never_apart : (a b m n q r : Past) (v u w : List ℕ) (c : Call) (x y : Answer) → a.seen.initial ≡ b.seen.initial → a.seen.events ≡ b.seen.events → length a.seen.events ≡ length a.own →
     length b.seen.events ≡ length b.own → length n.seen.events ≡ length n.own → IsLast q → Leads m q →
     Answered a v c x m u → Stopped b v c y n w → ⊥
-never_apart a b m n q r v u w c x y begun same alone lone behind last to one two =
+never_apart a b m n q r v u w c x y begun same alone lone following last to one two =
     let left : Way a m q one.event = way_of a m q v c x u alone last to one in
     not_refused a.seen.initial a.seen.events a.state (take (defined a.seen.events) q.seen.tables) v u c x one.event
     (known a m q v u c x one.event left one.happens one.draws) left.made.may.fits b n two.limit (two.declines.1.initial ∙ sym begun)
-    (goes_alone b n lone behind two.declines.1 ∙ sym same) two.declines
+    (goes_alone b n lone following two.declines.1 ∙ sym same) two.declines
 
 one_step : (a b m n q r : Past) (v u w : List ℕ) (c : Call) (x y : Answer) → IsNear a b q r → length a.seen.events ≡ length a.own →
     length b.seen.events ≡ length b.own → length m.seen.events ≡ length m.own → length n.seen.events ≡ length n.own → IsLast q → IsLast r →
     Leads m q → Leads n r → Answered a v c x m u ⊎ Stopped a v c x m u → Answered b v c y n w ⊎ Stopped b v c y n w → Steps x y u w m n q r
-one_step a b m n q r v u w c x y near alone lone after behind last end to on (inl one) (inl two) =
+one_step a b m n q r v u w c x y near alone lone after following last end to on (inl one) (inl two) =
     both_answered a b m n q r v u w c x y near alone lone last end to on one two
-one_step a b m n q r v u w c x y near alone lone after behind last end to on (inl one) (inr two) =
-    absurd (never_apart a b m n q r v u w c x y near.initial near.events alone lone behind last to one two)
-one_step a b m n q r v u w c x y near alone lone after behind last end to on (inr one) (inl two) =
+one_step a b m n q r v u w c x y near alone lone after following last end to on (inl one) (inr two) =
+    absurd (never_apart a b m n q r v u w c x y near.initial near.events alone lone following last to one two)
+one_step a b m n q r v u w c x y near alone lone after following last end to on (inr one) (inl two) =
     absurd (never_apart b a n m r q v w u c y x (sym near.initial) (sym near.events) lone alone after end on two one)
-one_step a b m n q r v u w c x y near alone lone after behind last end to on (inr one) (inr two) =
-    both_stopped a b m n q r v u w c x y near alone lone after behind one two
+one_step a b m n q r v u w c x y near alone lone after following last end to on (inr one) (inr two) =
+    both_stopped a b m n q r v u w c x y near alone lone after following one two
 
 leads_last : (s : Script) (said : Said) (p : Past) (v : List ℕ) (q : Past) (w : List ℕ) (out : Said) (end : End) (es : List Entry) →
     Rides s said es p v out end q w → Leads p q
@@ -235,8 +235,8 @@ ask_agrees E c s t agree = record {
       one_step a b left.m right.m q r v left.u right.u c left.answer right.answer near one.alone two.alone left.rides.alone right.rides.alone
       one.last two.last (leads_last (s left.answer) (with_call said c) left.m left.u q w x m left.more left.rides)
       (leads_last (t right.answer) (with_call said c) right.m right.u r u y n right.more right.rides) left.took right.took in
-      let behind : Rides (t left.answer) (with_call said c) right.more right.m left.u y n r u =
+      let following : Rides (t left.answer) (with_call said c) right.more right.m left.u y n r u =
       subst (λ (k : List ℕ). Rides (t left.answer) (with_call said c) right.more right.m k y n r u) (sym step.words)
       (subst (λ (z : Answer). Rides (t z) (with_call said c) right.more right.m right.u y n r u) (sym step.answers) right.rides) in
-      (agree left.answer).same (with_call said c) left.more right.more left.m right.m left.u x y m n q r w u left.rides behind step.near;
+      (agree left.answer).same (with_call said c) left.more right.more left.m right.m left.u x y m n q r w u left.rides following step.near;
 }

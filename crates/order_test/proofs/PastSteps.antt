@@ -22,7 +22,7 @@ use Rattle.further_reads.specs.Begun.{ForcesNothing, with_begin, IsLastBegun}
 use Rattle.further_reads.proofs.Sources.{begins_nothing}
 use Rattle.order_test.specs.declared.pasts.Past.{Past}
 use Rattle.order_test.specs.Settled.{IsSettled}
-use Rattle.order_test.specs.Pasts.{IsPastOf, AreRows, TakesIn, TakesFrom, AddsBehind}
+use Rattle.order_test.specs.Pasts.{IsPastOf, AreRows, TakesIn, TakesFrom, AddsAfter}
 use Rattle.order_test.proofs.Closing.{read_past_back, past_kept, read_past_source, other_past_back, begun_first, begin_past_back, begin_past_new, begin_past_own, begin_past_last}
 
 pub sound_from : (events : List Event) → IsSettled events → IsSound events
@@ -143,7 +143,7 @@ begin_new events sound s last level width before past is small of session tops =
 
 pub begin_rows :
     (events : List Event) → IsSound events → (s last : ℕ) (level : Level) (width : ℕ) (old new : List Past) → IsLastBegun events s last → s < width →
-    AreRows events width old → AddsBehind last s old new → AreRows (with_begin events s level) width new
+    AreRows events width old → AddsAfter last s old new → AreRows (with_begin events s level) width new
 begin_rows events sound s last level width old new is small are adds =
     let more : begun (with_begin events s level) ≡ begun events + 1 = begun-push_start events s level in
     let long : length (old ++ adds.past ∷ []) ≡ length old + 1 = length_push old adds.past in

@@ -109,7 +109,7 @@ none_late events order txns places scene keeps lists listed writers cell limit f
               let less = less_in_session events order keeps (at + 1) last txn of.txn here there (omega arith) (sym of.session_is) in
               elim stands [
                 | inl source ↦ let places_same : place_of order last ≡ place_of order from = ap (λ (n : ℕ). place_of order n) source in omega arith
-                | inr behind ↦ omega arith
+                | inr following ↦ omega arith
               ]
         ]
 
@@ -284,22 +284,22 @@ kept_none order txns width = record {
 }
 
 pub kept_place :
-    (order : List ℕ) (txns : List Txn) (n : ℕ) (behind : List ℕ) (txn : Txn) (at : ℕ) → slice_get txns n ≡ Some txn → at ≡ place_of order (n + 1) → txn.session < length behind →
-    get_or behind txn.session 0 < at → AreKeptUpTo order txns n behind → AreKeptUpTo order txns (n + 1) (set behind txn.session at)
-kept_place order txns n behind txn at is at_is within above before = record {
+    (order : List ℕ) (txns : List Txn) (n : ℕ) (following : List ℕ) (txn : Txn) (at : ℕ) → slice_get txns n ≡ Some txn → at ≡ place_of order (n + 1) → txn.session < length following →
+    get_or following txn.session 0 < at → AreKeptUpTo order txns n following → AreKeptUpTo order txns (n + 1) (set following txn.session at)
+kept_place order txns n following txn at is at_is within above before = record {
   last = λ place other below other_is. elim (cases_eq place n) [
     | inl same ↦
         let both : Some other ≡ Some txn = sym other_is ∙ ap (λ (k : ℕ). slice_get txns k) same ∙ is in
         let one : other ≡ txn = cc in
         let sessions : other.session ≡ txn.session = ap (λ (t : Txn). t.session) one in
         let number : place_of order (place + 1) ≡ place_of order (n + 1) = ap (λ (k : ℕ). place_of order (k + 1)) same in
-        elim (at_set behind txn.session at other.session within) [ inl here ↦ let now = here.1 in omega arith | inr there ↦ absurd (there.0 sessions) ]
+        elim (at_set following txn.session at other.session within) [ inl here ↦ let now = here.1 in omega arith | inr there ↦ absurd (there.0 sessions) ]
     | inr apart ↦
-        let old : place_of order (place + 1) ≤ get_or behind other.session 0 = before.last place other (omega arith) other_is in
-        elim (at_set behind txn.session at other.session within) [
+        let old : place_of order (place + 1) ≤ get_or following other.session 0 = before.last place other (omega arith) other_is in
+        elim (at_set following txn.session at other.session within) [
           | inl here ↦
               let now = here.1 in
-              let values : get_or behind other.session 0 ≡ get_or behind txn.session 0 = ap (λ (k : ℕ). get_or behind k 0) here.0 in
+              let values : get_or following other.session 0 ≡ get_or following txn.session 0 = ap (λ (k : ℕ). get_or following k 0) here.0 in
               omega arith
           | inr there ↦ let now = there.1 in omega arith
         ]
@@ -309,8 +309,8 @@ kept_place order txns n behind txn at is at_is within above before = record {
         let both : Some second ≡ Some txn = sym second_is ∙ ap (λ (k : ℕ). slice_get txns k) now ∙ is in
         let one : second ≡ txn = cc in
         let sessions : first.session ≡ txn.session = same ∙ ap (λ (t : Txn). t.session) one in
-        let old : place_of order (i + 1) ≤ get_or behind first.session 0 = before.last i first (omega arith) first_is in
-        let values : get_or behind first.session 0 ≡ get_or behind txn.session 0 = ap (λ (k : ℕ). get_or behind k 0) sessions in
+        let old : place_of order (i + 1) ≤ get_or following first.session 0 = before.last i first (omega arith) first_is in
+        let values : get_or following first.session 0 ≡ get_or following txn.session 0 = ap (λ (k : ℕ). get_or following k 0) sessions in
         let number : place_of order (j + 1) ≡ place_of order (n + 1) = ap (λ (k : ℕ). place_of order (k + 1)) now in
         omega arith
     | inr apart ↦ before.kept i j first second less (omega arith) first_is second_is same
@@ -318,9 +318,9 @@ kept_place order txns n behind txn at is at_is within above before = record {
 }
 
 pub sessions_kept :
-    (events : List Event) (order : List ℕ) (txns : List Txn) (places : Places) → IsScene events order txns places → (n : ℕ) (behind : List ℕ) → length txns ≤ n →
-    AreKeptUpTo order txns n behind → KeepsSessions events order
-sessions_kept events order txns places scene n behind all are a b out =
+    (events : List Event) (order : List ℕ) (txns : List Txn) (places : Places) → IsScene events order txns places → (n : ℕ) (following : List ℕ) → length txns ≤ n →
+    AreKeptUpTo order txns n following → KeepsSessions events order
+sessions_kept events order txns places scene n following all are a b out =
     let bounds = out_bounds events order scene.holds a b out in
     let low = bounds.0 in let less = bounds.1 in let high = bounds.2 in
     let size = scene.records.count in

@@ -62,8 +62,8 @@ HasNoLate places numbers limit from =
     ⊎ ((last : ℕ) × IsLastUpTo numbers limit last × ((last ≡ from) ⊎ (slice_index places last < slice_index places from)))
 
 -- of the first n transactions the last one of each session has its place there, and session order is kept among them
-pub record AreKeptUpTo (order : List ℕ) (txns : List Txn) (n : ℕ) (behind : List ℕ) : Type 0 where
-  pub last : (place : ℕ) (txn : Txn) → place < n → slice_get txns place ≡ Some txn → place_of order (place + 1) ≤ slice_index behind txn.session
+pub record AreKeptUpTo (order : List ℕ) (txns : List Txn) (n : ℕ) (following : List ℕ) : Type 0 where
+  pub last : (place : ℕ) (txn : Txn) → place < n → slice_get txns place ≡ Some txn → place_of order (place + 1) ≤ slice_index following txn.session
   pub kept : (i j : ℕ) (first second : Txn) → i < j → j < n → slice_get txns i ≡ Some first → slice_get txns j ≡ Some second → first.session ≡ second.session →
       place_of order (i + 1) < place_of order (j + 1)
 

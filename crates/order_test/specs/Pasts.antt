@@ -64,8 +64,8 @@ pub record TakesFrom (reader source : ℕ) (old new : List Past) : Type 0 where
   pub is : slice_get old source ≡ Some from
   pub changes : ChangesOne old new reader (TakesIn source from)
 
--- the past of a transaction of the session stands behind the others: that of the last one there, and the last one
-pub record AddsBehind (last session : ℕ) (old new : List Past) : Type 0 where
+-- the past of a transaction of the session stands after the others: that of the last one there, and the last one
+pub record AddsAfter (last session : ℕ) (old new : List Past) : Type 0 where
   pub before : Past
   pub is : slice_get old last ≡ Some before
   pub past : Past

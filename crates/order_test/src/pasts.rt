@@ -4,7 +4,7 @@ ghost use Rattle.history_core.specs.Events.{begun, session_in};
 ghost use Rattle.further_reads.specs.Begun.{IsLastBegun};
 ghost use Rattle.order_test.specs.declared.pasts.Past.{Past as PastOf};
 ghost use Rattle.order_test.specs.Settled.{ComesSettled, IsOrderly};
-ghost use Rattle.order_test.specs.Pasts.{AreWithin, AreRows, AreLast, AreReaders, ArePasts, TakesIn, AddsBehind, TakesFrom};
+ghost use Rattle.order_test.specs.Pasts.{AreWithin, AreRows, AreLast, AreReaders, ArePasts, TakesIn, AddsAfter, TakesFrom};
 
 use cell_base::Memory;
 use history_core::Event;
@@ -132,7 +132,7 @@ fn copy_of(alloc: Global, numbers: &[u32]) -> Result<Vec<u32>, Memory>
 fn begin_row(alloc: Global, rows: &mut Vec<Past>, last: u32, session: u32) -> Result<(), Memory>
     requires last { last < length rows.old.items }
     requires within { (past : PastOf) → slice_get rows.old.items last ≡ Some past → session < length past.tops.items }
-    ensures { OnOk result (AddsBehind last session rows.old.items rows.new.items) }
+    ensures { OnOk result (AddsAfter last session rows.old.items rows.new.items) }
 {
     let mut tops = copy_of(alloc, &rows[last as usize].tops)?;
     tops[session as usize] = last;

@@ -212,7 +212,7 @@ fn session_breach(
 }
 
 /// The first of the events of which the order, which keeps session order, doesn't keep what it asks.
-fn found_behind(
+fn found_after(
     alloc: Global,
     events: &[Event],
     order: &[u32],
@@ -247,7 +247,7 @@ fn found_in(
     let pasts = pasts_of(alloc, events)?;
     match session_breach(alloc, events, order, txns, places, pasts.last.len())? {
         Some((earlier, later)) => Ok(Some(Unkept::Session { earlier, later })),
-        None => found_behind(alloc, events, order, txns, places, &pasts),
+        None => found_after(alloc, events, order, txns, places, &pasts),
     }
 }
 

@@ -125,15 +125,15 @@ pub fn first_out_of_session(
 }
 
 /// Notes that the next transaction of the session has the place, where that is above the one noted before.
-fn note_place(behind: &mut [usize], session: u32, place: usize) -> bool
-    requires { session < length behind.old }
-    ensures above { IsTrue result → slice_index behind.old session < place }
-    ensures noted { IsTrue result → behind.new ≡ slice_set behind.old session place }
+fn note_place(following: &mut [usize], session: u32, place: usize) -> bool
+    requires { session < length following.old }
+    ensures above { IsTrue result → slice_index following.old session < place }
+    ensures noted { IsTrue result → following.new ≡ slice_set following.old session place }
 {
-    if place <= behind[session as usize] {
+    if place <= following[session as usize] {
         return false;
     }
-    behind[session as usize] = place;
+    following[session as usize] = place;
     true
 }
 
@@ -150,9 +150,9 @@ pub fn keeps_sessions(
     requires within { AreTxnsWithin width txns.now }
     ensures { IfOk result (λ keeps. IsTrue keeps → KeepsSessions events.now order.now) }
 {
-    let mut behind = vec![in alloc; 0; width]?;
+    let mut following = vec![in alloc; 0; width]?;
     for at in 0..txns.len() {
-        if !note_place(&mut behind, txns[at].session, places.at[at + 1]) {
+        if !note_place(&mut following, txns[at].session, places.at[at + 1]) {
             return Ok(false);
         }
     }

@@ -97,7 +97,7 @@ fn keeps_its_limits(rt: HostRuntime) -> Result<(), Fail> {
         assert_eq!(rt;
             found.as_str(),
             *want,
-            "{times} times {open} behind {first}"
+            "{times} times {open} after {first}"
         );
     }
     Ok(())

@@ -14,7 +14,7 @@ use Rattle.history_core.specs.Initial.{HoldsWholeRows}
 use Rattle.history_core.specs.Chronicle.{Chronicle, IsLegalChronicle, own_events}
 use Rattle.whole_rows.specs.Rows.{ShowsNoUnset}
 use Rattle.whole_rows.proofs.WholeRows.{all_set}
-use Rattle.session_rows.specs.Alone.{AreFirst, MayFollow, shown_behind, owed_behind, KeepsRowsFrom, KeepsRowsAlone}
+use Rattle.session_rows.specs.Alone.{AreFirst, MayFollow, shown_following, owed_following, KeepsRowsFrom, KeepsRowsAlone}
 use Rattle.session_rows.proofs.Fronts.{ask_first, write_first, owed_first}
 use Rattle.session_rows.proofs.Histories.{keeps_rows}
 
@@ -35,7 +35,7 @@ follow_first xs ys shown owed (Rollback s) first may = may
 follow_first xs ys shown owed (Show s number) first may = may
 
 owes_first : (xs ys : List Table) (shown : List (ℕ × Key)) (owed : List Cell) (e : Event) → AreFirst xs ys → MayFollow xs shown owed e →
-    owed_behind xs owed e ≡ owed_behind ys owed e
+    owed_following xs owed e ≡ owed_following ys owed e
 owes_first xs ys shown owed (Write s cell v) first may = owed_first xs ys owed cell v first may
 owes_first xs ys shown owed (Read s cell source count word v) first may = refl
 owes_first xs ys shown owed (Open s) first may = refl
@@ -54,8 +54,8 @@ pub keeps_more : (xs ys : List Table) (shown : List (ℕ × Key)) (owed : List C
 keeps_more xs ys shown owed [] first keeps = tt
 keeps_more xs ys shown owed (e ∷ es) first keeps = (
   follow_first xs ys shown owed e first keeps.0,
-  subst (λ (cells : List Cell). KeepsRowsFrom ys (shown_behind shown e) cells es) (owes_first xs ys shown owed e first keeps.0)
-      (keeps_more xs ys (shown_behind shown e) (owed_behind xs owed e) es first keeps.1),
+  subst (λ (cells : List Cell). KeepsRowsFrom ys (shown_following shown e) cells es) (owes_first xs ys shown owed e first keeps.0)
+      (keeps_more xs ys (shown_following shown e) (owed_following xs owed e) es first keeps.1),
 )
 
 -- ---- the events of one session

@@ -11,9 +11,9 @@ use Rattle.history_core.specs.Chronicle.{Chronicle, IsLegalChronicle}
 use Rattle.history_core.specs.Book.{Past, SessionState, GoesOn}
 use Rattle.valid_writes.specs.Owning.{OwnsAllThatComes}
 
--- what is the same with more behind it has nothing behind it
-none_behind : {A : Type 0} (xs ys : List A) → xs ++ ys ≡ xs → ys ≡ []
-none_behind xs ys same = append_cancel_left xs ys [] (same ∙ sym (append-nil xs))
+-- what is the same with more after it has nothing after it
+none_after : {A : Type 0} (xs ys : List A) → xs ++ ys ≡ xs → ys ≡ []
+none_after xs ys same = append_cancel_left xs ys [] (same ∙ sym (append-nil xs))
 
 -- a legal history has as many tables as names that its events define
 table_count : (h : Chronicle) → IsLegalChronicle h → length h.tables ≡ length (names h.events)
@@ -44,7 +44,7 @@ same_tables old new legal after events more grown =
 
 pub leaves_all : (old new : Past) → IsLegalChronicle old.seen → IsLegalChronicle new.seen → GoesOn old new → OwnsAllThatComes old new → new ≡ old
 leaves_all old new legal after goes owns =
-    let none : owns.added ≡ [] = none_behind old.own owns.added (sym owns.own ∙ goes.own) in
+    let none : owns.added ≡ [] = none_after old.own owns.added (sym owns.own ∙ goes.own) in
     let events : new.seen.events ≡ old.seen.events =
     owns.seen ∙ ap (λ (es : List Event). old.seen.events ++ es) none ∙ append-nil old.seen.events in
     let tables : new.seen.tables ≡ old.seen.tables = same_tables old.seen new.seen legal after events goes.more goes.tables in

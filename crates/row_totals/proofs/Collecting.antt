@@ -46,33 +46,33 @@ in_calls e a members denies is =
 
 -- ---- after the calls that stand there
 
-abbrev Behind : List Call → List Call → List groups.Call → Type 0
-Behind old new calls = map meant new ≡ map meant old ++ map at_start calls
+abbrev Following : List Call → List Call → List groups.Call → Type 0
+Following old new calls = map meant new ≡ map meant old ++ map at_start calls
 
-behind_both : (old mid new : List Call) (xs ys : List groups.Call) → Behind old mid xs → Behind mid new ys → Behind old new (xs ++ ys)
-behind_both old mid new xs ys h g =
+after_both : (old mid new : List Call) (xs ys : List groups.Call) → Following old mid xs → Following mid new ys → Following old new (xs ++ ys)
+after_both old mid new xs ys h g =
     g ∙ ap (λ cs. cs ++ map at_start ys) h ∙ append_assoc (map meant old) (map at_start xs) (map at_start ys) ∙ ap (λ cs. map meant old ++ cs) (sym (map-append at_start xs ys))
 
 on_ok : {A E : Type 0} (r : Result A E) (P Q : Type 0) → (P → Q) → OnOk r P → OnOk r Q
 on_ok (Ok a) P Q f h = f h
 on_ok (Err e) P Q f h = h
 
-pub both_collected : {A : Type 0} (r : Result A Memory) (e : TypedExpr) (o : Op) (a b : TypedExpr) (old mid new : List Call) → e.node ≡ Binary o a b → Behind old mid (meaning a).calls → OnOk r (Behind mid new (meaning b).calls)
-    → OnOk r (Behind old new (meaning e).calls)
+pub both_collected : {A : Type 0} (r : Result A Memory) (e : TypedExpr) (o : Op) (a b : TypedExpr) (old mid new : List Call) → e.node ≡ Binary o a b → Following old mid (meaning a).calls → OnOk r (Following mid new (meaning b).calls)
+    → OnOk r (Following old new (meaning e).calls)
 both_collected r e o a b old mid new is h g =
-    on_ok r (Behind mid new (meaning b).calls) (Behind old new (meaning e).calls) (λ k. subst (Behind old new) (sym (binary_calls e o a b is)) (behind_both old mid new (meaning a).calls (meaning b).calls h k)) g
+    on_ok r (Following mid new (meaning b).calls) (Following old new (meaning e).calls) (λ k. subst (Following old new) (sym (binary_calls e o a b is)) (after_both old mid new (meaning a).calls (meaning b).calls h k)) g
 
-pub in_collected : {A : Type 0} (r : Result A Memory) (e a : TypedExpr) (members : List TypedExpr) (denies : Bool) (old mid new : List Call) → e.node ≡ In a members denies → Behind old mid (meaning a).calls
-    → OnOk r (Behind mid new (calls_of members)) → OnOk r (Behind old new (meaning e).calls)
+pub in_collected : {A : Type 0} (r : Result A Memory) (e a : TypedExpr) (members : List TypedExpr) (denies : Bool) (old mid new : List Call) → e.node ≡ In a members denies → Following old mid (meaning a).calls
+    → OnOk r (Following mid new (calls_of members)) → OnOk r (Following old new (meaning e).calls)
 in_collected r e a members denies old mid new is h g =
-    on_ok r (Behind mid new (calls_of members)) (Behind old new (meaning e).calls) (λ k. subst (Behind old new) (sym (in_calls e a members denies is)) (behind_both old mid new (meaning a).calls (calls_of members) h k)) g
+    on_ok r (Following mid new (calls_of members)) (Following old new (meaning e).calls) (λ k. subst (Following old new) (sym (in_calls e a members denies is)) (after_both old mid new (meaning a).calls (calls_of members) h k)) g
 
 operand_is : (operand : Option TypedExpr) → operand_value operand ≡ operand_of (option_map meaning operand)
 operand_is None = refl
 operand_is (Some a) = sym (in_row_is a)
 
 pub aggregate_collected : (e : TypedExpr) (function : Function) (operand : Option TypedExpr) (old : List Call) → e.node ≡ Aggregate function operand
-    → Behind old (old ++ record { operand = operand; tally = started e.kind function } ∷ []) (meaning e).calls
+    → Following old (old ++ record { operand = operand; tally = started e.kind function } ∷ []) (meaning e).calls
 aggregate_collected e function operand old is =
     let calls : (meaning e).calls ≡ call_of e.kind function (option_map meaning operand) ∷ [] = ap (λ m. m.calls) (at_node e (Aggregate function operand) is) ∙ ap (λ (f : SqlType → Meaning). (f e.kind).calls) (at_Aggregate function operand) in
     map-append meant old (record { operand = operand; tally = started e.kind function } ∷ [])

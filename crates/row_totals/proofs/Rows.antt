@@ -131,15 +131,15 @@ values_are (o ∷ os) vs h = by (values_are os) o (all_of os) refl h
         let is : w ∷ ws ≡ vs = cc in
         ap (map Ok) (sym is) ∙ ap (λ us. Ok w ∷ us) (more ws k)
 
-nothing_behind : (os : List (Outcome Value)) → os ++ [] ≡ os
-nothing_behind [] = refl
-nothing_behind (o ∷ os) = ap (λ us. o ∷ us) (nothing_behind os)
+nothing_after : (os : List (Outcome Value)) → os ++ [] ≡ os
+nothing_after [] = refl
+nothing_after (o ∷ os) = ap (λ us. o ∷ us) (nothing_after os)
 
 finished : (exprs : List TypedExpr) (rows : List Row) (totals : Totals) (vs : List Value) → Stands totals exprs rows → all_of (map (λ c. told c.tally) totals.calls.items) ≡ Ok vs → all_filled exprs (map Ok vs) ≡ group_values exprs rows
 finished exprs rows totals vs s h =
     let calls : map (λ c. told c.tally) totals.calls.items ≡ map (λ call. call_value call rows) (calls_of exprs) = told_calls rows totals.calls.items (calls_of exprs) s.tallied in
     let all : all_of (map (λ call. call_value call rows) (calls_of exprs)) ≡ Ok vs = ap all_of (sym calls) ∙ h in
-    let front : map Ok vs ≡ in_front rows (calls_of exprs) [] = values_are _ vs all ∙ sym (nothing_behind (map (λ call. call_value call rows) (calls_of exprs))) in
+    let front : map Ok vs ≡ in_front rows (calls_of exprs) [] = values_are _ vs all ∙ sym (nothing_after (map (λ call. call_value call rows) (calls_of exprs))) in
     ap (all_filled exprs) front ∙ all_filled_is rows exprs []
     ∙ sym (ap (λ o. and_then o (λ evaluated. and_then (all_of (map (λ call. call_value call rows) (calls_of exprs))) (λ totals. all_of (map (λ e. group_value e rows) exprs)))) s.evaluated.1
     ∙ ap (λ o. and_then o (λ totals. all_of (map (λ e. group_value e rows) exprs))) all)

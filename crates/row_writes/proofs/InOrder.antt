@@ -14,7 +14,7 @@ use Rattle.row_meaning.specs.Pictures.{TableRow}
 use Rattle.row_meaning.proofs.Sorting.{placed_by, sorted_by, NoneBelow, Rises, sorted_rises}
 use Rattle.typing_rules.specs.Outcome.{Outcome, and_then}
 use Rattle.cell_base.specs.declared.sql_state.SqlState.TheVariants.{S23505}
-use Rattle.row_writes.specs.Twins.{has_twins_behind, has_twins}
+use Rattle.row_writes.specs.Twins.{has_twins_after, has_twins}
 
 -- whether the one row stands before the other
 abbrev pub is_row_below : TableRow → TableRow → Bool
@@ -114,19 +114,19 @@ none_same k next (row ∷ rows) above other h = chosen (same_key k.0 row.0) refl
         cc
     chosen false e more = more
 
-twins_behind : (row : TableRow) (rows : List TableRow) → Rises is_row_below row_order (row ∷ rows) → has_twins_behind row.0 rows ≡ has_twice (row ∷ rows)
-twins_behind row [] h = refl
-twins_behind row (next ∷ rows) h = chosen (same_key row.0 next.0) refl (twins_behind next rows h.1)
+twins_after : (row : TableRow) (rows : List TableRow) → Rises is_row_below row_order (row ∷ rows) → has_twins_after row.0 rows ≡ has_twice (row ∷ rows)
+twins_after row [] h = refl
+twins_after row (next ∷ rows) h = chosen (same_key row.0 next.0) refl (twins_after next rows h.1)
   where
-    chosen : (b : Bool) → same_key row.0 next.0 ≡ b → has_twins_behind next.0 rows ≡ has_twice (next ∷ rows)
-        → cond b true (has_twins_behind next.0 rows) ≡ ((b || has_key row.0 rows) || has_twice (next ∷ rows))
+    chosen : (b : Bool) → same_key row.0 next.0 ≡ b → has_twins_after next.0 rows ≡ has_twice (next ∷ rows)
+        → cond b true (has_twins_after next.0 rows) ≡ ((b || has_key row.0 rows) || has_twice (next ∷ rows))
     chosen true e more = refl
     chosen false e more =
         more ∙ ap (λ t. t || has_twice (next ∷ rows)) (sym (none_same row next rows h.0.0 e h.1.0))
 
 twins_in_order : (rows : List TableRow) → Rises is_row_below row_order rows → has_twins rows ≡ has_twice rows
 twins_in_order [] h = refl
-twins_in_order (row ∷ rows) h = twins_behind row rows h
+twins_in_order (row ∷ rows) h = twins_after row rows h
 
 -- a key stands twice where the sorted rows have twins
 pub twins_are : (rows sorted : List TableRow) → sorted ≡ by_keys rows → has_twins sorted ≡ has_twice rows

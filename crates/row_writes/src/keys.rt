@@ -22,12 +22,12 @@ pub fn has_twins(rows: &[(Key, Items<Value>)]) -> bool
 {
     match rows {
         [] => false,
-        [first, others @ ..] => has_twins_behind(&first.0, others),
+        [first, others @ ..] => has_twins_after(&first.0, others),
     }
 }
 
-fn has_twins_behind(first: &Key, rows: &[(Key, Items<Value>)]) -> bool
-    ensures { result ≡ twins.has_twins_behind first.now rows.now }
+fn has_twins_after(first: &Key, rows: &[(Key, Items<Value>)]) -> bool
+    ensures { result ≡ twins.has_twins_after first.now rows.now }
 {
     let mut before = first;
     for row in rows {

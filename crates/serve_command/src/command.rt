@@ -10,7 +10,7 @@ ghost use Rattle.doors.specs.Network.{open_failed};
 ghost use Rattle.shared_book.specs.Books.{HasSeenLegal};
 ghost use Rattle.shared_book.specs.Entries.{chronicle_of, event_lists};
 ghost use Rattle.shared_book.specs.Fronts.{GoesOnFrom};
-ghost use Rattle.serve_command.specs.Serving.{status_of as status_behind, Ran, Ends, GoesOn, Serves};
+ghost use Rattle.serve_command.specs.Serving.{status_of as status_following, Ran, Ends, GoesOn, Serves};
 
 use crate::line::line_of;
 use crate::manning::{leave, man, rooms};
@@ -115,7 +115,7 @@ fn end<H: Host>(alloc: Global, host: &mut H, options: &ServeOptions, store: &Sto
 
 // The status of a server whose workers have this fault, if they have one, and which ended with that status.
 fn status_after(fault: Option<HostFault>, status: Status) -> Status
-    ensures { result.code ≡ status_behind fault status.code }
+    ensures { result.code ≡ status_following fault status.code }
 {
     match fault {
         None => status,

@@ -133,7 +133,7 @@ pub fn tell_fault<R: Eprint>(rt: &R, fault: &StartFault) {
         StartFault::File(FileFault::Read) => "setup: reading the file failed",
         StartFault::Setup(SetupFault::TooLong) => "setup: the file has more than 1048571 bytes",
         StartFault::Setup(SetupFault::Unfinished) => {
-            "setup: it ends inside a block: no COMMIT stands behind its last BEGIN"
+            "setup: it ends inside a block: no COMMIT stands after its last BEGIN"
         }
         StartFault::Setup(SetupFault::Ended(_)) => "setup: its replies have too many bytes",
         StartFault::Heavy => "setup: it leaves more rows than a history begins with",

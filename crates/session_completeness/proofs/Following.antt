@@ -9,7 +9,7 @@ use Rattle.client_framing.specs.declared.frontend_message.FrameFault.{FrameFault
 use Rattle.client_framing.specs.declared.frontend_message.FrameFault.TheVariants.{BadLength, BadStartup, TooLong, UnknownType, NoTerminator, Memory}
 use Rattle.client_framing.specs.Spelling.{Pair, phase_after, type_of}
 use Rattle.client_framing.specs.Fronts.{TakesFront, TakesFronts, HasFault}
-use Rattle.client_framing.proofs.Streams.{front_unique, behind_unique, takes_bytes, front_no_fault, fault_stays}
+use Rattle.client_framing.proofs.Streams.{front_unique, after_unique, takes_bytes, front_no_fault, fault_stays}
 use Rattle.block_machine.specs.declared.end.End.{End}
 use Rattle.block_machine.specs.declared.end.End.TheVariants as ends
 use Rattle.session_core.specs.Users.{HasUser}
@@ -18,19 +18,19 @@ use Rattle.session_completeness.specs.Streams.{IsEncryptionRequest, IsNoTerminat
 
 -- ---- requests that end nothing
 
-abbrev pub IsCalm : Request → Type 0
-IsCalm encryption = Unit {0}
-IsCalm start = Unit {0}
-IsCalm (query message) = Unit {0}
-IsCalm unread_query = Unit {0}
-IsCalm sync = Unit {0}
-IsCalm nothing = Unit {0}
-IsCalm extended = Unit {0}
-IsCalm function = Unit {0}
-IsCalm cancel = ⊥
-IsCalm userless = ⊥
-IsCalm version = ⊥
-IsCalm terminate = ⊥
+abbrev pub IsResting : Request → Type 0
+IsResting encryption = Unit {0}
+IsResting start = Unit {0}
+IsResting (query message) = Unit {0}
+IsResting unread_query = Unit {0}
+IsResting sync = Unit {0}
+IsResting nothing = Unit {0}
+IsResting extended = Unit {0}
+IsResting function = Unit {0}
+IsResting cancel = ⊥
+IsResting userless = ⊥
+IsResting version = ⊥
+IsResting terminate = ⊥
 
 -- the request is Terminate
 abbrev pub IsEnd : Request → Type 0
@@ -54,14 +54,14 @@ Ending _ left requests = ⊥
 -- the requests are these messages, as far as they were heard, and then the last one
 abbrev pub Follows : End → List ℕ → List FrontendMessage → Requests → Type 0
 Follows end left [] requests = Ending end left requests
-Follows end left (front ∷ fronts) (asks asked requests) = Says front asked × IsCalm asked × Follows end left fronts requests
+Follows end left (front ∷ fronts) (asks asked requests) = Says front asked × IsResting asked × Follows end left fronts requests
 Follows end left (front ∷ fronts) (partial rest) = left ≡ [] → ⊥
 Follows end left (front ∷ fronts) (faulty fault) = ⊥
 Follows end left (front ∷ fronts) unread = Unit {0}
 
 -- ---- one message
 
--- with more bytes behind them, bytes have the same message at their front
+-- with more bytes after them, bytes have the same message at their front
 front_stays : (started : Bool) (bytes more left : List ℕ) (front : FrontendMessage) → TakesFront started bytes front more → TakesFront started (bytes ++ left) front (more ++ left)
 front_stays started bytes more left front t = record {
   taken = t.taken;
@@ -81,7 +81,7 @@ empty_fault NoTerminator h = omega (arith, h.0.whole)
 empty_fault BadStartup h = h
 empty_fault Memory h = h
 
--- a list with another behind it is empty where both are
+-- a list with another after it is empty where both are
 nothing_taken : (taken left : List ℕ) → taken ++ left ≡ [] → taken ≡ []
 nothing_taken [] left is = refl
 nothing_taken (byte ∷ bytes) left is = absurd (let long : length (byte ∷ (bytes ++ left)) ≡ 0 = ap length is in omega (arith, long))
@@ -100,9 +100,9 @@ begins started front bytes taken left more (asks asked requests) whole t are =
     let other : TakesFront started bytes are.0 (are.1 ++ left) =
     subst (λ (x : List ℕ). TakesFront started x are.0 (are.1 ++ left)) whole (front_stays started taken are.1 left are.0 are.2) in
     let same : are.0 ≡ front = front_unique started are.0 front bytes (are.1 ++ left) more other t in
-    let behind : are.1 ++ left ≡ more = behind_unique started are.0 front bytes (are.1 ++ left) more other t in (
+    let following : are.1 ++ left ≡ more = after_unique started are.0 front bytes (are.1 ++ left) more other t in (
       subst (λ (x : FrontendMessage). Says x asked) same are.3,
-      (are.1, behind, subst (λ (x : FrontendMessage). AreRequests (phase_after started x) are.1 requests) same are.4),
+      (are.1, following, subst (λ (x : FrontendMessage). AreRequests (phase_after started x) are.1 requests) same are.4),
     )
 begins started front bytes taken left more (partial rest) whole t are = λ none.
     let all : bytes ≡ taken = sym whole ∙ (ap (λ (x : List ℕ). taken ++ x) none ∙ append-nil taken) in
@@ -139,47 +139,47 @@ last _ bytes taken left requests whole is are = absurd is
 -- ---- after the startup
 
 -- a message that has a type byte, and isn't Terminate, ends nothing
-abbrev pub SaysCalm : FrontendMessage → Type 0
-SaysCalm front = (asked : Request) → Says front asked → IsCalm asked
+abbrev pub SaysResting : FrontendMessage → Type 0
+SaysResting front = (asked : Request) → Says front asked → IsResting asked
 
-typed_calm : (front : FrontendMessage) (kind : ℕ) → type_of front ≡ Some kind → IsNoTerminate front → SaysCalm front
-typed_calm (Query text) kind is on = calm
+typed_resting : (front : FrontendMessage) (kind : ℕ) → type_of front ≡ Some kind → IsNoTerminate front → SaysResting front
+typed_resting (Query text) kind is on = resting
   where
-    calm : (asked : Request) → Says (Query text) asked → IsCalm asked
-    calm (query message) says = tt
-    calm unread_query says = tt
-    calm _ says = absurd says
-typed_calm Sync kind is on = calm
+    resting : (asked : Request) → Says (Query text) asked → IsResting asked
+    resting (query message) says = tt
+    resting unread_query says = tt
+    resting _ says = absurd says
+typed_resting Sync kind is on = resting
   where
-    calm : (asked : Request) → Says Sync asked → IsCalm asked
-    calm sync says = tt
-    calm _ says = absurd says
-typed_calm Flush kind is on = calm
+    resting : (asked : Request) → Says Sync asked → IsResting asked
+    resting sync says = tt
+    resting _ says = absurd says
+typed_resting Flush kind is on = resting
   where
-    calm : (asked : Request) → Says Flush asked → IsCalm asked
-    calm nothing says = tt
-    calm _ says = absurd says
-typed_calm (Extended step) kind is on = calm
+    resting : (asked : Request) → Says Flush asked → IsResting asked
+    resting nothing says = tt
+    resting _ says = absurd says
+typed_resting (Extended step) kind is on = resting
   where
-    calm : (asked : Request) → Says (Extended step) asked → IsCalm asked
-    calm extended says = tt
-    calm _ says = absurd says
-typed_calm FunctionCall kind is on = calm
+    resting : (asked : Request) → Says (Extended step) asked → IsResting asked
+    resting extended says = tt
+    resting _ says = absurd says
+typed_resting FunctionCall kind is on = resting
   where
-    calm : (asked : Request) → Says FunctionCall asked → IsCalm asked
-    calm function says = tt
-    calm _ says = absurd says
-typed_calm (Copy part) kind is on = calm
+    resting : (asked : Request) → Says FunctionCall asked → IsResting asked
+    resting function says = tt
+    resting _ says = absurd says
+typed_resting (Copy part) kind is on = resting
   where
-    calm : (asked : Request) → Says (Copy part) asked → IsCalm asked
-    calm nothing says = tt
-    calm _ says = absurd says
-typed_calm Terminate kind is on = absurd on
-typed_calm Ssl kind is on = absurd (none-some kind is)
-typed_calm Gss kind is on = absurd (none-some kind is)
-typed_calm (Cancel pid secret) kind is on = absurd (none-some kind is)
-typed_calm (Startup pairs) kind is on = absurd (none-some kind is)
-typed_calm (Version code) kind is on = absurd (none-some kind is)
+    resting : (asked : Request) → Says (Copy part) asked → IsResting asked
+    resting nothing says = tt
+    resting _ says = absurd says
+typed_resting Terminate kind is on = absurd on
+typed_resting Ssl kind is on = absurd (none-some kind is)
+typed_resting Gss kind is on = absurd (none-some kind is)
+typed_resting (Cancel pid secret) kind is on = absurd (none-some kind is)
+typed_resting (Startup pairs) kind is on = absurd (none-some kind is)
+typed_resting (Version code) kind is on = absurd (none-some kind is)
 
 -- the phase stays
 stays_started : (front : FrontendMessage) → phase_after true front ≡ true
@@ -197,44 +197,44 @@ stays_started FunctionCall = refl
 stays_started (Copy part) = refl
 
 -- one message follows, and then the others
-one_follows : (started : Bool) (end : End) (front : FrontendMessage) (fronts : List FrontendMessage) (left more : List ℕ) → SaysCalm front →
+one_follows : (started : Bool) (end : End) (front : FrontendMessage) (fronts : List FrontendMessage) (left more : List ℕ) → SaysResting front →
     ((taken : List ℕ) (requests : Requests) → taken ++ left ≡ more → AreRequests (phase_after started front) taken requests → Follows end left fronts requests) →
     (requests : Requests) → Begins started front left more requests → Follows end left (front ∷ fronts) requests
-one_follows started end front fronts left more calm further (asks asked requests) b =
-    (b.0, calm asked b.0, further b.1.0 requests b.1.1 b.1.2)
-one_follows started end front fronts left more calm further (partial rest) b = b
-one_follows started end front fronts left more calm further (faulty fault) b = b
-one_follows started end front fronts left more calm further unread b = tt
+one_follows started end front fronts left more resting further (asks asked requests) b =
+    (b.0, resting asked b.0, further b.1.0 requests b.1.1 b.1.2)
+one_follows started end front fronts left more resting further (partial rest) b = b
+one_follows started end front fronts left more resting further (faulty fault) b = b
+one_follows started end front fronts left more resting further unread b = tt
 
 messages_follow : (end : End) (fronts : List FrontendMessage) (bytes taken left rest : List ℕ) (requests : Requests) → taken ++ left ≡ bytes → TakesFronts true bytes fronts rest →
     AllByRecursion IsNoTerminate fronts → IsLast end rest → AreRequests true taken requests → Follows end left fronts requests
 messages_follow end [] bytes taken left rest requests whole takes on is are = last end rest taken left requests (whole ∙ takes) is are
 messages_follow end (front ∷ fronts) bytes taken left rest requests whole takes on is are =
-    let behind : TakesFronts true takes.0 fronts rest = subst (λ (x : Bool). TakesFronts x takes.0 fronts rest) (stays_started front) takes.2 in
-    one_follows true end front fronts left takes.0 (typed_calm front takes.1.spelled.kind takes.1.spelled.kind_is on.0)
-    (λ further later joined heard. messages_follow end fronts takes.0 further left rest later joined behind on.1 is
+    let following : TakesFronts true takes.0 fronts rest = subst (λ (x : Bool). TakesFronts x takes.0 fronts rest) (stays_started front) takes.2 in
+    one_follows true end front fronts left takes.0 (typed_resting front takes.1.spelled.kind takes.1.spelled.kind_is on.0)
+    (λ further later joined heard. messages_follow end fronts takes.0 further left rest later joined following on.1 is
     (subst (λ (x : Bool). AreRequests x further later) (stays_started front) heard))
     requests (begins true front bytes taken left takes.0 requests whole takes.1 are)
 
 -- ---- before it
 
-startup_calm : (pairs : List Pair) → HasUser pairs → SaysCalm (Startup pairs)
-startup_calm pairs has start says = tt
-startup_calm pairs has userless says = absurd (says has)
-startup_calm pairs has _ says = absurd says
+startup_resting : (pairs : List Pair) → HasUser pairs → SaysResting (Startup pairs)
+startup_resting pairs has start says = tt
+startup_resting pairs has userless says = absurd (says has)
+startup_resting pairs has _ says = absurd says
 
-encryption_calm : (front : FrontendMessage) → IsEncryptionRequest front → SaysCalm front
-encryption_calm Ssl is = calm
+encryption_resting : (front : FrontendMessage) → IsEncryptionRequest front → SaysResting front
+encryption_resting Ssl is = resting
   where
-    calm : (asked : Request) → Says Ssl asked → IsCalm asked
-    calm encryption says = tt
-    calm _ says = absurd says
-encryption_calm Gss is = calm
+    resting : (asked : Request) → Says Ssl asked → IsResting asked
+    resting encryption says = tt
+    resting _ says = absurd says
+encryption_resting Gss is = resting
   where
-    calm : (asked : Request) → Says Gss asked → IsCalm asked
-    calm encryption says = tt
-    calm _ says = absurd says
-encryption_calm _ is = absurd is
+    resting : (asked : Request) → Says Gss asked → IsResting asked
+    resting encryption says = tt
+    resting _ says = absurd says
+encryption_resting _ is = absurd is
 
 -- a request for encryption leaves the phase
 stays_before : (front : FrontendMessage) → IsEncryptionRequest front → phase_after false front ≡ false
@@ -246,14 +246,14 @@ opening_follows : (end : End) (fronts : List FrontendMessage) (pairs : List Pair
     taken ++ left ≡ bytes → TakesFronts false bytes (fronts ++ Startup pairs ∷ messages) rest → AllByRecursion IsEncryptionRequest fronts → HasUser pairs →
     AllByRecursion IsNoTerminate messages → IsLast end rest → AreRequests false taken requests → Follows end left (fronts ++ Startup pairs ∷ messages) requests
 opening_follows end [] pairs messages bytes taken left rest requests whole takes secure user on is are =
-    one_follows false end (Startup pairs) messages left takes.0 (startup_calm pairs user)
+    one_follows false end (Startup pairs) messages left takes.0 (startup_resting pairs user)
     (λ further later joined heard. messages_follow end messages takes.0 further left rest later joined takes.2 on is heard)
     requests (begins false (Startup pairs) bytes taken left takes.0 requests whole takes.1 are)
 opening_follows end (front ∷ fronts) pairs messages bytes taken left rest requests whole takes secure user on is are =
-    let behind : TakesFronts false takes.0 (fronts ++ Startup pairs ∷ messages) rest =
+    let following : TakesFronts false takes.0 (fronts ++ Startup pairs ∷ messages) rest =
     subst (λ (x : Bool). TakesFronts x takes.0 (fronts ++ Startup pairs ∷ messages) rest) (stays_before front secure.0) takes.2 in
-    one_follows false end front (fronts ++ Startup pairs ∷ messages) left takes.0 (encryption_calm front secure.0)
-    (λ further later joined heard. opening_follows end fronts pairs messages takes.0 further left rest later joined behind secure.1 user on is
+    one_follows false end front (fronts ++ Startup pairs ∷ messages) left takes.0 (encryption_resting front secure.0)
+    (λ further later joined heard. opening_follows end fronts pairs messages takes.0 further left rest later joined following secure.1 user on is
     (subst (λ (x : Bool). AreRequests x further later) (stays_before front secure.0) heard))
     requests (begins false front bytes taken left takes.0 requests whole takes.1 are)
 

@@ -7,35 +7,35 @@ use Rattle.block_machine.specs.declared.end.End.TheVariants as ends
 use Rattle.session_core.specs.Requests.{Request, cancel, userless, version, terminate, Requests, asks, partial, faulty, unread}
 use Rattle.session_ends.specs.Causes.{IsTerminate, IsCancel, IsUserless, IsVersion, Asked, EndsBetween, EndsInside, HasFault}
 use Rattle.session_completeness.specs.Sessions.{Hears}
-use Rattle.session_completeness.proofs.Following.{IsCalm, IsEnd, Ending, Follows}
+use Rattle.session_completeness.proofs.Following.{IsResting, IsEnd, Ending, Follows}
 
 -- ---- what isn't among them
 
--- no calm request is one of these, nor is Terminate
+-- no resting request is one of these, nor is Terminate
 record IsStrange (Is : Request → Type 0) : Type 0 where
-  calm : (asked : Request) → IsCalm asked → Is asked → ⊥
+  resting : (asked : Request) → IsResting asked → Is asked → ⊥
   end : Is terminate → ⊥
 
 no_cancel : IsStrange IsCancel
-no_cancel = record { calm = calm; end = λ is. is }
+no_cancel = record { resting = resting; end = λ is. is }
   where
-    calm : (asked : Request) → IsCalm asked → IsCancel asked → ⊥
-    calm cancel is one = is
-    calm _ is one = one
+    resting : (asked : Request) → IsResting asked → IsCancel asked → ⊥
+    resting cancel is one = is
+    resting _ is one = one
 
 no_userless : IsStrange IsUserless
-no_userless = record { calm = calm; end = λ is. is }
+no_userless = record { resting = resting; end = λ is. is }
   where
-    calm : (asked : Request) → IsCalm asked → IsUserless asked → ⊥
-    calm userless is one = is
-    calm _ is one = one
+    resting : (asked : Request) → IsResting asked → IsUserless asked → ⊥
+    resting userless is one = is
+    resting _ is one = one
 
 no_version : IsStrange IsVersion
-no_version = record { calm = calm; end = λ is. is }
+no_version = record { resting = resting; end = λ is. is }
   where
-    calm : (asked : Request) → IsCalm asked → IsVersion asked → ⊥
-    calm version is one = is
-    calm _ is one = one
+    resting : (asked : Request) → IsResting asked → IsVersion asked → ⊥
+    resting version is one = is
+    resting _ is one = one
 
 strange_end : (Is : Request → Type 0) → IsStrange Is → (asked : Request) (requests : Requests) → IsEnd asked → Asked Is (asks asked requests) → ⊥
 strange_end Is strange terminate requests is asked = elim asked [ inl one ↦ strange.end one | inr other ↦ absurd other.0 ]
@@ -53,7 +53,7 @@ never : (Is : Request → Type 0) → IsStrange Is → (end : End) (left : List 
     Asked Is requests → ⊥
 never Is strange end left [] requests follows asked = never_last Is strange end left requests follows asked
 never Is strange end left (front ∷ fronts) (asks one requests) follows asked =
-    elim asked [ inl is ↦ strange.calm one follows.1 is | inr other ↦ never Is strange end left fronts requests follows.2 other.1 ]
+    elim asked [ inl is ↦ strange.resting one follows.1 is | inr other ↦ never Is strange end left fronts requests follows.2 other.1 ]
 never Is strange end left (front ∷ fronts) (partial rest) follows asked = absurd asked
 never Is strange end left (front ∷ fronts) (faulty fault) follows asked = absurd asked
 never Is strange end left (front ∷ fronts) unread follows asked = absurd asked
@@ -138,16 +138,16 @@ terminate_last end left (faulty fault) is asked = absurd asked
 terminate_last end left unread is asked = absurd asked
 terminate_last _ left (asks one requests) is asked = absurd is
 
-calm_on : (asked : Request) → IsCalm asked → IsTerminate asked → ⊥
-calm_on terminate calm is = calm
-calm_on _ calm is = is
+resting_on : (asked : Request) → IsResting asked → IsTerminate asked → ⊥
+resting_on terminate resting is = resting
+resting_on _ resting is = is
 
 pub terminated_so : (end : End) (left : List ℕ) (fronts : List FrontendMessage) (requests : Requests) → Follows end left fronts requests → Asked IsTerminate requests →
     (ends.Terminated ≡ end) × Hears fronts requests
 terminated_so end left [] requests follows asked = (terminate_last end left requests follows asked, tt)
 terminated_so end left (front ∷ fronts) (asks one requests) follows asked =
     elim asked [
-      | inl is ↦ absurd (calm_on one follows.1 is)
+      | inl is ↦ absurd (resting_on one follows.1 is)
       | inr other ↦
           let further = terminated_so end left fronts requests follows.2 other.1 in
           (further.0, (follows.0, further.1))

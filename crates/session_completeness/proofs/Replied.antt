@@ -28,9 +28,9 @@ refusal_amiss _ why is = absurd is
 
 -- ---- entries of acts
 
-has_behind : (Is : Entry → Type 0) (before after : List Entry) → Has Is after → Has Is (before ++ after)
-has_behind Is [] after has = has
-has_behind Is (e ∷ before) after has = inr (has_behind Is before after has)
+has_after : (Is : Entry → Type 0) (before after : List Entry) → Has Is after → Has Is (before ++ after)
+has_after Is [] after has = has
+has_after Is (e ∷ before) after has = inr (has_after Is before after has)
 
 has_before : (Is : Entry → Type 0) (before after : List Entry) → Has Is before → Has Is (before ++ after)
 has_before Is [] after has = absurd has
@@ -41,7 +41,7 @@ abbrev IsFine : List Act → Type 0
 IsFine acts = Has IsAmiss (entries_of acts) → ⊥
 
 later_fine : (act : Act) (acts : List Act) → IsFine (act ∷ acts) → IsFine acts
-later_fine act acts fine has = fine (has_behind IsAmiss (entries_in act) (entries_of acts) has)
+later_fine act acts fine has = fine (has_after IsAmiss (entries_in act) (entries_of acts) has)
 
 -- ---- one statement
 

@@ -28,7 +28,7 @@ use Rattle.session_core.specs.Requests.{Request, encryption, cancel, start, user
 use Rattle.session_core.specs.Replies.{no_encryption, startup_reply, fatal_reply}
 use Rattle.session_core.specs.Told as told
 use Rattle.session_core.specs.Told.{outside_of, owed_by, stop_end, refusal_end, told as told_is}
-use Rattle.session_ends.proofs.Scripts.{Why, Is, IsFit, Holds, EndsIn, lost_ends, ask_ends, tell_ends, short_ends, behind_short}
+use Rattle.session_ends.proofs.Scripts.{Why, Is, IsFit, Holds, EndsIn, lost_ends, ask_ends, tell_ends, short_ends, after_short}
 use Rattle.session_ends.proofs.StatementsEnd.{fails}
 use Rattle.session_ends.proofs.MessagesEnd.{Encloses, readied, message}
 use Rattle.session_ends.proofs.SessionsEnd.{broken_ends}
@@ -87,7 +87,7 @@ ending_other owes.Rollback end other = ask_ends Other fit calls.Rollback (λ _. 
 unless_memory_ends : (phase : Phase) (rest : Script) → EndsIn Other rest → EndsIn Other (told.unless_memory_ends phase rest)
 unless_memory_ends phase rest h =
     short_ends Other true (told.ending (owed_by phase) ends.Memory) rest
-    (behind_short Other fit true (told.ending (owed_by phase) ends.Memory) (ending_other (owed_by phase) ends.Memory tt)) h
+    (after_short Other fit true (told.ending (owed_by phase) ends.Memory) (ending_other (owed_by phase) ends.Memory tt)) h
 
 abbrev GoesOther : (Phase → Knowledge → Script) → Type 0
 GoesOther rest = (state : TransactionState) (known : Knowledge) → EndsIn Other (rest (phases.Normal state) known) × EndsIn Other (rest (phases.Discarding state) known)
@@ -104,7 +104,7 @@ serving : (asked : Request) (state : TransactionState) (known : Knowledge) (rest
 serving (query asked) state known rest well = message Other fit (outside_of rest) (encloses rest well) asked state known
 serving unread_query state known rest well =
     short_ends Other false (told_message (messages.Unread states.S53200) state known (outside_of rest)) _
-    (behind_short Other fit false (told_message (messages.Unread states.S53200) state known (outside_of rest))
+    (after_short Other fit false (told_message (messages.Unread states.S53200) state known (outside_of rest))
     (message Other fit (outside_of rest) (encloses rest well) (messages.Unread states.S53200) state known))
     (lost_ends Other)
 serving terminate state known rest well = ending_other (owed_between state) ends.Terminated tt
@@ -255,7 +255,7 @@ opened rest a = on_opened a (λ session. told.tells_startup session rest) (λ wh
 
 tells_startup : (session : ℕ) (rest : Script) → EndsIn Other rest → EndsIn Other (told.tells_startup session rest)
 tells_startup session rest h =
-    short_ends Other true (told.closing ends.Memory) _ (behind_short Other fit true (told.closing ends.Memory) (closing_other ends.Memory tt))
+    short_ends Other true (told.closing ends.Memory) _ (after_short Other fit true (told.closing ends.Memory) (closing_other ends.Memory tt))
     (tell_ends Other fit (startup_reply session) (told.broken owes.Close) rest (broken_ends owes.Close) h)
 
 opened_turns : (rest : Script) → EndsIn Other rest → (a : Answer) (event : Event) (said : Said) (entries : List Entry) (all : Said) →

@@ -4,7 +4,7 @@ pub mod Somes
 pub mod Entering
 pub mod Stepping
 pub mod Meeting
-pub mod Behind
+pub mod Following
 pub mod Grows
 pub mod Flags
 pub mod LastUser

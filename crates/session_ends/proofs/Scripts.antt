@@ -86,11 +86,11 @@ pub tell_ends : (P : Why) → IsFit P → (bytes : List ℕ) (fault rest : Scrip
 tell_ends P fit bytes fault rest bad good =
     record { at = λ said entries. unsent_at P fit (length said.bytes) fault rest bad good (with_bytes said bytes) entries }
 
--- what stands behind a lack of memory ends so with that entry before it
-pub record EndsBehind (P : End → List Entry → Type 0) (final : Bool) (script : Script) : Type 0 where
+-- what stands after a lack of memory ends so with that entry before it
+pub record EndsAfter (P : End → List Entry → Type 0) (final : Bool) (script : Script) : Type 0 where
   pub at : (n : ℕ) (said : Said) (entries : List Entry) → Holds P (short final n ∷ entries) (script said entries).1
 
-short_at : (P : Why) (final : Bool) (short_of rest : Script) → EndsBehind P final short_of → EndsIn P rest → (said : Said) (entries : List Entry) →
+short_at : (P : Why) (final : Bool) (short_of rest : Script) → EndsAfter P final short_of → EndsIn P rest → (said : Said) (entries : List Entry) →
     Holds P entries (unless_short final short_of rest said entries).1
 short_at P final short_of rest bad good said [] = good.at said []
 short_at P final short_of rest bad good said (did a e ∷ entries) = good.at said (did a e ∷ entries)
@@ -106,11 +106,11 @@ short_at P false short_of rest bad good said (short true n ∷ entries) = good.a
 short_at P final short_of rest bad good said (unsent n ∷ entries) = good.at said (unsent n ∷ entries)
 short_at P final short_of rest bad good said (stop cause ∷ entries) = good.at said (stop cause ∷ entries)
 
-pub short_ends : (P : Why) (final : Bool) (short_of rest : Script) → EndsBehind P final short_of → EndsIn P rest → EndsIn P (unless_short final short_of rest)
+pub short_ends : (P : Why) (final : Bool) (short_of rest : Script) → EndsAfter P final short_of → EndsIn P rest → EndsIn P (unless_short final short_of rest)
 short_ends P final short_of rest bad good = record { at = short_at P final short_of rest bad good }
 
-pub behind_short : (P : Why) → IsFit P → (final : Bool) (script : Script) → EndsIn P script → EndsBehind P final script
-behind_short P fit final script h = record { at = λ n said entries. lifted P fit (short final n) entries (script said entries).1 (h.at said entries) }
+pub after_short : (P : Why) → IsFit P → (final : Bool) (script : Script) → EndsIn P script → EndsAfter P final script
+after_short P fit final script h = record { at = λ n said entries. lifted P fit (short final n) entries (script said entries).1 (h.at said entries) }
 
 -- ---- by the answer
 

@@ -28,7 +28,7 @@ use Rattle.session_core.specs.Replies.{no_encryption, startup_reply, fatal_reply
 use Rattle.session_core.specs.Told as told
 use Rattle.session_core.specs.Told.{outside_of, owed_by, stop_end, refusal_end, told as told_is}
 use Rattle.session_ends.specs.Causes.{IsHeardOn, Has, IsUnsent, EndsBy}
-use Rattle.session_ends.proofs.Scripts.{Why, Is, IsFit, Holds, EndsIn, EndsBehind, lifted, lost_ends, ask_ends, tell_ends, short_ends, behind_short}
+use Rattle.session_ends.proofs.Scripts.{Why, Is, IsFit, Holds, EndsIn, EndsAfter, lifted, lost_ends, ask_ends, tell_ends, short_ends, after_short}
 use Rattle.session_ends.proofs.StatementsEnd.{fails}
 use Rattle.session_ends.proofs.MessagesEnd.{Encloses, readied, message}
 
@@ -167,20 +167,20 @@ said_so requests end cause script h = record { at = λ said entries. through ent
     through entries astray is = tt
 
 -- out of memory, where that ends the session
-memory_behind : (requests : Requests) (script : Script) → EndsIn (OrUnsent ends.Memory) script → EndsBehind (By requests) true script
-memory_behind requests script h =
+memory_after : (requests : Requests) (script : Script) → EndsIn (OrUnsent ends.Memory) script → EndsAfter (By requests) true script
+memory_after requests script h =
     record { at = λ n said entries. reach requests ends.Memory (short true n) entries (inl tt) (script said entries).1 (h.at said entries) }
 
 unless_memory_ends : (requests : Requests) (phase : Phase) (rest : Script) → EndsIn (By requests) rest → EndsIn (By requests) (told.unless_memory_ends phase rest)
 unless_memory_ends requests phase rest h =
     short_ends (By requests) true (told.ending (owed_by phase) ends.Memory) rest
-    (memory_behind requests (told.ending (owed_by phase) ends.Memory) (ending_ends (owed_by phase) ends.Memory)) h
+    (memory_after requests (told.ending (owed_by phase) ends.Memory) (ending_ends (owed_by phase) ends.Memory)) h
 
 -- ---- before the startup's end
 
 tells_startup : (requests : Requests) (session : ℕ) (rest : Script) → EndsIn (By requests) rest → EndsIn (By requests) (told.tells_startup session rest)
 tells_startup requests session rest h =
-    short_ends (By requests) true (told.closing ends.Memory) _ (memory_behind requests (told.closing ends.Memory) (closing_ends ends.Memory))
+    short_ends (By requests) true (told.closing ends.Memory) _ (memory_after requests (told.closing ends.Memory) (closing_ends ends.Memory))
     (tell_ends (By requests) (by_is_fit requests) (startup_reply session) (told.broken owes.Close) rest (broken_ends owes.Close) h)
 
 -- the session that is opened, or the refusal
@@ -260,7 +260,7 @@ serving (query asked) requests state known rest well =
 serving unread_query requests state known rest well =
     goes_further unread_query requests tt _
     (short_ends (By requests) false (told_unread) _
-    (behind_short (By requests) (by_is_fit requests) false told_unread
+    (after_short (By requests) (by_is_fit requests) false told_unread
     (message (By requests) (by_is_fit requests) (outside_of rest) (encloses requests rest well) (messages.Unread states.S53200) state known))
     (lost_ends (By requests)))
   where

@@ -36,7 +36,7 @@ use Rattle.block_machine.specs.declared.block.Owed.TheVariants as owes
 use Rattle.block_machine.specs.declared.end.End.{End}
 use Rattle.block_machine.specs.declared.end.End.TheVariants as ends
 use Rattle.block_machine.specs.Script.{Entry}
-use Rattle.session_ends.proofs.Scripts.{Why, Is, IsFit, EndsIn, lost_ends, ask_ends, tell_ends, short_ends, behind_short, looked_ends, defined_ends, begun_ends, listed_ends, found_ends, written_ends, shown_ends}
+use Rattle.session_ends.proofs.Scripts.{Why, Is, IsFit, EndsIn, lost_ends, ask_ends, tell_ends, short_ends, after_short, looked_ends, defined_ends, begun_ends, listed_ends, found_ends, written_ends, shown_ends}
 
 -- what stands around a statement ends so, and where its reply can't be sent it ends with that
 pub record Surrounds (P : End → List Entry → Type 0) (around : Around) : Type 0 where
@@ -71,7 +71,7 @@ unless_short_in : (P : Why) → IsFit P → (around : Around) → Surrounds P ar
     EndsIn P (told.unless_short_in block known around script)
 unless_short_in P fit around h block known script ends_in =
     short_ends P false (told.fails states.S53200 block known around) script
-    (behind_short P fit false (told.fails states.S53200 block known around) (fails P fit around h states.S53200 block known)) ends_in
+    (after_short P fit false (told.fails states.S53200 block known around) (fails P fit around h states.S53200 block known)) ends_in
 
 -- ---- BEGIN, COMMIT, ROLLBACK
 

@@ -8,7 +8,7 @@ use Rattle.block_machine.specs.declared.end.End.TheVariants as ends
 use Rattle.session_core.specs.Requests.{Request, encryption, cancel, start, userless, version, query, unread_query, terminate, sync, nothing, extended, function, Requests, asks, partial, faulty, unread}
 use Rattle.session_ends.specs.Causes.{IsCancel, IsUserless, IsVersion, Asked, EndsInside, HasFault, EndsBy, IsServedWhole, IsWhole, EndsWell}
 
--- ---- behind the startup nothing of these comes
+-- ---- after the startup nothing of these comes
 
 record IsStrange (Is : Request → Type 0) : Type 0 where
   terminates : Is terminate → ⊥

@@ -15,7 +15,7 @@ use Rattle.session_core.specs.Told.{told}
 
 -- ---- what the client said
 
--- behind a Terminate nothing is heard
+-- after a Terminate nothing is heard
 abbrev pub IsHeardOn : Request → Type 0
 IsHeardOn terminate = ⊥
 IsHeardOn _ = Unit {0}
@@ -58,7 +58,7 @@ EndsInside (partial (byte ∷ bytes)) = Unit {0}
 EndsInside (faulty fault) = ⊥
 EndsInside unread = ⊥
 
--- the bytes behind what was heard have this fault
+-- the bytes after what was heard have this fault
 abbrev pub HasFault : FrameFault → Requests → Type 0
 HasFault fault (asks asked requests) = IsHeardOn asked × HasFault fault requests
 HasFault fault (faulty found) = found ≡ fault
@@ -119,7 +119,7 @@ EndsHaveCauses =
 
 -- ---- a client that says all that it has to say
 
--- behind the startup: any messages, and then Terminate, or the end of input between two messages
+-- after the startup: any messages, and then Terminate, or the end of input between two messages
 abbrev pub IsServedWhole : Requests → Type 0
 IsServedWhole (asks terminate requests) = Unit {0}
 IsServedWhole (asks (query asked) requests) = IsServedWhole requests

@@ -43,7 +43,7 @@ use Rattle.session_core.specs.Stands.{IsLast, Lacks, outer, owed_at, served_of, 
 use Rattle.session_core.specs.Sessions.{Stands}
 use Rattle.session_core.specs.Serve.{Account, IsOfLast}
 use Rattle.session_core.specs.Running.{Sits, MakesCall}
-use Rattle.session_core.proofs.Behind.{book_message}
+use Rattle.session_core.proofs.Following.{book_message}
 use Rattle.session_core.proofs.Playing.{may_ask}
 use Rattle.session_core.proofs.Serving.{sits_on}
 use Rattle.session_core.proofs.ValidRecords.{Declines-goes, IsValidRecord-append}

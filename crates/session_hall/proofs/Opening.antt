@@ -70,7 +70,7 @@ seated_new level client s stands stage served tables fit words stream at sent en
     record {
       attends = attends;
       shows = shows;
-      calm = λ _. none_fault (outer s.session.stage) (ap outer stage);
+      resting = λ _. none_fault (outer s.session.stage) (ap outer stage);
       served = serves_of level (empty_history level) client nothing s attends shows (λ _. none_fault (outer s.session.stage) (ap outer stage))
           (tells_new s.session stage);
     }

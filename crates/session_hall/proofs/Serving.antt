@@ -30,7 +30,7 @@ use Rattle.session_core.proofs.ValidRecords.{own_events}
 use Rattle.session_hall.specs.declared.client.Client.{Client}
 use Rattle.session_hall.specs.declared.seat.Seat.{Seat}
 use Rattle.session_hall.specs.Clients.{HasEnd, IsShown, HasCause, IsServed, no_past}
-use Rattle.session_hall.specs.Seats.{IsFrom, Attends, IsCalm, ShowsEnd, TellsAll, shown_for}
+use Rattle.session_hall.specs.Seats.{IsFrom, Attends, IsResting, ShowsEnd, TellsAll, shown_for}
 
 -- ---- the end that is shown
 
@@ -80,15 +80,15 @@ by_end : (e : End) (lost : List ℕ) → LacksBy e lost → (lost ≡ []) ⊎ (s
 by_end ends.WriteFault lost lacks = inr refl
 by_end _ lost lacks = inl lacks
 
-lost_calm : (e : End) (lost : List ℕ) → outer_end e ≢ Some ends.WriteFault → LacksBy e lost → lost ≡ []
-lost_calm ends.WriteFault lost calm lacks = absurd (calm refl)
-lost_calm _ lost calm lacks = lacks
+lost_resting : (e : End) (lost : List ℕ) → outer_end e ≢ Some ends.WriteFault → LacksBy e lost → lost ≡ []
+lost_resting ends.WriteFault lost resting lacks = absurd (resting refl)
+lost_resting _ lost resting lacks = lacks
 
-lacks_calm : (stage : SessionStage) (lost : List ℕ) → outer stage ≢ Some ends.WriteFault → Lacks stage lost → lost ≡ []
-lacks_calm (stages.Leaving finish) lost calm lacks = lost_calm (end_of finish) lost calm lacks
-lacks_calm (stages.Closing finish) lost calm lacks = lost_calm (end_of finish) lost calm lacks
-lacks_calm (stages.Ended finish) lost calm lacks = lost_calm (end_of finish) lost calm lacks
-lacks_calm _ lost calm lacks = lacks
+lacks_resting : (stage : SessionStage) (lost : List ℕ) → outer stage ≢ Some ends.WriteFault → Lacks stage lost → lost ≡ []
+lacks_resting (stages.Leaving finish) lost resting lacks = lost_resting (end_of finish) lost resting lacks
+lacks_resting (stages.Closing finish) lost resting lacks = lost_resting (end_of finish) lost resting lacks
+lacks_resting (stages.Ended finish) lost resting lacks = lost_resting (end_of finish) lost resting lacks
+lacks_resting _ lost resting lacks = lacks
 
 fault_end : (e : End) → outer_end e ≡ Some ends.WriteFault → shown_for e ≡ ends.Memory
 fault_end ends.WriteFault is = refl
@@ -97,16 +97,16 @@ fault_end _ is = absurd (cc is)
 -- a failed write is shown as a lack of memory
 pub fault_shown : (end : Option End) (s : Session) → ShowsEnd end (wants s.stage s.runner) → (end ≡ None → outer s.stage ≢ Some ends.WriteFault) →
     outer s.stage ≡ Some ends.WriteFault → end ≡ Some ends.Memory
-fault_shown None s shows calm fault = absurd (calm refl fault)
-fault_shown (Some x) s (e, w, is) calm fault =
+fault_shown None s shows resting fault = absurd (resting refl fault)
+fault_shown (Some x) s (e, w, is) resting fault =
     let (finish, stage, same) = stage_over s.stage s.runner e w in
     ap (λ (y : End). Some y)
     (is ∙ fault_end e (sym (ap outer_end same) ∙ sym (ap outer stage) ∙ fault))
 
 lost_shown : (end : Option End) (s : Session) (lost : List ℕ) → ShowsEnd end (wants s.stage s.runner) →
     (end ≡ None → outer s.stage ≢ Some ends.WriteFault) → Lacks s.stage lost → (lost ≡ []) ⊎ (end ≡ Some ends.Memory)
-lost_shown None s lost shows calm lacks = inl (lacks_calm s.stage lost (calm refl) lacks)
-lost_shown (Some x) s lost (e, w, is) calm lacks =
+lost_shown None s lost shows resting lacks = inl (lacks_resting s.stage lost (resting refl) lacks)
+lost_shown (Some x) s lost (e, w, is) resting lacks =
     let (finish, stage, same) = stage_over s.stage s.runner e w in
     elim (by_end e lost (subst (λ (y : End). LacksBy y lost) same (subst (λ (y : SessionStage). Lacks y lost) stage lacks))) [
       | inl none ↦ inl none
@@ -138,9 +138,9 @@ own_of level history client a s attends =
     own_events DrawsFirst (no_past level) client.words.items a.calls a.entries attends.follows.past s.words attends.follows.valid
 
 pub serves_of : (level : Level) (history : Chronicle) (client : Client) (a : Account) (s : Seat) → Attends level history client a s →
-    ShowsEnd s.end (wants s.session.stage s.session.runner) → (s.end ≡ None → IsCalm s) → TellsAll s.session →
+    ShowsEnd s.end (wants s.session.stage s.session.runner) → (s.end ≡ None → IsResting s) → TellsAll s.session →
     IsServed level history client s.end a
-serves_of level history client a s attends shows calm tells =
+serves_of level history client a s attends shows resting tells =
     let f = attends.follows in
     let said : Tells level a s.end = tells_by level a s.end (wants s.session.stage s.session.runner) shows
     (subst (λ (l : Level). Shows l (wants s.session.stage s.session.runner) a.taken a.entries a.calls a.sent) f.served_level
@@ -161,8 +161,8 @@ serves_of level history client a s attends shows calm tells =
       left_book = left_of level history client a s attends shows;
       own = f.lives.own ∙ own_of level history client a s attends;
       causes = λ k d within. cause_shown client.stream.items a.taken (outer s.session.stage) s.end (get_or a.entries k d)
-          (fault_shown s.end s.session shows calm) (attends.carries.causes k d within);
-      lost_is = lost_shown s.end s.session a.lost shows calm attends.carries.lacks;
+          (fault_shown s.end s.session shows resting) (attends.carries.causes k d within);
+      lost_is = lost_shown s.end s.session a.lost shows resting attends.carries.lacks;
       last = attends.carries.last;
     }
 

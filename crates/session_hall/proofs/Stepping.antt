@@ -31,7 +31,7 @@ use Rattle.session_hall.specs.declared.hall.Hall.{Hall}
 use Rattle.session_hall.specs.declared.seat.Seat.{Seat}
 use Rattle.session_hall.specs.Accounts.{Comes, KeepsNumber, Grew}
 use Rattle.session_hall.specs.Clients.{HasEnd}
-use Rattle.session_hall.specs.Seats.{Attends, Goes, IsCalm, IsCount, IsFrom, LeftUnsent, ShowsBy, ShowsEnd, TellsAll}
+use Rattle.session_hall.specs.Seats.{Attends, Goes, IsResting, IsCount, IsFrom, LeftUnsent, ShowsBy, ShowsEnd, TellsAll}
 use Rattle.session_hall.specs.Halls.{with_account, HasEnded, IsAnswer, IsSeated, IsSent, IsStep, StandsFor}
 use Rattle.session_hall.proofs.Opening.{some_item}
 use Rattle.session_hall.proofs.Growing.{comes_none, keeps_same, keeps_some}
@@ -107,10 +107,10 @@ has_session history now es k d comes within legal = λ none.
 
 pub hall_moves : (level : Level) (history : Chronicle) (clients : List Client) (accounts : ℕ → Account) (old new : Hall) (client : ℕ) (s t : Seat)
     (many : ℕ) → StandsFor level history clients accounts old → client < length clients → slice_get old.seats.items client ≡ Some s →
-    new.seats.items ≡ set old.seats.items client t → Goes history s many new.store t → ShowsEnd t.end (wanted t.session) → (t.end ≡ None → IsCalm t) →
+    new.seats.items ≡ set old.seats.items client t → Goes history s many new.store t → ShowsEnd t.end (wanted t.session) → (t.end ≡ None → IsResting t) →
     TellsAll t.session →
     (after : Account) × (now : Chronicle) × Grew (accounts client) history many after now × StandsFor level now clients (with_account accounts client after) new
-hall_moves level history clients accounts old new client s t many stands within seat_is seats goes shows calm tells =
+hall_moves level history clients accounts old new client s t many stands within seat_is seats goes shows resting tells =
     let (c, client_is) = item_at clients client within in
     let was : IsSeated level history c (accounts client) s = stands.each client c s client_is seat_is in
     let grown = goes.grows level c (accounts client) was.attends in
@@ -145,8 +145,8 @@ hall_moves level history clients accounts old new client s t many stands within 
                   (subst (λ (y : Client). IsSeated level goes.now y after t) same (record {
                     attends = attends;
                     shows = shows;
-                    calm = calm;
-                    served = serves_of level goes.now c after t attends shows calm tells;
+                    resting = resting;
+                    served = serves_of level goes.now c after t attends shows resting tells;
                   })))
               | inr other ↦
                   let before : IsSeated level history x (accounts k) seat = stands.each k x seat x_is other.1 in
@@ -169,7 +169,7 @@ hall_moves level history clients accounts old new client s t many stands within 
                   subst (λ (a : Account). IsSeated level goes.now x a seat) (sym (with_other accounts client after k other.0)) (record {
                     attends = more;
                     shows = before.shows;
-                    calm = before.calm;
+                    resting = before.resting;
                     served = serves_on level history goes.now x (accounts k) seat more before.shows before.served;
                   })
             ];
@@ -212,24 +212,24 @@ append_all_right P [] ys all = all
 append_all_right P (x ∷ xs) ys all = append_all_right P xs ys (All-tail P x (xs ++ ys) all)
 
 sent_of : (stream taken : List ℕ) (laid : Option End) (x : Entry) → laid ≢ Some ends.WriteFault → IsFrom stream taken laid x → IsSent x
-sent_of stream taken laid (unsent n) calm is = absurd (calm is)
-sent_of stream taken laid (stop cause) calm is = tt
-sent_of stream taken laid (did a e) calm is = tt
-sent_of stream taken laid (refused why) calm is = tt
-sent_of stream taken laid (short final n) calm is = tt
+sent_of stream taken laid (unsent n) resting is = absurd (resting is)
+sent_of stream taken laid (stop cause) resting is = tt
+sent_of stream taken laid (did a e) resting is = tt
+sent_of stream taken laid (refused why) resting is = tt
+sent_of stream taken laid (short final n) resting is = tt
 
 -- the client, its account and seat before a step, and after it
 pub record Stepped (level : Level) (history : Chronicle) (client : Client) (a : Account) (s : Seat) (now : Chronicle) (added : List Entry)
     (b : Account) (t : Seat) : Type 0 where
   pub before : Attends level history client a s
-  pub calm : IsCalm s
+  pub resting : IsResting s
   pub after : Attends level now client b t
   pub entries : b.entries ≡ a.entries ++ added
 
 all_sent : (level : Level) (history : Chronicle) (client : Client) (a : Account) (s : Seat) (now : Chronicle) (added : List Entry) (b : Account) (t : Seat) →
-    Stepped level history client a s now added b t → IsCalm t → All IsSent added
-all_sent level history client a s now added b t stepped calm = λ k d within.
-    sent_of client.stream.items b.taken (outer t.session.stage) (get_or added k d) calm
+    Stepped level history client a s now added b t → IsResting t → All IsSent added
+all_sent level history client a s now added b t stepped resting = λ k d within.
+    sent_of client.stream.items b.taken (outer t.session.stage) (get_or added k d) resting
     (append_all_right (IsFrom client.stream.items b.taken (outer t.session.stage)) a.entries added
     (subst (λ (es : List Entry). All (IsFrom client.stream.items b.taken (outer t.session.stage)) es) stepped.entries stepped.after.carries.causes)
     k d within)
@@ -240,7 +240,7 @@ left_unsent level history client a s now added b t stepped fault =
     let (n, has) = stepped.after.carries.unsent_is fault in (
       n,
       elim (Contains-append_cases a.entries added (unsent n) (subst (λ (es : List Entry). Contains es (unsent n)) stepped.entries has)) [
-        | inl old ↦ absurd (stepped.calm
+        | inl old ↦ absurd (stepped.resting
             (All-contains (IsFrom client.stream.items a.taken (outer s.session.stage)) a.entries (unsent n) stepped.before.carries.causes old))
         | inr new ↦ new
       ],
@@ -248,23 +248,23 @@ left_unsent level history client a s now added b t stepped fault =
 
 pub answer_of : (result : Result Outcome Memory) (level : Level) (history : Chronicle) (client : Client) (a : Account) (s : Seat) (now : Chronicle) (added : List Entry)
     (b : Account) (t : Seat) (many : ℕ) → Stepped level history client a s now added b t → IsCount result many → ShowsBy result t.end →
-    OnOk result (IsCalm t) → OnErr result (LeftUnsent t) → IsAnswer result many added t.end
-answer_of (Ok Called) level history client a s now added b t many stepped count shows calm fault =
-    (count, all_sent level history client a s now added b t stepped calm, shows)
-answer_of (Ok Ended) level history client a s now added b t many stepped count shows calm fault =
-    (count, all_sent level history client a s now added b t stepped calm, shows)
-answer_of (Err e) level history client a s now added b t many stepped count shows calm fault =
+    OnOk result (IsResting t) → OnErr result (LeftUnsent t) → IsAnswer result many added t.end
+answer_of (Ok Called) level history client a s now added b t many stepped count shows resting fault =
+    (count, all_sent level history client a s now added b t stepped resting, shows)
+answer_of (Ok Ended) level history client a s now added b t many stepped count shows resting fault =
+    (count, all_sent level history client a s now added b t stepped resting, shows)
+answer_of (Err e) level history client a s now added b t many stepped count shows resting fault =
     (left_unsent level history client a s now added b t stepped fault.laid, shows)
 
 -- the whole step of a hall
 pub hall_steps : (result : Result Outcome Memory) (level : Level) (history : Chronicle) (clients : List Client) (accounts : ℕ → Account) (old new : Hall)
     (client : ℕ) (s t : Seat) (many : ℕ) → StandsFor level history clients accounts old → client < length clients →
-    slice_get old.seats.items client ≡ Some s → new.seats.items ≡ set old.seats.items client t → IsCalm s → IsCount result many →
+    slice_get old.seats.items client ≡ Some s → new.seats.items ≡ set old.seats.items client t → IsResting s → IsCount result many →
     Goes history s many new.store t → ShowsEnd t.end (wanted t.session) → ShowsBy result t.end → TellsAll t.session →
-    (t.end ≡ None → IsCalm t) → OnOk result (IsCalm t) → OnErr result (LeftUnsent t) → IsStep clients accounts history client result level new
-hall_steps result level history clients accounts old new client s t many stands within seat_is seats calm_before count goes shows by tells calm ok fault =
+    (t.end ≡ None → IsResting t) → OnOk result (IsResting t) → OnErr result (LeftUnsent t) → IsStep clients accounts history client result level new
+hall_steps result level history clients accounts old new client s t many stands within seat_is seats resting_before count goes shows by tells resting ok fault =
     let (after, now, grew, stands_new) =
-    hall_moves level history clients accounts old new client s t many stands within seat_is seats goes shows calm tells in
+    hall_moves level history clients accounts old new client s t many stands within seat_is seats goes shows resting tells in
     let (c, client_is) = item_at clients client within in
     let at : slice_get new.seats.items client ≡ Some t =
     ap (λ (v : List Seat). slice_get v client) seats ∙ slice_get-set_same old.seats.items client t
@@ -281,7 +281,7 @@ hall_steps result level history clients accounts old new client s t many stands 
       seated = at;
       answer = answer_of result level history c (accounts client) s now grew.added after t many (record {
         before = (stands.each client c s client_is seat_is).attends;
-        calm = calm_before;
+        resting = resting_before;
         after = seated.attends;
         entries = grew.entries;
       }) count by ok fault;
@@ -361,10 +361,10 @@ pub none_end : (o : Option End) → false ≡ is_some o → o ≡ None
 none_end None is = refl
 none_end (Some e) is = absurd (cc is)
 
-pub calm_of : (result : Result Outcome Memory) (end : Option End) (P : Type 0) → ShowsBy result end → OnOk result P → end ≡ None → P
-calm_of (Ok Called) end P by ok none = ok
-calm_of (Ok Ended) end P by ok none = ok
-calm_of (Err e) end P by ok none = absurd (cc (sym by ∙ none))
+pub resting_of : (result : Result Outcome Memory) (end : Option End) (P : Type 0) → ShowsBy result end → OnOk result P → end ≡ None → P
+resting_of (Ok Called) end P by ok none = ok
+resting_of (Ok Ended) end P by ok none = ok
+resting_of (Err e) end P by ok none = absurd (cc (sym by ∙ none))
 
 pub not_ended : (hall : Hall) (k : ℕ) (a : Seat) → slice_get hall.seats.items k ≡ Some a → a.end ≡ None → HasEnded hall k → ⊥
 not_ended hall k a at none (seat, end, there, is) =

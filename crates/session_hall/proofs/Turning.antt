@@ -260,10 +260,10 @@ stopped_laid (Some ends.Closed) stream taken is whole = whole
 stopped_laid (Some ends.Cut) stream taken is whole = whole
 stopped_laid _ stream taken is whole = absurd is
 
-pub stopped_calm : (o : Option End) → IsStopped stops.EndOfInput o → o ≢ Some ends.WriteFault
-stopped_calm (Some ends.Closed) is = λ same. cc same
-stopped_calm (Some ends.Cut) is = λ same. cc same
-stopped_calm _ is = absurd is
+pub stopped_resting : (o : Option End) → IsStopped stops.EndOfInput o → o ≢ Some ends.WriteFault
+stopped_resting (Some ends.Closed) is = λ same. cc same
+stopped_resting (Some ends.Cut) is = λ same. cc same
+stopped_resting _ is = absurd is
 
 pub turn_stopped : (s t : Seat) → IsBeside s t → t.at ≡ s.at → t.sent.items ≡ s.sent.items → length s.stream.items ≤ s.at →
     wants s.session.stage s.session.runner ≡ wishes.Bytes →
@@ -295,7 +295,7 @@ turn_stopped s t beside at_is sent_is at_end wanted grown runner sits outer_is l
                 (λ fault. absurd (none_fault (outer s.session.stage) (ap outer waiting) fault)) attends.carries.causes)
                 (All-cons (IsFrom client.stream.items a.taken (outer t.session.stage)) (stop stops.EndOfInput) [] (refl, whole)
                 (All-nil (IsFrom client.stream.items a.taken (outer t.session.stage))));
-            unsent_is = λ fault. absurd (stopped_calm (outer t.session.stage) outer_is fault);
+            unsent_is = λ fault. absurd (stopped_resting (outer t.session.stage) outer_is fault);
           }),
     )
 

@@ -18,7 +18,7 @@ use Rattle.session_hall.specs.declared.hall.Hall.{Hall}
 use Rattle.session_hall.specs.declared.seat.Seat.{Seat}
 use Rattle.session_hall.specs.Accounts.{Grew, nothing}
 use Rattle.session_hall.specs.Clients.{HasEnd, IsServed, empty_history}
-use Rattle.session_hall.specs.Seats.{Attends, IsCalm, ShowsEnd}
+use Rattle.session_hall.specs.Seats.{Attends, IsResting, ShowsEnd}
 
 -- the accounts with that of one client made this one
 abbrev pub with_account : (ℕ → Account) → ℕ → Account → ℕ → Account
@@ -28,7 +28,7 @@ with_account accounts client account k = if k == client then account else accoun
 pub record IsSeated (level : Level) (history : Chronicle) (client : Client) (account : Account) (seat : Seat) : Type 0 where
   pub attends : Attends level history client account seat
   pub shows : ShowsEnd seat.end (wanted seat.session)
-  pub calm : seat.end ≡ None → IsCalm seat
+  pub resting : seat.end ≡ None → IsResting seat
   pub served : IsServed level history client seat.end account
 
 -- what holds of two lists, item by item

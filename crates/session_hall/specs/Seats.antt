@@ -163,8 +163,8 @@ IsCall (wishes.Book c) = Unit {0}
 IsCall _ = ⊥
 
 -- no reply was left unsent
-abbrev pub IsCalm : Seat → Type 0
-IsCalm seat = outer seat.session.stage ≢ Some ends.WriteFault
+abbrev pub IsResting : Seat → Type 0
+IsResting seat = outer seat.session.stage ≢ Some ends.WriteFault
 
 -- a reply was left unsent, and the session is about to leave its book
 pub record LeftUnsent (seat : Seat) : Type 0 where

@@ -4,7 +4,7 @@ ghost use Rattle.history_core.specs.Chronicle.{Chronicle, IsLegalChronicle};
 ghost use Rattle.session_core.specs.Stands.{IsFit, IsLast, message_at, outer};
 ghost use Rattle.session_core.specs.Sessions.{wanted, work_of};
 ghost use Rattle.session_core.specs.Wants.{IsOver};
-ghost use Rattle.session_hall.specs.Seats.{Grows, Goes, IsAttending, IsCall, IsCalm, IsSettled, LeftUnsent, GrowsAlone, IsCount, ShowsEnd, ShowsBy, TellsAll, shown_for};
+ghost use Rattle.session_hall.specs.Seats.{Grows, Goes, IsAttending, IsCall, IsResting, IsSettled, LeftUnsent, GrowsAlone, IsCount, ShowsEnd, ShowsBy, TellsAll, shown_for};
 
 use crate::client::Stepped;
 use crate::seat::Seat;
@@ -114,12 +114,12 @@ fn go_on(store: &mut Option<Store>, seat: &mut Seat) -> Result<Stepped, Memory>
     requires attending { (history : Chronicle) × (store.old ≡ Some history) × IsLegalChronicle history × IsAttending history seat.old }
     requires settled { IsSettled (wanted seat.old.session) }
     requires goes_on { seat.old.end ≡ None }
-    requires calm { IsCalm seat.old }
+    requires resting { IsResting seat.old }
     ensures goes { (history : Chronicle) → store.old ≡ Some history → (many : ℕ) × IsCount result many × Goes history seat.old many store.new seat.new }
     ensures shows { OnOk result (ShowsEnd seat.new.end (wanted seat.new.session)) }
     ensures by { OnOk result (ShowsBy result seat.new.end) }
     ensures told { OnOk result (TellsAll seat.new.session) }
-    ensures calm { OnOk result (IsCalm seat.new) }
+    ensures resting { OnOk result (IsResting seat.new) }
     ensures unsent { OnErr result (LeftUnsent seat.new) }
     ensures end { OnErr result (seat.new.end ≡ None) }
 {
@@ -137,12 +137,12 @@ pub(crate) fn step(store: &mut Option<Store>, seat: &mut Seat) -> Result<Stepped
     requires attending { (history : Chronicle) × (store.old ≡ Some history) × IsLegalChronicle history × IsAttending history seat.old }
     requires settled { IsSettled (wanted seat.old.session) }
     requires goes_on { seat.old.end ≡ None }
-    requires calm { IsCalm seat.old }
+    requires resting { IsResting seat.old }
     ensures goes { (history : Chronicle) → store.old ≡ Some history → (many : ℕ) × IsCount result many × Goes history seat.old many store.new seat.new }
     ensures shows { ShowsEnd seat.new.end (wanted seat.new.session) }
     ensures by { ShowsBy result seat.new.end }
     ensures told { TellsAll seat.new.session }
-    ensures calm { OnOk result (IsCalm seat.new) }
+    ensures resting { OnOk result (IsResting seat.new) }
     ensures unsent { OnErr result (LeftUnsent seat.new) }
 {
     match go_on(store, seat) {

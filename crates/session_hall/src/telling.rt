@@ -4,7 +4,7 @@ ghost use Rattle.session_core.specs.declared.stage.SessionStage.TheVariants as s
 ghost use Rattle.session_core.specs.Wants as wishes;
 ghost use Rattle.session_core.specs.Stands.{IsFit, IsHolding, IsLast, message_at, message_work};
 ghost use Rattle.session_core.specs.Sessions.{wanted, work_of};
-ghost use Rattle.session_hall.specs.Seats.{GrowsAlone, Keeps, IsSettled, IsCall, IsCallOrEnd, IsCalm, LeftUnsent, left_in};
+ghost use Rattle.session_hall.specs.Seats.{GrowsAlone, Keeps, IsSettled, IsCall, IsCallOrEnd, IsResting, LeftUnsent, left_in};
 
 use crate::seat::Seat;
 use cell_base::Memory;
@@ -17,7 +17,7 @@ fn send(seat: &mut Seat) -> Result<(), Memory>
     ensures grows { GrowsAlone seat.old seat.new }
     ensures fit { IsFit seat.new.session.runner }
     ensures keeps { Keeps seat.old seat.new }
-    ensures calm { OnOk result (IsCalm seat.old → IsCalm seat.new) }
+    ensures resting { OnOk result (IsResting seat.old → IsResting seat.new) }
     ensures unsent { OnErr result (LeftUnsent seat.new) }
     ensures work { OnOk result (work_of seat.new.session < work_of seat.old.session + message_at seat.new.session.stage) }
     ensures message { OnOk result (seat.old.session.stage ≡ stages.Running →
@@ -53,7 +53,7 @@ fn send_on(seat: &mut Seat) -> Result<(), Memory>
     ensures grows { GrowsAlone seat.old seat.new }
     ensures fit { IsFit seat.new.session.runner }
     ensures keeps { Keeps seat.old seat.new }
-    ensures calm { OnOk result (IsCalm seat.old → IsCalm seat.new) }
+    ensures resting { OnOk result (IsResting seat.old → IsResting seat.new) }
     ensures unsent { OnErr result (LeftUnsent seat.new) }
     ensures work { OnOk result (work_of seat.new.session + message_at seat.old.session.stage ≤
         work_of seat.old.session + message_at seat.new.session.stage) }
@@ -73,7 +73,7 @@ fn take(seat: &mut Seat)
     ensures grows { GrowsAlone seat.old seat.new }
     ensures fit { IsFit seat.new.session.runner }
     ensures keeps { Keeps seat.old seat.new }
-    ensures calm { IsCalm seat.new }
+    ensures resting { IsResting seat.new }
     ensures work { work_of seat.new.session < work_of seat.old.session }
 {
     seat.session.take();
@@ -85,7 +85,7 @@ fn turn(seat: &mut Seat) -> Result<bool, Memory>
     ensures grows { GrowsAlone seat.old seat.new }
     ensures fit { IsFit seat.new.session.runner }
     ensures keeps { Keeps seat.old seat.new }
-    ensures calm { OnOk result (IsCalm seat.old → IsCalm seat.new) }
+    ensures resting { OnOk result (IsResting seat.old → IsResting seat.new) }
     ensures unsent { OnErr result (LeftUnsent seat.new) }
     ensures work { IfOk result (λ more. more ≡ true → work_of seat.new.session < work_of seat.old.session + message_at seat.new.session.stage) }
     ensures settled { IfOk result (λ more. more ≡ false → IsSettled (wanted seat.new.session)) }
@@ -110,7 +110,7 @@ fn turn_on(seat: &mut Seat) -> Result<bool, Memory>
     ensures grows { GrowsAlone seat.old seat.new }
     ensures fit { IsFit seat.new.session.runner }
     ensures keeps { Keeps seat.old seat.new }
-    ensures calm { OnOk result (IsCalm seat.old → IsCalm seat.new) }
+    ensures resting { OnOk result (IsResting seat.old → IsResting seat.new) }
     ensures unsent { OnErr result (LeftUnsent seat.new) }
     ensures work { IfOk result (λ more. more ≡ true → work_of seat.new.session < work_of seat.old.session) }
     ensures settled { IfOk result (λ more. more ≡ false → IsSettled (wanted seat.new.session)) }
@@ -129,7 +129,7 @@ pub(crate) fn settle(seat: &mut Seat) -> Result<(), Memory>
     ensures grows { GrowsAlone seat.old seat.new }
     ensures fit { IsFit seat.new.session.runner }
     ensures keeps { Keeps seat.old seat.new }
-    ensures calm { OnOk result (IsCalm seat.old → IsCalm seat.new) }
+    ensures resting { OnOk result (IsResting seat.old → IsResting seat.new) }
     ensures unsent { OnErr result (LeftUnsent seat.new) }
     ensures settled { OnOk result (IsSettled (wanted seat.new.session)) }
     ensures last { IsLast seat.old.session.stage → IsLast seat.new.session.stage }
@@ -144,7 +144,7 @@ fn hear(seat: &mut Seat)
     requires fit { IsFit seat.old.session.runner }
     ensures grows { GrowsAlone seat.old seat.new }
     ensures fit { IsFit seat.new.session.runner }
-    ensures calm { IsCalm seat.new }
+    ensures resting { IsResting seat.new }
     ensures stream { seat.new.stream.items ≡ seat.old.stream.items }
     ensures end { seat.new.end ≡ seat.old.end }
     ensures heard { (seat.old.at < seat.new.at) ⊎ ((seat.new.at ≡ seat.old.at) × IsLast seat.new.session.stage) }
@@ -182,7 +182,7 @@ fn hear_on(seat: &mut Seat) -> Result<bool, Memory>
     ensures grows { GrowsAlone seat.old seat.new }
     ensures fit { IsFit seat.new.session.runner }
     ensures end { seat.new.end ≡ seat.old.end }
-    ensures calm { OnOk result (IsCalm seat.old → IsCalm seat.new) }
+    ensures resting { OnOk result (IsResting seat.old → IsResting seat.new) }
     ensures unsent { OnErr result (LeftUnsent seat.new) }
     ensures settled { OnOk result (IsSettled (wanted seat.new.session)) }
     ensures left { IfOk result (λ more. more ≡ true → left_in seat.new < left_in seat.old) }
@@ -203,7 +203,7 @@ pub(crate) fn listen(seat: &mut Seat) -> Result<(), Memory>
     ensures grows { GrowsAlone seat.old seat.new }
     ensures fit { IsFit seat.new.session.runner }
     ensures end { seat.new.end ≡ seat.old.end }
-    ensures calm { OnOk result (IsCalm seat.old → IsCalm seat.new) }
+    ensures resting { OnOk result (IsResting seat.old → IsResting seat.new) }
     ensures unsent { OnErr result (LeftUnsent seat.new) }
     ensures call { OnOk result (IsCallOrEnd (wanted seat.new.session)) }
 {

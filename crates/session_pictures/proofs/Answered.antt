@@ -56,7 +56,7 @@ any_words gives p v (c ∷ cs) (stop cause ∷ es) q w l = any_words gives p v (
 
 -- ---- the history goes on
 
--- events and tables come behind those that there were
+-- events and tables come after those that there were
 pub record Extends (p q : Past) : Type 0 where
   pub further : List Event
   pub events : q.seen.events ≡ p.seen.events ++ further

@@ -41,8 +41,8 @@ below_later a b c first second = below_from_less a c (key_total.trans a b c (les
 abbrev pub Ascends : List Key → Type 0
 Ascends keys = (k : ℕ) (a b : Key) → slice_get keys k ≡ Some a → slice_get keys (k + 1) ≡ Some b → IsKeyBelow a b
 
-behind_first : (key : Key) (keys : List Key) → Ascends (key ∷ keys) → Ascends keys
-behind_first key keys h k a b at_a at_b =
+after_first : (key : Key) (keys : List Key) → Ascends (key ∷ keys) → Ascends keys
+after_first key keys h k a b at_a at_b =
     let same : suc k + 1 ≡ suc (k + 1) = omega arith in h (suc k) a b at_a (ap (slice_get (key ∷ keys)) same ∙ at_b)
 
 all_above : (low key : Key) (keys : List Key) → IsKeyBelow low key → AllByRecursion (IsKeyBelow key) keys → AllByRecursion (IsKeyBelow low) keys
@@ -52,11 +52,11 @@ all_above low key (k ∷ ks) below h = (below_later low key k below h.0, all_abo
 above_first : (key : Key) (keys : List Key) → Ascends (key ∷ keys) → AllByRecursion (IsKeyBelow key) keys
 above_first key [] h = tt
 above_first key (k ∷ ks) h =
-    let below = h 0 key k refl refl in (below, all_above key k ks below (above_first k ks (behind_first key (k ∷ ks) h)))
+    let below = h 0 key k refl refl in (below, all_above key k ks below (above_first k ks (after_first key (k ∷ ks) h)))
 
 pub ascending_distinct : (keys : List Key) → Ascends keys → AreDistinct keys
 ascending_distinct [] h = tt
 ascending_distinct (key ∷ keys) h = (
   (λ there. not_itself key (All-contains (IsKeyBelow key) keys key (All-from_recursion (IsKeyBelow key) keys (above_first key keys h)) there)),
-  ascending_distinct keys (behind_first key keys h),
+  ascending_distinct keys (after_first key keys h),
 )

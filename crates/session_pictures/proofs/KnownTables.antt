@@ -39,7 +39,7 @@ same_front (x ∷ xs) (y ∷ ys) as' bs count is =
     let counts : length xs ≡ length ys = cc in
     ap (λ (z : Table). z ∷ xs) heads ∙ ap (λ (zs : List Table). y ∷ zs) (same_front xs ys as' bs counts tails)
 
--- a look shows the tables behind those that are known
+-- a look shows the tables after those that are known
 looked : (known tables : List Table) (p m : Past) (number : ℕ) → AreFirst known m.seen.tables → AnswersTables p number tables m → number ≡ length known
     → AreFirst (known ++ tables) m.seen.tables
 looked known tables p m number first a count =
@@ -60,37 +60,37 @@ not_learned known _ why after h = h
 
 -- ---- a record that goes on
 
-behind_short : (p : Past) (cs : List Call) (es : List Entry) (q : Past) (note : Entry) → IsNote note → IsAnswered p cs (note ∷ es) q → IsAnswered p cs es q
-behind_short p [] es q (short final n) bare l = l
-behind_short p (c ∷ cs) es q (short final n) bare l = l
-behind_short p [] es q (unsent n) bare l = l
-behind_short p (c ∷ cs) es q (unsent n) bare l = l
-behind_short p [] es q (stop cause) bare l = l
-behind_short p (c ∷ cs) es q (stop cause) bare l = l
-behind_short p cs es q (did a e) bare l = absurd bare
-behind_short p cs es q (refused why) bare l = absurd bare
+after_short : (p : Past) (cs : List Call) (es : List Entry) (q : Past) (note : Entry) → IsNote note → IsAnswered p cs (note ∷ es) q → IsAnswered p cs es q
+after_short p [] es q (short final n) bare l = l
+after_short p (c ∷ cs) es q (short final n) bare l = l
+after_short p [] es q (unsent n) bare l = l
+after_short p (c ∷ cs) es q (unsent n) bare l = l
+after_short p [] es q (stop cause) bare l = l
+after_short p (c ∷ cs) es q (stop cause) bare l = l
+after_short p cs es q (did a e) bare l = absurd bare
+after_short p cs es q (refused why) bare l = absurd bare
 
--- the past behind the steps of a run
-record Behind (p : Past) (cs : List Call) (es : List Entry) (q : Past) : Type 0 where
+-- the past after the steps of a run
+record Following (p : Past) (cs : List Call) (es : List Entry) (q : Past) : Type 0 where
   past : Past
   extends : (known : List Table) → AreFirst known p.seen.tables → AreFirst known past.seen.tables
   answered : IsAnswered past cs es q
 
-behind_steps : (steps : List Step) (taken : List Entry) (p : Past) (cs : List Call) (es : List Entry) (q : Past) → AreAnswers steps taken
-    → IsAnswered p (map call_of steps ++ cs) (taken ++ es) q → Behind p cs es q
-behind_steps [] [] p cs es q answers l = record { past = p; extends = λ known first. first; answered = l }
-behind_steps (step ∷ steps) (did a e ∷ taken) p cs es q answers l =
-    let more = behind_steps steps taken l.0 cs es q answers.1 l.4 in record {
+after_steps : (steps : List Step) (taken : List Entry) (p : Past) (cs : List Call) (es : List Entry) (q : Past) → AreAnswers steps taken
+    → IsAnswered p (map call_of steps ++ cs) (taken ++ es) q → Following p cs es q
+after_steps [] [] p cs es q answers l = record { past = p; extends = λ known first. first; answered = l }
+after_steps (step ∷ steps) (did a e ∷ taken) p cs es q answers l =
+    let more = after_steps steps taken l.0 cs es q answers.1 l.4 in record {
       past = more.past;
       extends = λ known first. more.extends known (first_later known p l.0 first (happens_extends p (call_of step) a e l.0 l.2));
       answered = more.answered;
     }
-behind_steps [] (entry ∷ taken) p cs es q answers l = absurd answers
-behind_steps (step ∷ steps) [] p cs es q answers l = absurd answers
-behind_steps (step ∷ steps) (refused why ∷ taken) p cs es q answers l = absurd answers
-behind_steps (step ∷ steps) (short final n ∷ taken) p cs es q answers l = absurd answers
-behind_steps (step ∷ steps) (unsent n ∷ taken) p cs es q answers l = absurd answers
-behind_steps (step ∷ steps) (stop cause ∷ taken) p cs es q answers l = absurd answers
+after_steps [] (entry ∷ taken) p cs es q answers l = absurd answers
+after_steps (step ∷ steps) [] p cs es q answers l = absurd answers
+after_steps (step ∷ steps) (refused why ∷ taken) p cs es q answers l = absurd answers
+after_steps (step ∷ steps) (short final n ∷ taken) p cs es q answers l = absurd answers
+after_steps (step ∷ steps) (unsent n ∷ taken) p cs es q answers l = absurd answers
+after_steps (step ∷ steps) (stop cause ∷ taken) p cs es q answers l = absurd answers
 
 -- ---- the tables of each run
 
@@ -120,10 +120,10 @@ runs_over_first known asked (asks c (short final n) ∷ acts) next rest p q is l
 runs_over_first known asked (asks c (unsent n) ∷ acts) next rest p q is l first = absurd is.1
 runs_over_first known asked (asks c (stop cause) ∷ acts) next rest p q is l first = absurd is.1
 runs_over_first known asked (meets entry ∷ acts) next rest p q is l first =
-    (tt, runs_over_first known asked acts next rest p q is.1 (behind_short p (calls_of acts) (entries_of acts ++ rest) q entry is.0 l) first)
+    (tt, runs_over_first known asked acts next rest p q is.1 (after_short p (calls_of acts) (entries_of acts ++ rest) q entry is.0 l) first)
 runs_over_first known asked (runs r ∷ acts) next rest p q is l first =
     let whole = subst (λ (es : List Entry). IsAnswered p (map call_of r.steps ++ calls_of acts) es q) (append_assoc r.entries (entries_of acts) rest) l in
-    let behind = behind_steps r.steps r.entries p (calls_of acts) (entries_of acts ++ rest) q is.3.answered whole in (
+    let following = after_steps r.steps r.entries p (calls_of acts) (entries_of acts ++ rest) q is.3.answered whole in (
       over_first known r p q is.3.over first (extends_to p (map call_of r.steps ++ calls_of acts) (r.entries ++ (entries_of acts ++ rest)) q whole),
-      runs_over_first known is.1 acts next rest behind.past q is.5 behind.answered (behind.extends known first),
+      runs_over_first known is.1 acts next rest following.past q is.5 following.answered (following.extends known first),
     )

@@ -27,7 +27,7 @@ step_good (lists table keys) e h = h
 step_good (finds cell value) e h = (tt, h)
 step_good (puts cell value) e h = (tt, h)
 
--- the steps of a run, and what comes behind them
+-- the steps of a run, and what comes after them
 steps_good : (steps : List Step) (taken : List Entry) (cs : List Call) (es : List Entry) → AreAnswers steps taken
     → AreGood (map call_of steps ++ cs) (taken ++ es) → AllByRecursion ListsOnce steps × AreEvents steps taken × AreGood cs es
 steps_good [] [] cs es answered h = (tt, tt, h)

@@ -1,4 +1,4 @@
--- A statement that runs: its steps, what is left of its course, and what comes behind.
+-- A statement that runs: its steps, what is left of its course, and what comes after.
 use Rattle.std.proofs.Common.{◌≡◌, inl, inr, ◌==◌, true, false, List, [], ◌∷◌, ◌++◌, length, map, refl, sym, subst, ap, ◌∙◌, append_assoc, Ok}
 use Rattle.std.proofs.lemmas.Bool.{cond_both}
 use Rattle.cell_base.specs.declared.sql_state.SqlState.TheVariants as states
@@ -30,7 +30,7 @@ use Rattle.session_pictures.proofs.Failing.{fails_answers, concludes_answers}
 
 -- ---- a course that goes on
 
--- steps of the course, with the entries that hold their answers, and what came behind them
+-- steps of the course, with the entries that hold their answers, and what came after them
 record Progress (shown : List Table) (asked : List Statement) (description : RowDescription) (course : Course) (said : Said) (entries : List Entry) (result : Said × Next) : Type 0 where
   steps : List Step
   taken : List Entry

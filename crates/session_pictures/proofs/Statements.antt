@@ -127,7 +127,7 @@ shows_traced asked description name block known around h said entries =
     (λ _. shows_history_traced asked description block known around h)
     (λ _. shows_value_traced asked description name (value_of known.level name) block known around h) said entries
 
--- ---- statements on tables, with what comes behind them
+-- ---- statements on tables, with what comes after them
 
 continues_traced : (asked : List Statement) (s : Statement) (tables : List Table) (t : Typed) (description : RowDescription) (as_told : description ≡ described.Told) (block : Block) (known : Knowledge) (around : Around)
     → tables ≡ known.tables → typed tables s ≡ Ok t → AroundTraced asked around → Traced known.tables (s ∷ asked) (continues description (course_of tables t) block known around)

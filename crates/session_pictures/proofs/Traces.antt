@@ -114,7 +114,7 @@ lost_traced shown asked said entries = nothing shown asked said astray entries t
 abbrev pub IsPlain : Call → Type 0
 IsPlain c = (a : Answer) (e : Event) → IsOther c (did a e)
 
--- a call behind which a session knows the same tables
+-- a call after which a session knows the same tables
 abbrev pub Keeps : List Table → Call → Type 0
 Keeps shown c = (entry : Entry) → Learns shown c entry shown
 
@@ -209,9 +209,9 @@ starts_answers shown asked reply script h said entries =
     let r = h said entries in
     (r.0, subst (λ (acts : List Act). Replies reply acts (script said entries).1) (sym r.1.1) (at_once r.1.0 (script said entries).1))
 
-abbrev behind_rollback : (shown : List Table) (asked : List Statement) (reply : List ℕ) (said : Said) (entry : Entry) (entries : List Entry) (result : Said × Next)
+abbrev after_rollback : (shown : List Table) (asked : List Statement) (reply : List ℕ) (said : Said) (entry : Entry) (entries : List Entry) (result : Said × Next)
     → IsOther calls.Rollback entry → Begun shown asked reply (with_call said calls.Rollback) entries result → Replied shown asked reply said (entry ∷ entries) result
-behind_rollback shown asked reply said entry entries result other r = (
+after_rollback shown asked reply said entry entries result other r = (
   asks_first shown shown asked said calls.Rollback entry entries result other refl r.0,
   subst (λ (acts : List Act). Replies reply (asks calls.Rollback entry ∷ acts) result.1) (sym r.1.1) (rolled_back entry r.1.0 result.1),
 )
@@ -220,9 +220,9 @@ pub rollback_answers : (shown : List Table) (asked : List Statement) (reply : Li
     → Answers shown asked reply (ask calls.Rollback (λ _. script))
 rollback_answers shown asked reply script h said [] = (nothing shown asked said (call calls.Rollback) [] refl, unsaid)
 rollback_answers shown asked reply script h said (did a e ∷ entries) =
-    let now = with_call said calls.Rollback in behind_rollback shown asked reply said (did a e) entries (script now entries) tt (h now entries)
+    let now = with_call said calls.Rollback in after_rollback shown asked reply said (did a e) entries (script now entries) tt (h now entries)
 rollback_answers shown asked reply script h said (refused fault ∷ entries) =
-    let now = with_call said calls.Rollback in behind_rollback shown asked reply said (refused fault) entries (script now entries) tt (h now entries)
+    let now = with_call said calls.Rollback in after_rollback shown asked reply said (refused fault) entries (script now entries) tt (h now entries)
 rollback_answers shown asked reply script h said (short final n ∷ entries) = (nothing shown asked said astray (short final n ∷ entries) tt, lost_before [])
 rollback_answers shown asked reply script h said (unsent n ∷ entries) = (nothing shown asked said astray (unsent n ∷ entries) tt, lost_before [])
 rollback_answers shown asked reply script h said (stop cause ∷ entries) = (nothing shown asked said astray (stop cause ∷ entries) tt, lost_before [])

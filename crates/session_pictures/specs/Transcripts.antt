@@ -1,4 +1,4 @@
--- When acts are a session's transcript: each call of a cell that was answered is a step of a statement that ran, and what was told behind
+-- When acts are a session's transcript: each call of a cell that was answered is a step of a statement that ran, and what was told after
 -- a statement is what it came to.
 use Rattle.std.specs.Prelude.{◌≡◌, ◌⊎◌, ℕ, ⊤, length, List, [], ◌∷◌, ◌++◌, true, false, Ok}
 use Rattle.cell_base.specs.declared.sql_state.SqlState.TheVariants as states
@@ -41,7 +41,7 @@ Refuses (refused fault) why = why ≡ fault
 Refuses (did (answers.Refused fault) event) why = why ≡ fault
 Refuses _ why = ⊥
 
--- how a statement's run ended, by what was left of its course, and what came behind it
+-- how a statement's run ended, by what was left of its course, and what came after it
 pub data Ends (description : RowDescription) : Course → List Act → Next → Type 0 where
   -- nothing was left, and it was told what it came to
   finished : (outcome : Outcome) (acts : List Act) (next : Next) → Replies (reply_for description outcome) acts next
@@ -86,7 +86,7 @@ IsNote (unsent n) = ⊤
 IsNote (stop cause) = ⊤
 IsNote _ = ⊥
 
--- The tables that a session knows after a call. A look shows those behind the ones that it knew; where memory runs out at once, it forgets
+-- The tables that a session knows after a call. A look shows those after the ones that it knew; where memory runs out at once, it forgets
 -- them again.
 abbrev pub Learns : List Table → Call → Entry → List Table → Type 0
 Learns known (calls.Look number) (did (answers.Looked tables) event) after = (number ≡ length known) × ((after ≡ known ++ tables) ⊎ (after ≡ known))

@@ -4,7 +4,7 @@ ghost use Rattle.session_pictures.specs.Laws.{EachStatementHasOnePicture, Served
 use link_traits::Words;
 
 /// What a session says and asks by its record has a transcript: each call of a cell that was answered is a step of a statement of
-/// the client, and behind each statement that ran to its end it was told what the statement came to.
+/// the client, and after each statement that ran to its end it was told what the statement came to.
 pub fn session_has_transcript()
     ensures { SessionHasTranscript }
 {}

@@ -80,7 +80,7 @@ keeps_first xs ys shown owed (write cell v rest) first keeps = (
 )
 keeps_first xs ys shown owed (done outcome) first keeps = keeps
 
--- the first tables, and those that a look shows behind them
+-- the first tables, and those that a look shows after them
 pub looked : (known before shown rest all : List Table) (n : ℕ) → all ≡ known ++ rest → all ≡ before ++ shown → length before ≡ n → n ≤ length known →
     take n known ++ shown ≡ all
 looked known before shown rest all n one other long within =

@@ -19,7 +19,7 @@ use Rattle.history_core.proofs.RowLists.{slice_get-drop}
 use Rattle.link_laws.proofs.OwnEvents.{own_here, own_other}
 use Rattle.whole_rows.specs.Rows.{IsField, NeedsWholeRows, WritesBetween, ShowsRow, WasShown, KeepsRows}
 use Rattle.row_courses.specs.Rows.{fields_from, fields_in, fields_of_row, shown_after, owed_after, MayWrite}
-use Rattle.session_rows.specs.Alone.{MayFollow, shown_behind, owed_behind, KeepsRowsFrom, KeepsRowsAlone}
+use Rattle.session_rows.specs.Alone.{MayFollow, shown_following, owed_following, KeepsRowsFrom, KeepsRowsAlone}
 
 -- ---- lists
 
@@ -74,7 +74,7 @@ by_value shown (Presence t k) (value.Text text) table key there = inl there
 by_value shown (Field t k c) v table key there = inl there
 
 -- a row that was shown before the event, or by it
-shown_step : (shown : List (ℕ × Key)) (e : Event) (table : ℕ) (key : Key) → Contains (shown_behind shown e) (table, key) →
+shown_step : (shown : List (ℕ × Key)) (e : Event) (table : ℕ) (key : Key) → Contains (shown_following shown e) (table, key) →
     (Contains shown (table, key) × (is_begin e ≡ false)) ⊎ ShowsRow e table key
 shown_step shown (Begin s level) table key there = absurd (none_there (table, key) there)
 shown_step shown (Read s cell source count word v) table key there =
@@ -141,7 +141,7 @@ pays_write tables owed s cell written_cell v may there = elim (written tables ow
 ]
 
 pays : (tables : List Table) (shown : List (ℕ × Key)) (owed : List Cell) (e : Event) (cell : Cell) → is_end e ≡ false → MayFollow tables shown owed e →
-    Contains owed cell → IsWriteOf cell e ⊎ Contains (owed_behind tables owed e) cell
+    Contains owed cell → IsWriteOf cell e ⊎ Contains (owed_following tables owed e) cell
 pays tables shown owed (Write s c v) cell goes may there = pays_write tables owed s cell c v may there
 pays tables shown owed (Commit s) cell goes may there = absurd (false≢true (sym goes))
 pays tables shown owed (Rollback s) cell goes may there = absurd (false≢true (sym goes))
@@ -192,7 +192,7 @@ paid tables s (y ∷ ys) shown owed keeps (suc m) e is same needs goes cell ther
       elim (pays tables shown owed y cell (goes 0 y (omega arith) refl here) both.0 there) [
         | inl it ↦ record { place = 0; event = y; below = omega arith; is = refl; same = here; pays_it = it }
         | inr on ↦
-            paid_later y ys m s cell (paid tables s ys (shown_behind shown y) (owed_behind tables owed y) both.1 m e is same needs
+            paid_later y ys m s cell (paid tables s ys (shown_following shown y) (owed_following tables owed y) both.1 m e is same needs
             (λ r f under at of_it. goes (suc r) f (omega arith) at of_it) cell on)
       ]
 ]
@@ -217,7 +217,7 @@ record Reached (tables : List Table) (shown : List (ℕ × Key)) (xs : List Even
   rows : List (ℕ × Key)
   cells : List Cell
   may : MayFollow tables rows cells e
-  on : KeepsRowsFrom tables (shown_behind rows e) (owed_behind tables cells e) (own_events (drop (suc p) xs) s)
+  on : KeepsRowsFrom tables (shown_following rows e) (owed_following tables cells e) (own_events (drop (suc p) xs) s)
   seen : (table : ℕ) (key : Key) → Contains rows (table, key) → StillShown shown xs p s table key ⊎ ShownBefore xs p s table key
 
 before_later : (x : Event) (xs : List Event) (p s table : ℕ) (key : Key) → ShownBefore xs p s table key → ShownBefore (x ∷ xs) (suc p) s table key
@@ -253,7 +253,7 @@ first_shown x xs p s table key same shows on = record { place = 0; event = x; be
     quiet (suc r) f low high is same = on r f (omega arith) is same
 
 seen_step : (shown : List (ℕ × Key)) (x : Event) (xs : List Event) (p s table : ℕ) (key : Key) → session_in x ≡ s →
-    StillShown (shown_behind shown x) xs p s table key ⊎ ShownBefore xs p s table key →
+    StillShown (shown_following shown x) xs p s table key ⊎ ShownBefore xs p s table key →
     StillShown shown (x ∷ xs) (suc p) s table key ⊎ ShownBefore (x ∷ xs) (suc p) s table key
 seen_step shown x xs p s table key same (inr at) = inr (before_later x xs p s table key at)
 seen_step shown x xs p s table key same (inl still) = elim (shown_step shown x table key still.there) [
@@ -282,7 +282,7 @@ reached tables s (x ∷ xs) shown owed keeps zero e is same =
 reached tables s (x ∷ xs) shown owed keeps (suc p) e is same = elim (cases_eq (session_in x) s) [
   | inl here ↦
       let both = subst (λ (es : List Event). KeepsRowsFrom tables shown owed es) (own_here x xs s here) keeps in
-      let on = reached tables s xs (shown_behind shown x) (owed_behind tables owed x) both.1 p e is same in
+      let on = reached tables s xs (shown_following shown x) (owed_following tables owed x) both.1 p e is same in
       record {
         rows = on.rows;
         cells = on.cells;
@@ -358,15 +358,15 @@ keeps_rows tables events alone = record {
       let at = reached tables session events [] [] (alone session) place write first.is refl in
       let sessions : session ≡ session_in event = start_session events number session (session_in event) first.start last.start first.starts last.starts in
       let starts : first.start ≡ last.start = start_unique events number session (session_in event) first.start last.start first.starts last.starts in
-      let gap = behind (suc place) later (omega arith) in
+      let gap = following (suc place) later (omega arith) in
       let there : slice_get (drop (suc place) events) gap.0 ≡ Some event =
       slice_get-drop events (suc place) gap.0 ∙ ap (λ (n : ℕ). slice_get events n) gap.1 ∙ last.is in
       writes_between events number place later write event (Field table key column) first last sessions starts less gap.0 gap.1
-      (paid tables session (drop (suc place) events) (shown_behind at.rows write) (fields_of_row tables table key) at.on gap.0 event there (sym sessions) needs
+      (paid tables session (drop (suc place) events) (shown_following at.rows write) (fields_of_row tables table key) at.on gap.0 event there (sym sessions) needs
       (λ r f under is same. last.running (suc place + r) f (let h = first.after in omega (arith, starts)) (let h = gap.1 in omega arith)
       (sym (slice_get-drop events (suc place) r) ∙ is) (same ∙ sessions))
       (Field table key column) (field_of_row tables table column key field));
-  behind = λ number place session table column source count word key v of.
+  following = λ number place session table column source count word key v of.
       let read : Event = Read session (Field table key column) source count word v in
       let at = reached tables session events [] [] (alone session) place read of.is refl in (
         at.may.1.0,
@@ -377,7 +377,7 @@ keeps_rows tables events alone = record {
       );
 }
   where
-    behind : (low high : ℕ) → low ≤ high → (n : ℕ) × (low + n ≡ high)
-    behind zero high le = (high, omega arith)
-    behind (suc low) zero le = absurd (omega arith)
-    behind (suc low) (suc high) le = let on = behind low high (omega arith) in (on.0, let e = on.1 in omega arith)
+    following : (low high : ℕ) → low ≤ high → (n : ℕ) × (low + n ≡ high)
+    following zero high le = (high, omega arith)
+    following (suc low) zero le = absurd (omega arith)
+    following (suc low) (suc high) le = let on = following low high (omega arith) in (on.0, let e = on.1 in omega arith)

@@ -23,9 +23,9 @@ use Rattle.session_core.specs.Told.{told}
 use Rattle.session_core.specs.Record.{Happens, Declines, may_be_refused, IsValidRecord, events_of}
 use Rattle.link_laws.proofs.Rules.{Obeys}
 use Rattle.link_laws.proofs.SessionsKept.{session_keeps}
-use Rattle.session_rows.specs.Alone.{AreFirst, MayFollow, shown_behind, owed_behind, KeepsRowsFrom, KeepsRowsAlone}
+use Rattle.session_rows.specs.Alone.{AreFirst, MayFollow, shown_following, owed_following, KeepsRowsFrom, KeepsRowsAlone}
 use Rattle.session_rows.proofs.Fronts.{first_all, first_then, ask_first, write_first, owed_first, looked}
-use Rattle.session_rows.proofs.Standings.{Standing, MayCall, behind, rows, rows_fit}
+use Rattle.session_rows.proofs.Standings.{Standing, MayCall, following, rows, rows_fit}
 
 -- ---- the tables that a book has seen
 
@@ -73,8 +73,8 @@ valid_first gives p v (c ∷ cs) (stop cause ∷ es) q w valid = valid_first giv
 -- the event of a call that keeps to the rules keeps rows whole, and leads where the rules say
 record Follows (tables : List Table) (s t : Standing) (e : Event) (seen : List Table) : Type 0 where
   may : MayFollow tables s.shown s.owed e
-  shown : t.shown ≡ shown_behind s.shown e
-  owed : t.owed ≡ owed_behind tables s.owed e
+  shown : t.shown ≡ shown_following s.shown e
+  owed : t.owed ≡ owed_following tables s.owed e
   known : AreFirst t.known seen
 
 -- of the event that the call makes
@@ -94,37 +94,37 @@ record Around (tables known seen : List Table) : Type 0 where
   all : AreFirst known tables
 
 touched : (tables : List Table) (p : Past) (cell : Cell) (value : Value) (e : Event) (m : Past) (s : Standing) → Happens p (calls.Touch cell) (answers.Found value) e m →
-    MayCall s (calls.Touch cell) → Around tables s.known m.seen.tables → Follows tables s (behind s (calls.Touch cell) (answers.Found value)) e m.seen.tables
+    MayCall s (calls.Touch cell) → Around tables s.known m.seen.tables → Follows tables s (following s (calls.Touch cell) (answers.Found value)) e m.seen.tables
 touched tables p cell value e m s h may around = elim h.0 [
   | inl back ↦
-      follows_as tables s (behind s (calls.Touch cell) (answers.Found value)) e (events.Own (session_of p.state) cell value) m.seen.tables back.event_is
+      follows_as tables s (following s (calls.Touch cell) (answers.Found value)) e (events.Own (session_of p.state) cell value) m.seen.tables back.event_is
       (record { may = may.0; shown = refl; owed = refl; known = around.on })
   | inr from ↦
-      follows_as tables s (behind s (calls.Touch cell) (answers.Found value)) e (events.Read (session_of p.state) cell from.source from.count from.word value) m.seen.tables
+      follows_as tables s (following s (calls.Touch cell) (answers.Found value)) e (events.Read (session_of p.state) cell from.source from.count from.word value) m.seen.tables
       from.event_is (record { may = (may.0, ask_first s.known tables s.shown cell around.all may.1); shown = refl; owed = refl; known = around.on })
 ]
 
 follows : (tables : List Table) (p : Past) (c : Call) (a : Answer) (e : Event) (m : Past) (s : Standing) → Happens p c a e m → MayCall s c →
-    AreFirst s.known p.seen.tables → Around tables s.known m.seen.tables → Follows tables s (behind s c a) e m.seen.tables
+    AreFirst s.known p.seen.tables → Around tables s.known m.seen.tables → Follows tables s (following s c a) e m.seen.tables
 follows tables p calls.Open (answers.Opened n) e m s h may first around =
     follows_as tables s s e (events.Open n) m.seen.tables h.0 (record { may = may; shown = refl; owed = refl; known = around.on })
 follows tables p calls.Close answers.Closed e m s h may first around =
     follows_as tables s s e (events.Close (session_of p.state)) m.seen.tables h.0 (record { may = may; shown = refl; owed = refl; known = around.on })
 follows tables p (calls.Look known) (answers.Looked shown) e m s h may first around =
-    follows_as tables s (behind s (calls.Look known) (answers.Looked shown)) e (events.Look (session_of p.state) (length m.seen.tables)) m.seen.tables h.0
+    follows_as tables s (following s (calls.Look known) (answers.Looked shown)) e (events.Look (session_of p.state) (length m.seen.tables)) m.seen.tables h.0
     (record { may = may.0; shown = refl; owed = refl; known = look_known p m s known shown first may.1 h.1 })
 follows tables p (calls.Define table) (answers.Defined (defines.Defined n)) e m s h may first around =
     follows_as tables s s e (events.Define (session_of p.state) table.name) m.seen.tables h.0 (record { may = may; shown = refl; owed = refl; known = around.on })
 follows tables p (calls.Define table) (answers.Defined (defines.Taken n)) e m s h may first around =
     follows_as tables s s e (events.Look (session_of p.state) n) m.seen.tables h.0 (record { may = may; shown = refl; owed = refl; known = around.on })
 follows tables p (calls.Begin level) (answers.Begun n) e m s h may first around =
-    follows_as tables s (behind s (calls.Begin level) (answers.Begun n)) e (events.Begin (session_of p.state) level) m.seen.tables h.0
+    follows_as tables s (following s (calls.Begin level) (answers.Begun n)) e (events.Begin (session_of p.state) level) m.seen.tables h.0
     (record { may = may; shown = refl; owed = refl; known = around.on })
 follows tables p (calls.Scan table) (answers.Listed keys) e m s h may first around =
     follows_as tables s s e (events.Scan (session_of p.state) table keys) m.seen.tables h.0 (record { may = may; shown = refl; owed = refl; known = around.on })
 follows tables p (calls.Touch cell) (answers.Found value) e m s h may first around = touched tables p cell value e m s h may around
 follows tables p (calls.Write cell value) answers.Written e m s h may first around =
-    follows_as tables s (behind s (calls.Write cell value) answers.Written) e (events.Write (session_of p.state) cell value) m.seen.tables h.0 (record {
+    follows_as tables s (following s (calls.Write cell value) answers.Written) e (events.Write (session_of p.state) cell value) m.seen.tables h.0 (record {
       may = write_first s.known tables s.owed cell value around.all may;
       shown = refl;
       owed = owed_first s.known tables s.owed cell value around.all may;
@@ -133,13 +133,13 @@ follows tables p (calls.Write cell value) answers.Written e m s h may first arou
 follows tables p calls.Commit answers.Committed e m s h may first around =
     follows_as tables s s e (events.Commit (session_of p.state)) m.seen.tables h.0 (record { may = may; shown = refl; owed = refl; known = around.on })
 follows tables p calls.Rollback answers.RolledBack e m s h may first around =
-    follows_as tables s (behind s calls.Rollback answers.RolledBack) e (events.Rollback (session_of p.state)) m.seen.tables h.0
+    follows_as tables s (following s calls.Rollback answers.RolledBack) e (events.Rollback (session_of p.state)) m.seen.tables h.0
     (record { may = tt; shown = refl; owed = refl; known = around.on })
 follows tables p calls.Show (answers.Shown n) e m s h may first around =
     follows_as tables s s e (events.Show (session_of p.state) n) m.seen.tables h.0 (record { may = may; shown = refl; owed = refl; known = around.on })
 follows tables p _ _ e m s h may first around = absurd h
 
-same : (c : Call) (why : BookFault) → may_be_refused c → (s : Standing) → behind s c (answers.Refused why) ≡ s
+same : (c : Call) (why : BookFault) → may_be_refused c → (s : Standing) → following s c (answers.Refused why) ≡ s
 same calls.Open why may s = refl
 same calls.Close why may s = refl
 same (calls.Look known) why may s = refl
@@ -153,7 +153,7 @@ same calls.Rollback why may s = absurd may
 same calls.Show why may s = refl
 
 -- a refused call leaves the session where it stands
-refused_same : (p : Past) (c : Call) (why : BookFault) (m : Past) (s : Standing) → Declines p c why m → behind s c (answers.Refused why) ≡ s
+refused_same : (p : Past) (c : Call) (why : BookFault) (m : Past) (s : Standing) → Declines p c why m → following s c (answers.Refused why) ≡ s
 refused_same p c (faults.Full limit) m s declines = same c (faults.Full limit) declines.0 s
 refused_same p c faults.Memory m s declines = same c faults.Memory declines.0 s
 
@@ -163,7 +163,7 @@ next_keeps : (tables : List Table) (s t : Standing) (e : Event) (seen : List Tab
     KeepsRowsFrom tables t.shown t.owed more → KeepsRowsFrom tables s.shown s.owed (e ∷ more)
 next_keeps tables s t e seen more is keeps = (
   is.may,
-  subst (λ (shown : List (ℕ × Key)). KeepsRowsFrom tables shown (owed_behind tables s.owed e) more) is.shown
+  subst (λ (shown : List (ℕ × Key)). KeepsRowsFrom tables shown (owed_following tables s.owed e) more) is.shown
       (subst (λ (owed : List Cell). KeepsRowsFrom tables t.shown owed more) is.owed keeps),
 )
 
@@ -183,8 +183,8 @@ record_keeps gives tables s p v (c ∷ cs) (did a e ∷ es) q w valid obeys firs
     let rest = first_then m.seen.tables q.seen.tables tables (valid_first gives m valid.1 cs es q w valid.4) last in
     let on = first_then s.known p.seen.tables m.seen.tables first step in
     let is = follows tables p c a e m s valid.2 obeys.0 first (record { on = on; all = first_then s.known m.seen.tables tables on rest }) in
-    next_keeps tables s (behind s c a) e m.seen.tables (events_of es) is
-    (record_keeps gives tables (behind s c a) m valid.1 cs es q w valid.4 obeys.1 is.known last)
+    next_keeps tables s (following s c a) e m.seen.tables (events_of es) is
+    (record_keeps gives tables (following s c a) m valid.1 cs es q w valid.4 obeys.1 is.known last)
 record_keeps gives tables s p v (c ∷ cs) (refused why ∷ es) q w valid obeys first last =
     let m : Past = valid.0 in
     record_keeps gives tables s m valid.1 cs es q w valid.4

@@ -34,23 +34,23 @@ MayCall s (calls.Write cell value) = MayWrite s.known s.owed cell value
 MayCall s calls.Rollback = Unit {0}
 MayCall s _ = s.owed ≡ []
 
-abbrev pub behind : Standing → Call → Answer → Standing
-behind s (calls.Look n) (answers.Looked tables) = record { known = take n s.known ++ tables; shown = s.shown; owed = s.owed }
-behind s (calls.Begin level) (answers.Begun n) = record { known = s.known; shown = []; owed = s.owed }
-behind s (calls.Touch cell) (answers.Found value) = record { known = s.known; shown = shown_after s.shown cell value; owed = s.owed }
-behind s (calls.Write cell value) answers.Written = record { known = s.known; shown = s.shown; owed = owed_after s.known s.owed cell value }
-behind s calls.Rollback a = record { known = s.known; shown = s.shown; owed = [] }
-behind s _ _ = s
+abbrev pub following : Standing → Call → Answer → Standing
+following s (calls.Look n) (answers.Looked tables) = record { known = take n s.known ++ tables; shown = s.shown; owed = s.owed }
+following s (calls.Begin level) (answers.Begun n) = record { known = s.known; shown = []; owed = s.owed }
+following s (calls.Touch cell) (answers.Found value) = record { known = s.known; shown = shown_after s.shown cell value; owed = s.owed }
+following s (calls.Write cell value) answers.Written = record { known = s.known; shown = s.shown; owed = owed_after s.known s.owed cell value }
+following s calls.Rollback a = record { known = s.known; shown = s.shown; owed = [] }
+following s _ _ = s
 
 -- between two statements nothing is owed, and what the session knows are the first tables that it was shown
-abbrev pub IsCalm : Standing → Knowledge → Type 0
-IsCalm s k = (s.owed ≡ []) × AreFirst k.tables s.known
+abbrev pub IsResting : Standing → Knowledge → Type 0
+IsResting s k = (s.owed ≡ []) × AreFirst k.tables s.known
 
 abbrev pub IsRunning : Standing → Knowledge → Course → Type 0
 IsRunning s k c = AreFirst k.tables s.known × KeepsWhole s.known s.shown s.owed c
 
 abbrev pub rows : Rules
-rows = record { State = Standing; may = MayCall; next = behind; Fresh = IsCalm; Calm = IsCalm; Runs = IsRunning }
+rows = record { State = Standing; may = MayCall; next = following; Fresh = IsResting; Resting = IsResting; Runs = IsRunning }
 
 -- ---- the tables that a look shows
 
@@ -62,30 +62,30 @@ first_short : (xs ys : List Table) → AreFirst xs ys → length xs ≤ length y
 first_short xs ys first =
     let long : length ys ≡ length xs + length first.more = ap length first.whole ∙ length-append xs first.more in omega arith
 
-after_look : (s : Standing) (k : Knowledge) (a : Answer) → IsCalm s k → IsCalm (behind s (calls.Look (length k.tables)) a) k
-after_look s k (answers.Looked tables) calm =
-    (calm.0, record { more = tables; whole = ap (λ (ts : List Table). ts ++ tables) (first_taken k.tables s.known calm.1) })
-after_look s k _ calm = calm
+after_look : (s : Standing) (k : Knowledge) (a : Answer) → IsResting s k → IsResting (following s (calls.Look (length k.tables)) a) k
+after_look s k (answers.Looked tables) resting =
+    (resting.0, record { more = tables; whole = ap (λ (ts : List Table). ts ++ tables) (first_taken k.tables s.known resting.1) })
+after_look s k _ resting = resting
 
-looked_at : (s : Standing) (k : Knowledge) (tables : List Table) → IsCalm s k →
-    IsCalm (behind s (calls.Look (length k.tables)) (answers.Looked tables)) (with_tables k tables)
-looked_at s k tables calm = (
-  calm.0,
+looked_at : (s : Standing) (k : Knowledge) (tables : List Table) → IsResting s k →
+    IsResting (following s (calls.Look (length k.tables)) (answers.Looked tables)) (with_tables k tables)
+looked_at s k tables resting = (
+  resting.0,
   record {
     more = [];
-    whole = ap (λ (ts : List Table). ts ++ tables) (first_taken k.tables s.known calm.1) ∙ sym (append-nil (k.tables ++ tables));
+    whole = ap (λ (ts : List Table). ts ++ tables) (first_taken k.tables s.known resting.1) ∙ sym (append-nil (k.tables ++ tables));
   },
 )
 
-after_begin : (s : Standing) (k : Knowledge) (level : Level) (a : Answer) → IsCalm s k → IsCalm (behind s (calls.Begin level) a) k
-after_begin s k level (answers.Begun n) calm = calm
-after_begin s k level _ calm = calm
+after_begin : (s : Standing) (k : Knowledge) (level : Level) (a : Answer) → IsResting s k → IsResting (following s (calls.Begin level) a) k
+after_begin s k level (answers.Begun n) resting = resting
+after_begin s k level _ resting = resting
 
-runs_from : (s : Standing) (k : Knowledge) (statement : Statement) (t : Typed) → IsCalm s k → typed k.tables statement ≡ Ok t → IsRunning s k (course_of k.tables t)
-runs_from s k statement t calm is = (
-  calm.1,
-  subst (λ (owed : List Cell). KeepsWhole s.known s.shown owed (course_of k.tables t)) (sym calm.0)
-      (keeps_first k.tables s.known s.shown [] (course_of k.tables t) calm.1 (statement_keeps k.tables statement t s.shown is)),
+runs_from : (s : Standing) (k : Knowledge) (statement : Statement) (t : Typed) → IsResting s k → typed k.tables statement ≡ Ok t → IsRunning s k (course_of k.tables t)
+runs_from s k statement t resting is = (
+  resting.1,
+  subst (λ (owed : List Cell). KeepsWhole s.known s.shown owed (course_of k.tables t)) (sym resting.0)
+      (keeps_first k.tables s.known s.shown [] (course_of k.tables t) resting.1 (statement_keeps k.tables statement t s.shown is)),
 )
 
 rolled_back : (s : Standing) (k : Knowledge) → AreFirst k.tables s.known → Breaks rows s k
@@ -94,15 +94,15 @@ rolled_back s k first = (tt, λ a. (refl, first))
 pub rows_fit : AreFit rows
 rows_fit = record {
   opens = λ s k fresh. (fresh.0, λ session. fresh);
-  closes = λ s k calm. calm.0;
-  looks = λ s k calm. ((calm.0, first_short k.tables s.known calm.1), λ a. after_look s k a calm);
-  looked = λ s k tables calm. looked_at s k tables calm;
-  levels = λ s k level calm. calm;
-  defines = λ s k table calm. (calm.0, λ a. calm);
-  begins = λ s k level calm. (calm.0, λ a. after_begin s k level a calm);
-  commits = λ s k calm. (calm.0, λ a. calm);
-  rolls_back = λ s k calm. rolled_back s k calm.1;
-  shows = λ s k calm. (calm.0, λ a. calm);
+  closes = λ s k resting. resting.0;
+  looks = λ s k resting. ((resting.0, first_short k.tables s.known resting.1), λ a. after_look s k a resting);
+  looked = λ s k tables resting. looked_at s k tables resting;
+  levels = λ s k level resting. resting;
+  defines = λ s k table resting. (resting.0, λ a. resting);
+  begins = λ s k level resting. (resting.0, λ a. after_begin s k level a resting);
+  commits = λ s k resting. (resting.0, λ a. resting);
+  rolls_back = λ s k resting. rolled_back s k resting.1;
+  shows = λ s k resting. (resting.0, λ a. resting);
   runs = runs_from;
   scans = λ s k table rest running. (running.1.0, λ keys. (running.0, running.1.1 keys), λ why. rolled_back s k running.0);
   touches = λ s k cell rest running.

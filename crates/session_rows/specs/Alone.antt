@@ -22,22 +22,22 @@ MayFollow tables shown owed (Rollback session) = Unit {0}
 MayFollow tables shown owed _ = owed ≡ []
 
 -- the rows that were shown to be there, once the event has come
-abbrev pub shown_behind : List (ℕ × Key) → Event → List (ℕ × Key)
-shown_behind shown (Begin session level) = []
-shown_behind shown (Read session cell source count word value) = shown_after shown cell value
-shown_behind shown (Own session cell value) = shown_after shown cell value
-shown_behind shown _ = shown
+abbrev pub shown_following : List (ℕ × Key) → Event → List (ℕ × Key)
+shown_following shown (Begin session level) = []
+shown_following shown (Read session cell source count word value) = shown_after shown cell value
+shown_following shown (Own session cell value) = shown_after shown cell value
+shown_following shown _ = shown
 
 -- the fields that are owed then
-abbrev pub owed_behind : List Table → List Cell → Event → List Cell
-owed_behind tables owed (Write session cell value) = owed_after tables owed cell value
-owed_behind tables owed (Rollback session) = []
-owed_behind tables owed _ = owed
+abbrev pub owed_following : List Table → List Cell → Event → List Cell
+owed_following tables owed (Write session cell value) = owed_after tables owed cell value
+owed_following tables owed (Rollback session) = []
+owed_following tables owed _ = owed
 
 abbrev pub KeepsRowsFrom : List Table → List (ℕ × Key) → List Cell → List Event → Type 0
 KeepsRowsFrom tables shown owed [] = Unit {0}
 KeepsRowsFrom tables shown owed (e ∷ es) =
-    MayFollow tables shown owed e × KeepsRowsFrom tables (shown_behind shown e) (owed_behind tables owed e) es
+    MayFollow tables shown owed e × KeepsRowsFrom tables (shown_following shown e) (owed_following tables owed e) es
 
 -- one after another, from the first one on
 abbrev pub KeepsRowsAlone : List Table → List Event → Type 0

@@ -84,10 +84,10 @@ fn push_data_row(alloc: Global, out: &mut Vec<u8>, fields: &str) -> Result<(), U
 
 // An error or a notice, as `ERROR 42601 syntax error`: its severity in the fields S and V, its code and its text.
 fn push_report(alloc: Global, out: &mut Vec<u8>, kind: u8, report: &str) -> Result<(), Unread> {
-    let Some((severity, behind)) = report.split_once(' ') else {
+    let Some((severity, following)) = report.split_once(' ') else {
         return Err(Unread::Line);
     };
-    let Some((code, text)) = behind.split_once(' ') else {
+    let Some((code, text)) = following.split_once(' ') else {
         return Err(Unread::Line);
     };
     let mut body = Vec::new(alloc);

@@ -3,7 +3,7 @@ use Rattle.std.proofs.Common.{◌≡◌, ◌<◌, ◌+◌, ◌-◌, ℕ, zero, s
 use Rattle.std.proofs.lemmas.List.{drop-drop}
 use Rattle.std.proofs.lemmas.Bool.{cond-true, cond-false}
 use Rattle.client_framing.specs.Fronts.{number_at}
-use Rattle.setup_client.specs.Errors.{has_message, kind_at, behind}
+use Rattle.setup_client.specs.Errors.{has_message, kind_at, following}
 use Rattle.setup_client.specs.Blocks.{is_in_block, says_block, block_among}
 
 -- no message is there
@@ -17,7 +17,7 @@ block_there zero bytes some whole says = absurd (omega (arith, some))
 block_there (suc more) bytes some whole says = cond-true _ _ _ whole ∙ cond-true _ _ _ says
 
 -- it is another one
-other_there : (more : ℕ) (bytes : List ℕ) → has_message bytes ≡ true → says_block bytes ≡ false → block_among (suc more) bytes ≡ block_among more (behind bytes)
+other_there : (more : ℕ) (bytes : List ℕ) → has_message bytes ≡ true → says_block bytes ≡ false → block_among (suc more) bytes ≡ block_among more (following bytes)
 other_there more bytes whole other = cond-true _ _ _ whole ∙ cond-false _ _ _ other
 
 one_less : (n k : ℕ) → k < n → suc (n - (k + 1)) ≡ n - k

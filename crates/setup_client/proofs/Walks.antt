@@ -5,7 +5,7 @@ use Rattle.std.proofs.lemmas.Bool.{cond-true, cond-false, ne_eqb}
 use Rattle.cell_base.specs.Texts.{HasNoZero}
 use Rattle.client_framing.specs.Fronts.{number_at}
 use Rattle.cell_base.proofs.Zeros.{NoZero, no_zero_from}
-use Rattle.setup_client.specs.Errors.{text_at, is_field, field_from, fault_of, has_message, kind_at, body_at, behind, number_behind, first_among}
+use Rattle.setup_client.specs.Errors.{text_at, is_field, field_from, fault_of, has_message, kind_at, body_at, following, number_after, first_among}
 
 text_by : (text after : List ℕ) → NoZero text → text_at (text ++ 0 ∷ after) ≡ text
 text_by [] after none = refl
@@ -49,7 +49,7 @@ error_there (suc more) number bytes some whole error = cond-true _ _ _ whole ∙
 
 -- the message at the front is none
 pub other_there : (more number : ℕ) (bytes : List ℕ) → has_message bytes ≡ true → kind_at bytes == 69 ≡ false →
-    first_among (suc more) number bytes ≡ first_among more (number_behind (kind_at bytes) number) (behind bytes)
+    first_among (suc more) number bytes ≡ first_among more (number_after (kind_at bytes) number) (following bytes)
 other_there more number bytes whole other = cond-true _ _ _ whole ∙ cond-false _ _ _ other
 
 -- what is left of a slice
@@ -59,7 +59,7 @@ rest_is bytes at = take_all (length bytes - at) (drop at bytes) (omega (arith, l
 one_less : (n k : ℕ) → k < n → suc (n - (k + 1)) ≡ n - k
 one_less n k less = omega (arith, less)
 
--- The walk ends where no message stands, or with the error that stands there; else it goes on behind the message, with one message less to come.
+-- The walk ends where no message stands, or with the error that stands there; else it goes on after the message, with one message less to come.
 module _ (told : List ℕ) (counter at number : ℕ) (bytes : List ℕ) (is : bytes ≡ drop at told) (within : counter < length told) where
   pub walk_ends : has_message bytes ≡ false → None ≡ first_among (length told - counter) number (drop at told)
   walk_ends none =
@@ -73,10 +73,10 @@ module _ (told : List ℕ) (counter at number : ℕ) (bytes : List ℕ) (is : by
       ∙ ap (first_among (length told - counter) number) is
 
   pub walk_goes_on : (size : ℕ) → size ≡ 1 + number_at 1 bytes → has_message bytes ≡ true → kind_at bytes == 69 ≡ false →
-      first_among (length told - (counter + 1)) (number_behind (kind_at bytes) number) (drop (at + size) told)
+      first_among (length told - (counter + 1)) (number_after (kind_at bytes) number) (drop (at + size) told)
       ≡ first_among (length told - counter) number (drop at told)
   walk_goes_on size size_is whole other =
-      ap (first_among (length told - (counter + 1)) (number_behind (kind_at bytes) number))
+      ap (first_among (length told - (counter + 1)) (number_after (kind_at bytes) number))
       (sym (drop-drop size at told) ∙ ap (drop size) (sym is) ∙ ap (λ (n : ℕ). drop n bytes) size_is)
       ∙ sym (other_there (length told - (counter + 1)) number bytes whole other)
       ∙ ap (λ (n : ℕ). first_among n number bytes) (one_less (length told) counter within)

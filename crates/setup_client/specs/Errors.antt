@@ -14,7 +14,7 @@ text_at (byte ∷ bytes) = if byte == 0 then [] else byte ∷ text_at bytes
 abbrev pub is_field : Bool → ℕ → ℕ → Bool
 is_field begins letter byte = if begins then byte == letter else false
 
--- The value of the first field of this letter, given whether a field begins here: one begins at the front, and behind each zero byte.
+-- The value of the first field of this letter, given whether a field begins here: one begins at the front, and after each zero byte.
 abbrev pub field_from : Bool → ℕ → List ℕ → List ℕ
 field_from begins letter [] = []
 field_from begins letter (byte ∷ bytes) = if is_field begins letter byte then text_at bytes else field_from (byte == 0) letter bytes
@@ -37,21 +37,21 @@ has_message bytes = if nat_lt (length bytes) 5 then false else (if nat_lt (numbe
 abbrev pub kind_at : List ℕ → ℕ
 kind_at bytes = slice_index bytes 0
 
--- what stands behind its length
+-- what stands after its length
 abbrev pub body_at : List ℕ → List ℕ
 body_at bytes = slice_range bytes 5 (1 + number_at 1 bytes)
 
--- what stands behind the message
-abbrev pub behind : List ℕ → List ℕ
-behind bytes = drop (1 + number_at 1 bytes) bytes
+-- what stands after the message
+abbrev pub following : List ℕ → List ℕ
+following bytes = drop (1 + number_at 1 bytes) bytes
 
 -- a statement is done: CommandComplete, or EmptyQueryResponse
 abbrev pub ends_statement : ℕ → Bool
 ends_statement kind = if kind == 67 then true else kind == 73
 
--- the number of the statement that goes on behind a message of this kind
-abbrev pub number_behind : ℕ → ℕ → ℕ
-number_behind kind number = if ends_statement kind then number + 1 else number
+-- the number of the statement that goes on after a message of this kind
+abbrev pub number_after : ℕ → ℕ → ℕ
+number_after kind number = if ends_statement kind then number + 1 else number
 
 -- the first ErrorResponse of at most so many messages, given the number of the statement that goes on at first
 abbrev pub first_among : ℕ → ℕ → List ℕ → Option StatementFault
@@ -59,7 +59,7 @@ first_among zero number bytes = None
 first_among (suc more) number bytes =
     if has_message bytes then
     (if kind_at bytes == 69 then Some (fault_of number (body_at bytes))
-    else first_among more (number_behind (kind_at bytes) number) (behind bytes))
+    else first_among more (number_after (kind_at bytes) number) (following bytes))
     else None
 
 -- The first error that these bytes tell, and the number of its statement, from 1: one more than the statements that were done before it. There

@@ -2,7 +2,7 @@
 ghost use Rattle.std.specs.Prelude.{◌≡◌, ◌≤◌, ◌<◌, ◌+◌, ◌∷◌, ◌++◌, length, true, false, IfOk, IfSome, IsNone, IfNone};
 ghost use Rattle.cell_base.specs.Texts.{HasNoZero};
 ghost use Rattle.client_framing.specs.Fronts.{number_at};
-ghost use Rattle.setup_client.specs.Errors.{text_at as text_before, is_field as begins_field, field as field_of, fault_of as fault, has_message, number_behind as next_number, first_error as first_of};
+ghost use Rattle.setup_client.specs.Errors.{text_at as text_before, is_field as begins_field, field as field_of, fault_of as fault, has_message, number_after as next_number, first_error as first_of};
 
 use byteorder::{BigEndian, ByteOrder};
 use cell_base::{Items, Memory};
@@ -83,9 +83,9 @@ fn fault_of(alloc: Global, number: u64, body: &[u8]) -> Result<StatementFault, M
     })
 }
 
-// The number of four bytes behind the first one.
+// The number of four bytes after the first one.
 #[tactic(auto, unfolding(client_framing::specs::Spelling::number_of))]
-fn number_behind_kind(bytes: &[u8]) -> usize
+fn number_after_kind(bytes: &[u8]) -> usize
     requires { 5 ≤ length bytes.now }
     ensures value { result ≡ number_at 1 bytes.now }
     ensures short { result < 4294967296 }
@@ -102,7 +102,7 @@ pub(crate) fn size_of(bytes: &[u8]) -> Option<usize>
     if bytes.len() < 5 {
         return None;
     }
-    let counted = number_behind_kind(bytes);
+    let counted = number_after_kind(bytes);
     if counted < 4 {
         return None;
     }
@@ -113,8 +113,8 @@ pub(crate) fn size_of(bytes: &[u8]) -> Option<usize>
     }
 }
 
-// The number of the statement that goes on behind a message of this kind.
-fn number_behind(kind: u8, number: u64) -> u64
+// The number of the statement that goes on after a message of this kind.
+fn number_after(kind: u8, number: u64) -> u64
     requires { number < 18446744073709551615 }
     ensures value { result ≡ next_number kind number }
     ensures little { result ≤ number + 1 }
@@ -143,7 +143,7 @@ pub fn first_error(alloc: Global, told: &[u8]) -> Result<Option<StatementFault>,
             let fault = fault_of(alloc, number, &bytes[5..size])?;
             return Ok(Some(fault));
         }
-        number = number_behind(kind, number);
+        number = number_after(kind, number);
         at += size;
     }
     Ok(None)

@@ -16,7 +16,7 @@ use Rattle.setup_session.specs.Setups.{no_past, Ran}
 abbrev pub Run : Scene (List ℕ) → Served → Scene (List ℕ) → Type 0
 Run before outcome after = (account : Account) × Serves DrawsFirst levels.Cc before outcome after account
 
--- what the link tells behind the session
+-- what the link tells after the session
 abbrev pub seen_after : Traffic → ℕ → ℕ → Sight
 seen_after traffic read_faults write_faults = record { traffic = Some traffic; read_faults = read_faults; write_faults = write_faults }
 

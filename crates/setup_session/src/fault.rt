@@ -10,7 +10,7 @@ pub enum SetupFault {
     TooLong,
     /// A statement failed, or the text couldn't be read.
     Statement(StatementFault),
-    /// No error was told, and the text ends inside a block: no COMMIT stands behind its last BEGIN, so what the block wrote would be gone.
+    /// No error was told, and the text ends inside a block: no COMMIT stands after its last BEGIN, so what the block wrote would be gone.
     Unfinished,
     /// Neither came, and the session ended otherwise than its client said: so where its replies have more bytes than there is room for.
     Ended(End),

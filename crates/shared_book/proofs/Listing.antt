@@ -88,7 +88,7 @@ no_event s (Happened e t ∷ xs) none =
     (λ same. absurd (let z : true ≡ false = sym (eq-eqb (session_in e) s same) ∙ both.0 in cc z))
     (no_event s xs both.1)
 
--- what comes behind a list in which the own entries of a key are whole has none of this key
+-- what comes after a list in which the own entries of a key are whole has none of this key
 pub rest_foreign : (s : ℕ) (seen rest own : List Entry) → HasKey key_of s own → IsComplete key_of seen own → IsComplete key_of (seen ++ rest) own →
     All (λ (e : Event). session_in e ≢ s) (events_of rest)
 rest_foreign s seen rest own has before after =

@@ -45,14 +45,14 @@ pub turned_is : {A : Type 0} (place after : Place) (does : Past → A → Past �
 turned_is place after does x y old new answer seen state left at stands legal legal_after adds did =
     let then : new.state ≡ state_at after y.events = state_is after new.state new.seen.events at stands ∙ ap (λ (h : Chronicle). state_at after h.events) (sym left) in
     let before : old ≡ past_with x old.own (state_at place x.events) = λ i. record { seen = seen i; own = old.own; state = state i } in
-    let behind : new ≡ past_with y new.own (state_at after y.events) = λ i. record { seen = (sym left) i; own = new.own; state = then i } in
+    let following : new ≡ past_with y new.own (state_at after y.events) = λ i. record { seen = (sym left) i; own = new.own; state = then i } in
     record {
       legal = legal;
       legal_after = subst (λ (h : Chronicle). IsLegalChronicle h) (sym left) legal_after;
       mine = old.own;
       ours = new.own;
-      adds = subst (λ (z : Past × Past). AddsOne z.0 z.1) (λ i. (before i, behind i)) adds;
-      did = subst (λ (z : Past × Past). does z.0 answer z.1) (λ i. (before i, behind i)) did;
+      adds = subst (λ (z : Past × Past). AddsOne z.0 z.1) (λ i. (before i, following i)) adds;
+      did = subst (λ (z : Past × Past). does z.0 answer z.1) (λ i. (before i, following i)) did;
       stands = subst (λ (h : Chronicle). StandsIn (state_at after y.events) h.events) (sym left)
           (subst (λ (s : SessionState). StandsIn s new.seen.events) then stands);
     }

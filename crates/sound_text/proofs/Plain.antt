@@ -10,7 +10,7 @@ use Rattle.sql_lexer.specs.Tokens.{token, StandsFor}
 use Rattle.cell_base.specs.Texts.{HasNoZero}
 use Rattle.sql_grammar.specs.Limited.{IsPlainKind}
 use Rattle.sound_text.specs.Laws.{TokensArePlain, BuiltIsSound}
-use Rattle.sound_text.proofs.Zeros.{before, behind, folded_free, quoted_free}
+use Rattle.sound_text.proofs.Zeros.{before, following, folded_free, quoted_free}
 
 kind_plain : {joined : Bool} {bytes after : List ℕ} {k : TokenKind} → IsToken joined bytes after k → HasNoZero bytes → IsPlainKind k
 kind_plain (IsToken.word joined b bytes after start all stops short free) h =
@@ -29,9 +29,9 @@ Plain t = IsPlainKind t.kind
 
 all_plain : {joined : Bool} {at : ℕ} {text : List ℕ} {ts : List Token} → StandsFor joined at text ts → HasNoZero text → All Plain ts
 all_plain (StandsFor.ended joined at) h = All-nil Plain
-all_plain (StandsFor.gap joined at bytes after ts p s) h = all_plain s (behind bytes after h)
+all_plain (StandsFor.gap joined at bytes after ts p s) h = all_plain s (following bytes after h)
 all_plain (StandsFor.kind joined at bytes after k ts p s) h =
-    All-cons Plain (token k at (at + length bytes)) ts (kind_plain p (before bytes after h)) (all_plain s (behind bytes after h))
+    All-cons Plain (token k at (at + length bytes)) ts (kind_plain p (before bytes after h)) (all_plain s (following bytes after h))
 
 pub tokens_plain : TokensArePlain
 tokens_plain text tokens h cut t at = All-contains Plain tokens t (all_plain cut h) at

@@ -26,8 +26,8 @@ both b z n h (suc k, lt, e) = h (k, omega arith, e)
 pub before : (xs ys : List ℕ) → HasNoZero (xs ++ ys) → HasNoZero xs
 before xs ys h at = h (Contains-append_left xs ys 0 at)
 
-pub behind : (xs ys : List ℕ) → HasNoZero (xs ++ ys) → HasNoZero ys
-behind xs ys h at = h (Contains-append_right xs ys 0 at)
+pub following : (xs ys : List ℕ) → HasNoZero (xs ++ ys) → HasNoZero ys
+following xs ys h at = h (Contains-append_right xs ys 0 at)
 
 -- ---- words in small letters
 

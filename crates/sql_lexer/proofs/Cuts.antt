@@ -12,7 +12,7 @@ use Rattle.sql_lexer.specs.Front.{Front, piece, Gives}
 use Rattle.sql_lexer.specs.Lexemes.{joins}
 use Rattle.sql_lexer.specs.Tokens.{StandsFor, FirstFault, IsFaultOf, token}
 use Rattle.sql_lexer.proofs.Sound.{GapFront, TokenFront, IsSound, piece_sound}
-use Rattle.sql_lexer.proofs.Utf8.{gap_behind, token_behind}
+use Rattle.sql_lexer.proofs.Utf8.{gap_after, token_after}
 
 -- what is found in a text with a byte stands there
 sound : (joined : Bool) (at : ℕ) (z : List ℕ) (r : Front) → 1 ≤ length z → piece joined at z ≡ r → IsSound joined at z r
@@ -52,10 +52,10 @@ kind_fault joined at len z k f g st =
     subst P (sym g.splits) (FirstFault.kind joined at g.bytes g.after k f g.is (subst R g.size (subst Q (rest_is z g.bytes g.after len g.splits g.size) st)))
 
 gap_utf8 : (z : List ℕ) (len : ℕ) → GapFront z len → IsUtf8 z → IsUtf8 (drop len z)
-gap_utf8 z len g u = let P : List ℕ → Type 0 = λ y. IsUtf8 y in subst P (sym (rest_is z g.bytes g.after len g.splits g.size)) (gap_behind g.is (subst P g.splits u))
+gap_utf8 z len g u = let P : List ℕ → Type 0 = λ y. IsUtf8 y in subst P (sym (rest_is z g.bytes g.after len g.splits g.size)) (gap_after g.is (subst P g.splits u))
 
 kind_utf8 : (joined : Bool) (z : List ℕ) (len : ℕ) (k : TokenKind) → TokenFront joined z len k → IsUtf8 z → IsUtf8 (drop len z)
-kind_utf8 joined z len k g u = let P : List ℕ → Type 0 = λ y. IsUtf8 y in subst P (sym (rest_is z g.bytes g.after len g.splits g.size)) (token_behind g.is (subst P g.splits u))
+kind_utf8 joined z len k g u = let P : List ℕ → Type 0 = λ y. IsUtf8 y in subst P (sym (rest_is z g.bytes g.after len g.splits g.size)) (token_after g.is (subst P g.splits u))
 
 -- The tokens so far complete to those of the whole text by whatever stands for the rest, and a fault of the rest is the text's.
 pub record CutSo (text : List ℕ) (joined : Bool) (at : ℕ) (found : List Token) : Type 0 where

@@ -18,20 +18,20 @@ Reading joined at text = ((ts : List Token) × StandsFor joined at text ts) ⊎ 
 abbrev Within : ℕ → Type 0
 Within n = (joined : Bool) (at : ℕ) (text : List ℕ) → length text ≤ n → Reading joined at text
 
-behind_gap : (joined : Bool) (at len : ℕ) (z : List ℕ) → GapFront z len → Reading false (at + len) (drop len z) → Reading joined at z
-behind_gap joined at len z g (inl r) = inl (r.0, gap_stands joined at len z r.0 g r.1)
-behind_gap joined at len z g (inr r) = inr (r.0, gap_fault joined at len z r.0 g r.1)
+following_gap : (joined : Bool) (at len : ℕ) (z : List ℕ) → GapFront z len → Reading false (at + len) (drop len z) → Reading joined at z
+following_gap joined at len z g (inl r) = inl (r.0, gap_stands joined at len z r.0 g r.1)
+following_gap joined at len z g (inr r) = inr (r.0, gap_fault joined at len z r.0 g r.1)
 
-behind_kind : (joined : Bool) (at len : ℕ) (z : List ℕ) (k : TokenKind) → TokenFront joined z len k → Reading (joins k) (at + len) (drop len z) → Reading joined at z
-behind_kind joined at len z k g (inl r) = inl (token k at (at + len) ∷ r.0, kind_stands joined at len z k r.0 g r.1)
-behind_kind joined at len z k g (inr r) = inr (r.0, kind_fault joined at len z k r.0 g r.1)
+following_kind : (joined : Bool) (at len : ℕ) (z : List ℕ) (k : TokenKind) → TokenFront joined z len k → Reading (joins k) (at + len) (drop len z) → Reading joined at z
+following_kind joined at len z k g (inl r) = inl (token k at (at + len) ∷ r.0, kind_stands joined at len z k r.0 g r.1)
+following_kind joined at len z k g (inr r) = inr (r.0, kind_fault joined at len z k r.0 g r.1)
 
-behind : (n : ℕ) → Within n → (joined : Bool) (at : ℕ) (z : List ℕ) → length z ≤ suc n → (p : Piece) (len : ℕ) → PieceFront joined z p len → Reading joined at z
-behind n again joined at z h Gap len g = let some = gap_some g.is in let size = g.size in behind_gap joined at len z g (again false (at + len) (drop len z) (omega (arith, length-drop len z)))
-behind n again joined at z h (Kind k) len g = let some = token_some g.is in let size = g.size in behind_kind joined at len z k g (again (joins k) (at + len) (drop len z) (omega (arith, length-drop len z)))
+following : (n : ℕ) → Within n → (joined : Bool) (at : ℕ) (z : List ℕ) → length z ≤ suc n → (p : Piece) (len : ℕ) → PieceFront joined z p len → Reading joined at z
+following n again joined at z h Gap len g = let some = gap_some g.is in let size = g.size in following_gap joined at len z g (again false (at + len) (drop len z) (omega (arith, length-drop len z)))
+following n again joined at z h (Kind k) len g = let some = token_some g.is in let size = g.size in following_kind joined at len z k g (again (joins k) (at + len) (drop len z) (omega (arith, length-drop len z)))
 
 in_front : (n : ℕ) → Within n → (joined : Bool) (at : ℕ) (z : List ℕ) → length z ≤ suc n → (r : Front) → IsSound joined at z r → Reading joined at z
-in_front n again joined at z h (Ok p) s = behind n again joined at z h p.0 p.1 s
+in_front n again joined at z h (Ok p) s = following n again joined at z h p.0 p.1 s
 in_front n again joined at z h (Err f) s = inr (f, FirstFault.here joined at z f s)
 
 some_within : (n : ℕ) → Within n

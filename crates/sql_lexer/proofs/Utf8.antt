@@ -38,8 +38,8 @@ from a b z h u =
     rw (drop-append_seam a (b ∷ z)) at (IsUtf8-drop (a ++ b ∷ z) (length a) u (IsCharBoundary-before_ascii (a ++ b ∷ z) (length a) (seam_within a b z) (seam_low a b z h)))
 
 -- a text after an ASCII byte at its front
-pub behind : (b : ℕ) (z : List ℕ) → b < 128 → IsUtf8 (b ∷ z) → IsUtf8 z
-behind b z h u = IsUtf8-drop (b ∷ z) 1 u (IsCharBoundary-after_ascii (b ∷ z) 0 u (omega arith) h)
+pub following : (b : ℕ) (z : List ℕ) → b < 128 → IsUtf8 (b ∷ z) → IsUtf8 z
+following b z h u = IsUtf8-drop (b ∷ z) 1 u (IsCharBoundary-after_ascii (b ∷ z) 0 u (omega arith) h)
 
 -- a text without the doubling of a quote
 doubled_step : (q b : ℕ) (a t : List ℕ) → q < 128 → ((a : List ℕ) → IsUtf8 (a ++ doubled q t) → IsUtf8 (a ++ t)) → (v : Bool) → (b == q) ≡ v
@@ -47,7 +47,7 @@ doubled_step : (q b : ℕ) (a t : List ℕ) → q < 128 → ((a : List ℕ) → 
 doubled_step q b a t h again true e u =
     let same : b ≡ q = eqb-true b q e in
     let low : b < 128 = omega arith in
-    let rest = again [] (behind q (doubled q t) h (behind q (q ∷ doubled q t) h (from a q (q ∷ doubled q t) h u))) in
+    let rest = again [] (following q (doubled q t) h (following q (q ∷ doubled q t) h (from a q (q ∷ doubled q t) h u))) in
     IsUtf8-append a (b ∷ t) (before a q (q ∷ doubled q t) h u) (IsUtf8-append (b ∷ []) t (ascii b low) rest)
 doubled_step q b a t h again false e u =
     let P : List ℕ → Type 0 = λ z. IsUtf8 z in
@@ -74,7 +74,7 @@ folded_step b a z again u (inl e) =
     subst P (ap (λ x. a ++ x ∷ folded z) (sym e)) (subst P two (again (a ++ b ∷ []) (subst P (sym one) u)))
 folded_step b a z again u (inr h) =
     IsUtf8-append a (to_ascii_lowercase b ∷ folded z) (before a b z h.0 u)
-    (IsUtf8-append (to_ascii_lowercase b ∷ []) (folded z) (ascii (to_ascii_lowercase b) h.1) (again [] (behind b z h.0 (from a b z h.0 u))))
+    (IsUtf8-append (to_ascii_lowercase b ∷ []) (folded z) (ascii (to_ascii_lowercase b) h.1) (again [] (following b z h.0 (from a b z h.0 u))))
 
 folded_within : (a z : List ℕ) → IsUtf8 (a ++ z) → IsUtf8 (a ++ folded z)
 folded_within a [] u = u
@@ -95,7 +95,7 @@ content_text q (b ∷ r) end some h u e f =
     let size : end - 1 - 1 ≡ length (doubled q c.text) = omega arith in
     let inner : take (end - 1 - 1) r ≡ doubled q c.text = ap (λ y. take (end - 1 - 1) y) c.splits ∙ ap (λ n. take n (doubled q c.text ++ q ∷ c.after)) size ∙ take-append_seam (doubled q c.text) (q ∷ c.after) in
     let value : content q false (take (end - 1 - 1) r) ≡ c.text = ap (λ y. content q false y) inner ∙ content_doubled q c.text in
-    subst P (sym value) (doubled_within q [] c.text h (before (doubled q c.text) q c.after h (subst P c.splits (behind b r low u))))
+    subst P (sym value) (doubled_within q [] c.text h (before (doubled q c.text) q c.after h (subst P c.splits (following b r low u))))
 
 -- what a word doesn't go on with is ASCII
 pub past_word_low : (b : ℕ) → is_in_word b ≡ false → b < 128
@@ -107,9 +107,9 @@ word_text z end u within stops = IsUtf8-take z end u (within, λ lt high. let lo
 
 -- ---- after a lexeme
 
-run_behind : (p : ℕ → Bool) → ((b : ℕ) → p b ≡ true → b < 128) → (bytes after : List ℕ) → AllAre p bytes → IsUtf8 (bytes ++ after) → IsUtf8 after
-run_behind p low [] after all u = u
-run_behind p low (b ∷ bytes) after all u = run_behind p low bytes after all.1 (behind b (bytes ++ after) (low b all.0) u)
+run_after : (p : ℕ → Bool) → ((b : ℕ) → p b ≡ true → b < 128) → (bytes after : List ℕ) → AllAre p bytes → IsUtf8 (bytes ++ after) → IsUtf8 after
+run_after p low [] after all u = u
+run_after p low (b ∷ bytes) after all u = run_after p low bytes after all.1 (following b (bytes ++ after) (low b all.0) u)
 
 run_before : (p : ℕ → Bool) → ((b : ℕ) → p b ≡ false → b < 128) → (bytes after : List ℕ) → begins p after ≡ false → IsUtf8 (bytes ++ after) → IsUtf8 after
 run_before p low bytes [] stops u = IsUtf8-nil
@@ -132,34 +132,34 @@ line_end_low b e = low (or_cases (b == 10) (b == 13) (not-false (b == 10 || b ==
 digit_low : (b : ℕ) → is_digit b ≡ true → b < 128
 digit_low b e = let r = digit_range b e in omega arith
 
-comment_behind : {n : ℕ} {bytes : List ℕ} → EndsComments n bytes → (a after : List ℕ) → IsUtf8 (a ++ (bytes ++ after)) → IsUtf8 after
-comment_behind EndsComments.ended a after u = behind 47 after (lit< tt) (behind 42 (47 ∷ after) (lit< tt) (from a 42 (47 ∷ after) (lit< tt) u))
-comment_behind (EndsComments.inner_ended n z e) a after u = comment_behind e [] after (behind 47 (z ++ after) (lit< tt) (behind 42 (47 ∷ z ++ after) (lit< tt) (from a 42 (47 ∷ z ++ after) (lit< tt) u)))
-comment_behind (EndsComments.inner_begun n z e) a after u = comment_behind e [] after (behind 42 (z ++ after) (lit< tt) (behind 47 (42 ∷ z ++ after) (lit< tt) (from a 47 (42 ∷ z ++ after) (lit< tt) u)))
-comment_behind (EndsComments.other n b c z x y e) a after u =
+comment_after : {n : ℕ} {bytes : List ℕ} → EndsComments n bytes → (a after : List ℕ) → IsUtf8 (a ++ (bytes ++ after)) → IsUtf8 after
+comment_after EndsComments.ended a after u = following 47 after (lit< tt) (following 42 (47 ∷ after) (lit< tt) (from a 42 (47 ∷ after) (lit< tt) u))
+comment_after (EndsComments.inner_ended n z e) a after u = comment_after e [] after (following 47 (z ++ after) (lit< tt) (following 42 (47 ∷ z ++ after) (lit< tt) (from a 42 (47 ∷ z ++ after) (lit< tt) u)))
+comment_after (EndsComments.inner_begun n z e) a after u = comment_after e [] after (following 42 (z ++ after) (lit< tt) (following 47 (42 ∷ z ++ after) (lit< tt) (from a 47 (42 ∷ z ++ after) (lit< tt) u)))
+comment_after (EndsComments.other n b c z x y e) a after u =
     let P : List ℕ → Type 0 = λ z. IsUtf8 z in
     let one : (a ++ b ∷ []) ++ (c ∷ z ++ after) ≡ a ++ (b ∷ c ∷ z ++ after) = simp append_assoc in
-    comment_behind e (a ++ b ∷ []) after (subst P (sym one) u)
+    comment_after e (a ++ b ∷ []) after (subst P (sym one) u)
 
 -- what comes after white space or a comment is a text
-pub gap_behind : {bytes after : List ℕ} → IsGap bytes after → IsUtf8 (bytes ++ after) → IsUtf8 after
-gap_behind (IsGap.space b bytes after start all stops) u = run_behind is_space space_low (b ∷ bytes) after (start, all) u
-gap_behind (IsGap.line bytes after all stops) u = run_before is_in_line line_end_low (45 ∷ 45 ∷ bytes) after stops u
-gap_behind (IsGap.comment bytes after ends) u = comment_behind ends (47 ∷ 42 ∷ []) after u
+pub gap_after : {bytes after : List ℕ} → IsGap bytes after → IsUtf8 (bytes ++ after) → IsUtf8 after
+gap_after (IsGap.space b bytes after start all stops) u = run_after is_space space_low (b ∷ bytes) after (start, all) u
+gap_after (IsGap.line bytes after all stops) u = run_before is_in_line line_end_low (45 ∷ 45 ∷ bytes) after stops u
+gap_after (IsGap.comment bytes after ends) u = comment_after ends (47 ∷ 42 ∷ []) after u
 
-quote_behind : (q : ℕ) (t after : List ℕ) → q < 128 → IsUtf8 (q ∷ to_quote q t ++ after) → IsUtf8 after
-quote_behind q t after h u =
+quote_after : (q : ℕ) (t after : List ℕ) → q < 128 → IsUtf8 (q ∷ to_quote q t ++ after) → IsUtf8 after
+quote_after q t after h u =
     let P : List ℕ → Type 0 = λ z. IsUtf8 z in
     let regroup : to_quote q t ++ after ≡ doubled q t ++ q ∷ after = simp append_assoc in
-    behind q after h (from (doubled q t) q after h (subst P regroup (behind q (to_quote q t ++ after) h u)))
+    following q after h (from (doubled q t) q after h (subst P regroup (following q (to_quote q t ++ after) h u)))
 
 -- what comes after a token is a text
-pub token_behind : {joined : Bool} {bytes after : List ℕ} {kind : TokenKind} → IsToken joined bytes after kind → IsUtf8 (bytes ++ after) → IsUtf8 after
-token_behind (IsToken.word joined b bytes after start all stops short free) u = run_before is_in_word past_word_low (b ∷ bytes) after stops u
-token_behind (IsToken.quoted joined name after lacks some short) u = quote_behind 34 name after (lit< tt) u
-token_behind (IsToken.string joined text after lacks) u = quote_behind 39 text after (lit< tt) u
-token_behind (IsToken.number joined b bytes after start all stops whole fits) u = run_behind is_digit digit_low (b ∷ bytes) after (start, all) u
-token_behind (IsToken.parameter joined b bytes after start all short full) u = run_behind is_digit digit_low (b ∷ bytes) after (start, all) (behind 36 (b ∷ bytes ++ after) (lit< tt) u)
-token_behind (IsToken.sign joined b after x e single) u = let p = sign_plain b x e in behind b after p.low u
-token_behind (IsToken.sign_of_two_bytes joined b c after x e) u = let p = sign_plain_two b c x e in behind c after p.low (behind b (c ∷ after) p.plain.low u)
-token_behind (IsToken.point joined after e) u = behind 46 after (lit< tt) u
+pub token_after : {joined : Bool} {bytes after : List ℕ} {kind : TokenKind} → IsToken joined bytes after kind → IsUtf8 (bytes ++ after) → IsUtf8 after
+token_after (IsToken.word joined b bytes after start all stops short free) u = run_before is_in_word past_word_low (b ∷ bytes) after stops u
+token_after (IsToken.quoted joined name after lacks some short) u = quote_after 34 name after (lit< tt) u
+token_after (IsToken.string joined text after lacks) u = quote_after 39 text after (lit< tt) u
+token_after (IsToken.number joined b bytes after start all stops whole fits) u = run_after is_digit digit_low (b ∷ bytes) after (start, all) u
+token_after (IsToken.parameter joined b bytes after start all short full) u = run_after is_digit digit_low (b ∷ bytes) after (start, all) (following 36 (b ∷ bytes ++ after) (lit< tt) u)
+token_after (IsToken.sign joined b after x e single) u = let p = sign_plain b x e in following b after p.low u
+token_after (IsToken.sign_of_two_bytes joined b c after x e) u = let p = sign_plain_two b c x e in following c after p.low (following b (c ∷ after) p.plain.low u)
+token_after (IsToken.point joined after e) u = following 46 after (lit< tt) u

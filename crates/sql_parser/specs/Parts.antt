@@ -16,8 +16,8 @@ Finds outcome (Err Memory) found new = Unit {0}
 Finds outcome (Err NotInGrammar) found new = outcome ≡ None
 
 -- a list after what was found
-abbrev pub behind : {A : Type 0} → List A → Option (List A × List Mark) → Option (List A × List Mark)
-behind found outcome = and_then outcome (λ xs ts. Some (found ++ xs, ts))
+abbrev pub following : {A : Type 0} → List A → Option (List A × List Mark) → Option (List A × List Mark)
+following found outcome = and_then outcome (λ xs ts. Some (found ++ xs, ts))
 
 abbrev pub single_by : {A : Type 0} → Parser A → Parser (List A)
 single_by part ts = and_then (part ts) (λ x us. Some (x ∷ [], us))

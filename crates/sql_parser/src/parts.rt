@@ -6,7 +6,7 @@ ghost use Rattle.sql_grammar.specs.declared.mark.Sought.TheVariants as sought;
 ghost use Rattle.sql_grammar.specs.Reading.{front};
 ghost use Rattle.sql_grammar.specs.Syntax.{Kind, kind, is};
 ghost use Rattle.sql_grammar.specs.Steps.{repeat_from};
-ghost use Rattle.sql_parser.specs.Parts.{Finds, behind, after_comma, listed_by};
+ghost use Rattle.sql_parser.specs.Parts.{Finds, following, after_comma, listed_by};
 ghost use Rattle.sql_parser.specs.Reads.{Reads};
 
 use crate::error::Refusal;
@@ -43,7 +43,7 @@ pub trait Next {
         tokens: &mut Tokens<'_>,
         found: &mut Items<Self::Out>,
     ) -> Result<(), Refusal>
-        ensures { Finds (behind found.old (reading tokens.old)) result found.new tokens.new };
+        ensures { Finds (following found.old (reading tokens.old)) result found.new tokens.new };
 }
 
 /// Reads on as long as what may follow does.

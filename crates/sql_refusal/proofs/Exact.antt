@@ -85,8 +85,8 @@ more_part a ts us h r =
     let P : List Mark → Type 0 = λ z. any (begins a) (kind (front z)) ≡ true in
     subst P regrouped (h (us ++ r))
 
-behind_none : (f : Form) (ts us : List Mark) → ts ≡ [] → Starts f us → Starts f (ts ++ us)
-behind_none f ts us e s = let P : List Mark → Type 0 = λ z. Starts f (z ++ us) in subst P (sym e) s
+after_none : (f : Form) (ts us : List Mark) → ts ≡ [] → Starts f us → Starts f (ts ++ us)
+after_none f ts us e s = let P : List Mark → Type 0 = λ z. Starts f (z ++ us) in subst P (sym e) s
 
 module _ (E : Level → List Mark → Type 0) (begun : (l : Level) (ts : List Mark) → E l ts → (r : List Mark) → any (begins_at l) (kind (front (ts ++ r))) ≡ true) where
   pub starts : {f : Form} {ts : List Mark} → Spelled E f ts → Starts f ts
@@ -111,7 +111,7 @@ module _ (E : Level → List Mark → Type 0) (begun : (l : Level) (ts : List Ma
   starts Forms.none = inl (refl, refl)
   starts (Forms.more {a = a} {ts = ts} {us = us} x xs) = elim (starts x) as (λ _. Starts (many a) (ts ++ us)) [
     | inr h ↦ inr (more_part a ts us h)
-    | inl e ↦ behind_none (many a) ts us e.0 (starts xs)
+    | inl e ↦ after_none (many a) ts us e.0 (starts xs)
   ]
 
   -- a form that isn't empty begins with one of its marks

@@ -37,8 +37,8 @@ repeats_short R each (Repeats.more {ts = ts} {us = us} {xs = xs} {ys = ys} o os)
 single_short : {A : Type 0} (a : Syntax A) → steps.empty a ≡ false → (ts : List Mark) (xs : List A) → spells (single a) ts xs → length xs ≤ length ts
 single_short a some ts xs o = let l = long a ts o.of o.spelled some in let e = ap length o.made in omega arith
 
-behind_short : {A : Type 0} (a : Syntax A) → (ts : List Mark) (xs : List A) → spells (sign s.Comma ▹ single a) ts xs → length xs ≤ length ts
-behind_short a ts xs o =
+after_short : {A : Type 0} (a : Syntax A) → (ts : List Mark) (xs : List A) → spells (sign s.Comma ▹ single a) ts xs → length xs ≤ length ts
+after_short a ts xs o =
     let l = long (sign s.Comma ▹ single a) ts xs o refl in
     let e = ap length o.made in
     let f = ap length o.spelled.second.made in
@@ -48,7 +48,7 @@ listed_short : {A : Type 0} (a : Syntax A) → steps.empty a ≡ false → (ts :
 listed_short a some ts xs o =
     let p = o.parts in
     let h = single_short a some p.front o.xs p.first in
-    let r = repeats_short (spells (sign s.Comma ▹ single a)) (behind_short a) p.second in
+    let r = repeats_short (spells (sign s.Comma ▹ single a)) (after_short a) p.second in
     let e = ap length o.all in
     let f = ap length p.splits in
     omega (arith, length-append o.xs o.ys, length-append p.front p.rest)

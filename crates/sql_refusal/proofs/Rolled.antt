@@ -23,7 +23,7 @@ use Rattle.sql_grammar.specs.Syntax.{kind}
 use Rattle.sql_grammar.specs.Steps.{Pattern, the, a_name, any}
 use Rattle.sql_grammar.proofs.Patterns.{true_false}
 use Rattle.sql_refusal.specs.Forms
-use Rattle.sql_refusal.specs.Forms.{Form, nothing, mark, part, ◌▸◌, either, many, Spelled, key, sign, optional_not, chain, list, behind_name, leaf, comparisons, sums, products, rule_at}
+use Rattle.sql_refusal.specs.Forms.{Form, nothing, mark, part, ◌▸◌, either, many, Spelled, key, sign, optional_not, chain, list, after_name, leaf, comparisons, sums, products, rule_at}
 
 -- spelled at the level
 pub record IsAt (l : Level) (ts : List Mark) : Type 0 where
@@ -249,7 +249,7 @@ ranged ts us a (Forms.both {ts = ns} o (Forms.right (Forms.both (Forms.is_mark {
 
 -- ---- names
 
-name_at : (m : Mark) (us : List Mark) → any (a_name [] ∷ []) (kind (Some m)) ≡ true → Spelled IsAt behind_name us → IsAt atom (m ∷ us)
+name_at : (m : Mark) (us : List Mark) → any (a_name [] ∷ []) (kind (Some m)) ≡ true → Spelled IsAt after_name us → IsAt atom (m ∷ us)
 name_at m us e (Forms.left (Forms.both (Forms.is_mark {m = d} f) (Forms.is_mark {m = o} g))) =
     let P : Mark → Type 0 = λ z. IsAt atom (m ∷ z ∷ o ∷ []) in
     subst P (sym (sign_is s.Dot d f)) (at (Grammar.qualified m (names m e).name o (names o g).name (names m e).is (names o g).is))

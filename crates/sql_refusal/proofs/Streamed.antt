@@ -7,32 +7,32 @@ use Rattle.sql_tree.specs.declared.token.TokenKind.{TokenKind}
 use Rattle.sql_tree.specs.declared.token.TokenKind.TheVariants as t
 use Rattle.sql_refusal.specs.Pieces.{pieces, in_front, is_semi, is_open, is_close, is_comma, is_word, tokens_that, some_place, places, some, number, holds_a_token, ends_with, at_level_0, too_deep}
 use Rattle.sql_refusal.specs.Pieces as spec
-use Rattle.sql_refusal.specs.Streams.{first_piece, behind_piece, pieces_of, one_if, is_deep, commas_from, is_unsupported, holds_unsupported}
+use Rattle.sql_refusal.specs.Streams.{first_piece, after_piece, pieces_of, one_if, is_deep, commas_from, is_unsupported, holds_unsupported}
 
 -- ---- pieces
 
-cut : (t : Token) (ts : List Token) (c : Bool) → pieces ts ≡ first_piece ts ∷ pieces_of (behind_piece ts)
-    → (if c then [] ∷ pieces ts else in_front t (pieces ts)) ≡ (if c then [] else t ∷ first_piece ts) ∷ pieces_of (if c then Some ts else behind_piece ts)
+cut : (t : Token) (ts : List Token) (c : Bool) → pieces ts ≡ first_piece ts ∷ pieces_of (after_piece ts)
+    → (if c then [] ∷ pieces ts else in_front t (pieces ts)) ≡ (if c then [] else t ∷ first_piece ts) ∷ pieces_of (if c then Some ts else after_piece ts)
 cut t ts true e = refl
 cut t ts false e = ap (λ z. in_front t z) e
 
-pub pieces_are : (ts : List Token) → pieces ts ≡ first_piece ts ∷ pieces_of (behind_piece ts)
-unfolding pieces first_piece behind_piece
+pub pieces_are : (ts : List Token) → pieces ts ≡ first_piece ts ∷ pieces_of (after_piece ts)
+unfolding pieces first_piece after_piece
 pieces_are [] = refl
 pieces_are (t ∷ ts) = cut t ts (is_semi t.kind) (pieces_are ts)
 
 -- one piece more is tested
-pub some_step : (test : List Token → Bool) (ts : List Token) → some test (pieces ts) ≡ (test (first_piece ts) || some test (pieces_of (behind_piece ts)))
+pub some_step : (test : List Token → Bool) (ts : List Token) → some test (pieces ts) ≡ (test (first_piece ts) || some test (pieces_of (after_piece ts)))
 unfolding some
 some_step test ts = rw (pieces_are ts) refl
 
 pub some_here : (test : List Token → Bool) (ts : List Token) → test (first_piece ts) ≡ true → some test (pieces ts) ≡ true
 some_here test ts h = some_step test ts ∙ rw h refl
 
-pub some_later : (test : List Token → Bool) (ts : List Token) (us : Option (List Token)) → test (first_piece ts) ≡ false → us ≡ behind_piece ts → some test (pieces ts) ≡ some test (pieces_of us)
+pub some_later : (test : List Token → Bool) (ts : List Token) (us : Option (List Token)) → test (first_piece ts) ≡ false → us ≡ after_piece ts → some test (pieces ts) ≡ some test (pieces_of us)
 some_later test ts us h e = some_step test ts ∙ rw (h, e) refl
 
-pub number_step : (test : List Token → Bool) (ts : List Token) (us : Option (List Token)) (c : Bool) → test (first_piece ts) ≡ c → us ≡ behind_piece ts → number test (pieces ts) ≡ one_if c + number test (pieces_of us)
+pub number_step : (test : List Token → Bool) (ts : List Token) (us : Option (List Token)) (c : Bool) → test (first_piece ts) ≡ c → us ≡ after_piece ts → number test (pieces ts) ≡ one_if c + number test (pieces_of us)
 unfolding number
 number_step test ts us true h e = rw (pieces_are ts, h, e) refl
 number_step test ts us false h e = rw (pieces_are ts, h, e) refl

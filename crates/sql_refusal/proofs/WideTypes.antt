@@ -29,8 +29,8 @@ module _ (E : Level → List Mark → Type 0) where
   many_more a b h us Forms.none = Forms.none
   many_more a b h us (Forms.more {ts = ts} {us = vs} x xs) = Forms.more (h ts x) (many_more a b h vs xs)
 
-  behind_more : (p : List Pattern) (a b : Form) → Spells a b → Spells (mark p ▸ a) (mark p ▸ b)
-  behind_more p a b h ts (Forms.both {us = us} x y) = Forms.both x (h us y)
+  after_more : (p : List Pattern) (a b : Form) → Spells a b → Spells (mark p ▸ a) (mark p ▸ b)
+  after_more p a b h ts (Forms.both {us = us} x y) = Forms.both x (h us y)
 
   element_more : (t u : Form) → Spells t u → Spells (element_with t) (element_with u)
   element_more t u h ts (Forms.left (Forms.both x (Forms.both {ts = us} y z))) = Forms.left (Forms.both x (Forms.both (h us y) z))
@@ -39,7 +39,7 @@ module _ (E : Level → List Mark → Type 0) where
   create_more : (t u : Form) → Spells t u → Spells (create_with t) (create_with u)
   create_more t u h ts (Forms.both a (Forms.both b (Forms.both c (Forms.both d (Forms.both (Forms.both {ts = xs} {us = ys} x y) z))))) =
       Forms.both a (Forms.both b (Forms.both c (Forms.both d (Forms.both (Forms.both (element_more t u h xs x)
-      (many_more (sign s.Comma ▸ element_with t) (sign s.Comma ▸ element_with u) (behind_more _ (element_with t) (element_with u) (element_more t u h)) ys y)) z))))
+      (many_more (sign s.Comma ▸ element_with t) (sign s.Comma ▸ element_with u) (after_more _ (element_with t) (element_with u) (element_more t u h)) ys y)) z))))
 
   piece_more : (t u : Form) → Spells t u → Spells (piece_with t) (piece_with u)
   piece_more t u h ts (Forms.left (Forms.left x)) = Forms.left (Forms.left x)
@@ -53,7 +53,7 @@ module _ (E : Level → List Mark → Type 0) where
   pub message_more : (t u : Form) → Spells t u → Spells (with_type t) (with_type u)
   unfolding with_type
   message_more t u h ts (Forms.both {ts = xs} {us = ys} x y) =
-      Forms.both (piece_more t u h xs x) (many_more (sign s.Semi ▸ piece_with t) (sign s.Semi ▸ piece_with u) (behind_more _ (piece_with t) (piece_with u) (piece_more t u h)) ys y)
+      Forms.both (piece_more t u h xs x) (many_more (sign s.Semi ▸ piece_with t) (sign s.Semi ▸ piece_with u) (after_more _ (piece_with t) (piece_with u) (piece_more t u h)) ys y)
 
   -- ---- types
 

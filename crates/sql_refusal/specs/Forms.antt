@@ -202,8 +202,8 @@ abbrev pub list : Form
 list = sign s.Open ▸ part expr ▸ many (sign s.Comma ▸ part expr) ▸ sign s.Close
 
 -- after a name: '.' name | '(' ( '*' | expr ) ')' | nothing
-abbrev pub behind_name : Form
-behind_name = either (sign s.Dot ▸ mark (a_name [] ∷ [])) (either (sign s.Open ▸ either (sign s.Star) (part expr) ▸ sign s.Close) nothing)
+abbrev pub after_name : Form
+after_name = either (sign s.Dot ▸ mark (a_name [] ∷ [])) (either (sign s.Open ▸ either (sign s.Star) (part expr) ▸ sign s.Close) nothing)
 
 abbrev pub leaf : List Pattern
 leaf = a_number ∷ a_string ∷ the (sought.Key k.True) ∷ the (sought.Key k.False) ∷ the (sought.Key k.Null) ∷ []
@@ -218,7 +218,7 @@ rule_at rng = part sum ▸ either (optional_not ▸ either (key k.In ▸ list) (
 rule_at sum = chain prod sums
 rule_at prod = chain un products
 rule_at un = many (mark sums) ▸ part atom
-rule_at atom = either (mark leaf) (either (mark (a_name [] ∷ []) ▸ behind_name) (sign s.Open ▸ part expr ▸ sign s.Close))
+rule_at atom = either (mark leaf) (either (mark (a_name [] ∷ []) ▸ after_name) (sign s.Open ▸ part expr ▸ sign s.Close))
 
 -- how a level is passed over in so many steps from level to level
 unfoldable pub at : ℕ → Level → Passer

@@ -15,9 +15,9 @@ unfoldable pub first_piece : List Token → List Token
 first_piece [] = []
 first_piece (token ∷ tokens) = if is_semi token.kind then [] else token ∷ first_piece tokens
 
-unfoldable pub behind_piece : List Token → Option (List Token)
-behind_piece [] = None
-behind_piece (token ∷ tokens) = if is_semi token.kind then Some tokens else behind_piece tokens
+unfoldable pub after_piece : List Token → Option (List Token)
+after_piece [] = None
+after_piece (token ∷ tokens) = if is_semi token.kind then Some tokens else after_piece tokens
 
 abbrev pub pieces_of : Option (List Token) → List (List Token)
 pieces_of None = []
@@ -50,20 +50,20 @@ commas_from opened closed (token ∷ tokens) =
 -- ---- tokens that aren't supported, by whether a token stands before, and whether it is the word CREATE
 
 abbrev pub is_unsupported_word : Bool → Bool → List ℕ → List Token → Bool
-is_unsupported_word filled behind_create word after =
+is_unsupported_word filled after_create word after =
     (bytes_eq word (codes "select") && filled)
     || ((bytes_eq word (codes "values") && not filled)
-    || ((bytes_eq word (codes "table") && not behind_create)
+    || ((bytes_eq word (codes "table") && not after_create)
     || ((bytes_eq word (codes "on") && begins_with (codes "conflict") after)
     || is_among (map (λ row. row.now) UNSUPPORTED) word)))
 
 abbrev pub is_unsupported : Bool → Bool → TokenKind → List Token → Bool
-is_unsupported filled behind_create (t.Word word) after = is_unsupported_word filled behind_create word after
-is_unsupported filled behind_create (t.Sign s.Cast) after = true
-is_unsupported filled behind_create (t.Sign s.Join) after = true
-is_unsupported filled behind_create (t.Param n) after = true
-is_unsupported filled behind_create _ after = false
+is_unsupported filled after_create (t.Word word) after = is_unsupported_word filled after_create word after
+is_unsupported filled after_create (t.Sign s.Cast) after = true
+is_unsupported filled after_create (t.Sign s.Join) after = true
+is_unsupported filled after_create (t.Param n) after = true
+is_unsupported filled after_create _ after = false
 
 unfoldable pub holds_unsupported : Bool → Bool → List Token → Bool
-holds_unsupported filled behind_create [] = false
-holds_unsupported filled behind_create (token ∷ tokens) = is_unsupported filled behind_create token.kind tokens || holds_unsupported true (is_word (codes "create") token.kind) tokens
+holds_unsupported filled after_create [] = false
+holds_unsupported filled after_create (token ∷ tokens) = is_unsupported filled after_create token.kind tokens || holds_unsupported true (is_word (codes "create") token.kind) tokens

@@ -28,11 +28,11 @@ fn some_piece<T: Test>(test: &T, tokens: &[Token]) -> bool
 {
     let mut rest = Some(tokens);
     while let Some(ahead) = rest {
-        let (piece, behind) = split(ahead);
+        let (piece, following) = split(ahead);
         if test.holds(piece) {
             return true;
         }
-        rest = behind;
+        rest = following;
     }
     false
 }
@@ -86,14 +86,14 @@ fn has_too_many_pieces(tokens: &[Token]) -> bool
     let mut left = MAX_PIECES;
     let mut rest = Some(tokens);
     while let Some(ahead) = rest {
-        let (piece, behind) = split(ahead);
+        let (piece, following) = split(ahead);
         if holds_a_token(piece) {
             if left == 0 {
                 return true;
             }
             left -= 1;
         }
-        rest = behind;
+        rest = following;
     }
     false
 }

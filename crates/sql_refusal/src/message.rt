@@ -123,12 +123,12 @@ fn next_piece(wide: bool, ahead: &[Mark], room: usize) -> Option<&[Mark]>
 fn message(wide: bool, ahead: &[Mark], room: usize) -> Option<&[Mark]>
     ensures { Leaves (spec.passes (spec.at room) (message_form wide) ahead.now) result }
 {
-    let mut behind = piece(wide, ahead, room)?;
-    for _turn in 0..behind.len() + 1 {
-        if !at_semi(behind) {
-            return Some(behind);
+    let mut following = piece(wide, ahead, room)?;
+    for _turn in 0..following.len() + 1 {
+        if !at_semi(following) {
+            return Some(following);
         }
-        behind = next_piece(wide, behind, room)?;
+        following = next_piece(wide, following, room)?;
     }
     None
 }

@@ -139,8 +139,8 @@ fn pass<'a, F: Fn(&[Mark], usize, Level) -> Option<&[Mark]>>(
         Rule::Nothing => Some(ahead),
         Rule::Part(level) => deep(ahead, room, *level),
         Rule::Then(a, b) => {
-            let behind = pass(a, ahead, room, deep)?;
-            pass(b, behind, room, deep)
+            let following = pass(a, ahead, room, deep)?;
+            pass(b, following, room, deep)
         }
         Rule::Either(a, b) => {
             if may_begin(a, first(ahead)) {
@@ -150,12 +150,12 @@ fn pass<'a, F: Fn(&[Mark], usize, Level) -> Option<&[Mark]>>(
             }
         }
         Rule::Many(item) => {
-            let mut behind = ahead;
+            let mut following = ahead;
             for _turn in 0..ahead.len() + 1 {
-                if !may_begin(item, first(behind)) {
-                    return Some(behind);
+                if !may_begin(item, first(following)) {
+                    return Some(following);
                 }
-                behind = pass(item, behind, room, deep)?;
+                following = pass(item, following, room, deep)?;
             }
             None
         }

@@ -67,13 +67,13 @@ fn is_among(mut table: &[&[u8]], word: &[u8]) -> bool
 }
 
 /// How many tokens stand before the first `;`.
-#[tactic(auto, unfolding(crate::specs::Streams::first_piece, crate::specs::Streams::behind_piece))]
+#[tactic(auto, unfolding(crate::specs::Streams::first_piece, crate::specs::Streams::after_piece))]
 fn piece_len(tokens: &[Token]) -> usize
     ensures within { result ≤ length tokens.now }
     ensures front { take result tokens.now ≡ streams.first_piece tokens.now }
-    ensures rest { streams.behind_piece tokens.now ≡ streams.behind_piece (drop result tokens.now) }
-    ensures ends { result < length tokens.now → streams.behind_piece tokens.now ≡ Some (drop (result + 1) tokens.now) }
-    ensures last { result ≡ length tokens.now → streams.behind_piece tokens.now ≡ None }
+    ensures rest { streams.after_piece tokens.now ≡ streams.after_piece (drop result tokens.now) }
+    ensures ends { result < length tokens.now → streams.after_piece tokens.now ≡ Some (drop (result + 1) tokens.now) }
+    ensures last { result ≡ length tokens.now → streams.after_piece tokens.now ≡ None }
 {
     let mut len = 0;
     while len < tokens.len() {
@@ -88,8 +88,8 @@ fn piece_len(tokens: &[Token]) -> usize
 /// The first piece, and what stands after its `;`.
 pub fn split(tokens: &[Token]) -> (&[Token], Option<&[Token]>)
     ensures piece { result.0.now ≡ streams.first_piece tokens.now }
-    ensures behind { streams.tokens_in result.1 ≡ streams.behind_piece tokens.now }
-    ensures shorter { IfSome result.1 (λ behind. length behind.now < length tokens.now) }
+    ensures following { streams.tokens_in result.1 ≡ streams.after_piece tokens.now }
+    ensures shorter { IfSome result.1 (λ following. length following.now < length tokens.now) }
 {
     let len = piece_len(tokens);
     if len < tokens.len() {
@@ -157,22 +157,22 @@ const TABLE: &[u8] = b"table";
 
 const ON: &[u8] = b"on";
 
-fn is_unsupported_word(filled: bool, behind_create: bool, word: &[u8], after: &[Token]) -> bool
-    ensures { result ≡ streams.is_unsupported_word filled behind_create word.now after.now }
+fn is_unsupported_word(filled: bool, after_create: bool, word: &[u8], after: &[Token]) -> bool
+    ensures { result ≡ streams.is_unsupported_word filled after_create word.now after.now }
 {
     (word == SELECT && filled)
         || (word == VALUES && !filled)
-        || (word == TABLE && !behind_create)
+        || (word == TABLE && !after_create)
         || (word == ON && begins_with(after, b"conflict"))
         || is_among(&UNSUPPORTED, word)
 }
 
 /// Whether the token isn't supported where it stands.
-fn is_unsupported(filled: bool, behind_create: bool, token: &Token, after: &[Token]) -> bool
-    ensures { result ≡ streams.is_unsupported filled behind_create token.now.kind after.now }
+fn is_unsupported(filled: bool, after_create: bool, token: &Token, after: &[Token]) -> bool
+    ensures { result ≡ streams.is_unsupported filled after_create token.now.kind after.now }
 {
     match &token.kind {
-        TokenKind::Word(text) => is_unsupported_word(filled, behind_create, text.bytes(), after),
+        TokenKind::Word(text) => is_unsupported_word(filled, after_create, text.bytes(), after),
         TokenKind::Sign(Sign::Cast) => true,
         TokenKind::Sign(Sign::Join) => true,
         TokenKind::Param(_) => true,
@@ -186,14 +186,14 @@ pub fn holds_unsupported(piece: &[Token]) -> bool
     ensures { result ≡ streams.holds_unsupported false false piece.now }
 {
     let mut filled = false;
-    let mut behind_create = false;
+    let mut after_create = false;
     let mut ahead = piece;
     while let [token, rest @ ..] = ahead {
-        if is_unsupported(filled, behind_create, token, rest) {
+        if is_unsupported(filled, after_create, token, rest) {
             return true;
         }
         filled = true;
-        behind_create = is_word(token, b"create");
+        after_create = is_word(token, b"create");
         ahead = rest;
     }
     false

@@ -34,8 +34,8 @@ FitsDemand (write cell value rest) answers.Written = ⊤
 FitsDemand _ _ = ⊥
 
 -- how a course goes on after an answer; one that doesn't fit changes nothing
-abbrev pub behind : Course → PlanAnswer → Course
-behind (scan table rest) (answers.Keys keys) = rest keys
-behind (touch cell rest) (answers.Value value) = rest value
-behind (write cell value rest) answers.Written = rest
-behind course _ = course
+abbrev pub following : Course → PlanAnswer → Course
+following (scan table rest) (answers.Keys keys) = rest keys
+following (touch cell rest) (answers.Value value) = rest value
+following (write cell value rest) answers.Written = rest
+following course _ = course

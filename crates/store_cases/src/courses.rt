@@ -1,4 +1,4 @@
-// Courses of one session and of several, worked out by hand. A transaction's number stands behind its statement.
+// Courses of one session and of several, worked out by hand. A transaction's number stands after its statement.
 use crate::cells::Spot::{Field as F, Presence as P};
 use crate::cells::{NULL, UNSET};
 use crate::play::Call::{At, Begin, Commit, Own, Read, RollBack, Scan, Write};
@@ -46,7 +46,7 @@ pub const SEEN: Course = Course {
     ],
 };
 
-/// Words 0,1,1,0: behind `UPDATE t SET v = 20 WHERE k = 1` (2) the row has the old value.
+/// Words 0,1,1,0: after `UPDATE t SET v = 20 WHERE k = 1` (2) the row has the old value.
 pub const OLD_VALUE: Course = Course {
     levels: RC,
     has_rows: false,
@@ -205,7 +205,7 @@ pub const A_PART: Course = Course {
     calls: &[(1, Read(P(2), &[0, 2], 1, 1)), (1, Read(F(2), &[2], 0, 20))],
 };
 
-/// The INSERT, and `UPDATE t SET v = 20 WHERE k = 1` (2) behind it.
+/// The INSERT, and `UPDATE t SET v = 20 WHERE k = 1` (2) after it.
 const UPDATED: Calls = &[
     (1, Begin),
     (1, Read(P(1), &[0], 0, 0)),
@@ -218,7 +218,7 @@ const UPDATED: Calls = &[
     (1, Commit),
 ];
 
-/// A SELECT twice in one transaction (3), words 1,1,0,0: it doesn't go back behind the new value.
+/// A SELECT twice in one transaction (3), words 1,1,0,0: it doesn't go back after the new value.
 pub const NEVER_BACK: Course = Course {
     levels: RC,
     has_rows: false,

@@ -37,7 +37,7 @@ fn sees_its_own_row_4000_times(rt: HostRuntime) -> Result<(), Fail> {
     Ok(())
 }
 
-/// Causal Consistency, a second session: each of the 4,000 misses the first session's row, so that none stands before or behind it.
+/// Causal Consistency, a second session: each of the 4,000 misses the first session's row, so that none stands before or after it.
 #[test]
 fn misses_another_row_4000_times(rt: HostRuntime) -> Result<(), Fail> {
     let store = read_4000_times(rt.alloc(), 2, Level::Cc)?;

@@ -52,7 +52,7 @@ fn some_order_meets(alloc: Global, plain: &Plain) -> Result<bool, Stop> {
     Ok(false)
 }
 
-/// The order of that number, of the 720 of six transactions behind the initial one. Those that haven't begun stand in no pair.
+/// The order of that number, of the 720 of six transactions after the initial one. Those that haven't begun stand in no pair.
 fn order_of(alloc: Global, number: u32) -> Result<Vec<u32>, Stop> {
     let mut left = vec![in alloc; 1, 2, 3, 4, 5, 6]?;
     let mut order = vec![in alloc; 0]?;

@@ -21,7 +21,7 @@ fn a_history_without_events(rt: HostRuntime) -> Result<(), BookFault> {
     Ok(())
 }
 
-/// All transactions run at Read Committed. In brackets stand the numbers of the events, and behind a read what it was offered.
+/// All transactions run at Read Committed. In brackets stand the numbers of the events, and after a read what it was offered.
 ///
 /// Session 1 opens (1) and defines the table (2). Transaction 1 begins (3), reads the presence (4: 0), writes the row (5, 6) and commits (7).
 /// Session 2 opens (8). Transaction 2 begins (9), reads the field from 0, a weak read (10: 0 1), and from 1 (11: 0 1), writes it (12) and is

@@ -20,7 +20,7 @@ chosen false i n e = cc
 by_name : (same boolean : Bool) (rest : Outcome ℕ) (i k n : ℕ) → ((m : ℕ) → rest ≡ Ok m → m < i + 1 + k) → cond {A = Outcome ℕ} same (cond boolean (Err S0A000) (Ok i)) rest ≡ Ok n
     → n < i + (k + 1)
 by_name true boolean rest i k n later e = let is : n ≡ i = chosen boolean i n e in omega arith
-by_name false boolean rest i k n later e = let behind : n < i + 1 + k = later n e in omega arith
+by_name false boolean rest i k n later e = let following : n < i + 1 + k = later n e in omega arith
 
 found_within : (name : List ℕ) (i : ℕ) (columns : List Column) (n : ℕ) → key_from name i columns ≡ Ok n → n < i + length columns
 found_within name i [] n e = cc

@@ -7,21 +7,21 @@ use Rattle.typing_rules.specs.Building.{keyed_from, keyed}
 abbrev pub never_null : Column → Column
 never_null c = record c { not_null = true }
 
-behind : (key i : ℕ) (c : Column) (cs : List Column) → (i == key) ≡ false → keyed_from key i (c ∷ cs) ≡ c ∷ keyed_from key (i + 1) cs
-behind key i c cs h = ap (λ t. cond t (never_null c) c ∷ keyed_from key (i + 1) cs) h
+following : (key i : ℕ) (c : Column) (cs : List Column) → (i == key) ≡ false → keyed_from key i (c ∷ cs) ≡ c ∷ keyed_from key (i + 1) cs
+following key i c cs h = ap (λ t. cond t (never_null c) c ∷ keyed_from key (i + 1) cs) h
 
 here : (key i : ℕ) (c : Column) (cs : List Column) → (i == key) ≡ true → keyed_from key i (c ∷ cs) ≡ never_null c ∷ keyed_from key (i + 1) cs
 here key i c cs h = ap (λ t. cond t (never_null c) c ∷ keyed_from key (i + 1) cs) h
 
 kept : (key i : ℕ) (cs : List Column) → key < i → keyed_from key i cs ≡ cs
 kept key i [] h = refl
-kept key i (c ∷ cs) h = behind key i c cs (ne_eqb i key (λ e. omega arith)) ∙ ap (λ rest. c ∷ rest) (kept key (i + 1) cs (omega arith))
+kept key i (c ∷ cs) h = following key i c cs (ne_eqb i key (λ e. omega arith)) ∙ ap (λ rest. c ∷ rest) (kept key (i + 1) cs (omega arith))
 
 keyed_at : (key i k : ℕ) (cs : List Column) (d : Column) → key ≡ i + k → k < length cs → keyed_from key i cs ≡ set cs k (never_null (get_or cs k d))
 keyed_at key i k [] d is within = absurd (omega arith)
 keyed_at key i zero (c ∷ cs) d is within = here key i c cs (eq-eqb i key (omega arith)) ∙ ap (λ rest. never_null c ∷ rest) (kept key (i + 1) cs (omega arith))
 keyed_at key i (suc k) (c ∷ cs) d is within =
-    behind key i c cs (ne_eqb i key (λ e. omega arith)) ∙ ap (λ rest. c ∷ rest) (keyed_at key (i + 1) k cs d (omega arith) (omega arith))
+    following key i c cs (ne_eqb i key (λ e. omega arith)) ∙ ap (λ rest. c ∷ rest) (keyed_at key (i + 1) k cs d (omega arith) (omega arith))
 
 -- the key's column alone changes
 pub keyed_is : (key : ℕ) (cs : List Column) (d : Column) → key < length cs → keyed key cs ≡ set cs key (never_null (get_or cs key d))

@@ -12,7 +12,7 @@ module _ {K E : Type 0} (entries : K → List E) (key : E → ℕ) (start : List
   abbrev Rule : State K (View E) → Type 0
   Rule = IsOrderly entries key start
 
-  -- a word behind the first two may become anything
+  -- a word after the first two may become anything
   pub marks : (slots id : ℕ) (me : Me K (View E)) (place first : ℕ) (f : ℕ → ℕ) → 2 ≤ place → Allows Rule slots id me place f (marked (step slots place first 0 none) me)
   marks slots id me place first f from s r _ at _ = let v : View E = me.0 in let n : ℕ = f (get_or s.words place 0) in let words = placed_words s.words place n _ _ r.others from r.words in (
     v,

@@ -215,7 +215,7 @@ fn keeps_its_limits(rt: HostRuntime) -> Result<(), Fail> {
         assert_eq!(rt;
             found.as_str(),
             *want,
-            "{times} times {part} behind {first}"
+            "{times} times {part} after {first}"
         );
     }
     Ok(())

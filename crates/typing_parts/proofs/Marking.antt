@@ -81,11 +81,11 @@ numbers-append i (suc n) =
 
 kept-append : (p : ℕ → Bool) (ns : List ℕ) (n : ℕ) → kept p (ns ++ n ∷ []) ≡ kept p ns ++ cond (p n) (n ∷ []) []
 kept-append p [] n = refl
-kept-append p (m ∷ ms) n = behind (p m) m (kept p (ms ++ n ∷ [])) (kept p ms) (cond (p n) (n ∷ []) []) (kept-append p ms n)
+kept-append p (m ∷ ms) n = following (p m) m (kept p (ms ++ n ∷ [])) (kept p ms) (cond (p n) (n ∷ []) []) (kept-append p ms n)
   where
-    behind : (b : Bool) (m : ℕ) (all before last : List ℕ) → all ≡ before ++ last → cond b (m ∷ all) all ≡ cond b (m ∷ before) before ++ last
-    behind true m all before last e = ap (λ ns. m ∷ ns) e
-    behind false m all before last e = e
+    following : (b : Bool) (m : ℕ) (all before last : List ℕ) → all ≡ before ++ last → cond b (m ∷ all) all ≡ cond b (m ∷ before) before ++ last
+    following true m all before last e = ap (λ ns. m ∷ ns) e
+    following false m all before last e = e
 
 kept-step : (p : ℕ → Bool) (n : ℕ) → kept p (numbers_from 0 (n + 1)) ≡ kept p (numbers_from 0 n) ++ cond (p n) (n ∷ []) []
 kept-step p n =

@@ -17,13 +17,13 @@ abbrev pub is_digit : ℕ → Bool
 is_digit b = nat_le 48 b && nat_le b 57
 
 -- what stands after the blanks at the front
-abbrev pub behind_blanks : List ℕ → List ℕ
-behind_blanks [] = []
-behind_blanks (b ∷ bs) = if is_blank b then behind_blanks bs else b ∷ bs
+abbrev pub after_blanks : List ℕ → List ℕ
+after_blanks [] = []
+after_blanks (b ∷ bs) = if is_blank b then after_blanks bs else b ∷ bs
 
 -- without the blanks at both ends
 abbrev pub trimmed : List ℕ → List ℕ
-trimmed bs = reverse (behind_blanks (reverse (behind_blanks bs)))
+trimmed bs = reverse (after_blanks (reverse (after_blanks bs)))
 
 abbrev pub decimal_from : ℕ → List ℕ → ℕ
 decimal_from n [] = n

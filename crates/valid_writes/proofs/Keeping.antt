@@ -16,26 +16,26 @@ use Rattle.valid_writes.specs.declared.kept.Kept.{Kept}
 use Rattle.valid_writes.specs.Store.{IsStore, IsStill}
 
 -- what a still event is
-pub record IsCalm (e : Event) : Type 0 where
+pub record IsResting (e : Event) : Type 0 where
   pub plain : IsPlain e
   pub forces_none : ForcesNothing e
   pub no_definition : IsNoDefinition e
   pub opens_none : is_open_event e ≡ false
   pub offered : (events : List Event) → IsOffered events e
 
-pub calm : (e : Event) → IsStill e → IsCalm e
-calm (Look s count) still = record { plain = tt; forces_none = tt; no_definition = tt; opens_none = refl; offered = λ events. tt }
-calm (Scan s table keys) still = record { plain = tt; forces_none = tt; no_definition = tt; opens_none = refl; offered = λ events. tt }
-calm (Own s x v) still = record { plain = tt; forces_none = tt; no_definition = tt; opens_none = refl; offered = λ events. tt }
-calm (Show s number) still = record { plain = tt; forces_none = tt; no_definition = tt; opens_none = refl; offered = λ events. tt }
-calm (Open s) still = absurd still
-calm (Close s) still = absurd still
-calm (Define s name) still = absurd still
-calm (Begin s level) still = absurd still
-calm (Read s cell source n u v) still = absurd still
-calm (Write s x v) still = absurd still
-calm (Commit s) still = absurd still
-calm (Rollback s) still = absurd still
+pub resting : (e : Event) → IsStill e → IsResting e
+resting (Look s count) still = record { plain = tt; forces_none = tt; no_definition = tt; opens_none = refl; offered = λ events. tt }
+resting (Scan s table keys) still = record { plain = tt; forces_none = tt; no_definition = tt; opens_none = refl; offered = λ events. tt }
+resting (Own s x v) still = record { plain = tt; forces_none = tt; no_definition = tt; opens_none = refl; offered = λ events. tt }
+resting (Show s number) still = record { plain = tt; forces_none = tt; no_definition = tt; opens_none = refl; offered = λ events. tt }
+resting (Open s) still = absurd still
+resting (Close s) still = absurd still
+resting (Define s name) still = absurd still
+resting (Begin s level) still = absurd still
+resting (Read s cell source n u v) still = absurd still
+resting (Write s x v) still = absurd still
+resting (Commit s) still = absurd still
+resting (Rollback s) still = absurd still
 
 pub end_forces_none : (e : Event) → is_any_end e ≡ true → ForcesNothing e
 end_forces_none (Close s) is = tt

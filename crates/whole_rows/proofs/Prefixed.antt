@@ -84,9 +84,9 @@ pending_before events k p e of =
       running = λ q f low high at same. of.running q f low (omega arith) (within_take events p q f at).1 same;
     }
 
--- a transaction commits behind its writes
-pub commits_behind : (events : List Event) (k p q s t : ℕ) (cell : Cell) (value : Value) → IsOf events k p (Write s cell value) → IsOf events k q (Commit t) → p < q
-commits_behind events k p q s t cell value write commit =
+-- a transaction commits after its writes
+pub commits_after : (events : List Event) (k p q s t : ℕ) (cell : Cell) (value : Value) → IsOf events k p (Write s cell value) → IsOf events k q (Commit t) → p < q
+commits_after events k p q s t cell value write commit =
     elim (cases_order p q) [
       | inl same ↦
           let both : Some (Write s cell value) ≡ Some (Commit t) = sym write.is ∙ ap (λ (n : ℕ). slice_get events n) same ∙ commit.is in cc

@@ -25,7 +25,7 @@ use Rattle.history_core.proofs.Prefixes.{start_positive, sound_of, legal_consist
 use Rattle.history_core.proofs.Offers.{pending_unique}
 use Rattle.history_core.proofs.Taken.{legal_take}
 use Rattle.whole_rows.specs.Rows.{IsField, ShowsRow, KeepsRows, IsSet}
-use Rattle.whole_rows.proofs.Prefixed.{of_taken, of_into, of_pending, pending_before, commits_behind}
+use Rattle.whole_rows.proofs.Prefixed.{of_taken, of_into, of_pending, pending_before, commits_after}
 
 -- what a transaction has written has a value
 written_set :
@@ -95,7 +95,7 @@ committed_row tables initial events kept n w table column key field committed la
     let write = of_taken events n w last.place (Write last.session (Presence table key) (Flag true)) last.write in
     let commit = of_taken events n w committed.place (Commit committed.session) committed.commit in
     let before : last.place < committed.place =
-    commits_behind events w last.place committed.place last.session committed.session (Presence table key) (Flag true) write.1 commit.1 in
+    commits_after events w last.place committed.place last.session committed.session (Presence table key) (Flag true) write.1 commit.1 in
     let found =
     kept.keeps.whole w last.place committed.place last.session table column key (Commit committed.session) write.1 commit.1 before tt field in
     inr (
@@ -171,9 +171,9 @@ initial_set tables initial events kept p s count word (Field table key column) v
     let follows = (kept.legal.formed p event is).follows in
     let k : ℕ = follows.0.0 in
     let of : IsOf events k p event = of_pending events k p event is follows.0.1 in
-    let behind = kept.keeps.behind k p s table column 0 count word key value of in
-    let shown = behind.1 in
-    absurd (not_half tables initial events kept k p s table column key behind.0 other.0
+    let following = kept.keeps.following k p s table column 0 count word key value of in
+    let shown = following.1 in
+    absurd (not_half tables initial events kept k p s table column key following.0 other.0
     (record { event = event; of_reader = of; gives = (refl, refl) })
     (λ written. follows.1 record { number = k; pending = follows.0.1; written = written })
     shown.earlier shown.event shown.before shown.of_same shown.shows)

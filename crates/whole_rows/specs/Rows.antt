@@ -54,7 +54,7 @@ pub record KeepsRows (tables : List Table) (events : List Event) : Type 0 where
   pub whole : (number place later session table column : ℕ) (key : Key) (event : Event) →
       IsOf events number place (Write session (Presence table key) (Flag true)) → IsOf events number later event → place < later →
       NeedsWholeRows event → IsField tables table column → WritesBetween events number place later (Field table key column)
-  pub behind : (number place session table column source count word : ℕ) (key : Key) (value : Value) →
+  pub following : (number place session table column source count word : ℕ) (key : Key) (value : Value) →
       IsOf events number place (Read session (Field table key column) source count word value) →
       IsField tables table column × WasShown events number place table key
 

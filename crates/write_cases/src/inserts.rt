@@ -95,7 +95,7 @@ fn converts_values(rt: HostRuntime) -> Result<(), Fail> {
 }
 
 #[test]
-fn tests_a_row_behind_its_conversions(rt: HostRuntime) -> Result<(), Fail> {
+fn tests_a_row_after_its_conversions(rt: HostRuntime) -> Result<(), Fail> {
     let alloc = rt.alloc();
     for (row, want) in [
         ([Int(1), Null, Null, Null, Null], "S23502"),

@@ -1,13 +1,13 @@
 use Rattle.std.proofs.Common.{◌≡◌, ◌≤◌, List, length, sym, ◌∙◌, ap, arith}
 use Rattle.sql_tree.specs.declared.table.Table.{Table}
-use Rattle.statement_course.specs.Course.{behind}
+use Rattle.statement_course.specs.Course.{following}
 use Rattle.statement_course.specs.Laws.{ReadsFirst}
 use Rattle.cell_compile.specs.Plans.{rest_of, left_of}
 use Rattle.block_machine.specs.declared.block.Owed.TheVariants as owes
 use Rattle.block_machine.specs.declared.stage.MessageStage.TheVariants as stages
 use Rattle.block_machine.specs.Statements.{owed_in}
 use Rattle.block_machine.specs.Stages.{KnowsTables, left_at, owed_at}
-use Rattle.block_machine.proofs.Answered.{behind_first}
+use Rattle.block_machine.proofs.Answered.{after_first}
 use Rattle.block_machine.proofs.Carried.{if_ok}
 use Rattle.block_machine.proofs.Pursuing.{owed_pending, demand_fits, pursue_goes, pursue_refused, at_rest_advances, at_rest_some}
 use Rattle.block_machine.proofs.courses.pursue.Goals as goal
@@ -33,8 +33,8 @@ returns-in-Ok-clause-left c =
 pub returns-in-Ok-clause-knows : goal.returns-in-Ok-clause-knows
 returns-in-Ok-clause-knows c = λ known first.
     c.or_short.ensures.knows known
-    (if_ok (λ stage. (tables : List Table) → ReadsFirst (length tables) (behind (rest_of c.args.run.plan) c.in-Ok.answer) → KnowsTables stage tables) (λ stage. KnowsTables stage known) c.go_on-stage.result
-    (λ stage knows. knows known (behind_first (length known) (rest_of c.args.run.plan) c.in-Ok.answer (demand_fits c.args.run c.args.answer c.in-Ok.answer c.in-Ok.ensures.ok c.requires.fits) first))
+    (if_ok (λ stage. (tables : List Table) → ReadsFirst (length tables) (following (rest_of c.args.run.plan) c.in-Ok.answer) → KnowsTables stage tables) (λ stage. KnowsTables stage known) c.go_on-stage.result
+    (λ stage knows. knows known (after_first (length known) (rest_of c.args.run.plan) c.in-Ok.answer (demand_fits c.args.run c.args.answer c.in-Ok.answer c.in-Ok.ensures.ok c.requires.fits) first))
     c.go_on-stage.ensures.knows)
 
 pub returns-in-Err-clause-goes : goal.returns-in-Err-clause-goes

@@ -9,7 +9,7 @@ use Rattle.block_machine.specs.declared.call.Answer.TheVariants as answers
 use Rattle.block_machine.specs.declared.stage.MessageStage.TheVariants as stages
 use Rattle.block_machine.specs.Statements.{owed_in, runs}
 use Rattle.block_machine.specs.Stages.{IsScriptOf, KnowsTables, block_of, left_at, owed_at}
-use Rattle.block_machine.proofs.Answered.{behind_first}
+use Rattle.block_machine.proofs.Answered.{after_first}
 use Rattle.block_machine.proofs.Carried.{if_ok}
 use Rattle.block_machine.proofs.Pursuing.{owed_pending, pursue_goes, pursue_refused, at_rest_advances, at_rest_some}
 use Rattle.block_machine.proofs.Writing.{write_call_fits, write_fits}
@@ -50,7 +50,7 @@ returns-in-Ok-clause-knows g c = λ known first.
     (if_ok (λ stage. (tables : List Table) → ReadsFirst (length tables) (rest_of c.take_write-cell.result.2) → KnowsTables stage tables) (λ stage. KnowsTables stage known) c.settle-stage.result
     (λ stage knows. knows known
     (subst (ReadsFirst (length known)) (sym c.take_write-cell.ensures.course)
-    (behind_first (length known) (rest_of c.args.run.plan) plan_answers.Written
+    (after_first (length known) (rest_of c.args.run.plan) plan_answers.Written
     (write_fits (rest_of c.args.run.plan) c.take_write-cell.result.0 c.take_write-cell.result.1 c.take_write-cell.ensures.write) first)))
     c.settle-stage.ensures.knows)
 

@@ -1,7 +1,7 @@
 use Rattle.std.proofs.Common.{refl, ◌∙◌, ap, ◌++◌, List, ℕ}
 use Rattle.std.specs.Prelude.{flat_map}
 use Rattle.client_framing.specs.Spelling.{pair_bytes}
-use Rattle.client_framing.proofs.PairLists.{pairs_more, each_more, pairs_behind, only_end}
+use Rattle.client_framing.proofs.PairLists.{pairs_more, each_more, pairs_after, only_end}
 use Rattle.client_framing.proofs.pairs.pairs_of.Goals as goal
 
 pub loop-name-preserved : goal.loop-name-preserved
@@ -11,7 +11,7 @@ loop-name-preserved c =
     record {
       read = rw (c.in_ok-push.ensures.ok, c.in_ok-owned_pair.ensures) (pairs_more c.args.body.now at.rest.now got.after.now _ at.pairs at.invariant.read got.ensures.some);
       each = rw (c.in_ok-push.ensures.ok, c.in_ok-owned_pair.ensures) (each_more at.pairs _ at.invariant.each got.ensures.is_pair);
-      left = pairs_behind at.rest.now got.after.now _ at.invariant.left got.ensures.is_pair got.ensures.some;
+      left = pairs_after at.rest.now got.after.now _ at.invariant.left got.ensures.is_pair got.ensures.some;
     }
 
 pub returns-clause-whole : goal.returns-clause-whole

@@ -11,11 +11,11 @@ session_breach-requires-clause-within c =
     subst (λ (n : ℕ). AreTxnsWithin n c.args.txns.now) (sym width)
     (txns_within c.args.events.now c.args.txns.now c.in_ok-pasts.pasts c.requires.scene.records c.in_ok-pasts.ensures)
 
-pub found_behind-requires-clause-sessions : goal.found_behind-requires-clause-sessions
-found_behind-requires-clause-sessions c = rw c.in-None.is at c.in_ok-earlier.ensures.none
+pub found_after-requires-clause-sessions : goal.found_after-requires-clause-sessions
+found_after-requires-clause-sessions c = rw c.in-None.is at c.in_ok-earlier.ensures.none
 
 pub returns : goal.returns
 returns c =
-    IfOk-weaker c.found_behind.result _ _
+    IfOk-weaker c.found_after.result _ _
     (λ found among. found_is c.args.events.now c.args.order.now found c.requires.scene.holds (rw c.in-None.is at c.in_ok-earlier.ensures.none) among)
-    c.found_behind.ensures
+    c.found_after.ensures

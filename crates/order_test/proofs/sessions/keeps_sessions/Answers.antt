@@ -4,4 +4,4 @@ use Rattle.order_test.proofs.sessions.keeps_sessions.Goals as goal
 
 pub returns : goal.returns
 returns c = λ h.
-    sessions_kept c.args.events.now c.args.order.now c.args.txns.now c.args.places.now c.requires.scene c.loop-at.at c.loop-at.behind.items (let end = c.loop-at-test.false in omega arith) c.loop-at.invariant.0
+    sessions_kept c.args.events.now c.args.order.now c.args.txns.now c.args.places.now c.requires.scene c.loop-at.at c.loop-at.following.items (let end = c.loop-at-test.false in omega arith) c.loop-at.invariant.0

@@ -1,6 +1,6 @@
 -- What is left to show of `answer_message`.
 use Rattle.block_machine.specs.Runners.{wanted}
-use Rattle.session_core.proofs.Behind.{advances_running, book_message}
+use Rattle.session_core.proofs.Following.{advances_running, book_message}
 use Rattle.session_core.proofs.answers.answer_message.Goals as goal
 
 pub returns-clause-goes : goal.returns-clause-goes

@@ -1,6 +1,6 @@
 -- What is left to show of `run_on`.
 use Rattle.std.proofs.Common.{refl}
-use Rattle.session_core.proofs.Behind.{sends_done, sends_on}
+use Rattle.session_core.proofs.Following.{sends_done, sends_on}
 use Rattle.session_core.proofs.answers.run_on.Goals as goal
 
 pub returns-in-Some-clause-sends : goal.returns-in-Some-clause-sends

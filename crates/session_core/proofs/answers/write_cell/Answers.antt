@@ -1,5 +1,5 @@
 -- What is left to show of `write_cell`.
-use Rattle.session_core.proofs.Behind.{advances_running}
+use Rattle.session_core.proofs.Following.{advances_running}
 use Rattle.session_core.proofs.answers.write_cell.Goals as goal
 
 pub returns-clause-goes : goal.returns-clause-goes

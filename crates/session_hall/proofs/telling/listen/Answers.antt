@@ -7,7 +7,7 @@ loop-init c = record {
   grows = alone_same c.args.seat.now;
   fit = c.requires.fit;
   end = refl;
-  calm = λ calm. calm;
+  resting = λ resting. resting;
   settled = c.requires.settled;
 }
 
@@ -19,7 +19,7 @@ loop-preserved c = record {
   grows = alone_then _ _ _ c.loop.invariant.grows c.hear_on.ensures.grows;
   fit = c.hear_on.ensures.fit;
   end = c.hear_on.ensures.end ∙ c.loop.invariant.end;
-  calm = λ calm. c.in_ok-hear_on.ensures.calm (c.loop.invariant.calm calm);
+  resting = λ resting. c.in_ok-hear_on.ensures.resting (c.loop.invariant.resting resting);
   settled = c.in_ok-hear_on.ensures.settled;
 }
 

@@ -8,7 +8,7 @@ loop-seat-init c = record {
   grows = alone_same c.args.seat.now;
   fit = c.requires.fit;
   keeps = record { at = refl; stream = refl; end = refl };
-  calm = λ calm. calm;
+  resting = λ resting. resting;
   work = omega arith;
   last = λ last. last;
 }
@@ -18,7 +18,7 @@ loop-seat-preserved c = record {
   grows = alone_then _ _ _ c.loop-seat.invariant.grows c.send.ensures.grows;
   fit = c.send.ensures.fit;
   keeps = keeps_then _ _ _ c.loop-seat.invariant.keeps c.send.ensures.keeps;
-  calm = λ calm. c.in_ok-send.ensures.calm (c.loop-seat.invariant.calm calm);
+  resting = λ resting. c.in_ok-send.ensures.resting (c.loop-seat.invariant.resting resting);
   work = omega (arith, c.loop-seat.invariant.work, c.in_ok-send.ensures.work, ap message_at (c.is_telling.ensures.yes c.loop-seat-test.true).0);
   last = λ last. c.send.ensures.last (c.loop-seat.invariant.last last);
 }

@@ -7,7 +7,7 @@ loop-init c = record {
   grows = alone_same c.args.seat.now;
   fit = c.requires.fit;
   keeps = record { at = refl; stream = refl; end = refl };
-  calm = λ calm. calm;
+  resting = λ resting. resting;
   last = λ last. last;
 }
 
@@ -19,7 +19,7 @@ loop-preserved c = record {
   grows = alone_then _ _ _ c.loop.invariant.grows c.turn_on.ensures.grows;
   fit = c.turn_on.ensures.fit;
   keeps = keeps_then _ _ _ c.loop.invariant.keeps c.turn_on.ensures.keeps;
-  calm = λ calm. c.in_ok-turn_on.ensures.calm (c.loop.invariant.calm calm);
+  resting = λ resting. c.in_ok-turn_on.ensures.resting (c.loop.invariant.resting resting);
   last = λ last. c.turn_on.ensures.last (c.loop.invariant.last last);
 }
 

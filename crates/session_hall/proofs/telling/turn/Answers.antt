@@ -7,7 +7,7 @@ returns-in-Bytes c = record {
   grows = alone_same c.args.seat.now;
   fit = c.requires.fit;
   keeps = record { at = refl; stream = refl; end = refl };
-  calm = λ calm. calm;
+  resting = λ resting. resting;
   unsent = tt;
   work = λ is. absurd (cc is);
   settled = search rules;

@@ -23,7 +23,7 @@ returns-then-kind-eq-ERROR c =
 pub loop-preserved : goal.loop-preserved
 loop-preserved c = record {
   rest = ap (λ (n : ℕ). first_among (length c.args.told.now - (c.loop.counter + 1)) n (drop (c.loop.at + c.in-Some.size) c.args.told.now))
-      c.number_behind-number.ensures.value
+      c.number_after-number.ensures.value
       ∙ walk_goes_on c.args.told.now c.loop.counter c.loop.at c.loop.number (take (length c.args.told.now - c.loop.at) (drop c.loop.at c.args.told.now))
       (rest_is c.args.told.now c.loop.at) c.loop-test.true c.in-Some.size c.in-Some.ensures.some.1 c.in-Some.ensures.some.0
       (ne_eqb _ 69 c.if-kind-eq-ERROR.false)
@@ -31,5 +31,5 @@ loop-preserved c = record {
   within = let e : c.in-Some.size ≤ length (take (length c.args.told.now - c.loop.at) (drop c.loop.at c.args.told.now)) = c.in-Some.ensures.within.1 in
       let same = ap (λ (bs : List ℕ). length bs) (rest_is c.args.told.now c.loop.at) in
       let d = length-drop c.loop.at c.args.told.now in let w = c.loop.invariant.within in omega arith;
-  few = let l = c.number_behind-number.ensures.little in let f = c.loop.invariant.few in let s = c.in-Some.ensures.within.0 in omega arith;
+  few = let l = c.number_after-number.ensures.little in let f = c.loop.invariant.few in let s = c.in-Some.ensures.within.0 in omega arith;
 }

@@ -16,7 +16,7 @@ loop-rest-preserved g c =
     let test = g.T.Test.test in
     let i = rw c.in-Some.is at c.loop-rest.invariant in
     let h : test (first_piece c.in-Some.ahead.now) ≡ false = cc (c.holds.ensures, c.if-holds.false, c.split.ensures.piece) in
-    sym (some_later test c.in-Some.ahead.now (tokens_in c.split.result.1) h c.split.ensures.behind) ∙ i
+    sym (some_later test c.in-Some.ahead.now (tokens_in c.split.result.1) h c.split.ensures.following) ∙ i
 
 pub returns : goal.returns
 unfolding some

@@ -5,5 +5,5 @@ use Rattle.sql_refusal.proofs.message.message.Given as goal
 
 abbrev pub invariant-loop-turn : goal.invariant-loop-turn
 invariant-loop-turn l =
-    many_from (may_begin (next_form l.wide)) (passes (at l.room) (next_form l.wide)) (suc (length l.initial.behind)) l.initial.behind
-    ≡ many_from (may_begin (next_form l.wide)) (passes (at l.room) (next_form l.wide)) (l._turn-end - l._turn) l.behind
+    many_from (may_begin (next_form l.wide)) (passes (at l.room) (next_form l.wide)) (suc (length l.initial.following)) l.initial.following
+    ≡ many_from (may_begin (next_form l.wide)) (passes (at l.room) (next_form l.wide)) (l._turn-end - l._turn) l.following

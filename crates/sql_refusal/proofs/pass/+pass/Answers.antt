@@ -15,6 +15,6 @@ loop-turn-init g t c =
 pub loop-turn-preserved : goal.loop-turn-preserved
 loop-turn-preserved g t c =
     let f = form_of c.in-Many.item.now in
-    let e = one_more (λ n. many_from (may_begin f) (passes (at c.args.room) f) n c.loop-turn.behind.now) _ c.loop-turn._turn c.loop-turn-test.true c.loop-turn.invariant in
-    let h : may_begin f (kind (front c.loop-turn.behind.now)) ≡ true = cc (c.may_begin-in-loop-turn.ensures, c.if-not-may_begin.false, c.first-in-loop-turn.ensures) in
-    e ∙ turned (at c.args.room) f _ c.loop-turn.behind.now c.in_ok-behind-in-Many.behind.now h c.in_ok-behind-in-Many.ensures
+    let e = one_more (λ n. many_from (may_begin f) (passes (at c.args.room) f) n c.loop-turn.following.now) _ c.loop-turn._turn c.loop-turn-test.true c.loop-turn.invariant in
+    let h : may_begin f (kind (front c.loop-turn.following.now)) ≡ true = cc (c.may_begin-in-loop-turn.ensures, c.if-not-may_begin.false, c.first-in-loop-turn.ensures) in
+    e ∙ turned (at c.args.room) f _ c.loop-turn.following.now c.in_ok-following-in-Many.following.now h c.in_ok-following-in-Many.ensures

@@ -9,4 +9,4 @@ decreases-pass g l = goal.size-pass g l
 abbrev pub invariant-loop-turn : goal.invariant-loop-turn
 invariant-loop-turn g l =
     many_from (may_begin (form_of l.item.now)) (passes (at l.room) (form_of l.item.now)) (suc (length l.ahead)) l.ahead
-    ≡ many_from (may_begin (form_of l.item.now)) (passes (at l.room) (form_of l.item.now)) (l._turn-end - l._turn) l.behind
+    ≡ many_from (may_begin (form_of l.item.now)) (passes (at l.room) (form_of l.item.now)) (l._turn-end - l._turn) l.following

@@ -3,10 +3,10 @@ use Rattle.block_machine.specs.declared.end.End.{End}
 use Rattle.session_core.specs.Sessions.{wanted}
 use Rattle.txn_buffer.proofs.Lists.{slice_get-set_other}
 use Rattle.session_hall.specs.declared.seat.Seat.{Seat}
-use Rattle.session_hall.specs.Seats.{IsCalm, ShowsEnd}
+use Rattle.session_hall.specs.Seats.{IsResting, ShowsEnd}
 use Rattle.session_hall.specs.Halls.{with_account}
 use Rattle.session_hall.proofs.Going.{going_settled}
-use Rattle.session_hall.proofs.Stepping.{calm_of, hall_rests, hall_steps, none_end, not_ended, same_seat, seat_known, some_end}
+use Rattle.session_hall.proofs.Stepping.{resting_of, hall_rests, hall_steps, none_end, not_ended, same_seat, seat_known, some_end}
 use Rattle.session_hall.proofs.hall.Hall.step.Goals as goal
 
 pub returns-then-is_some-clause-step : goal.returns-then-is_some-clause-step
@@ -34,12 +34,12 @@ step-requires-clause-settled c =
     going_settled (wanted c.index_mut.result.now.session)
     (subst (λ (o : Option End). ShowsEnd o (wanted c.index_mut.result.now.session)) none seated.shows)
 
-pub step-requires-clause-calm : goal.step-requires-clause-calm
-step-requires-clause-calm c =
+pub step-requires-clause-resting : goal.step-requires-clause-resting
+step-requires-clause-resting c =
     let (level, history, clients, accounts, stands) = c.requires.hall in
     let (client, at, seated) = seat_known level history clients accounts c.args.self.now c.args.client c.index_mut.result.now stands c.requires.range
     c.index_mut.ensures.value in
-    seated.calm
+    seated.resting
     (ap (λ (s : Seat). s.end)
     (same_seat c.args.self.now.seats.items c.args.client c.index_mut.result.now c.index.result.now c.requires.range c.index_mut.ensures.value c.index.ensures)
     ∙ none_end c.index.result.now.end (sym c.if-is_some.false ∙ c.is_some.ensures))
@@ -54,8 +54,8 @@ returns-clause-step c = λ level history clients accounts stands.
     ∙ none_end c.index.result.now.end (sym c.if-is_some.false ∙ c.is_some.ensures) in
     let (many, count, goes) = c.step.ensures.goes history stands.store in
     hall_steps c.step.result level history clients accounts c.args.self.now _ c.args.client c.index_mut.result.now c.step.new.seat many stands
-    (omega (arith, c.requires.range, stands.count)) at refl (seated.calm none) count goes c.step.ensures.shows c.step.ensures.by c.step.ensures.told
-    (calm_of c.step.result c.step.new.seat.end (IsCalm c.step.new.seat) c.step.ensures.by c.step.ensures.calm) c.step.ensures.calm c.step.ensures.unsent
+    (omega (arith, c.requires.range, stands.count)) at refl (seated.resting none) count goes c.step.ensures.shows c.step.ensures.by c.step.ensures.told
+    (resting_of c.step.result c.step.new.seat.end (IsResting c.step.new.seat) c.step.ensures.by c.step.ensures.resting) c.step.ensures.resting c.step.ensures.unsent
 
 pub returns-clause-others : goal.returns-clause-others
 returns-clause-others c = λ k apart. slice_get-set_other c.args.self.now.seats.items c.args.client k c.step.new.seat apart

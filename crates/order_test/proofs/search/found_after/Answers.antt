@@ -2,7 +2,7 @@ use Rattle.std.proofs.Common.{◌≡◌, ℕ, List, length, arith, ap, sym, ◌�
 use Rattle.cell_writers.specs.declared.writers.CellWriters.{CellWriters}
 use Rattle.order_test.specs.Listed.{AreTxnsWithin}
 use Rattle.order_test.proofs.ListedLemmas.{txns_within}
-use Rattle.order_test.proofs.search.found_behind.Goals as goal
+use Rattle.order_test.proofs.search.found_after.Goals as goal
 
 pub lists_of-requires-clause-within : goal.lists_of-requires-clause-within
 lists_of-requires-clause-within c =
