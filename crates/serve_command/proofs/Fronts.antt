@@ -1,11 +1,7 @@
 -- Lists that are taken apart from their end.
 use Rattle.std.proofs.Common.{◌≡◌, ℕ, List, [], ◌∷◌, ◌++◌, length, map, suc, take, drop, refl, sym, ◌∙◌, ap}
 use Rattle.std.proofs.lemmas.List.{append-nil, append_assoc}
-
--- what stands after a front
-pub drop_front : {X : Type 0} (xs ys : List X) → drop (length xs) (xs ++ ys) ≡ ys
-drop_front [] ys = refl
-drop_front (x ∷ xs) ys = drop_front xs ys
+use Rattle.turn_lock.proofs.Keys.{drop_front}
 
 -- after all of a list nothing stands
 pub drop_all : {X : Type 0} (xs : List X) → drop (length xs) xs ≡ []
