@@ -1,5 +1,5 @@
 -- Words that lengthen: by zeros, and by the other row's words where both went before.
-use Rattle.std.proofs.Common.{◌≡◌, ℕ, ◌+◌, ◌-◌, ◌<◌, ◌≤◌, zero, suc, List, ◌++◌, length, get_or, take, drop, replicate, min, bit_or, refl, ap, sym, ◌∙◌, inl, inr, arith}
+use Rattle.std.proofs.Common.{◌≡◌, ℕ, ◌+◌, ◌-◌, ◌≤◌, zero, suc, List, ◌++◌, length, get_or, take, drop, replicate, min, bit_or, refl, ap, sym, ◌∙◌, inl, inr, arith}
 use Rattle.std.specs.Int.Bits.{or_zero_l, or_zero_r}
 use Rattle.std.proofs.lemmas.Bool.{cases_lt}
 use Rattle.std.proofs.lemmas.List.{get_or_past, get_or_append_left, get_or-append_right, get_or-drop, take_all}
@@ -22,6 +22,20 @@ same_padded words n m within k =
           ∙ sym (get_or_past words k 0 past)
     ]
 
+-- the word after all of the row's, where the row is the shorter one or the other one is over
+tail_word :
+    (old joined others : List ℕ) (common k : ℕ) → common ≡ min (length old) (length others) → length joined ≡ length old →
+    length joined ≤ k → get_or (drop common others) (k - length joined) 0 ≡ get_or others k 0
+tail_word old joined others common k least size past =
+    elim (cases_lt (length old) (length others)) [
+      | inl shorter ↦
+          let at : common + (k - length joined) ≡ k = omega arith in
+          get_or-drop common others (k - length joined) 0 ∙ ap (λ (i : ℕ). get_or others i 0) at
+      | inr longer ↦
+          get_or-drop common others (k - length joined) 0
+          ∙ get_or_past others (common + (k - length joined)) 0 (omega arith) ∙ sym (get_or_past others k 0 (omega arith))
+    ]
+
 -- words that are joined as far as both rows go, and then the other row's words that are left
 pub joined_whole :
     (old joined others : List ℕ) (common : ℕ) → common ≡ min (length old) (length others) → JoinsFrom 0 common old joined others →
@@ -32,10 +46,10 @@ joined_whole old joined others common least joins k =
       | inl here ↦
           get_or_append_left joined (drop common others) 0 k here
           ∙ elim (cases_lt k common) [
-            | inl both ↦ joins.joined k (omega arith) both
+            | inl both ↦ joins.joined k (omega arith) (omega arith)
             | inr past ↦
                 let none : get_or others k 0 ≡ 0 = get_or_past others k 0 (omega arith) in
-                joins.others k (inr past) ∙ sym (ap (bit_or (get_or old k 0)) none ∙ or_zero_r (get_or old k 0))
+                joins.others k (inr (omega arith)) ∙ sym (ap (bit_or (get_or old k 0)) none ∙ or_zero_r (get_or old k 0))
           ]
       | inr past ↦
           let none : get_or old k 0 ≡ 0 = get_or_past old k 0 (omega arith) in
@@ -44,16 +58,3 @@ joined_whole old joined others common least joins k =
           ∙ tail_word old joined others common k least joins.size past in
           other ∙ sym (ap (λ (w : ℕ). bit_or w (get_or others k 0)) none ∙ or_zero_l (get_or others k 0))
     ]
-where
-  tail_word :
-      (old joined others : List ℕ) (common k : ℕ) → common ≡ min (length old) (length others) → length joined ≡ length old →
-      length joined ≤ k → get_or (drop common others) (k - length joined) 0 ≡ get_or others k 0
-  tail_word old joined others common k least size past =
-      elim (cases_lt (length old) (length others)) [
-        | inl shorter ↦
-            let at : common + (k - length joined) ≡ k = omega arith in
-            get_or-drop common others (k - length joined) 0 ∙ ap (λ (i : ℕ). get_or others i 0) at
-        | inr longer ↦
-            get_or-drop common others (k - length joined) 0
-            ∙ get_or_past others (common + (k - length joined)) 0 (omega arith) ∙ sym (get_or_past others k 0 (omega arith))
-      ]
