@@ -31,28 +31,29 @@ fn add_up_to(row: &mut Row, rows: &[Row], number: u32)
     }
 }
 
-/// Adds what comes before the members to the row. A member that the row has brings nothing, so
-/// going down from the greatest costs the fewest unions.
+/// Adds what comes before the members to the row, from the last member down. A member that the row
+/// has brings nothing: where the members rise along one path, the last one brings all by one union.
 pub(crate) fn gather_ancestors(row: &mut Row, rows: &[Row], members: &[u32])
     requires members { All (λ m. m < length rows.now) members.now }
     requires closed { IsClosed rows.now }
     requires down { IsDown rows.now row.old }
     ensures { GainsAll (HasPair rows.now) members.now row.old row.new }
 {
-    for member in members {
-        add_ancestors(row, rows, *member);
+    for done in 0..members.len() {
+        add_ancestors(row, rows, members[members.len() - 1 - done]);
     }
 }
 
-/// Adds the members and what comes before them to the row.
+/// Adds the members and what comes before them to the row, from the last member down as
+/// `gather_ancestors` does.
 pub(crate) fn gather(row: &mut Row, rows: &[Row], members: &[u32])
     requires members { All (λ m. m < length rows.now) members.now }
     requires closed { IsClosed rows.now }
     requires down { IsDown rows.now row.old }
     ensures { GainsAll (IsUpTo rows.now) members.now row.old row.new }
 {
-    for member in members {
-        add_up_to(row, rows, *member);
+    for done in 0..members.len() {
+        add_up_to(row, rows, members[members.len() - 1 - done]);
     }
 }
 
