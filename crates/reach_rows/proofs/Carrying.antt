@@ -2,7 +2,7 @@
 use Rattle.std.proofs.Common.{◌≡◌, ◌↔◌, ℕ, ◌+◌, ◌<◌, ◌≤◌, List, [], ◌∷◌, length, get_or, set, drop, refl, get_or-set_same, get_or-set_other, ap, sym, ◌∙◌, subst, inl, inr, arith}
 use Rattle.std.specs.List.{Contains, Any}
 use Rattle.std.proofs.lemmas.Bool.{cases_eq, cases_lt}
-use Rattle.std.proofs.lemmas.List.{length-set, length-drop, get_or_past, drop_more}
+use Rattle.std.proofs.lemmas.List.{length-set, length-drop, get_or_past, drop_more, set-set}
 use Rattle.bit_rows.specs.Members.{Gains, IsUnion}
 use Rattle.bit_rows.proofs.Marks.{contains_cons, contains_first, contains_later}
 use Rattle.reach_rows.specs.Rows.{row_at, HasPair, IsClosed, IsDown, IsUpTo, GainsOne, GainsAll, Carries, CarriesUpTo, JoinsAt, Spreads}
@@ -152,6 +152,33 @@ joins_at target gained rows row within union =
       joined = subst (λ (r : List ℕ). IsUnion (row_at rows target) gained r) (sym now) union;
       others = λ k other. get_or-set_other rows target k row [] other;
     }
+
+-- a row that was put elsewhere meanwhile, joined there and put back
+pub joins_back :
+    (number target : ℕ) (rows : List (List ℕ)) (spare joined final : List ℕ) → number < length rows → target < length rows →
+    (number ≡ target → ⊥) → IsUnion (row_at rows target) (row_at (set rows target spare) number) joined → Gains joined final number →
+    JoinsAt target (number ∷ row_at rows number) rows (set (set rows target spare) target final)
+joins_back number target rows spare joined final from to apart union gains =
+    let row : List ℕ = row_at rows number in
+    let same : row_at (set rows target spare) number ≡ row = get_or-set_other rows target number spare [] apart in
+    let whole : IsUnion (row_at rows target) (number ∷ row) final = λ n. (
+      λ member. elim ((gains n).0 member) [
+        | inl in_joined ↦ elim ((union n).0 in_joined) [
+          | inl before ↦ inl before
+          | inr more ↦ inr (contains_later number row n (subst (λ (r : List ℕ). Contains r n) same more))
+        ]
+        | inr is ↦ inr (contains_first number row n (sym is))
+      ],
+      λ either. elim either [
+        | inl before ↦ (gains n).1 (inl ((union n).1 (inl before)))
+        | inr more ↦ elim (contains_cons number row n more) [
+          | inl is ↦ (gains n).1 (inr (sym is))
+          | inr later ↦ (gains n).1 (inl ((union n).1 (inr (subst (λ (r : List ℕ). Contains r n) (sym same) later))))
+        ]
+      ],
+    ) in
+    subst (λ (rs : List (List ℕ)). JoinsAt target (number ∷ row) rows rs) (sym (set-set rows target spare final))
+    (joins_at target (number ∷ row) rows final to whole)
 
 pub carried_at :
     (target : ℕ) (gained : List ℕ) (old rows : List (List ℕ)) → CarriesUpTo (length old) target gained old rows →
