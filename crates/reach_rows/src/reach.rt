@@ -187,7 +187,7 @@ impl Reach {
     }
 
     /// The ancestors of the members: a row that has a number exactly where it reaches some member.
-    /// A member that comes before an earlier one costs a bit test, any other one union. Takes the
+    /// A member that comes before a later one costs a bit test, any other one union. Takes the
     /// memory of a row; an error is out of memory.
     pub fn union_of(&self, members: &[u32]) -> Result<Row, AllocError>
         requires { All (λ m. m < self.now.size) members.now }
