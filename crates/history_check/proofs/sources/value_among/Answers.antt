@@ -1,4 +1,4 @@
-use Rattle.std.proofs.Common.{◌≡◌, ◌≤◌, true, false, length, refl, arith}
+use Rattle.std.proofs.Common.{◌≡◌, true, false, length, refl, arith}
 use Rattle.std.proofs.lemmas.Option.{slice_get_read}
 use Rattle.history_check.proofs.WriteLemmas.{absent_more, absent_all, stands_there}
 use Rattle.history_check.proofs.sources.value_among.Goals as goal
