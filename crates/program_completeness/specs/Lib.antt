@@ -1,2 +1,4 @@
 pub mod Visits
 pub mod Programs
+pub mod Checking
+pub mod Simulating
