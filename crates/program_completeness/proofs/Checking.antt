@@ -1,18 +1,17 @@
 -- What `check` answers where no fault is counted.
-use Rattle.std.proofs.Common.{◌≡◌, ◌⊎◌, inl, inr, ℕ, List, ◌++◌, Option, Some, None, sym, ◌∙◌, ap, subst}
+use Rattle.std.proofs.Common.{◌≡◌, inl, inr, ℕ, List, ◌++◌, Option, Some, None, sym, ◌∙◌, ap, subst}
 use Rattle.std.specs.Prelude.{IfSome}
 use Rattle.std.proofs.lemmas.List.{append-nil}
 use Rattle.link_traits.specs.Traffic.{Traffic, Sight, Both, untouched}
 use Rattle.link_traits.specs.Host.{Hosted, bytes_at}
 use Rattle.host_calls.specs.Printing.{Printed}
 use Rattle.host_calls.specs.Reading.{ReadWhole}
-use Rattle.doors.specs.Network.{Networked}
 use Rattle.check_command.specs.Verdict.{IsVerdict}
 use Rattle.check_command.specs.Checks.{most_bytes, Judged}
 use Rattle.command_line.specs.declared.reading.CommandLine.{CommandLine}
 use Rattle.command_line.specs.declared.reading.CommandLine.TheVariants as lines
 use Rattle.command_line.proofs.OneCommand.{one_command}
-use Rattle.monkey_server.specs.Program.{Obeys, Does}
+use Rattle.monkey_server.specs.Program.{Obeys}
 use Rattle.program_completeness.specs.Checking.{HasPrinted, PrintsUndisturbed, ChecksUndisturbed, JudgesWhole, ChecksAreComplete, CheckRunsAreComplete, CheckRunsAreExact}
 use Rattle.program_completeness.proofs.Counting.{one_more}
 use Rattle.program_completeness.proofs.Verdicts.{one_verdict, longer_verdict}

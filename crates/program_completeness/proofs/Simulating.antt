@@ -1,5 +1,5 @@
 -- What `sim` answers where no fault is counted.
-use Rattle.std.proofs.Common.{◌≡◌, ◌⊎◌, inl, inr, ℕ, List, Option, Some, None, refl, sym, ◌∙◌, ap, subst}
+use Rattle.std.proofs.Common.{◌≡◌, ◌⊎◌, inl, inr, ℕ, List, Option, Some, None, sym, ◌∙◌, ap, subst}
 use Rattle.std.proofs.lemmas.Option.{none-some}
 use Rattle.cell_base.specs.declared.level.Level.{Level}
 use Rattle.link_traits.specs.Host.{Hosted}
@@ -8,7 +8,6 @@ use Rattle.host_calls.specs.Printing.{Printed}
 use Rattle.host_calls.specs.declared.writing.WriteFault.{WriteFault}
 use Rattle.host_calls.specs.declared.writing.WriteFault.TheVariants as writes
 use Rattle.log_file.specs.Logging.{Logs, status_after}
-use Rattle.doors.specs.Network.{Networked}
 use Rattle.sim_command.specs.Simulations.{IsCutOff, Told}
 use Rattle.command_line.specs.declared.reading.CommandLine.{CommandLine}
 use Rattle.command_line.specs.declared.reading.CommandLine.TheVariants as lines

@@ -1,5 +1,5 @@
 -- A text has one verdict, and a longer text that begins with one that is too long has the same.
-use Rattle.std.proofs.Common.{◌≡◌, inl, inr, ℕ, ◌+◌, ◌<◌, ◌≤◌, List, [], ◌∷◌, ◌++◌, length, refl, sym, ◌∙◌, ap, subst, arith, append_assoc, length-append}
+use Rattle.std.proofs.Common.{◌≡◌, inl, inr, ℕ, ◌+◌, ◌<◌, List, [], ◌∷◌, ◌++◌, length, refl, sym, ◌∙◌, ap, subst, arith, append_assoc, length-append}
 use Rattle.history_log.specs.declared.log_fault.LogFault.{LogFault}
 use Rattle.history_log.specs.declared.log_fault.LogFault.TheVariants as faults
 use Rattle.history_log.specs.declared.trace.Trace.{Trace}

@@ -1,6 +1,6 @@
 -- The rows that are committed at the end of a history that begins without a row are whole, where its transactions keep rows whole and write
 -- fields of its tables.
-use Rattle.std.proofs.Common.{◌≡◌, ◌≢◌, ℕ, ◌+◌, ◌<◌, ◌≤◌, zero, suc, List, [], ◌∷◌, ◌++◌, length, map, take, drop, Option, Some, true, refl, sym, ap, ◌∙◌, subst, inl, inr, ◌⊎◌, arith}
+use Rattle.std.proofs.Common.{◌≡◌, ◌≢◌, ℕ, ◌+◌, ◌<◌, ◌≤◌, zero, suc, List, [], ◌∷◌, length, take, drop, Some, true, refl, sym, ap, ◌∙◌, subst, inl, inr, ◌⊎◌, arith}
 use Rattle.std.specs.List.{Contains, slice_get, AllByRecursion}
 use Rattle.std.specs.declared.cmp.Ordering.{Ordering}
 use Rattle.std.specs.declared.cmp.Ordering.TheVariants.{Less, Equal, Greater}
@@ -20,10 +20,10 @@ use Rattle.history_core.specs.declared.event.Event.TheVariants.{Write, Commit}
 use Rattle.history_core.specs.Events.{begun, defined, defined_name, names}
 use Rattle.history_core.specs.Initial.{HoldsWholeRows, WritesInitially}
 use Rattle.history_core.specs.Transactions.{IsOf, IsCommitted}
-use Rattle.history_core.specs.Relations.{HasWritten, LastWrites, Writes}
+use Rattle.history_core.specs.Relations.{HasWritten, LastWrites}
 use Rattle.history_core.specs.Chronicle.{Chronicle, IsLegalChronicle, IsFormedChronicle}
 use Rattle.history_core.proofs.Greatest.{greatest}
-use Rattle.history_core.proofs.Prefixes.{start_bounded, start_positive}
+use Rattle.history_core.proofs.Prefixes.{start_bounded}
 use Rattle.history_core.proofs.Searches.{cell_cmp, cell_total, cell_exact}
 use Rattle.history_core.proofs.TablesFew.{tables_defined}
 use Rattle.whole_rows.specs.Rows.{IsField, KeepsRows}

@@ -1,7 +1,7 @@
 -- The course of a typed statement writes fields of its table alone.
-use Rattle.std.proofs.Common.{◌≡◌, ℕ, zero, suc, ◌+◌, ◌<◌, ◌==◌, Bool, true, false, List, [], ◌∷◌, ◌++◌, length, map, slice_index_or, Option, Some, None, Ok, Err, refl, sym, ap, subst, ◌∙◌, arith}
+use Rattle.std.proofs.Common.{◌≡◌, ℕ, zero, suc, ◌+◌, ◌<◌, ◌==◌, Bool, true, false, List, [], ◌∷◌, ◌++◌, length, map, slice_index_or, Option, Some, None, Ok, Err, sym, subst, arith}
 use Rattle.std.specs.Prelude.{slice_get}
-use Rattle.std.specs.List.{list_any, AllByRecursion}
+use Rattle.std.specs.List.{AllByRecursion}
 use Rattle.std.proofs.lemmas.Bool.{cond_both, eqb-true, eqb-false}
 use Rattle.std.proofs.lemmas.List.Folds.{Any-from_list_any}
 use Rattle.cell_base.specs.declared.cell.Cell.{Cell}
@@ -28,10 +28,9 @@ use Rattle.row_meaning.specs.Storing.{checked}
 use Rattle.row_meaning.specs.Changes.{kept_rows, assignments, is_assigned, has_missing, checks_on, fields_from, updated, change_of, changes_of}
 use Rattle.row_meaning.specs.Changes as changes
 use Rattle.statement_course.specs.Course.{Course, scan, touch, write, done}
-use Rattle.statement_course.specs.Reading.{Part, read_columns, read_row, read_rows, read_keys, read_part, read_parts}
+use Rattle.statement_course.specs.Reading.{Part, read_columns, read_row, read_rows, read_keys, read_parts}
 use Rattle.statement_course.specs.Statements.{parts_of_select, course_of_rows, course_of_insert, part_of_change, course_of_changes, course_of_change, course_of}
 use Rattle.statement_course.specs.Writing.{write_all, read_presences, insert_rows, fields_of, inserts, updates_of, updates, deletes}
-use Rattle.statement_course.specs.declared.demand.Outcome.{Outcome}
 use Rattle.statement_course.specs.declared.demand.Outcome.TheVariants.{Updated, Deleted, Inserted}
 use Rattle.course_laws.proofs.Inserting.{anything, all_hold, both}
 use Rattle.whole_rows.specs.Rows.{IsField}

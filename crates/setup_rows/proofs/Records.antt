@@ -18,7 +18,7 @@ use Rattle.block_machine.specs.declared.call.Answer.TheVariants as answers
 use Rattle.session_core.specs.declared.phase.Phase.TheVariants as phases
 use Rattle.session_core.specs.Requests.{Requests}
 use Rattle.session_core.specs.Told.{told}
-use Rattle.session_core.specs.Record.{Happens, Declines, may_be_refused, IsValidRecord, events_of}
+use Rattle.session_core.specs.Record.{Happens, Declines, IsValidRecord, events_of}
 use Rattle.link_laws.proofs.Rules.{Obeys}
 use Rattle.link_laws.proofs.SessionsKept.{session_keeps}
 use Rattle.session_rows.specs.Alone.{AreFirst}

@@ -1,5 +1,5 @@
 -- The rows that a setup leaves are whole.
-use Rattle.std.proofs.Common.{◌≡◌, inl, inr, ℕ, List, [], All, Option, Some, None, refl, sym, ap, subst, ◌∙◌}
+use Rattle.std.proofs.Common.{inl, inr, ℕ, List, [], Option, Some, None, sym, subst, ◌∙◌}
 use Rattle.std.specs.List.{AllByRecursion}
 use Rattle.std.proofs.lemmas.Bool.{cases_eq}
 use Rattle.cell_base.specs.declared.cell.Cell.{Cell}
