@@ -1,5 +1,5 @@
 -- What the command `sim` answers where no fault is counted.
-use Rattle.std.specs.Prelude.{◌≡◌, ◌⊎◌, ℕ, List, [], ◌∷◌, ◌++◌, Option, None, Some}
+use Rattle.std.specs.Prelude.{◌≡◌, ◌≤◌, ◌⊎◌, ℕ, List, [], ◌∷◌, ◌++◌, Option, None, Some}
 use Rattle.cell_base.specs.declared.level.Level.{Level}
 use Rattle.link_traits.specs.Faults.{Rose}
 use Rattle.link_traits.specs.Traffic.{Sight}
@@ -8,7 +8,7 @@ use Rattle.history_core.specs.Chronicle.{Chronicle}
 use Rattle.history_summary.specs.Line.{IsSummary}
 use Rattle.log_file.specs.Logging.{Logs}
 use Rattle.doors.specs.Network.{Networked}
-use Rattle.sim_command.specs.Simulations.{IsSimulation, IsCutOff, Simulates}
+use Rattle.sim_command.specs.Simulations.{IsSimulation, Simulates}
 use Rattle.command_line.specs.Commands.{IsSim}
 use Rattle.monkey_server.specs.Program.{Does}
 use Rattle.program_completeness.specs.Checking.{HasPrinted, PrintsUndisturbed}
@@ -31,20 +31,16 @@ pub record SimulatesWhole (level : Level) (seed sessions queries : ℕ) (log : O
   pub logged : Logs log history None before between
   pub printed : HasPrinted line before after
 
--- `sim LEVEL SEED SESSIONS QUERIES` where no fault is counted: the simulation came to its end and was told whole, with status 0; or memory ran
--- out; or it was cut off
+-- `sim LEVEL SEED SESSIONS QUERIES` where no fault is counted: the simulation came to its end and was told whole, with status 0; or memory ran out
 abbrev pub SimulationsAreComplete : Type 0
 SimulationsAreComplete =
     (level : Level) (seed sessions queries : ℕ) (log : Option (List ℕ)) (before : Hosted) (code : ℕ) (after : Hosted)
-    → Simulates level seed sessions queries log before code after → SimsUndisturbed before after
-    → ((code ≡ 0) × SimulatesWhole level seed sessions queries log before after)
-        ⊎ ((code ≡ 5) ⊎ ((code ≡ 1) × IsCutOff level seed sessions queries))
+    → sessions ≤ 64 → queries ≤ 200 → Simulates level seed sessions queries log before code after → SimsUndisturbed before after
+    → ((code ≡ 0) × SimulatesWhole level seed sessions queries log before after) ⊎ (code ≡ 5)
 
 -- so does the program with these words
 abbrev pub SimRunsAreComplete : Type 0
 SimRunsAreComplete =
     (args : List (List ℕ)) (level : Level) (seed sessions queries : ℕ) (log : Option (List ℕ)) (network left : Networked) (before : Hosted)
     (code : ℕ) (after : Hosted) → IsSim args level seed sessions queries log → Does args network before code left after
-    → SimsUndisturbed before after
-    → ((code ≡ 0) × SimulatesWhole level seed sessions queries log before after)
-        ⊎ ((code ≡ 5) ⊎ ((code ≡ 1) × IsCutOff level seed sessions queries))
+    → SimsUndisturbed before after → ((code ≡ 0) × SimulatesWhole level seed sessions queries log before after) ⊎ (code ≡ 5)

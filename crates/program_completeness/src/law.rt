@@ -42,7 +42,7 @@ pub fn checks_are_complete()
 {}
 
 /// `sim LEVEL SEED SESSIONS QUERIES` serves all clients of the seed to their ends, writes the log of their history, where one is asked for, and
-/// prints its line, with status 0; or the status is 5; or the simulation was cut off. So it is of the whole program with these words.
+/// prints its line, with status 0; or the status is 5. So it is of the whole program with these words.
 pub fn simulations_are_complete()
     ensures sim { SimulationsAreComplete }
     ensures program { SimRunsAreComplete }

@@ -1,5 +1,5 @@
 -- How many free calls a statement's script makes: two more than what stands around it.
-use Rattle.std.proofs.Common.{◌≤◌, Bool, true, false, cond, ℕ, suc, List, [], ◌∷◌, ◌++◌, length, Option, Some, None, Ok, Err, arith}
+use Rattle.std.proofs.Common.{Bool, true, false, cond, ℕ, suc, List, [], ◌∷◌, ◌++◌, length, Option, Some, None, Ok, Err, arith}
 use Rattle.std.specs.Fmt.{decimal}
 use Rattle.std.specs.Str.{bytes_eq}
 use Rattle.cell_base.specs.declared.level.Level.{Level}
