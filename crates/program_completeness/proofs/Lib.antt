@@ -6,3 +6,4 @@ pub mod Serving
 pub mod Verdicts
 pub mod Checking
 pub mod Simulating
+pub mod Statuses

@@ -75,7 +75,7 @@ sims_complete level seed sessions queries log before code after few_sessions few
     told level seed sessions queries log before code after t quiet
 
 -- a number of the command line is in its range
-within : (most n : ℕ) (text : Option (List ℕ)) → IsSomeAnd text (λ digits. IsUpTo most digits n) → n ≤ most
+pub within : (most n : ℕ) (text : Option (List ℕ)) → IsSomeAnd text (λ digits. IsUpTo most digits n) → n ≤ most
 within most n None is = absurd is
 within most n (Some digits) is = is.within
 

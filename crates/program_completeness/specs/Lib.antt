@@ -2,3 +2,4 @@ pub mod Visits
 pub mod Programs
 pub mod Checking
 pub mod Simulating
+pub mod Statuses

@@ -3,6 +3,7 @@ ghost use Rattle.program_completeness.specs.Visits.{VisitsAreComplete};
 ghost use Rattle.program_completeness.specs.Programs.{PipedAreComplete, PipesAreComplete, ServersAreComplete, ServeRunsAreComplete};
 ghost use Rattle.program_completeness.specs.Checking.{OneVerdict, ZeroIsRight, ChecksAreComplete, CheckRunsAreComplete, CheckRunsAreExact};
 ghost use Rattle.program_completeness.specs.Simulating.{SimulationsAreComplete, SimRunsAreComplete};
+ghost use Rattle.program_completeness.specs.Statuses.{StatusesHaveCauses};
 
 use link_traits::Words;
 
@@ -46,4 +47,11 @@ pub fn checks_are_complete()
 pub fn simulations_are_complete()
     ensures sim { SimulationsAreComplete }
     ensures program { SimRunsAreComplete }
+{}
+
+/// Whatever the words of the command line: the status is 1 only where what came in is to blame, 2 only for words that are no command, 3 and 4 only
+/// where a read or a write was counted as failed, 6 only where a call of the host or the network was, or a door counted a failed accept; and it is
+/// never above 6.
+pub fn statuses_have_causes()
+    ensures { StatusesHaveCauses }
 {}
