@@ -79,19 +79,23 @@ full_first started requests e full entries = inr (inr (inr (inr (refl, inl full)
 unless_memory_ends : (started : Bool) (requests : Requests) (phase : Phase) (rest : Script) → EndsIn (By started requests) rest →
     EndsIn (By started requests) (told.unless_memory_ends phase rest)
 unless_memory_ends started requests phase rest h =
-    short_ends (By started requests) true (told.ending (owed_by phase) ends.Memory) rest (record { at = λ n said entries.
-        moved (By started requests) (short true n) entries (told.ending (owed_by phase) ends.Memory said entries).1
-        ((ending_in (After (By started requests) (short true n)) (by_after started requests (short true n)) (owed_by phase) ends.Memory
-        (lacks_first started requests (short true n) tt)).at said entries) }) h
+    short_ends (By started requests) true (told.ending (owed_by phase) ends.Memory) rest (record {
+      at = λ n said entries.
+          moved (By started requests) (short true n) entries (told.ending (owed_by phase) ends.Memory said entries).1
+          ((ending_in (After (By started requests) (short true n)) (by_after started requests (short true n)) (owed_by phase) ends.Memory
+          (lacks_first started requests (short true n) tt)).at said entries);
+    }) h
 
 -- ---- before the startup's end
 
 tells_startup : (requests : Requests) (session : ℕ) (rest : Script) → EndsIn (By false requests) rest → EndsIn (By false requests) (told.tells_startup session rest)
 tells_startup requests session rest h =
-    short_ends (By false requests) true (told.closing ends.Memory) _ (record { at = λ n said entries.
-        moved (By false requests) (short true n) entries (told.closing ends.Memory said entries).1
-        ((closing_in (After (By false requests) (short true n)) (by_after false requests (short true n)) ends.Memory
-        (lacks_first false requests (short true n) tt)).at said entries) })
+    short_ends (By false requests) true (told.closing ends.Memory) _ (record {
+      at = λ n said entries.
+          moved (By false requests) (short true n) entries (told.closing ends.Memory said entries).1
+          ((closing_in (After (By false requests) (short true n)) (by_after false requests (short true n)) ends.Memory
+          (lacks_first false requests (short true n) tt)).at said entries);
+    })
     (tell_ends (By false requests) (by_fit false requests) (startup_reply session) (told.broken owes.Close) rest (broken_ends owes.Close) h)
 
 -- the session's opening was refused by this entry

@@ -72,6 +72,6 @@ SayingEnds {W} gives =
     (level : Level) (before : Scene W) (outcome : Served) (after : Scene W) (account : Account) (end : End)
     → (s : Serves gives level before outcome after account) → end_said false s.requests ≡ Some end
     → (outcome.end ≡ end)
-        ⊎ (((outcome.end ≡ ends.WriteFault) × Rose before.link.write_faults after.link.write_faults)
-        ⊎ (((outcome.end ≡ ends.Memory) × Has LacksMemory account.entries)
-        ⊎ ((outcome.end ≡ ends.Refused states.S54000) × Has IsFull account.entries)))
+    ⊎ (((outcome.end ≡ ends.WriteFault) × Rose before.link.write_faults after.link.write_faults)
+    ⊎ (((outcome.end ≡ ends.Memory) × Has LacksMemory account.entries)
+    ⊎ ((outcome.end ≡ ends.Refused states.S54000) × Has IsFull account.entries)))

@@ -55,15 +55,18 @@ told level seed sessions queries log before code after t quiet =
     let all = t.told in
     elim (ended log all.fault t.history t.line before all.between code all.printed_code after all.logs all.printed all.code_is quiet) [
       | inl w ↦
-          inl (w.zero, record {
-            history = t.history;
-            simulation = t.simulation;
-            line = t.line;
-            summary = t.summary;
-            between = w.between;
-            logged = w.logged;
-            printed = w.printed;
-          })
+          inl (
+            w.zero,
+            record {
+              history = t.history;
+              simulation = t.simulation;
+              line = t.line;
+              summary = t.summary;
+              between = w.between;
+              logged = w.logged;
+              printed = w.printed;
+            },
+          )
       | inr five ↦ inr five
     ]
 

@@ -207,5 +207,16 @@ ends level seed sessions queries few_sessions few_queries cut =
     let played = plays level clients cut.picks (at_first level) cut.last (clients_short seed sessions queries clients few_queries cut.are) (modest_first level (length clients)) cut.run in
     let most = sum_below (calls_of cut.last) (plain_of cut.last) (length clients) (each_below (length clients) cut.last played.modest) in
     let many : length clients ≡ suc (length cut.are.askers) = ap length cut.are.is in
-    omega (arith, all_picks cut.picks, front_ends seed sessions cut.picks cut.front, played.calls, most, many, cut.are.count, cut.many, played.modest.events,
-    played.modest.few, few_sessions)
+    omega (
+      arith,
+      all_picks cut.picks,
+      front_ends seed sessions cut.picks cut.front,
+      played.calls,
+      most,
+      many,
+      cut.are.count,
+      cut.many,
+      played.modest.events,
+      played.modest.few,
+      few_sessions,
+    )
