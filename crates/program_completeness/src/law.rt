@@ -1,6 +1,9 @@
 // What holds of the program where no fault is counted.
 ghost use Rattle.program_completeness.specs.Visits.{VisitsAreComplete};
 ghost use Rattle.program_completeness.specs.Programs.{PipedAreComplete, PipesAreComplete, ServersAreComplete, ServeRunsAreComplete};
+ghost use Rattle.program_completeness.specs.Checking.{OneVerdict, ZeroIsRight, ChecksAreComplete, CheckRunsAreComplete, CheckRunsAreExact};
+ghost use Rattle.program_completeness.specs.Simulating.{SimulationsAreComplete, SimRunsAreComplete};
+ghost use Rattle.program_completeness.specs.Statuses.{StatusesHaveCauses};
 
 use link_traits::Words;
 
@@ -23,4 +26,32 @@ pub fn visits_are_complete<W: Words>()
 pub fn servers_are_complete()
     ensures serve { ServersAreComplete }
     ensures program { ServeRunsAreComplete }
+{}
+
+/// A text has one verdict: one line and one status, which is 0 exactly where the text is the log of a history that has no breach.
+pub fn verdicts_are_exact()
+    ensures one { OneVerdict }
+    ensures zero { ZeroIsRight }
+{}
+
+/// `check PATH` reads the whole file and prints the line of all its bytes, and its status, 0 or 1, is that of this line; or it is 5. So is that of
+/// the whole program with these words; and where the host tells the file's bytes, the line and the status are those of the verdict on them.
+pub fn checks_are_complete()
+    ensures check { ChecksAreComplete }
+    ensures program { CheckRunsAreComplete }
+    ensures exact { CheckRunsAreExact }
+{}
+
+/// `sim LEVEL SEED SESSIONS QUERIES` serves all clients of the seed to their ends, writes the log of their history, where one is asked for, and
+/// prints its line, with status 0; or the status is 5. So it is of the whole program with these words.
+pub fn simulations_are_complete()
+    ensures sim { SimulationsAreComplete }
+    ensures program { SimRunsAreComplete }
+{}
+
+/// Whatever the words of the command line: the status is 1 only where what came in is to blame, 2 only for words that are no command, 3 and 4 only
+/// where a read or a write was counted as failed, 6 only where a call of the host or the network was, or a door counted a failed accept; and it is
+/// never above 6.
+pub fn statuses_have_causes()
+    ensures { StatusesHaveCauses }
 {}

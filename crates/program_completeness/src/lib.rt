@@ -1,7 +1,10 @@
-//! Where no fault is counted, `pipe` and `serve` answer 0 or 5, and each client that says all that it has to say is served to its own end. There
-//! is no code here.
+//! Where no fault is counted, `pipe` and `serve` answer 0 or 5, and each client that says all that it has to say is served to its own end; `check`
+//! judges the whole file, and `sim` comes to the end of its simulation. There is no code here.
 #![tactic(auto)]
 
 mod law;
 
-pub use law::{pipes_are_complete, servers_are_complete, visits_are_complete};
+pub use law::{
+    checks_are_complete, pipes_are_complete, servers_are_complete, simulations_are_complete,
+    statuses_have_causes, verdicts_are_exact, visits_are_complete,
+};

@@ -1,0 +1,9 @@
+pub mod Scripts
+pub mod StatementsFew
+pub mod SessionsFew
+pub mod Heard
+pub mod Streams
+pub mod Loads
+pub mod Sums
+pub mod Accounts
+pub mod Playing
