@@ -127,11 +127,7 @@ fn meet<R: Threads + Wait + Eprint + Sync>(
     };
     let other = shared.split(&mut pass);
     let (first, second) = (AtomicBool::new(false), AtomicBool::new(false));
-    let one = worker(
-        alloc,
-        shared.book(rt, pass),
-        meeting_words(&first, &second),
-    )?;
+    let one = worker(alloc, shared.book(rt, pass), meeting_words(&first, &second))?;
     let two = worker(
         alloc,
         shared.book(rt, other),
