@@ -1,45 +1,28 @@
 -- The newest values of the committed transactions above a limit, as the limit goes down.
-use Rattle.std.proofs.Common.{◌≡◌, ℕ, ◌+◌, ◌<◌, ◌≤◌, List, Some, None, Result, Ok, Err, length, arith, sym, ◌∙◌, subst, inl, inr}
-use Rattle.std.specs.Prelude.{IsSome, OnOk}
+use Rattle.std.proofs.Common.{◌≡◌, ℕ, ◌+◌, ◌<◌, List, Some, None, arith, sym, ◌∙◌, subst, inl, inr}
+use Rattle.std.specs.Prelude.{IsSome}
 use Rattle.std.proofs.lemmas.Bool.{cases_lt}
-use Rattle.std.proofs.lemmas.Option.{slice_get_within}
 use Rattle.cell_base.specs.declared.cell.Cell.{Cell}
 use Rattle.cell_base.specs.declared.value.Value.{Value}
 use Rattle.history_core.specs.declared.event.Event.{Event}
-use Rattle.history_core.specs.declared.event.Event.TheVariants.{Write}
 use Rattle.history_core.specs.declared.txn.Txn.{Txn}
 use Rattle.history_core.specs.declared.txn.TxnState.TheVariants.{Committed}
 use Rattle.history_core.specs.Events.{begun}
 use Rattle.history_core.specs.Records.{IsRecordOf}
-use Rattle.history_core.specs.Transactions.{IsOf, IsCommitted}
+use Rattle.history_core.specs.Transactions.{IsCommitted}
 use Rattle.history_core.specs.Relations.{HasWritten, LastWrites}
-use Rattle.history_core.proofs.Greatest.{greatest}
-use Rattle.history_core.proofs.Prefixes.{start_bounded, start_positive}
+use Rattle.history_core.proofs.Prefixes.{start_positive}
+use Rattle.saturation.proofs.Sights.{none_written}
+use Rattle.indexed_history.proofs.Indexes.{committed_bounded}
 use Rattle.committed_rows.specs.declared.newest.Newest.{Newest}
 use Rattle.committed_rows.specs.Walk.{value_at, Fills, AreNewestAbove}
 use Rattle.committed_rows.proofs.Noted.{some_or_none, none_is_not_some, some_is, some_of}
-
--- what was written has a last value
-none_written : (events : List Event) (k : ℕ) (x : Cell) → ((v : Value) → LastWrites events k x v → ⊥) → HasWritten events k x → ⊥
-none_written events k x none written =
-    greatest (λ p. (s : ℕ) × ((v : Value) × IsOf events k p (Write s x v))) (λ p. p) (length events)
-    (λ p is. slice_get_within events p (Write is.0 x is.1.0) is.1.1.is)
-    written.place (written.session, (written.value, written.write))
-    (λ p is last. none is.1.0 record {
-      place = p;
-      session = is.0;
-      write = is.1.1;
-      last = λ q s v of. last q (s, (v, of));
-    })
 
 pub has_written : (events : List Event) (n : ℕ) (q : Cell) (v : Value) → LastWrites events n q v → HasWritten events n q
 has_written events n q v last = record { place = last.place; session = last.session; value = v; write = last.write }
 
 pub committed_positive : (events : List Event) (n : ℕ) → IsCommitted events n → 0 < n
 committed_positive events n committed = start_positive events n committed.session committed.commit.start committed.commit.starts
-
-committed_bounded : (events : List Event) (n : ℕ) → IsCommitted events n → n ≤ begun events
-committed_bounded events n committed = start_bounded events n committed.session committed.commit.start committed.commit.starts
 
 -- no transaction is above the last one
 pub above_first : (events : List Event) (newest : Newest) → ((cell : Cell) → value_at newest cell ≡ None) → AreNewestAbove events (begun events) newest
@@ -91,8 +74,3 @@ above_committed events number limit txn old new next is state fills above = reco
             (subst (λ (k : ℕ). HasWritten events k q) same commits.1))
       ]);
 }
-
--- what follows on success
-pub on_ok : {A E : Type 0} (P Q : Type 0) (r : Result A E) → (P → Q) → OnOk r P → OnOk r Q
-on_ok P Q (Ok a) f h = f h
-on_ok P Q (Err e) f h = h

@@ -19,7 +19,7 @@ use Rattle.committed_rows.proofs.Above.{has_written, committed_positive}
 
 -- ---- one value
 
-last_unique : (events : List Event) (n : ℕ) (q : Cell) (v w : Value) → LastWrites events n q v → LastWrites events n q w → v ≡ w
+pub last_unique : (events : List Event) (n : ℕ) (q : Cell) (v w : Value) → LastWrites events n q v → LastWrites events n q w → v ≡ w
 last_unique events n q v w first second =
     let below : second.place ≤ first.place = first.last second.place second.session w second.write in
     let above : first.place ≤ second.place = second.last first.place first.session v first.write in

@@ -1,6 +1,6 @@
 -- The rows that are gathered are those that are there at the end of the history.
-use Rattle.std.proofs.Common.{◌≢◌, List, true, Result, Ok, Err, sym, subst}
-use Rattle.std.specs.Prelude.{◌↔◌, IfOk}
+use Rattle.std.proofs.Common.{◌≢◌, List, true, sym, subst}
+use Rattle.std.specs.Prelude.{◌↔◌}
 use Rattle.std.specs.List.{Contains}
 use Rattle.std.specs.BTreeMap.{IsOrdered}
 use Rattle.std.proofs.lemmas.Map.Views.{btree_map_get_iff}
@@ -47,8 +47,3 @@ module _ (history : Chronicle) (newest : Newest) (formed : IsFormedChronicle his
     ascending = rows.ascending;
     exact = λ q v. (λ there. (stands q v).0 ((rows.exact q v).0 there), λ at_end. (rows.exact q v).1 ((stands q v).1 at_end));
   }
-
--- what follows on success
-pub if_ok : {A E : Type 0} (P Q : A → Type 0) (r : Result A E) → ((a : A) → P a → Q a) → IfOk r P → IfOk r Q
-if_ok P Q (Ok a) f h = f a h
-if_ok P Q (Err e) f h = h

@@ -31,9 +31,9 @@ use Rattle.history_core.specs.Book.{Past, in_session, session_of, GoesOn, Adds, 
 use Rattle.history_core.proofs.KeptLemmas.{names-push}
 use Rattle.history_core.proofs.Places.{slice_get-take}
 use Rattle.valid_writes.specs.Owning.{OwnsAllThatComes}
+use Rattle.valid_writes.proofs.SameHistory.{same_chronicle}
 use Rattle.committed_rows.specs.Start.{definitions}
 use Rattle.committed_rows.specs.Defining.{defined_so_far, started, IsFresh, HasDefined, DefinesMore, MayDefine, CanStand}
-use Rattle.committed_rows.proofs.Unique.{same_chronicle}
 
 abbrev name_of : Table → List ℕ
 name_of table = table.name

@@ -26,7 +26,7 @@ use Rattle.committed_rows.specs.Defining.{CanStand}
 -- ---- names
 
 -- no name stands at two places
-abbrev IsOnce : List (List ℕ) → Type 0
+abbrev pub IsOnce : List (List ℕ) → Type 0
 IsOnce xs = (i j : ℕ) (x : List ℕ) → slice_get xs i ≡ Some x → slice_get xs j ≡ Some x → i ≡ j
 
 once_push : (xs : List (List ℕ)) (x : List ℕ) → IsOnce xs → (Contains xs x → ⊥) → IsOnce (xs ++ x ∷ [])
@@ -63,7 +63,7 @@ once_next initial events (Show s n) once may = subst IsOnce (sym (names-more eve
 no_names : IsOnce []
 no_names i j x at_i at_j = let within = slice_get_within [] i x at_i in absurd (omega arith)
 
-names_once : (initial : List (Cell × Value)) (events : List Event) → IsFormed initial events → IsOnce (names events)
+pub names_once : (initial : List (Cell × Value)) (events : List Event) → IsFormed initial events → IsOnce (names events)
 names_once initial events =
     along (λ (h : List Event). IsFormed initial h → IsOnce (names h))
     (λ h e holds formed. let both = formed_back initial h e formed in once_next initial h e (holds both.0) both.1)

@@ -7,12 +7,11 @@ use Rattle.std.proofs.lemmas.Cmp.{tied_itself}
 use Rattle.cell_base.specs.declared.cell.Cell.{Cell}
 use Rattle.cell_base.specs.declared.level.Level.{Level}
 use Rattle.cell_base.specs.declared.value.Value.{Value}
-use Rattle.sql_tree.specs.declared.table.Table.{Table}
 use Rattle.txn_buffer.proofs.Lists.{at_contains, contains_at}
-use Rattle.history_core.specs.declared.event.Event.{Event}
 use Rattle.history_core.specs.Initial.{IsAscending}
 use Rattle.history_core.specs.Chronicle.{Chronicle}
 use Rattle.history_core.proofs.Searches.{cell_total}
+use Rattle.valid_writes.proofs.SameHistory.{same_chronicle}
 use Rattle.committed_rows.specs.Rows.{AreCommittedRows}
 use Rattle.committed_rows.specs.Start.{StartsAfter}
 use Rattle.committed_rows.specs.Walk.{cell_cmp}
@@ -84,13 +83,6 @@ pub one_list : (history : Chronicle) (a b : Cells) → AreCommittedRows history 
 one_list history a b first second =
     same_list a b first.ascending second.ascending
     (λ e. (λ there. (second.exact e.0 e.1).1 ((first.exact e.0 e.1).0 there), λ there. (first.exact e.0 e.1).1 ((second.exact e.0 e.1).0 there)))
-
-pub same_chronicle : (a b : Chronicle) → a.level ≡ b.level → a.initial ≡ b.initial → a.events ≡ b.events → a.tables ≡ b.tables → a ≡ b
-same_chronicle a b level initial events tables =
-    ap (λ (l : Level). record { level = l; initial = a.initial; events = a.events; tables = a.tables }) level
-    ∙ ap (λ (i : Cells). record { level = b.level; initial = i; events = a.events; tables = a.tables }) initial
-    ∙ ap (λ (es : List Event). record { level = b.level; initial = b.initial; events = es; tables = a.tables }) events
-    ∙ ap (λ (ts : List Table). record { level = b.level; initial = b.initial; events = b.events; tables = ts }) tables
 
 pub one_history : (level : Level) (setup a b : Chronicle) → StartsAfter level setup a → StartsAfter level setup b → a ≡ b
 one_history level setup a b first second =

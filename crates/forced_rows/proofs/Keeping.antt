@@ -1,5 +1,5 @@
 -- How rows stand for a history with one event more.
-use Rattle.std.proofs.Common.{◌≡◌, ℕ, ◌+◌, ◌<◌, List, [], ◌∷◌, ◌++◌, ◌⊎◌, arith, refl, ap, sym, ◌∙◌, subst, inl, inr}
+use Rattle.std.proofs.Common.{◌≡◌, ℕ, ◌+◌, List, [], ◌∷◌, ◌++◌, ◌⊎◌, arith, refl, ap, sym, ◌∙◌, subst, inl, inr}
 use Rattle.std.specs.List.{Contains}
 use Rattle.std.proofs.lemmas.Bool.{cases_eq, false≢true}
 use Rattle.std.proofs.lemmas.List.Elements.{Contains-append_cases, Contains-append_left, Contains-append_right}
@@ -21,6 +21,7 @@ use Rattle.history_core.specs.Forced.{IsForced}
 use Rattle.history_core.proofs.Prefixes.{IsSound, sound_of, begun-push_other}
 use Rattle.history_core.proofs.Places.{start_session}
 use Rattle.history_core.proofs.Next.{pending_back, pending_bounded}
+use Rattle.history_core.proofs.Numbers.{pending_positive}
 use Rattle.saturation.specs.Laws.{with_read}
 use Rattle.saturation.proofs.After.{precedes_kept}
 use Rattle.further_reads.specs.Further.{IsReadLink, IsForcedOrNew, PrecedesOrNew, AreNewDemands}
@@ -48,9 +49,6 @@ pub two_cases : (x y e : Edge) → Contains (x ∷ y ∷ []) e → (e ≡ x) ⊎
 two_cases x y e member = elim (contains_cons x (y ∷ []) e member) [ inl same ↦ inl (sym same) | inr later ↦ inr (one_case y e later) ]
 
 -- ---- without events
-
-pub pending_positive : (events : List Event) (k s : ℕ) → IsPending events k s → 0 < k
-pending_positive events k s pending = let h = pending.starts.counts in omega arith
 
 pub seat_none : (session : ℕ) → IsSeatOf [] session empty_seat
 seat_none session = record {

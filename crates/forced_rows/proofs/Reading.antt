@@ -19,6 +19,7 @@ use Rattle.history_core.specs.Forced.{IsForced}
 use Rattle.history_core.proofs.Prefixes.{IsSound, sound_of}
 use Rattle.history_core.proofs.Offers.{writer_bounded}
 use Rattle.history_core.proofs.Next.{pending_bounded}
+use Rattle.history_core.proofs.Numbers.{pending_positive}
 use Rattle.saturation.specs.Laws.{with_read}
 use Rattle.saturation.proofs.After.{size_after, pending_no_source}
 use Rattle.further_reads.proofs.Extended.{no_cycle_permitted}
@@ -32,7 +33,7 @@ use Rattle.forced_rows.specs.Rows.{AreRowsOf}
 use Rattle.forced_rows.specs.Stars.{AddsRead}
 use Rattle.forced_rows.proofs.Closures.{last_from, edges_then}
 use Rattle.forced_rows.proofs.SeatLists.{seated}
-use Rattle.forced_rows.proofs.Keeping.{pending_positive, link_of, stand_read}
+use Rattle.forced_rows.proofs.Keeping.{link_of, stand_read}
 
 -- what a call knows of a read whose event has been appended
 pub record IsReading (before : List Event) (session source reader : ℕ) (stars : List Star) (rows : ForcedRows) : Type 0 where

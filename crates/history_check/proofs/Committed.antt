@@ -17,12 +17,14 @@ use Rattle.history_core.specs.Records.{IsRecordOf}
 use Rattle.history_core.proofs.Grown.{of_back, writes_back}
 use Rattle.history_core.proofs.Next.{committed_new}
 use Rattle.history_core.proofs.Offers.{pending_unique, writer_bounded}
-use Rattle.history_core.proofs.Prefixes.{IsSound, of_kept, committed_kept}
+use Rattle.history_core.proofs.Prefixes.{IsSound}
 use Rattle.indexed_history.proofs.Ascending.{increasing_few, contains_get, get_contained}
+use Rattle.indexed_history.proofs.Indexes.{written_kept}
+use Rattle.saturation.proofs.Sights.{written_from_record, none_from_record}
+use Rattle.saturation.proofs.After.{writes_kept}
 use Rattle.history_check.specs.Rules.{HasCandidates}
 use Rattle.history_check.specs.Keys.{HasLaterWriter}
 use Rattle.history_check.specs.Notes.{AreWriters}
-use Rattle.history_check.proofs.WriteLemmas.{written_from_record, none_from_record}
 
 -- whether a number is there is decided
 listed : (numbers : List ℕ) (number n : ℕ) → n ≤ length numbers → Contains numbers number ⊎ ((k : ℕ) → k < n → get_or numbers k 0 ≡ number → ⊥)
@@ -47,18 +49,6 @@ contains_number numbers number some = elim (listed numbers number (length number
   where
     refl_le : length numbers ≤ length numbers
     refl_le = omega arith
-
-written_kept : (events : List Event) (e : Event) (n : ℕ) (x : Cell) → HasWritten events n x → HasWritten (events ++ e ∷ []) n x
-written_kept events e n x written = record {
-  place = written.place;
-  session = written.session;
-  value = written.value;
-  write = of_kept events e n written.place (Write written.session x written.value) written.write;
-}
-
-writes_kept : (events : List Event) (e : Event) (n : ℕ) (x : Cell) → Writes events n x → Writes (events ++ e ∷ []) n x
-writes_kept events e n x (inl initial) = inl initial
-writes_kept events e n x (inr own) = inr (committed_kept events e n own.0, written_kept events e n x own.1)
 
 -- ---- one event more
 

@@ -35,12 +35,6 @@ key_exact (Int a) (Text b) is = let both : Less ≡ Equal = search rules in cc
 key_exact (Text a) (Int b) is = let both : Greater ≡ Equal = search rules in cc
 key_exact (Text a) (Text b) is = let same : slice_cmp nat_cmp a b ≡ Equal = search rules in ap Text (exact_bytes a b same)
 
-pub below_from_less : (a b : Key) → key_cmp a b ≡ Less → IsKeyBelow a b
-below_from_less (Int a) (Int b) is = search rules
-below_from_less (Int a) (Text b) is = tt
-below_from_less (Text a) (Int b) is = search rules
-below_from_less (Text a) (Text b) is = search rules
-
 pub less_from_below : (a b : Key) → IsKeyBelow a b → key_cmp a b ≡ Less
 less_from_below (Int a) (Int b) is = search rules
 less_from_below (Int a) (Text b) is = search rules

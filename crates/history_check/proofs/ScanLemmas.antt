@@ -14,11 +14,11 @@ use Rattle.history_core.specs.declared.event.Event.{Event}
 use Rattle.history_core.specs.declared.event.Event.TheVariants.{Write}
 use Rattle.history_core.specs.Legal.{ListsKeys}
 use Rattle.indexed_history.proofs.Indexes.{written_back}
+use Rattle.saturation.proofs.Sights.{writes_later}
 use Rattle.history_check.specs.declared.table_keys.TableKeys.{TableKeys}
 use Rattle.history_check.specs.Keys.{IsAscending, IsToList, ListsAll, ListsNoOther}
 use Rattle.history_check.specs.Notes.{AreWrittenKeys}
 use Rattle.history_check.specs.TableKeys.{keys_at, KeepsKeys, IsKept, AreKept}
-use Rattle.history_check.proofs.WriteLemmas.{writes_later}
 
 -- of the keys, those before the rest were looked at
 pub record IsScanPart (initial : List (Cell × Value)) (events : List Event) (session table : ℕ) (keys whole rest : List Key) : Type 0 where

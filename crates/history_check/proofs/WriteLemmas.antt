@@ -1,46 +1,14 @@
 -- What the record of a transaction says of its writes.
-use Rattle.std.proofs.Common.{◌≡◌, ℕ, ◌<◌, ◌≤◌, List, Some, length, arith, refl, ap, sym, ◌∙◌, subst, inl, inr}
+use Rattle.std.proofs.Common.{◌≡◌, ℕ, ◌<◌, ◌≤◌, List, Some, arith, refl, ap, sym, ◌∙◌, subst}
 use Rattle.std.specs.List.{slice_get, Contains, Any}
-use Rattle.std.proofs.lemmas.Option.{slice_get_within}
 use Rattle.cell_base.specs.declared.cell.Cell.{Cell}
 use Rattle.cell_base.specs.declared.value.Value.{Value}
 use Rattle.history_core.specs.declared.event.Event.{Event}
 use Rattle.history_core.specs.declared.event.Event.TheVariants.{Write}
-use Rattle.history_core.specs.declared.txn.Txn.{Txn}
-use Rattle.history_core.specs.Transactions.{IsOf, IsCommitted}
-use Rattle.history_core.specs.Relations.{HasWritten, LastWrites, Writes}
-use Rattle.history_core.specs.Records.{IsRecordOf}
+use Rattle.history_core.specs.Transactions.{IsCommitted}
+use Rattle.history_core.specs.Relations.{LastWrites}
 use Rattle.history_core.specs.Events.{begun}
-use Rattle.history_core.proofs.Greatest.{greatest}
 use Rattle.history_core.proofs.Prefixes.{start_positive, start_bounded}
-
--- what was written has a last value
-none_written : (events : List Event) (k : ℕ) (x : Cell) → ((v : Value) → LastWrites events k x v → ⊥) → HasWritten events k x → ⊥
-none_written events k x none written =
-    greatest (λ p. (s : ℕ) × ((v : Value) × IsOf events k p (Write s x v))) (λ p. p) (length events)
-    (λ p is. slice_get_within events p (Write is.0 x is.1.0) is.1.1.is)
-    written.place (written.session, (written.value, written.write))
-    (λ p is last. none is.1.0 record {
-      place = p;
-      session = is.0;
-      write = is.1.1;
-      last = λ q s v of. last q (s, (v, of));
-    })
-
--- the buffer of a record holds what was written
-pub written_from_record : (events : List Event) (k : ℕ) (txn : Txn) (x : Cell) (v : Value) → IsRecordOf events k txn → Contains txn.buffer.writes (x, v) → HasWritten events k x
-written_from_record events k txn x v is member =
-    let last = (is.writes x v).0 member in
-    record { place = last.place; session = last.session; value = v; write = last.write }
-
-pub none_from_record :
-    (events : List Event) (k : ℕ) (txn : Txn) (x : Cell) → IsRecordOf events k txn → ((v : Value) → Contains txn.buffer.writes (x, v) → ⊥) → HasWritten events k x → ⊥
-none_from_record events k txn x is none = none_written events k x (λ v last. none v ((is.writes x v).1 last))
-
--- a writer but the initial transaction has committed, and wrote the cell
-pub writes_later : (events : List Event) (k : ℕ) (x : Cell) → 0 < k → Writes events k x → IsCommitted events k × HasWritten events k x
-writes_later events k x positive (inl initial) = absurd (omega arith)
-writes_later events k x positive (inr own) = own
 
 -- there is one last value
 pub last_unique : (events : List Event) (k : ℕ) (x : Cell) (v w : Value) → LastWrites events k x v → LastWrites events k x w → v ≡ w

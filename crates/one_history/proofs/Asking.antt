@@ -13,8 +13,9 @@ use Rattle.block_machine.specs.declared.call.Answer.{Answer}
 use Rattle.block_machine.specs.declared.call.Answer.TheVariants as answers
 use Rattle.block_machine.specs.declared.end.End.{End}
 use Rattle.session_core.specs.Record.{IsValidRecord, Happens, Declines, Draws, StateAfter}
+use Rattle.session_core.proofs.ValidRecords.{Declines-goes}
 use Rattle.choice_stream.specs.Choices.{DrawsFirst}
-use Rattle.one_history.proofs.Leads.{Leads, valid_leads, leads_adds, leads_goes, happens_adds, declines_goes, alone_between}
+use Rattle.one_history.proofs.Leads.{Leads, valid_leads, leads_adds, leads_goes, happens_adds, alone_between}
 use Rattle.one_history.proofs.Rides.{Goes, Grows, IsLast, Rides, astray_ended}
 
 -- a call is never answered by a refusal that is an event
@@ -104,7 +105,7 @@ turned_refused c rest said limit es p v out end q w (d ∷ cs) grows goes asked 
     let on = grows (with_call said c) es out end goes in
     let split = calls_split said.calls c d cs on.0 out.calls asked on.1 in
     let declines : Declines p c (faults.Full limit) valid.0 = subst (λ (x : Call). Declines p x (faults.Full limit) valid.0) split.0 valid.2 in
-    let to : Leads p valid.0 = leads_goes p valid.0 (declines_goes p c (faults.Full limit) valid.0 declines) in
+    let to : Leads p valid.0 = leads_goes p valid.0 (Declines-goes p c (faults.Full limit) valid.0 declines) in
     record {
       answer = answers.Refused (faults.Full limit);
       more = es;

@@ -1,7 +1,7 @@
 -- What is known of an answer and its event from the events before them, the state, the words and the tables that are defined at the end.
-use Rattle.std.proofs.Common.{◌≡◌, ℕ, ◌+◌, List, [], ◌∷◌, ◌++◌, Some, None, length, take, drop, refl, ap, sym, ◌∙◌, subst, inl, inr, ◌⊎◌}
+use Rattle.std.proofs.Common.{◌≡◌, ℕ, ◌+◌, List, [], ◌∷◌, ◌++◌, length, take, drop, refl, ap, sym, ◌∙◌, subst, inl, inr, ◌⊎◌}
 use Rattle.std.specs.List.{Contains}
-use Rattle.std.proofs.lemmas.List.{take_at, drop_at, append-nil}
+use Rattle.std.proofs.lemmas.List.{take_at, drop_at}
 use Rattle.cell_base.specs.declared.cell.Cell.{Cell}
 use Rattle.cell_base.specs.declared.key.Key.{Key}
 use Rattle.cell_base.specs.declared.value.Value.{Value}
@@ -9,12 +9,13 @@ use Rattle.sql_tree.specs.declared.table.Table.{Table}
 use Rattle.history_core.specs.declared.event.Event.{Event}
 use Rattle.history_core.specs.declared.event.Event.TheVariants.{Open, Close, Define, Look, Begin, Scan, Read, Own, Write, Commit, Rollback, Show}
 use Rattle.history_core.specs.declared.fault.DefineAnswer.TheVariants as defines
-use Rattle.history_core.specs.Events.{names, defined, opened, begun, defined_name}
+use Rattle.history_core.specs.Events.{names, defined, opened, begun}
 use Rattle.history_core.specs.Initial.{IsInitialState}
 use Rattle.history_core.specs.Relations.{WritesValue}
 use Rattle.history_core.specs.Legal.{Follows, IsOffered, ListsKeys}
 use Rattle.history_core.specs.Chronicle.{IsLegalChronicle}
 use Rattle.history_core.specs.Book.{Past, SessionState, session_of, HasWrite, IsUnwritten, LastWrite}
+use Rattle.history_core.proofs.KeptLemmas.{names-push}
 use Rattle.block_machine.specs.Calls.{Call}
 use Rattle.block_machine.specs.Calls as calls
 use Rattle.block_machine.specs.declared.call.Answer.{Answer}
@@ -23,7 +24,7 @@ use Rattle.block_machine.specs.Script.{did}
 use Rattle.session_core.specs.Record.{Happens, Draws, HoldsWord, ReadsBack, ReadsFrom}
 use Rattle.choice_stream.specs.Choices.{DrawsFirst}
 use Rattle.one_history.proofs.Leads.{Leads, Made}
-use Rattle.one_history.proofs.Names.{placed, names-more}
+use Rattle.one_history.proofs.Names.{placed}
 use Rattle.one_history.proofs.Values.{not_both}
 
 -- ---- what a touch finds
@@ -132,30 +133,12 @@ defined_as p m q s table before n e way here is tables count =
       event = is;
     }
 
--- an event that defines nothing leaves the names as they were
-pub same_names : (events : List Event) (e : Event) → defined_name e ≡ None → names (events ++ e ∷ []) ≡ names events
-same_names events e none = names-more events (e ∷ []) ∙ ap (λ ns. names events ++ ns) (no_name e none) ∙ append-nil (names events)
-  where
-    no_name : (e : Event) → defined_name e ≡ None → names (e ∷ []) ≡ []
-    no_name (Define s name) none = let both : Some name ≡ None = none in cc
-    no_name (Open s) none = refl
-    no_name (Close s) none = refl
-    no_name (Look s n) none = refl
-    no_name (Begin s level) none = refl
-    no_name (Scan s t ks) none = refl
-    no_name (Read s c f n u v) none = refl
-    no_name (Own s c v) none = refl
-    no_name (Write s c v) none = refl
-    no_name (Commit s) none = refl
-    no_name (Rollback s) none = refl
-    no_name (Show s n) none = refl
-
 taken_as : (p m q : Past) (table : Table) (n : ℕ) (e : Event) → Way p m q e → e ≡ Look (session_of p.state) n →
     Contains (names m.seen.events) table.name → Olds p.seen.events p.state table (answers.Defined (defines.Taken n)) e
 taken_as p m q table n e way is there =
     let count : n ≡ defined p.seen.events = (follows_of p m e (Look (session_of p.state) n) way.made is).1 in
     let names_are : names m.seen.events ≡ names p.seen.events =
-    ap names (way.made.seen ∙ ap (λ (x : Event). p.seen.events ++ x ∷ []) is) ∙ same_names p.seen.events (Look (session_of p.state) n) refl in
+    ap names (way.made.seen ∙ ap (λ (x : Event). p.seen.events ++ x ∷ []) is) ∙ names-push p.seen.events (Look (session_of p.state) n) refl in
     record {
       old = subst (λ (ns : List (List ℕ)). Contains ns table.name) names_are there;
       answer = ap (λ (k : ℕ). answers.Defined (defines.Taken k)) count;

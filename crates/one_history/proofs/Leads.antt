@@ -1,12 +1,10 @@
 -- Where a valid record leads, and what a book that is alone has added.
 use Rattle.std.proofs.Common.{◌≡◌, ℕ, ◌+◌, ◌≤◌, List, [], ◌∷◌, ◌++◌, length, refl, sym, ◌∙◌, ap, subst, append_assoc, arith, length-append}
-use Rattle.std.proofs.lemmas.List.{append-nil, take_at}
+use Rattle.std.proofs.lemmas.List.{append-nil, take_at, nil_from_length}
 use Rattle.cell_base.specs.declared.cell.Cell.{Cell}
 use Rattle.cell_base.specs.declared.value.Value.{Value}
 use Rattle.sql_tree.specs.declared.table.Table.{Table}
 use Rattle.history_core.specs.declared.event.Event.{Event}
-use Rattle.history_core.specs.declared.fault.BookFault.{BookFault}
-use Rattle.history_core.specs.declared.fault.BookFault.TheVariants as faults
 use Rattle.history_core.specs.declared.fault.DefineAnswer.TheVariants as defines
 use Rattle.history_core.specs.Legal.{IsLegal, IsOffered, MayCome}
 use Rattle.history_core.specs.Chronicle.{IsLegalChronicle}
@@ -18,7 +16,8 @@ use Rattle.block_machine.specs.Calls as calls
 use Rattle.block_machine.specs.declared.call.Answer.{Answer}
 use Rattle.block_machine.specs.declared.call.Answer.TheVariants as answers
 use Rattle.block_machine.specs.Script.{Entry, did, refused, short, unsent, stop}
-use Rattle.session_core.specs.Record.{Happens, Declines, IsValidRecord}
+use Rattle.session_core.specs.Record.{Happens, IsValidRecord}
+use Rattle.session_core.proofs.ValidRecords.{Declines-goes}
 
 -- the one past goes on as the other: it adds as many events at least as the book adds
 pub record Leads (p q : Past) : Type 0 where
@@ -98,10 +97,6 @@ happens_adds p calls.Rollback answers.RolledBack e q h = h.1
 happens_adds p calls.Show (answers.Shown n) e q h = h.1
 happens_adds p _ _ e q h = absurd h
 
-pub declines_goes : (p : Past) (c : Call) (why : BookFault) (q : Past) → Declines p c why q → GoesOn p q
-declines_goes p c (faults.Full limit) q h = h.1
-declines_goes p c faults.Memory q h = h.1
-
 pub valid_leads : {W : Type 0} (gives : W → ℕ → W → Type 0) (p : Past) (v : W) (cs : List Call) (es : List Entry) (q : Past) (w : W) →
     IsValidRecord gives p v cs es q w → Leads p q
 valid_leads gives p v [] [] q w l = leads_same p q l.0
@@ -114,7 +109,7 @@ valid_leads gives p v [] (stop cause ∷ es) q w l = valid_leads gives p v [] es
 valid_leads gives p v (c ∷ cs) (did a e ∷ es) q w l =
     leads_on p l.0 q (leads_adds p l.0 e (happens_adds p c a e l.0 l.2)) (valid_leads gives l.0 l.1 cs es q w l.4)
 valid_leads gives p v (c ∷ cs) (refused why ∷ es) q w l =
-    leads_on p l.0 q (leads_goes p l.0 (declines_goes p c why l.0 l.2)) (valid_leads gives l.0 l.1 cs es q w l.4)
+    leads_on p l.0 q (leads_goes p l.0 (Declines-goes p c why l.0 l.2)) (valid_leads gives l.0 l.1 cs es q w l.4)
 valid_leads gives p v (c ∷ cs) (short final n ∷ es) q w l = valid_leads gives p v (c ∷ cs) es q w l
 valid_leads gives p v (c ∷ cs) (unsent n ∷ es) q w l = valid_leads gives p v (c ∷ cs) es q w l
 valid_leads gives p v (c ∷ cs) (stop cause ∷ es) q w l = valid_leads gives p v (c ∷ cs) es q w l
@@ -124,10 +119,6 @@ pub alone_between : (p m q : Past) → length p.seen.events ≡ length p.own →
     length m.seen.events ≡ length m.own
 alone_between p m q first last one other = let a = one.counts in let b = other.counts in omega arith
 
-no_length : {X : Type 0} (xs : List X) → length xs ≡ 0 → xs ≡ []
-no_length [] none = refl
-no_length (x ∷ xs) none = absurd (omega (arith, none))
-
 -- it adds its event, and nothing else
 pub adds_alone : (p m : Past) (e : Event) → length p.seen.events ≡ length p.own → length m.seen.events ≡ length m.own → Adds p e m →
     m.seen.events ≡ p.seen.events ++ e ∷ []
@@ -136,7 +127,7 @@ adds_alone p m e old new adds =
     ap length adds.seen ∙ length-append (p.seen.events ++ adds.others) (e ∷ []) in
     let b : length (p.seen.events ++ adds.others) ≡ length p.seen.events + length adds.others = length-append p.seen.events adds.others in
     let c : length m.own ≡ length p.own + 1 = ap length adds.own ∙ length-append p.own (e ∷ []) in
-    let none : adds.others ≡ [] = no_length adds.others (omega arith) in
+    let none : adds.others ≡ [] = nil_from_length adds.others (omega arith) in
     adds.seen ∙ ap (λ (es : List Event). es ++ e ∷ []) (ap (λ (xs : List Event). p.seen.events ++ xs) none ∙ append-nil p.seen.events)
 
 pub goes_alone : (p m : Past) → length p.seen.events ≡ length p.own → length m.seen.events ≡ length m.own → GoesOn p m →
@@ -144,7 +135,7 @@ pub goes_alone : (p m : Past) → length p.seen.events ≡ length p.own → leng
 goes_alone p m old new goes =
     let a : length m.seen.events ≡ length p.seen.events + length goes.others = ap length goes.seen ∙ length-append p.seen.events goes.others in
     let c : length m.own ≡ length p.own = ap length goes.own in
-    let none : goes.others ≡ [] = no_length goes.others (omega arith) in
+    let none : goes.others ≡ [] = nil_from_length goes.others (omega arith) in
     goes.seen ∙ ap (λ (es : List Event). p.seen.events ++ es) none ∙ append-nil p.seen.events
 
 -- what comes before a legal history's end is legal

@@ -2,15 +2,15 @@
 use Rattle.std.proofs.Common.{◌≡◌, rules, ℕ, ◌+◌, ◌<◌, zero, suc, List, [], ◌∷◌, ◌++◌, Some, length, get_or, arith, refl, ap, sym, ◌∙◌, subst, inl, inr, ◌⊎◌}
 use Rattle.std.specs.Prelude.{◌<ℤ◌, ℤ}
 use Rattle.std.specs.Ordering.{int_cmp}
-use Rattle.std.specs.declared.cmp.Ordering.TheVariants.{Less, Equal}
+use Rattle.std.specs.declared.cmp.Ordering.TheVariants.{Less}
 use Rattle.std.specs.List.{Contains, slice_get}
 use Rattle.std.specs.List.Sorted.{IsStrictlyIncreasing}
-use Rattle.std.specs.Int.Signed.{<ℤ_irrefl}
-use Rattle.std.proofs.lemmas.Cmp.{tied_itself, nat_list_cmp_total, int_cmp_total, int_ranked}
+use Rattle.std.proofs.lemmas.Cmp.{nat_list_cmp_total, int_cmp_total, int_ranked}
 use Rattle.std.proofs.lemmas.Option.{slice_get_within, get_or_from_slice_get}
 use Rattle.cell_base.specs.declared.key.Key.{Key}
 use Rattle.cell_base.specs.declared.key.Key.TheVariants.{Int, Text}
 use Rattle.history_core.specs.Legal.{IsKeyBelow}
+use Rattle.indexed_history.proofs.KeyLists.{not_below_itself}
 
 pub contains_cases : {X : Type 0} (x : X) (xs : List X) (z : X) → Contains (x ∷ xs) z → (x ≡ z) ⊎ Contains xs z
 contains_cases x xs z (zero, within, at) = inl at
@@ -112,16 +112,12 @@ key_trans (Text a) (Int b) c low high = absurd low
 key_trans (Text a) (Text b) (Int c) low high = absurd high
 key_trans (Text a) (Text b) (Text c) low high = nat_list_cmp_total.trans a b c low high
 
-key_never : (a : Key) → IsKeyBelow a a → ⊥
-key_never (Int a) below = <ℤ_irrefl below
-key_never (Text a) below = let both : Less ≡ Equal = sym below ∙ tied_itself nat_list_cmp_total a in cc
-
 pub one_key_list : (xs ys : List Key) →
     ((k : ℕ) (a b : Key) → slice_get xs k ≡ Some a → slice_get xs (k + 1) ≡ Some b → IsKeyBelow a b) →
     ((k : ℕ) (a b : Key) → slice_get ys k ≡ Some a → slice_get ys (k + 1) ≡ Some b → IsKeyBelow a b) →
     ((z : Key) → Contains xs z → Contains ys z) → ((z : Key) → Contains ys z → Contains xs z) → xs ≡ ys
 one_key_list xs ys up down there back =
-    one_ascending IsKeyBelow key_trans key_never xs ys
+    one_ascending IsKeyBelow key_trans not_below_itself xs ys
     (ascends IsKeyBelow key_trans xs (λ k a b at then. up k a b at (subst (λ (i : ℕ). slice_get xs i ≡ Some b) (omega arith) then)))
     (ascends IsKeyBelow key_trans ys (λ k a b at then. down k a b at (subst (λ (i : ℕ). slice_get ys i ≡ Some b) (omega arith) then)))
     there back

@@ -11,6 +11,7 @@ use Rattle.block_machine.specs.declared.end.End.{End}
 use Rattle.block_machine.specs.declared.end.End.TheVariants as ends
 use Rattle.session_core.specs.Record.{IsValidRecord}
 use Rattle.choice_stream.specs.Choices.{DrawsFirst}
+use Rattle.indexed_history.proofs.Cells.{bool_cases}
 use Rattle.one_history.specs.Laws.{EndsAlike}
 
 -- the script takes the record to this end; memory didn't run out, and no write fails
@@ -123,10 +124,6 @@ agree_passing E f s t s_on t_on keeps one other agree = record {
 
 -- ---- bytes are told
 
-two : (b : Bool) → (b ≡ true) ⊎ (b ≡ false)
-two true = inl refl
-two false = inr refl
-
 -- the script ends by a failed write alone
 abbrev pub Breaks : Script → Type 0
 Breaks s = (said : Said) (es : List Entry) (out : Said) (end : End) → s said es ≡ (out, ended end) → end ≡ ends.WriteFault
@@ -137,7 +134,7 @@ sends_on n fault rest breaks said (did a e ∷ es) out end goes = record { is = 
 sends_on n fault rest breaks said (refused why ∷ es) out end goes = record { is = goes.is; at_rest = goes.at_rest; written = goes.written }
 sends_on n fault rest breaks said (short final k ∷ es) out end goes = record { is = goes.is; at_rest = goes.at_rest; written = goes.written }
 sends_on n fault rest breaks said (unsent k ∷ es) out end goes =
-    elim (two (k == n)) [
+    elim (bool_cases (k == n)) [
       | inl same ↦ absurd (goes.written (breaks said es out end (sym (cond-true _ _ _ same) ∙ goes.is)))
       | inr other ↦ record { is = sym (cond-false _ _ _ other) ∙ goes.is; at_rest = goes.at_rest; written = goes.written }
     ]

@@ -12,6 +12,7 @@ use Rattle.history_core.specs.declared.fault.BookFault.TheVariants as faults
 use Rattle.history_core.specs.declared.fault.DefineAnswer.TheVariants as defines
 use Rattle.history_core.specs.Events.{names, defined, defined_name}
 use Rattle.history_core.specs.Book.{Past, SessionState, session_of, IsUnwritten}
+use Rattle.history_core.proofs.KeptLemmas.{names-push}
 use Rattle.block_machine.specs.Calls.{Call}
 use Rattle.block_machine.specs.Calls as calls
 use Rattle.block_machine.specs.Script.{Entry, refused, Said, with_call, Script, ask}
@@ -20,10 +21,11 @@ use Rattle.block_machine.specs.declared.call.Answer.TheVariants as answers
 use Rattle.block_machine.specs.declared.end.End.{End}
 use Rattle.session_core.specs.Record.{Happens, Draws, StateAfter}
 use Rattle.choice_stream.specs.Choices.{DrawsFirst}
+use Rattle.committed_rows.proofs.Tables.{names-more}
 use Rattle.one_history.proofs.Leads.{Leads, made_of, valid_leads, happens_adds, goes_alone}
-use Rattle.one_history.proofs.Names.{names-more, placed}
+use Rattle.one_history.proofs.Names.{placed}
 use Rattle.one_history.proofs.Values.{not_both}
-use Rattle.one_history.proofs.Known.{Known, Way, known, same_names}
+use Rattle.one_history.proofs.Known.{Known, Way, known}
 use Rattle.one_history.proofs.OneStep.{IsOne, known_one}
 use Rattle.one_history.proofs.Refusals.{not_refused, one_refusal}
 use Rattle.one_history.proofs.Rides.{IsLast, Rides, IsNear, Agree}
@@ -53,7 +55,7 @@ abbrev pub NextTables : Past → Past → Past → Call → Type 0
 NextTables p m q c = (defined m.seen.events ≡ defined p.seen.events) ⊎ Grown p m q c
 
 still : (p m : Past) (e f : Event) → m.seen.events ≡ p.seen.events ++ e ∷ [] → e ≡ f → defined_name f ≡ None → defined m.seen.events ≡ defined p.seen.events
-still p m e f seen is none = ap defined (seen ∙ ap (λ (x : Event). p.seen.events ++ x ∷ []) is) ∙ ap length (same_names p.seen.events f none)
+still p m e f seen is none = ap defined (seen ∙ ap (λ (x : Event). p.seen.events ++ x ∷ []) is) ∙ ap length (names-push p.seen.events f none)
 
 grown : (p m q : Past) (t : Table) (before : List Table) (e : Event) → Way p m q e → e ≡ Define (session_of p.state) t.name →
     m.seen.tables ≡ before ++ t ∷ [] → Grown p m q (calls.Define t)

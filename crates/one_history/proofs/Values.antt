@@ -1,38 +1,21 @@
 -- What is read is one value, and what was written last is one.
-use Rattle.std.proofs.Common.{◌≡◌, ◌≢◌, ℕ, ◌<◌, ◌≤◌, suc, List, [], ◌∷◌, ◌++◌, Option, Some, length, arith, refl, ap, sym, ◌∙◌, subst, inl, inr, ◌%◌}
-use Rattle.std.specs.List.{All, slice_get, Contains}
-use Rattle.std.specs.declared.cmp.Ordering.TheVariants.{Less, Equal}
-use Rattle.std.proofs.lemmas.Bool.{cases_order}
-use Rattle.std.proofs.lemmas.Cmp.{tied_itself}
+use Rattle.std.proofs.Common.{◌≡◌, ◌≢◌, ℕ, ◌<◌, suc, List, [], ◌∷◌, ◌++◌, Some, length, arith, refl, ap, sym, ◌∙◌, subst, inl, inr, ◌%◌}
+use Rattle.std.specs.List.{All, slice_get}
 use Rattle.std.proofs.lemmas.List.Elements.{All-contains}
 use Rattle.cell_base.specs.declared.cell.Cell.{Cell}
-use Rattle.cell_base.specs.contracts.cell.CellOrd.TheImpl as cell_order
-use Rattle.cell_base.specs.contracts.cell.CellOrd.TheImpl.Laws as cell_laws
 use Rattle.cell_base.specs.declared.key.Key.{Key}
 use Rattle.cell_base.specs.declared.value.Value.{Value}
 use Rattle.history_core.specs.declared.event.Event.{Event}
-use Rattle.history_core.specs.declared.event.Event.TheVariants.{Read, Write}
+use Rattle.history_core.specs.declared.event.Event.TheVariants.{Read}
 use Rattle.history_core.specs.Initial.{WritesInitially, IsInitialState}
 use Rattle.history_core.specs.Transactions.{IsCommitted}
-use Rattle.history_core.specs.Relations.{LastWrites, WritesValue}
+use Rattle.history_core.specs.Relations.{WritesValue}
 use Rattle.history_core.specs.Legal.{IsOffered, IsOffer, ListsKeys}
 use Rattle.history_core.specs.Book.{SessionState, IsUnwritten, HasWrite, LastWrite, writes_of}
 use Rattle.history_core.proofs.Prefixes.{start_positive}
-use Rattle.txn_buffer.proofs.Lists.{at_contains}
+use Rattle.indexed_history.proofs.Scans.{one_value as one_held}
+use Rattle.committed_rows.proofs.Newly.{last_unique}
 use Rattle.one_history.proofs.Lists.{one_rising, one_key_list}
-
--- ---- what a transaction wrote last
-
-same_write : (a b : Event) (s t : ℕ) (x y : Cell) (v w : Value) → Some (Write s x v) ≡ Some (Write t y w) → v ≡ w
-same_write a b s t x y v w is = let both : Write s x v ≡ Write t y w = cc in cc
-
-pub one_last : (events : List Event) (number : ℕ) (cell : Cell) (v w : Value) → LastWrites events number cell v → LastWrites events number cell w → v ≡ w
-one_last events number cell v w a b =
-    let low : b.place ≤ a.place = a.last b.place b.session w b.write in
-    let high : a.place ≤ b.place = b.last a.place a.session v a.write in
-    let same : a.place ≡ b.place = omega arith in
-    let there : slice_get events a.place ≡ Some (Write b.session cell w) = ap (λ (k : ℕ). slice_get events k) same ∙ b.write.is in
-    same_write (Write a.session cell v) (Write b.session cell w) a.session b.session cell cell v w (sym a.write.is ∙ there)
 
 not_initial : (events : List Event) (number : ℕ) → number ≡ 0 → IsCommitted events number → ⊥
 not_initial events number is committed =
@@ -41,28 +24,6 @@ not_initial events number is committed =
     omega arith
 
 -- ---- what the initial state has
-
--- no cell is below itself
-not_below : (cell : Cell) → (cell_order.ghosts).cmp cell cell ≡ Less → ⊥
-not_below cell below = let same : (cell_order.ghosts).cmp cell cell ≡ Equal = tied_itself cell_laws.total-law cell in cc
-
--- it has one value in each cell
-one_held : (initial : List (Cell × Value)) (cell : Cell) (v w : Value) → IsInitialState initial → Contains initial (cell, v) →
-    Contains initial (cell, w) → v ≡ w
-one_held initial cell v w is a b =
-    let (i, at) = at_contains initial (cell, v) a in
-    let (j, there) = at_contains initial (cell, w) b in
-    elim (cases_order i j) [
-      | inl same ↦
-          let both : ◌≡◌ {A = Option (Cell × Value)} (Some (cell, v)) (Some (cell, w)) =
-          sym at ∙ ap (λ (k : ℕ). slice_get initial k) same ∙ there in
-          let pair : ◌≡◌ {A = Cell × Value} (cell, v) (cell, w) = cc in
-          ap (λ (x : Cell × Value). x.1) pair
-      | inr apart ↦ elim apart [
-        | inl less ↦ absurd (not_below cell (is.ascending i j (cell, v) (cell, w) less at there))
-        | inr more ↦ absurd (not_below cell (is.ascending j i (cell, w) (cell, v) more there at))
-      ]
-    ]
 
 one_initial : (initial : List (Cell × Value)) (cell : Cell) (v w : Value) → IsInitialState initial → WritesInitially initial cell v →
     WritesInitially initial cell w → v ≡ w
@@ -76,7 +37,7 @@ pub one_value : (initial : List (Cell × Value)) (events : List Event) (number :
 one_value initial events number cell v w is (inl a) (inl b) = one_initial initial cell v w is a.1 b.1
 one_value initial events number cell v w is (inl a) (inr b) = absurd (not_initial events number a.0 b.0)
 one_value initial events number cell v w is (inr a) (inl b) = absurd (not_initial events number b.0 a.0)
-one_value initial events number cell v w is (inr a) (inr b) = one_last events number cell v w a.1 b.1
+one_value initial events number cell v w is (inr a) (inr b) = last_unique events number cell v w a.1 b.1
 
 -- ---- what is offered
 

@@ -1,12 +1,9 @@
 -- A session that is served alone keeps rows whole.
-use Rattle.std.proofs.Common.{◌≡◌, inl, inr, ℕ, List, All, Option, Some, None, refl, sym, subst, ◌∙◌}
+use Rattle.std.proofs.Common.{inl, inr, ℕ, List, Option, Some, None, sym, subst, ◌∙◌}
 use Rattle.std.proofs.lemmas.Bool.{cases_eq}
-use Rattle.std.proofs.lemmas.List.Elements.{All-cons}
 use Rattle.cell_base.specs.declared.level.Level.{Level}
 use Rattle.sql_tree.specs.declared.table.Table.{Table}
 use Rattle.history_core.specs.declared.event.Event.{Event}
-use Rattle.history_core.specs.declared.event.Event.TheVariants.{Open}
-use Rattle.history_core.specs.Events.{session_in}
 use Rattle.history_core.specs.Chronicle.{own_events}
 use Rattle.link_traits.specs.Traffic.{Sight}
 use Rattle.choice_stream.specs.Choices.{DrawsFirst}
@@ -14,19 +11,14 @@ use Rattle.session_core.specs.declared.served.Served.{Served}
 use Rattle.session_core.specs.Told.{opened_in}
 use Rattle.session_core.specs.Record.{events_of}
 use Rattle.monkey_server.specs.Program.{no_past, ServesAlone}
-use Rattle.link_laws.specs.Openings.{BeginsWithOpening, AreOfOneSession}
+use Rattle.link_laws.specs.Openings.{AreOfOneSession}
 use Rattle.link_laws.proofs.OneOpening.{one_session}
+use Rattle.link_laws.proofs.OwnEvents.{own_all, own_none, all_of_it}
 use Rattle.whole_rows.specs.Rows.{ShowsNoUnset}
 use Rattle.session_rows.specs.Alone.{KeepsRowsAlone}
 use Rattle.session_rows.proofs.Fronts.{first_all}
 use Rattle.session_rows.proofs.Records.{told_keeps}
-use Rattle.program_rows.proofs.Rows.{own_all, own_none, shows_whole}
-
--- all events that begin with an opening are of its session
-all_of_it : (session : ℕ) (events : List Event) → BeginsWithOpening session events → All (λ e. session_in e ≡ session) events
-all_of_it session events begins =
-    subst (λ (es : List Event). All (λ e. session_in e ≡ session) es) (sym begins.events_are)
-    (All-cons (λ e. session_in e ≡ session) (Open session) begins.later refl (λ k d within. (begins.of_it k d within).0))
+use Rattle.program_rows.proofs.Rows.{shows_whole}
 
 -- so of each session there are all of them, or none
 each_keeps : (tables : List Table) (number : Option ℕ) (events : List Event) → AreOfOneSession number events → KeepsRowsAlone tables events →

@@ -1,15 +1,11 @@
 -- A history that begins without a row, and whose sessions keep rows whole.
-use Rattle.std.proofs.Common.{◌≡◌, ℕ, ◌==◌, List, [], ◌∷◌, All, refl, sym, ap, subst, ◌∙◌, arith}
-use Rattle.std.specs.List.{Contains}
-use Rattle.std.proofs.lemmas.Bool.{cond-true, cond-false, eq-eqb, ne_eqb}
-use Rattle.std.proofs.lemmas.List.Elements.{All-head, All-tail}
+use Rattle.std.proofs.Common.{◌≡◌, ℕ, List, [], ◌∷◌, refl, sym, subst}
 use Rattle.cell_base.specs.declared.cell.Cell.{Cell}
 use Rattle.cell_base.specs.declared.key.Key.{Key}
 use Rattle.cell_base.specs.declared.value.Value.{Value}
 use Rattle.sql_tree.specs.declared.table.Table.{Table}
 use Rattle.history_core.specs.declared.event.Event.{Event}
 use Rattle.history_core.specs.declared.event.Event.TheVariants.{Open, Close, Define, Look, Begin, Scan, Read, Own, Write, Commit, Rollback, Show}
-use Rattle.history_core.specs.Events.{session_in}
 use Rattle.history_core.specs.Initial.{HoldsWholeRows}
 use Rattle.history_core.specs.Chronicle.{Chronicle, IsLegalChronicle, own_events}
 use Rattle.whole_rows.specs.Rows.{ShowsNoUnset}
@@ -17,6 +13,7 @@ use Rattle.whole_rows.proofs.WholeRows.{all_set}
 use Rattle.session_rows.specs.Alone.{AreFirst, MayFollow, shown_following, owed_following, KeepsRowsFrom, KeepsRowsAlone}
 use Rattle.session_rows.proofs.Fronts.{ask_first, write_first, owed_first}
 use Rattle.session_rows.proofs.Histories.{keeps_rows}
+use Rattle.serve_laws.proofs.WholeStart.{no_rows}
 
 -- ---- more tables
 
@@ -58,35 +55,7 @@ keeps_more xs ys shown owed (e ∷ es) first keeps = (
       (keeps_more xs ys (shown_following shown e) (owed_following xs owed e) es first keeps.1),
 )
 
--- ---- the events of one session
-
-own_here : (e : Event) (xs : List Event) (s : ℕ) → session_in e ≡ s → own_events (e ∷ xs) s ≡ e ∷ own_events xs s
-own_here e xs s same = cond-true (session_in e == s) (e ∷ own_events xs s) (own_events xs s) (eq-eqb (session_in e) s same)
-
-own_other : (e : Event) (xs : List Event) (s : ℕ) → (session_in e ≡ s → ⊥) → own_events (e ∷ xs) s ≡ own_events xs s
-own_other e xs s apart = cond-false (session_in e == s) (e ∷ own_events xs s) (own_events xs s) (ne_eqb (session_in e) s apart)
-
-pub own_all : (xs : List Event) (s : ℕ) → All (λ e. session_in e ≡ s) xs → own_events xs s ≡ xs
-own_all [] s all = refl
-own_all (x ∷ xs) s all =
-    own_here x xs s (All-head (λ e. session_in e ≡ s) x xs all) ∙ ap (λ (es : List Event). x ∷ es) (own_all xs s (All-tail (λ e. session_in e ≡ s) x xs all))
-
-pub own_none : (xs : List Event) (s : ℕ) → All (λ e. session_in e ≡ s → ⊥) xs → own_events xs s ≡ []
-own_none [] s all = refl
-own_none (x ∷ xs) s all =
-    own_other x xs s (All-head (λ e. session_in e ≡ s → ⊥) x xs all) ∙ own_none xs s (All-tail (λ e. session_in e ≡ s → ⊥) x xs all)
-
 -- ---- no row at first
-
-none_there : {A : Type 0} (x : A) → Contains [] x → ⊥
-none_there x there = let h = there.1 in absurd (omega arith)
-
-no_rows : (tables : List Table) → HoldsWholeRows tables []
-no_rows tables = record {
-  known = λ table key there. absurd (none_there _ there);
-  whole = λ table key of_table column there is within apart. absurd (none_there _ there);
-  fields = λ table key of_table column v there is. absurd (none_there _ there);
-}
 
 pub shows_whole : (history : Chronicle) → IsLegalChronicle history → history.initial ≡ [] →
     ((session : ℕ) → KeepsRowsAlone history.tables (own_events history.events session)) → ShowsNoUnset history.events

@@ -9,18 +9,20 @@ use Rattle.history_core.specs.declared.event.Event.{Event}
 use Rattle.history_core.specs.Events.{session_in}
 use Rattle.history_core.specs.Chronicle.{Chronicle, own_events}
 use Rattle.valid_writes.specs.Desk.{given_events}
+use Rattle.valid_writes.specs.Beginnings.{no_past}
 use Rattle.choice_stream.specs.Choices.{DrawsFirst}
 use Rattle.block_machine.specs.declared.end.End.{End}
 use Rattle.session_core.specs.Told.{opened_in}
 use Rattle.session_core.specs.Record.{events_of}
 use Rattle.session_core.specs.Serve.{Account}
 use Rattle.session_hall.specs.declared.client.Client.{Client}
-use Rattle.session_hall.specs.Clients.{no_past, IsServed}
+use Rattle.session_hall.specs.Clients.{IsServed}
 use Rattle.sim_command.specs.Runs.{Moment, Pick, Moves, Runs, at_first}
 use Rattle.whole_rows.specs.Rows.{ShowsNoUnset}
 use Rattle.session_rows.specs.Alone.{KeepsRowsAlone}
 use Rattle.session_rows.proofs.Records.{told_keeps}
-use Rattle.program_rows.proofs.Rows.{keeps_more, own_none, shows_whole}
+use Rattle.link_laws.proofs.OwnEvents.{own_none}
+use Rattle.program_rows.proofs.Rows.{keeps_more, shows_whole}
 
 -- the sessions of a history that begins without a row keep rows whole
 record AreWhole (history : Chronicle) : Type 0 where

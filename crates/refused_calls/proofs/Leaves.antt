@@ -1,15 +1,13 @@
 -- A past that nothing was added to.
 use Rattle.std.proofs.Common.{◌≡◌, ℕ, ◌+◌, List, [], ◌++◌, length, map, ap, sym, ◌∙◌, arith, length-append}
 use Rattle.std.proofs.lemmas.List.{append-nil, append_cancel_left, length-map, nil_from_length}
-use Rattle.cell_base.specs.declared.level.Level.{Level}
-use Rattle.cell_base.specs.declared.cell.Cell.{Cell}
-use Rattle.cell_base.specs.declared.value.Value.{Value}
 use Rattle.sql_tree.specs.declared.table.Table.{Table}
 use Rattle.history_core.specs.declared.event.Event.{Event}
 use Rattle.history_core.specs.Events.{names}
 use Rattle.history_core.specs.Chronicle.{Chronicle, IsLegalChronicle}
 use Rattle.history_core.specs.Book.{Past, SessionState, GoesOn}
 use Rattle.valid_writes.specs.Owning.{OwnsAllThatComes}
+use Rattle.valid_writes.proofs.SameHistory.{same_chronicle}
 
 -- what is the same with more after it has nothing after it
 none_after : {A : Type 0} (xs ys : List A) → xs ++ ys ≡ xs → ys ≡ []
@@ -18,13 +16,6 @@ none_after xs ys same = append_cancel_left xs ys [] (same ∙ sym (append-nil xs
 -- a legal history has as many tables as names that its events define
 table_count : (h : Chronicle) → IsLegalChronicle h → length h.tables ≡ length (names h.events)
 table_count h legal = sym (length-map h.tables (λ (t : Table). t.name)) ∙ ap length legal.tables.named
-
-same_chronicle : (a b : Chronicle) → a.level ≡ b.level → a.initial ≡ b.initial → a.events ≡ b.events → a.tables ≡ b.tables → a ≡ b
-same_chronicle a b level initial events tables =
-    ap (λ (l : Level). record { level = l; initial = a.initial; events = a.events; tables = a.tables }) level
-    ∙ ap (λ (i : List (Cell × Value)). record { level = b.level; initial = i; events = a.events; tables = a.tables }) initial
-    ∙ ap (λ (es : List Event). record { level = b.level; initial = b.initial; events = es; tables = a.tables }) events
-    ∙ ap (λ (ts : List Table). record { level = b.level; initial = b.initial; events = b.events; tables = ts }) tables
 
 same_past : (a b : Past) → a.seen ≡ b.seen → a.own ≡ b.own → a.state ≡ b.state → a ≡ b
 same_past a b seen own state =

@@ -1,11 +1,7 @@
 -- Lists that are taken apart from their end.
-use Rattle.std.proofs.Common.{◌≡◌, ℕ, List, [], ◌∷◌, ◌++◌, length, map, suc, take, drop, refl, sym, ◌∙◌, ap, arith}
+use Rattle.std.proofs.Common.{◌≡◌, ℕ, List, [], ◌∷◌, ◌++◌, length, map, suc, take, drop, refl, sym, ◌∙◌, ap}
 use Rattle.std.proofs.lemmas.List.{append-nil, append_assoc}
-
--- what stands after a front
-pub drop_front : {X : Type 0} (xs ys : List X) → drop (length xs) (xs ++ ys) ≡ ys
-drop_front [] ys = refl
-drop_front (x ∷ xs) ys = drop_front xs ys
+use Rattle.turn_lock.proofs.Keys.{drop_front}
 
 -- after all of a list nothing stands
 pub drop_all : {X : Type 0} (xs : List X) → drop (length xs) xs ≡ []
@@ -16,11 +12,6 @@ drop_all (x ∷ xs) = drop_all xs
 pub drop_one_more : {X : Type 0} (whole front rest : List X) (x : X) → whole ≡ (front ++ x ∷ []) ++ rest → drop (length front) whole ≡ x ∷ rest
 drop_one_more whole front rest x is =
     ap (drop (length front)) (is ∙ append_assoc front (x ∷ []) rest) ∙ drop_front front (x ∷ rest)
-
--- a list without items
-pub no_items : {X : Type 0} (xs : List X) → length xs ≡ 0 → xs ≡ []
-no_items [] none = refl
-no_items (x ∷ xs) none = absurd (omega (arith, none))
 
 take_all : {X : Type 0} (xs : List X) → take (length xs) xs ≡ xs
 take_all [] = refl

@@ -1,5 +1,5 @@
 -- What a server starts from: no row and no event, or what a setup left.
-use Rattle.std.specs.Prelude.{◌≡◌, ℕ, List, [], Option, None, Some}
+use Rattle.std.specs.Prelude.{◌≡◌, ℕ, List, Option, None, Some}
 use Rattle.cell_base.specs.declared.level.Level.{Level}
 use Rattle.link_traits.specs.Host.{Hosted}
 use Rattle.history_core.specs.Chronicle.{Chronicle}
@@ -10,12 +10,9 @@ use Rattle.setup_session.specs.Setups.{SetsUp, FailsSetup}
 use Rattle.setup_session.specs.declared.fault.SetupFault.{SetupFault}
 use Rattle.setup_session.specs.declared.fault.SetupFault.TheVariants as setups
 use Rattle.committed_rows.specs.Start.{StartsAfter, HasNoRoom}
+use Rattle.valid_writes.specs.Beginnings.{empty_history}
 use Rattle.serve_command.specs.declared.start.StartFault.{StartFault}
 use Rattle.serve_command.specs.declared.start.StartFault.TheVariants as faults
-
--- a history at a level without a row at first and without an event
-abbrev pub empty_history : Level → Chronicle
-empty_history level = record { level = level; initial = []; events = []; tables = [] }
 
 -- The file of the path was read to its end, its text was run by a session of its own, and the history starts after what that session left.
 pub record SetUp (path : List ℕ) (level : Level) (before : Hosted) (start : Chronicle) (after : Hosted) : Type 0 where

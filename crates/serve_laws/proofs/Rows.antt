@@ -1,5 +1,5 @@
 -- No read of a served history shows a cell without a value.
-use Rattle.std.proofs.Common.{◌≡◌, ℕ, List, [], ◌∷◌, ◌++◌, All, Any, Option, Some, None, refl, sym, ap, ◌∙◌, subst, inl, inr, ◌⊎◌, arith}
+use Rattle.std.proofs.Common.{◌≡◌, ℕ, List, ◌∷◌, ◌++◌, All, Any, Option, Some, None, refl, sym, ap, ◌∙◌, subst, inl, inr, ◌⊎◌}
 use Rattle.std.specs.List.{Contains}
 use Rattle.std.proofs.lemmas.List.{append-nil}
 use Rattle.std.proofs.lemmas.List.Elements.{All-contains}
@@ -22,10 +22,7 @@ use Rattle.session_rows.proofs.Histories.{keeps_rows}
 use Rattle.serve_laws.specs.Sessions.{links_of, IsItsSession, AreSessions}
 use Rattle.serve_laws.proofs.ServedOn.{links_on, keeps_of}
 use Rattle.serve_laws.proofs.OneEach.{are_sessions}
-use Rattle.serve_laws.proofs.WholeStart.{whole_with_more, IsWholeStart}
-
-none_there : {A : Type 0} (x : A) → Contains [] x → ⊥
-none_there x there = let h = there.1 in absurd (omega arith)
+use Rattle.serve_laws.proofs.WholeStart.{none_there, whole_with_more, IsWholeStart}
 
 -- a record that has an event of the session is all that the history has of it
 all_of_session : (events own : List Event) (number : Option ℕ) (e : Event) (session : ℕ) → IsItsSession events number own → Contains own e →

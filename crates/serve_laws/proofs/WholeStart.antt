@@ -17,15 +17,15 @@ use Rattle.history_core.specs.Initial.{IsInitialState, IsThereInitially, HoldsWh
 use Rattle.history_core.specs.Chronicle.{Chronicle, own_events}
 use Rattle.history_core.proofs.Places.{slice_get-append_left}
 use Rattle.committed_rows.specs.Start.{definitions}
-use Rattle.serve_command.specs.Starting.{StartsBy, empty_history}
+use Rattle.serve_command.specs.Starting.{StartsBy}
 use Rattle.session_rows.specs.Alone.{KeepsRowsAlone}
 
 -- ---- rows
 
-none_there : {A : Type 0} (x : A) → Contains [] x → ⊥
+pub none_there : {A : Type 0} (x : A) → Contains [] x → ⊥
 none_there x there = let h = there.1 in absurd (omega arith)
 
-no_rows : (tables : List Table) → HoldsWholeRows tables []
+pub no_rows : (tables : List Table) → HoldsWholeRows tables []
 no_rows tables = record {
   known = λ table key there. absurd (none_there _ there);
   whole = λ table key of_table column there is within apart. absurd (none_there _ there);

@@ -15,6 +15,7 @@ use Rattle.history_core.specs.Book.{Past, SessionState, no_session, in_session, 
 use Rattle.valid_writes.specs.Desk.{given_events, last_writes}
 use Rattle.valid_writes.specs.Owning.{OwnsAllThatComes}
 use Rattle.valid_writes.specs.Seats.{StandsIn}
+use Rattle.valid_writes.specs.Beginnings.{no_past}
 use Rattle.statement_course.specs.declared.demand.Demand.{Demand}
 use Rattle.statement_course.specs.declared.demand.Demand.TheVariants as demands
 use Rattle.statement_course.specs.Course.{first_demand}
@@ -50,7 +51,7 @@ use Rattle.session_core.proofs.ValidRecords.{Declines-goes, IsValidRecord-append
 use Rattle.session_hall.specs.declared.client.Client.{Client}
 use Rattle.session_hall.specs.declared.seat.Seat.{Seat}
 use Rattle.session_hall.specs.Accounts.{Comes, Grew, KeepsNumber}
-use Rattle.session_hall.specs.Clients.{no_past, come_to}
+use Rattle.session_hall.specs.Clients.{come_to}
 use Rattle.session_hall.specs.Seats.{Lives, IsFrom, Attends, Grows}
 use Rattle.session_hall.proofs.Entries.{opened-append, events-append, IsAlone, alone_short, short_from}
 use Rattle.session_hall.proofs.Coming.{Came, IsForeignTo, asks_open, came_comes, came_of, one_later}

@@ -14,6 +14,7 @@ use Rattle.valid_writes.specs.Desk.{given_events}
 use Rattle.valid_writes.specs.Owning.{OwnsAllThatComes}
 use Rattle.valid_writes.specs.Seats.{StandsIn}
 use Rattle.valid_writes.proofs.Writes.{own_push}
+use Rattle.valid_writes.proofs.OtherSessions.{stands_others, each_opened, fresh}
 use Rattle.block_machine.specs.Calls.{Call}
 use Rattle.block_machine.specs.Calls as calls
 use Rattle.block_machine.specs.Script.{Entry, did, refused, short, unsent, stop}
@@ -26,7 +27,7 @@ use Rattle.session_core.proofs.ValidRecords.{Declines-goes}
 use Rattle.session_hall.specs.Accounts.{Comes, KeepsNumber}
 use Rattle.session_hall.specs.Clients.{come_to}
 use Rattle.session_hall.specs.Seats.{Lives}
-use Rattle.session_hall.proofs.Others.{stands_others, given_others, own_none, each_opened, fresh}
+use Rattle.session_hall.proofs.Others.{given_others, own_none}
 use Rattle.session_hall.proofs.Later.{goes_same, goes_later}
 use Rattle.session_hall.proofs.Coming.{Came, IsForeignTo, Numbers, came_comes, came_numbers, came_owns}
 

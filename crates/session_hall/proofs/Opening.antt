@@ -15,11 +15,11 @@ use Rattle.session_core.specs.Stands.{IsFit, Lacks, outer, served_of, wants}
 use Rattle.session_core.specs.Sessions.{Stands}
 use Rattle.session_core.proofs.Grows.{IsAsked, Shows-stands}
 use Rattle.session_core.proofs.Serving.{sits_new}
+use Rattle.valid_writes.specs.Beginnings.{empty_history, no_past}
 use Rattle.session_hall.specs.declared.client.Client.{Client}
 use Rattle.session_hall.specs.declared.hall.Hall.{Hall}
 use Rattle.session_hall.specs.declared.seat.Seat.{Seat}
 use Rattle.session_hall.specs.Accounts.{nothing}
-use Rattle.session_hall.specs.Clients.{empty_history, no_past}
 use Rattle.session_hall.specs.Seats.{Attends, IsFrom, ShowsEnd, TellsAll}
 use Rattle.session_hall.specs.Halls.{Along, AreSeated, IsSeated, StandsFor}
 use Rattle.session_hall.proofs.Later.{goes_same}

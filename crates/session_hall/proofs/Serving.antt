@@ -27,9 +27,10 @@ use Rattle.session_core.specs.Stands.{Lacks, Shows, end_of, outer, wants}
 use Rattle.session_core.specs.Serve.{Account}
 use Rattle.session_core.proofs.Serving.{away_over}
 use Rattle.session_core.proofs.ValidRecords.{own_events}
+use Rattle.valid_writes.specs.Beginnings.{no_past}
 use Rattle.session_hall.specs.declared.client.Client.{Client}
 use Rattle.session_hall.specs.declared.seat.Seat.{Seat}
-use Rattle.session_hall.specs.Clients.{HasEnd, IsShown, HasCause, IsServed, no_past}
+use Rattle.session_hall.specs.Clients.{HasEnd, IsShown, HasCause, IsServed}
 use Rattle.session_hall.specs.Seats.{IsFrom, Attends, IsResting, ShowsEnd, TellsAll, shown_for}
 
 -- ---- the end that is shown

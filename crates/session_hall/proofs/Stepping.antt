@@ -3,8 +3,7 @@ use Rattle.std.proofs.Common.{◌≡◌, ◌≢◌, ◌==◌, ℕ, ◌<◌, zero
 use Rattle.std.specs.Prelude.{All, Contains, IfSome, OnErr, OnOk, Result, Ok, Err, slice_get, if◌then◌else◌}
 use Rattle.std.specs.Option.{is_some}
 use Rattle.std.proofs.Math.ListN.{set}
-use Rattle.std.proofs.lemmas.Bool.{eqb-true}
-use Rattle.std.proofs.lemmas.Bool.Decides.{nat_tests}
+use Rattle.std.proofs.lemmas.Bool.{eqb-true, eq-eqb, ne_eqb}
 use Rattle.std.proofs.lemmas.List.{append-nil, length-set}
 use Rattle.std.proofs.lemmas.List.Elements.{All-contains, All-nil, All-tail, Contains-append_cases, Contains-append_right, Contains-get_or}
 use Rattle.std.proofs.lemmas.Option.{slice_get_read, slice_get_within}
@@ -24,6 +23,7 @@ use Rattle.session_core.specs.Told.{opened_in}
 use Rattle.session_core.specs.Record.{events_of}
 use Rattle.session_core.specs.Serve.{Account}
 use Rattle.session_core.specs.Sessions.{wanted}
+use Rattle.valid_writes.proofs.OtherSessions.{each_opened}
 use Rattle.session_hall.specs.declared.client.Client.{Client}
 use Rattle.session_hall.specs.declared.client.Stepped.{Stepped as Outcome}
 use Rattle.session_hall.specs.declared.client.Stepped.TheVariants.{Called, Ended}
@@ -36,7 +36,6 @@ use Rattle.session_hall.specs.Halls.{with_account, HasEnded, IsAnswer, IsSeated,
 use Rattle.session_hall.proofs.Opening.{some_item}
 use Rattle.session_hall.proofs.Growing.{comes_none, keeps_same, keeps_some}
 use Rattle.session_hall.proofs.Living.{lives_others}
-use Rattle.session_hall.proofs.Others.{each_opened}
 use Rattle.session_hall.proofs.Serving.{serves_of, serves_on}
 
 pub item_at : {X : Type 0} (xs : List X) (k : ℕ) → k < length xs → (x : X) × (slice_get xs k ≡ Some x)
@@ -44,24 +43,18 @@ item_at [] k within = absurd (omega (arith, within))
 item_at (x ∷ xs) zero within = (x, refl)
 item_at (x ∷ xs) (suc k) within = item_at xs k (omega (arith, within))
 
-pub same_test : (a b : ℕ) → a ≡ b → (a == b) ≡ true
-same_test a b h = grind (arith, nat_tests)
-
-pub other_test : (a b : ℕ) → a ≢ b → (a == b) ≡ false
-other_test a b h = grind (arith, nat_tests)
-
 pub with_same : (accounts : ℕ → Account) (client : ℕ) (a : Account) (k : ℕ) → k ≡ client → with_account accounts client a k ≡ a
-with_same accounts client a k is = ap (λ (t : Bool). if t then a else accounts k) (same_test k client is)
+with_same accounts client a k is = ap (λ (t : Bool). if t then a else accounts k) (eq-eqb k client is)
 
 pub with_other : (accounts : ℕ → Account) (client : ℕ) (a : Account) (k : ℕ) → k ≢ client → with_account accounts client a k ≡ accounts k
-with_other accounts client a k apart = ap (λ (t : Bool). if t then a else accounts k) (other_test k client apart)
+with_other accounts client a k apart = ap (λ (t : Bool). if t then a else accounts k) (ne_eqb k client apart)
 
 either : (j k : ℕ) → (j ≡ k) ⊎ (j ≢ k)
 either j k = go (j == k) refl
   where
     go : (t : Bool) → (j == k) ≡ t → (j ≡ k) ⊎ (j ≢ k)
     go true is = inl (eqb-true j k is)
-    go false is = inr (λ same. absurd (cc (sym is ∙ same_test j k same)))
+    go false is = inr (λ same. absurd (cc (sym is ∙ eq-eqb j k same)))
 
 -- the client whose number it is, and its seat
 seat_at : (level : Level) (history : Chronicle) (clients : List Client) (accounts : ℕ → Account) (hall : Hall) → StandsFor level history clients accounts hall →

@@ -5,6 +5,7 @@ use Rattle.choice_stream.specs.Choices.{DrawsFirst}
 use Rattle.history_core.specs.Chronicle.{Chronicle}
 use Rattle.history_core.specs.Book.{Past, GoesOn, no_session}
 use Rattle.valid_writes.specs.Desk.{given_events}
+use Rattle.valid_writes.specs.Beginnings.{no_past}
 use Rattle.block_machine.specs.Calls.{Call}
 use Rattle.block_machine.specs.Script.{Entry, did, refused, short, unsent, stop, Next, more, call, ended}
 use Rattle.block_machine.specs.declared.end.End.{End}
@@ -15,14 +16,6 @@ use Rattle.session_core.specs.Requests.{Requests, AreRequests}
 use Rattle.session_core.specs.Record.{IsValidRecord, events_of}
 use Rattle.session_core.specs.Serve.{Account, IsOfLast}
 use Rattle.session_hall.specs.declared.client.Client.{Client}
-
--- a history at a level without a row at first and without an event
-abbrev pub empty_history : Level → Chronicle
-empty_history level = record { level = level; initial = []; events = []; tables = [] }
-
--- the past of a book of this history, which has no session
-abbrev pub no_past : Level → Past
-no_past level = record { seen = empty_history level; own = []; state = no_session }
 
 -- what a book of this past sees once the history has come so far, by others' events alone
 abbrev pub come_to : Past → Chronicle → Past

@@ -11,13 +11,14 @@ use Rattle.block_machine.specs.declared.end.End.TheVariants as ends
 use Rattle.session_core.specs.Told.{opened_in}
 use Rattle.session_core.specs.Sessions.{wanted}
 use Rattle.session_core.specs.Serve.{Account}
+use Rattle.valid_writes.specs.Beginnings.{empty_history}
 use Rattle.session_hall.specs.declared.client.Client.{Client}
 use Rattle.session_hall.specs.declared.client.Stepped.{Stepped}
 use Rattle.session_hall.specs.declared.client.Stepped.TheVariants.{Called, Ended}
 use Rattle.session_hall.specs.declared.hall.Hall.{Hall}
 use Rattle.session_hall.specs.declared.seat.Seat.{Seat}
 use Rattle.session_hall.specs.Accounts.{Grew, nothing}
-use Rattle.session_hall.specs.Clients.{HasEnd, IsServed, empty_history}
+use Rattle.session_hall.specs.Clients.{HasEnd, IsServed}
 use Rattle.session_hall.specs.Seats.{Attends, IsResting, ShowsEnd}
 
 -- the accounts with that of one client made this one

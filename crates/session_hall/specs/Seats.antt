@@ -8,6 +8,7 @@ use Rattle.history_core.specs.Chronicle.{Chronicle, IsLegalChronicle}
 use Rattle.history_core.specs.Book.{Past, HasSession, GoesOn, no_session, session_of}
 use Rattle.valid_writes.specs.Desk.{given_events}
 use Rattle.valid_writes.specs.Seats.{StandsIn}
+use Rattle.valid_writes.specs.Beginnings.{no_past}
 use Rattle.block_machine.specs.Calls.{Call}
 use Rattle.block_machine.specs.Script.{Entry, did, refused, short, unsent, stop}
 use Rattle.block_machine.specs.declared.end.End.{End}
@@ -29,7 +30,7 @@ use Rattle.session_hall.specs.declared.client.Stepped.{Stepped}
 use Rattle.session_hall.specs.declared.client.Stepped.TheVariants.{Called, Ended}
 use Rattle.session_hall.specs.declared.seat.Seat.{Seat}
 use Rattle.session_hall.specs.Accounts.{Grew}
-use Rattle.session_hall.specs.Clients.{HasEnd, no_past, come_to}
+use Rattle.session_hall.specs.Clients.{HasEnd, come_to}
 
 -- How a session of this number stands in a history, where its book has this past.
 pub record Lives (history : Chronicle) (past : Past) (number : Option ℕ) : Type 0 where

@@ -8,7 +8,7 @@ ghost use Rattle.session_hall.specs.declared.client.Client.{Client as Known};
 ghost use Rattle.session_hall.specs.declared.client.Stepped.TheVariants.{Ended};
 ghost use Rattle.session_hall.specs.declared.seat.Seat.{Seat as Kept};
 ghost use Rattle.session_hall.specs.Accounts.{nothing};
-ghost use Rattle.session_hall.specs.Clients.{empty_history};
+ghost use Rattle.valid_writes.specs.Beginnings.{empty_history};
 ghost use Rattle.session_hall.specs.Halls.{AreSeated, IsSeated, StandsFor, IsHall, IsStep, HasEnded, clients_of};
 
 use crate::asking;

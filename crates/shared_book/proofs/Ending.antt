@@ -1,5 +1,5 @@
 -- What the end of a shared history tells of the events of each book.
-use Rattle.std.proofs.Common.{◌≡◌, ℕ, zero, suc, ◌<◌, ◌≤◌, ◌==◌, ⊎_elim, Bool, true, false, List, [], ◌∷◌, length, refl, ap, sym, ◌∙◌, subst, arith, eq-eqb, Option, Some, None}
+use Rattle.std.proofs.Common.{◌≡◌, ℕ, zero, suc, ◌<◌, ◌≤◌, ◌==◌, ⊎_elim, List, [], ◌∷◌, length, refl, ap, sym, ◌∙◌, subst, arith, eq-eqb, Option, Some, None}
 use Rattle.std.specs.List.{Any, Contains, slice_get}
 use Rattle.std.specs.Prelude.{map}
 use Rattle.std.proofs.lemmas.List.Elements.{All-map, All-weaker}
@@ -10,6 +10,7 @@ use Rattle.history_core.specs.Chronicle.{Chronicle, IsLegalChronicle, own_events
 use Rattle.turn_lock.specs.Entries.{one_if, has_key, HasKey, IsCompleteByKey, holder_count}
 use Rattle.turn_lock.specs.Passes.{LockValue, PassValue, Closed, lists_of}
 use Rattle.turn_lock.proofs.Holders.{Contains-cases, Contains-head, Contains-tail, Any-head, Any-tail, Any-cases}
+use Rattle.turn_lock.proofs.Stages.{one_if_bound}
 use Rattle.shared_book.specs.declared.entry.Entry.{Entry}
 use Rattle.shared_book.specs.declared.entry.Entry.TheVariants.{Start, Happened}
 use Rattle.shared_book.specs.Entries.{key_of, entries_of, events_of, tables_of, level_of, initial_of, chronicle_of, event_lists}
@@ -96,10 +97,6 @@ one_place s (l ∷ ls) single (suc i) zero one other is there has too =
 one_place s (l ∷ ls) single (suc i) (suc j) one other is there has too =
     ap suc (one_place s ls (omega (arith, single)) i j one other is there has too)
 
-at_most_one : (b : Bool) → one_if b ≤ 1
-at_most_one true = omega arith
-at_most_one false = omega arith
-
 pub finished : (lock : LockValue Entry) (pass : PassValue Entry) (history : Chronicle) → StartsLegal lock.start → IsLegalChronicle history →
     Closed key_of lock pass (entries_of history) → Finished (chronicle_of lock.start) (event_lists pass) history
 finished lock pass history start legal closed =
@@ -126,7 +123,7 @@ finished lock pass history start legal closed =
           (lists_of pass) (closed.added_is_held (Happened e entry.0) entry.1);
       apart = λ i j session one other is there has too.
           one_place session (lists_of pass)
-          (omega (arith, closed.one_holder session, at_most_one (has_key key_of session closed.added)))
+          (omega (arith, closed.one_holder session, one_if_bound (has_key key_of session closed.added)))
           i j one other is there has too;
       start_is_free = λ session has any.
           let entry = entry_of lock.start has.1 (has.0, has.2, has.3) in

@@ -17,6 +17,7 @@ use Rattle.history_core.proofs.TablesFew.{formed_of, tables_defined}
 use Rattle.history_core.proofs.Prefixes.{formed_back}
 use Rattle.valid_writes.specs.Desk.{last_writes}
 use Rattle.valid_writes.specs.Seats.{StandsIn}
+use Rattle.valid_writes.proofs.OtherSessions.{stands_others, numbered, fresh}
 use Rattle.turn_lock.specs.Entries.{has_key, HasKey, IsComplete, IsNewOrOwn, AddsAtMostOne}
 use Rattle.turn_lock.specs.Passes.{LockValue, PassValue, MayFind, TookTurn}
 use Rattle.turn_lock.proofs.Keys.{has_key-append}
@@ -29,7 +30,6 @@ use Rattle.shared_book.specs.Places.{state_at, IsAt}
 use Rattle.shared_book.specs.Books.{IsBook, HasAllOf, StartsLegal, past_of}
 use Rattle.shared_book.specs.Turns.{AddsOne, IsOfSession, LiesBetween, Turned, past_with}
 use Rattle.shared_book.proofs.Listing.{joined, same_history, events_with, events_join, tables_join, level_front, initial_front, rest_foreign, tables_with}
-use Rattle.shared_book.proofs.Sessions.{stands_others, numbered, fresh}
 
 -- the tables of a legal history are those that it defines
 pub legal_tables : (h : Chronicle) → IsLegalChronicle h → length h.tables ≡ defined h.events

@@ -1,5 +1,4 @@
 pub mod Listing
-pub mod Sessions
 pub mod Found
 pub mod Ending
 pub mod Fronts

@@ -4,9 +4,10 @@ use Rattle.std.proofs.lemmas.List.{append-nil, length-append}
 use Rattle.rand_chacha.specs.ChaCha.{ChaCha}
 use Rattle.choice_stream.specs.Seeds.{Draws}
 use Rattle.session_hall.specs.declared.client.Client.{Client}
+use Rattle.setup_client.specs.Client.{query_message}
 use Rattle.sim_clients.specs.declared.query.Query.{Query}
 use Rattle.sim_clients.specs.Queries.{text_of}
-use Rattle.sim_clients.specs.Streams.{query_message, messages, DrawsAll, DrawsQuery, DrawsQueries, PutsQueries}
+use Rattle.sim_clients.specs.Streams.{messages, DrawsAll, DrawsQuery, DrawsQueries, PutsQueries}
 use Rattle.sim_clients.specs.Clients.{IsAsker, AreAskers}
 
 -- one more word

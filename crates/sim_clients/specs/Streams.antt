@@ -3,16 +3,13 @@ use Rattle.std.specs.Prelude.{◌≡◌, ◌≤◌, ◌+◌, ◌*◌, ℕ, List,
 use Rattle.std.specs.Int.{w32, to_be_bytes}
 use Rattle.rand_chacha.specs.ChaCha.{ChaCha}
 use Rattle.choice_stream.specs.Seeds.{Draws}
+use Rattle.setup_client.specs.Client.{query_message}
 use Rattle.sim_clients.specs.declared.query.Query.{Query}
 use Rattle.sim_clients.specs.Queries.{text_of, query_of}
 
 -- the startup message of version 3.0, whose user is `sim`
 abbrev pub startup : List ℕ
 startup = to_be_bytes w32 18 ++ (to_be_bytes w32 196608 ++ (codes "user" ++ 0 ∷ (codes "sim" ++ 0 ∷ 0 ∷ [])))
-
--- a Query message of this text
-abbrev pub query_message : List ℕ → List ℕ
-query_message text = codes "Q" ++ (to_be_bytes w32 (length text + 5) ++ (text ++ 0 ∷ []))
 
 -- the Terminate message
 abbrev pub terminate : List ℕ

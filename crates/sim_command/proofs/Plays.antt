@@ -1,13 +1,13 @@
 -- Steps one after another.
-use Rattle.std.proofs.Common.{◌≡◌, ◌==◌, ◌⊎◌, inl, inr, true, false, ℕ, zero, suc, All, ◌+◌, ◌<◌, ◌%◌, List, [], ◌∷◌, ◌++◌, ◌≤◌, get_or, length, refl, sym, ◌∙◌, ap, subst, arith, Option, Some, Ok, append_assoc}
+use Rattle.std.proofs.Common.{◌≡◌, ◌==◌, ◌⊎◌, inr, true, false, ℕ, zero, suc, All, ◌+◌, ◌<◌, ◌%◌, List, [], ◌∷◌, ◌++◌, ◌≤◌, get_or, length, refl, sym, ◌∙◌, ap, subst, arith, Option, Some, Ok, append_assoc}
 use Rattle.std.specs.List.{slice_get}
 use Rattle.std.proofs.lemmas.List.{append-nil, length-append}
 use Rattle.std.proofs.lemmas.List.Elements.{All-push}
-use Rattle.std.proofs.lemmas.Bool.{cases_order}
+use Rattle.std.proofs.lemmas.Bool.{ne_eqb}
 use Rattle.cell_base.specs.declared.level.Level.{Level}
 use Rattle.rand_chacha.specs.ChaCha.{ChaCha}
 use Rattle.choice_stream.specs.Seeds.{Draws, stream_front}
-use Rattle.sim_clients.specs.Streams.{startup, query_message, terminate, create_table, messages}
+use Rattle.sim_clients.specs.Streams.{startup, terminate, create_table, messages}
 use Rattle.sim_clients.specs.Clients.{AreClients, AreAskers}
 use Rattle.session_hall.specs.declared.client.Client.{Client}
 use Rattle.history_core.specs.Chronicle.{Chronicle}
@@ -16,10 +16,10 @@ use Rattle.session_hall.specs.declared.client.Stepped.{Stepped}
 use Rattle.session_hall.specs.declared.client.Stepped.TheVariants.{Called, Ended}
 use Rattle.session_hall.specs.declared.hall.Hall.{Hall}
 use Rattle.session_hall.specs.Halls.{StandsFor, IsStep, clients_of}
+use Rattle.setup_client.specs.Client.{query_message}
 use Rattle.sim_command.specs.Runs.{Moment, Pick, Moves, Runs}
 use Rattle.sim_command.specs.Simulations.{going_after, DrawsTo, AreDrawn, AreDrawnFirst, GoesOn, GoesToEnd, IsSchedule, IsFront, numbers_from}
 use Rattle.sim_command.specs.Playing.{StandsAt, Plays, Goes, IsStepOf, IsPicked, AreNone}
-use Rattle.session_hall.proofs.Stepping.{other_test}
 use Rattle.sim_command.proofs.Steps.{step_moves, within}
 
 -- runs one after another
@@ -109,19 +109,9 @@ numbers_more first (suc many) =
     ap (λ (ns : List ℕ). first ∷ ns)
     (numbers_more (suc first) many ∙ ap (λ (n : ℕ). numbers_from (suc first) many ++ n ∷ []) (omega arith))
 
--- what holds below a number and of it
-pub holds_more : (P : ℕ → Type 0) (n : ℕ) → ((k : ℕ) → k < n → P k) → P n → (k : ℕ) → k < n + 1 → P k
-holds_more P n below last k small = elim (cases_order k n) [
-  | inl same ↦ subst P (sym same) last
-  | inr apart ↦ elim apart [
-    | inl less ↦ below k less
-    | inr more ↦ absurd (omega arith)
-  ]
-]
-
 pub none_left : (xs : List ℕ) (n : ℕ) → n ≡ length xs → true ≡ (n == 0) → xs ≡ []
 none_left [] n is h = refl
-none_left (x ∷ xs) n is h = let f : true ≡ false = h ∙ other_test n 0 (λ e. omega (arith, e, is)) in absurd (cc)
+none_left (x ∷ xs) n is h = let f : true ≡ false = h ∙ ne_eqb n 0 (λ e. omega (arith, e, is)) in absurd (cc)
 
 -- both parts of a schedule
 pub schedules : (seed sessions : ℕ) (going : List ℕ) → going ≡ numbers_from 1 sessions → (front : ChaCha) → front ≡ stream_front seed 65 →

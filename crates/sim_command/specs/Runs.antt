@@ -7,8 +7,9 @@ use Rattle.session_core.specs.Serve.{Account}
 use Rattle.session_hall.specs.declared.client.Client.{Client}
 use Rattle.session_hall.specs.declared.client.Stepped.{Stepped}
 use Rattle.session_hall.specs.Accounts.{nothing, Grew}
-use Rattle.session_hall.specs.Clients.{empty_history, IsServed}
+use Rattle.session_hall.specs.Clients.{IsServed}
 use Rattle.session_hall.specs.Halls.{IsAnswer}
+use Rattle.valid_writes.specs.Beginnings.{empty_history}
 
 -- what stands at a moment: the one history, and what went to and fro with each client
 pub record Moment : Type 0 where

@@ -2,3 +2,4 @@ pub mod Store
 pub mod Desk
 pub mod Owning
 pub mod Seats
+pub mod Beginnings

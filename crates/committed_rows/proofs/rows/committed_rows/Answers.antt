@@ -1,4 +1,5 @@
-use Rattle.committed_rows.proofs.Standing.{rows_are, if_ok}
+use Rattle.valid_writes.proofs.Told.{if_ok}
+use Rattle.committed_rows.proofs.Standing.{rows_are}
 use Rattle.committed_rows.proofs.rows.committed_rows.Goals as goal
 
 pub returns : goal.returns

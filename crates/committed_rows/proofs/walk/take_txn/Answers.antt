@@ -1,8 +1,9 @@
 use Rattle.std.proofs.Common.{List, ◌≡◌, ◌+◌, ◌-◌, subst, arith}
 use Rattle.cell_base.specs.declared.cell.Cell.{Cell}
 use Rattle.cell_base.specs.declared.value.Value.{Value}
+use Rattle.valid_writes.proofs.Told.{on_ok}
 use Rattle.committed_rows.specs.Walk.{Fills}
-use Rattle.committed_rows.proofs.Above.{above_committed, above_other, on_ok}
+use Rattle.committed_rows.proofs.Above.{above_committed, above_other}
 use Rattle.committed_rows.proofs.walk.take_txn.Goals as goal
 
 pub returns-in-Committed : goal.returns-in-Committed

@@ -1,7 +1,8 @@
 use Rattle.std.proofs.Common.{◌≡◌, refl, sym, ◌∙◌}
 use Rattle.std.specs.declared.cmp.Ordering.TheVariants.{Less, Equal, Greater}
 use Rattle.std.proofs.lemmas.Bool.{false≢true}
-use Rattle.history_check.proofs.KeyLemmas.{below_from_less, less_from_below}
+use Rattle.indexed_history.proofs.KeyLists.{below_from_less}
+use Rattle.history_check.proofs.KeyLemmas.{less_from_below}
 use Rattle.history_check.proofs.keys.is_below.Goals as goal
 
 pub returns-in-Less : goal.returns-in-Less

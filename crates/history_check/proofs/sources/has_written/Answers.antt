@@ -1,6 +1,6 @@
 use Rattle.std.proofs.Common.{refl}
 use Rattle.std.proofs.lemmas.Bool.{false≢true}
-use Rattle.history_check.proofs.WriteLemmas.{written_from_record, none_from_record}
+use Rattle.saturation.proofs.Sights.{written_from_record, none_from_record}
 use Rattle.history_check.proofs.sources.has_written.Goals as goal
 
 pub returns-in-Some : goal.returns-in-Some

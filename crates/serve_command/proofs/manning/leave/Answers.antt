@@ -1,6 +1,6 @@
 use Rattle.std.proofs.Common.{◌≡◌, List, [], length, map, vec_len, refl, sym, ◌∙◌, ap, subst, arith}
 use Rattle.std.specs.Prelude.{Some}
-use Rattle.std.proofs.lemmas.List.{append-nil}
+use Rattle.std.proofs.lemmas.List.{append-nil, nil_from_length}
 use Rattle.std.proofs.lemmas.List.Elements.{All-pop}
 use Rattle.turn_lock.specs.Passes.{PassValue, Joined}
 use Rattle.turn_lock.proofs.Keys.{prefix_trans}
@@ -10,7 +10,6 @@ use Rattle.shared_book.specs.Entries.{event_lists, key_of, entries_of, chronicle
 use Rattle.shared_book.specs.Fronts.{IsFrontOf}
 use Rattle.serve_command.specs.Parts.{AreParts}
 use Rattle.serve_command.specs.Manning.{MayLeave}
-use Rattle.serve_command.proofs.Fronts.{no_items}
 use Rattle.serve_command.proofs.Leaving.{left_one_more, none_left_over}
 use Rattle.serve_command.proofs.manning.leave.Goals as goal
 
@@ -78,7 +77,7 @@ loop-worker-preserved g c =
 pub returns-clause-left : goal.returns-clause-left
 returns-clause-left g c = λ level begun history start seed accept opened legal goes new kept unused ended.
     let many : vec_len c.loop-worker.workers ≡ length c.loop-worker.workers.items = c.loop-worker.workers.ok.0 in
-    let none : c.loop-worker.workers.items ≡ [] = no_items c.loop-worker.workers.items (omega (arith, many, c.in_default.ensures.cases.0)) in
+    let none : c.loop-worker.workers.items ≡ [] = nil_from_length c.loop-worker.workers.items (omega (arith, many, c.in_default.ensures.cases.0)) in
     let (gone, rest, parts, whole, are, left, lists, fault) = c.loop-worker.invariant.left level begun history start seed accept opened legal goes new kept unused ended in (
       parts,
       none_left_over g.D.Door.passage level begun history start seed accept opened gone rest parts (map g.D.Door.passage c.loop-worker.doors.items)

@@ -1,13 +1,13 @@
 use Rattle.std.proofs.Common.{◌≡◌, ◌-◌, ◌≤◌, ◌++◌, ◌∷◌, ℕ, suc, [], length, drop, vec_len, vec_capacity, refl, sym, ◌∙◌, ap, subst, arith}
 use Rattle.std.specs.Prelude.{Some}
-use Rattle.std.proofs.lemmas.List.{append-nil, append_assoc}
+use Rattle.std.proofs.lemmas.List.{append-nil, append_assoc, nil_from_length}
 use Rattle.std.proofs.lemmas.List.Elements.{All-pop}
 use Rattle.turn_lock.specs.Passes.{PassValue, split_off}
 use Rattle.choice_stream.specs.Seeds.{stream_front}
 use Rattle.shared_book.specs.declared.entry.Entry.{Entry}
 use Rattle.shared_book.specs.Books.{fresh_book}
 use Rattle.serve_command.specs.Manning.{AreManned}
-use Rattle.serve_command.proofs.Fronts.{drop_all, drop_one_more, no_items}
+use Rattle.serve_command.proofs.Fronts.{drop_all, drop_one_more}
 use Rattle.serve_command.proofs.manning.man.Goals as goal
 
 pub loop-door-init : goal.loop-door-init
@@ -90,7 +90,7 @@ loop-door-preserved g c =
               door_is = refl;
               words = c.new.ensures ∙ ap (stream_front c.args.options.now.seed) (c.len-stream.ensures ∙ many_front);
               accept_is = refl;
-              served = no_items c.in-Some-pop.served.items (sym none_served ∙ none);
+              served = nil_from_length c.in-Some-pop.served.items (sym none_served ∙ none);
               room = omega (arith, none, enough);
               fault = refl;
             },

@@ -2,10 +2,10 @@ use Rattle.std.proofs.Common.{rules, ◌≡◌, ◌<◌, List, [], ◌∷◌, �
 use Rattle.std.specs.Prelude.{All}
 use Rattle.std.proofs.lemmas.List.Elements.{All-tail}
 use Rattle.std.specs.Vec.Iter.{into_iter_items}
+use Rattle.valid_writes.specs.Beginnings.{empty_history}
 use Rattle.session_hall.specs.declared.client.Client.{Client}
 use Rattle.session_hall.specs.declared.seat.Seat.{Seat}
 use Rattle.session_hall.specs.Accounts.{nothing}
-use Rattle.session_hall.specs.Clients.{empty_history}
 use Rattle.session_hall.specs.Halls.{AreSeated, IsSeated}
 use Rattle.session_hall.proofs.Opening.{along_push}
 use Rattle.session_hall.proofs.hall.seats_for.Goals as goal

@@ -1,6 +1,6 @@
 use Rattle.std.proofs.Common.{◌≡◌, List, [], Some, ap, subst, ◌∙◌}
 use Rattle.history_core.specs.Chronicle.{Chronicle, IsLegalChronicle}
-use Rattle.session_hall.specs.Clients.{empty_history}
+use Rattle.valid_writes.specs.Beginnings.{empty_history}
 use Rattle.session_hall.specs.Accounts.{nothing}
 use Rattle.session_hall.proofs.Opening.{hall_new}
 use Rattle.session_hall.proofs.hall.Hall.new.Goals as goal

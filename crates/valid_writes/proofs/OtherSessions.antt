@@ -1,7 +1,7 @@
 -- Events of other sessions leave where a session stands, and the number of a session that opens is nobody's before.
-use Rattle.std.proofs.Common.{◌≡◌, ◌≢◌, ◌==◌, ℕ, ◌+◌, List, [], ◌∷◌, ◌++◌, sym, ◌∙◌, ap, subst, arith, append_assoc, inl, inr, false}
+use Rattle.std.proofs.Common.{◌≡◌, ◌≢◌, ℕ, ◌+◌, List, [], ◌∷◌, ◌++◌, sym, ◌∙◌, ap, subst, arith, append_assoc, inl, inr}
 use Rattle.std.specs.Prelude.{All, Contains}
-use Rattle.std.proofs.lemmas.Bool.Decides.{nat_tests}
+use Rattle.std.proofs.lemmas.Bool.{ne_eqb}
 use Rattle.std.proofs.lemmas.List.{append-nil}
 use Rattle.std.proofs.lemmas.List.Elements.{All-head, All-tail, Contains-append_left, Contains-push_cases, Contains-push, Contains-get_or}
 use Rattle.cell_base.specs.declared.cell.Cell.{Cell}
@@ -18,9 +18,6 @@ use Rattle.history_core.proofs.Prefixes.{along, formed_back}
 use Rattle.valid_writes.specs.Seats.{StandsIn}
 use Rattle.valid_writes.proofs.Writes.{last_writes-skip}
 
-other_test : (a b : ℕ) → a ≢ b → (a == b) ≡ false
-other_test a b h = grind (arith, nat_tests)
-
 idle_other : (events : List Event) (e : Event) (s : ℕ) → session_in e ≢ s → (HasPending events s → ⊥) → HasPending (events ++ e ∷ []) s → ⊥
 idle_other events e s other none (k, pending_is) =
     none (k, (pending_still events e s (λ level same. other (ap session_in same)) (λ same. absurd (other same)) k).0 pending_is)
@@ -35,7 +32,7 @@ stands_other (in_session s) events e other stands = (
 stands_other (pending s writes) events e other stands = (
   (open_still events e s (λ same. other (ap session_in same)) (λ same. other (ap session_in same))).1 stands.0,
   (stands.1.0, (pending_still events e s (λ level same. other (ap session_in same)) (λ same. absurd (other same)) stands.1.0).1 stands.1.1),
-  stands.2 ∙ sym (last_writes-skip events s e (other_test (session_in e) s other)),
+  stands.2 ∙ sym (last_writes-skip events s e (ne_eqb (session_in e) s other)),
 )
 
 pub stands_others : (state : SessionState) (events es : List Event) → All (λ (e : Event). session_in e ≢ session_of state) es →
