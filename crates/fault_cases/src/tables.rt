@@ -94,7 +94,7 @@ fn ends_with_a_look(events: &[Event]) -> bool {
     )
 }
 
-fn came(alloc: Global) -> Result<Came, Fail> {
+fn tried(alloc: Global) -> Result<Came, Fail> {
     let mut book = new_book(alloc)?;
     open(&mut book)?;
     let defined = define_many(alloc, &mut book, 64);
@@ -117,7 +117,7 @@ fn came(alloc: Global) -> Result<Came, Fail> {
 #[test]
 fn refuses_a_table_beyond_the_last(rt: HostRuntime) -> Result<(), Fail> {
     assert_eq!(rt;
-        came(rt.alloc())?,
+        tried(rt.alloc())?,
         Came {
             defined: 64,
             beyond: Err(BookFault::Full(Limit::Tables)),

@@ -9,7 +9,7 @@ use link_traits::{MemLink, MemPlan};
 use std::alloc::Global;
 
 /// A link that comes in by a door.
-#[derive(Clone, Copy, Debug)]
+#[derive(Clone, Copy)]
 pub struct Visit<'a> {
     /// What its client sends.
     pub client: &'a [u8],
@@ -20,7 +20,7 @@ pub struct Visit<'a> {
 }
 
 /// What comes in by a door, one link after another.
-#[derive(Clone, Copy, Debug)]
+#[derive(Clone, Copy)]
 pub struct Entry<'a> {
     pub visits: &'a [Visit<'a>],
     /// The numbers, from 1 on, of the calls of `accept` that fail.

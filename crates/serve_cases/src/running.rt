@@ -14,7 +14,7 @@ use std::sync::Wait;
 use std::thread::Threads;
 
 /// How a server is started, and what fails.
-#[derive(Clone, Copy, Debug)]
+#[derive(Clone, Copy)]
 pub struct Start<'a> {
     pub level: Level,
     pub listen: &'a [u8],
@@ -94,13 +94,13 @@ fn host(alloc: Global, start: &Start<'_>) -> Result<MemHost, Memory>
 }
 
 /// What became of a server: its status, and what it printed.
-#[derive(Debug, Drop)]
+#[derive(Drop)]
 pub struct Ended {
     pub code: u8,
     pub printed: Vec<u8>,
 }
 
-fn ended(alloc: Global, code: u8, host: &MemHost) -> Result<Ended, Memory> {
+fn ended_in(alloc: Global, code: u8, host: &MemHost) -> Result<Ended, Memory> {
     match host.output() {
         Some(out) => Ok(Ended {
             code,
@@ -120,7 +120,7 @@ pub fn run<R: Threads + Wait + Eprint + Sync, N: Network>(
     let mut host = host(alloc, start)?;
     let options = options(alloc, start)?;
     let status = serve(rt, alloc, &mut host, network, &options);
-    ended(alloc, status.code, &host)
+    ended_in(alloc, status.code, &host)
 }
 
 /// Whether a server at these doors ends with this status, prints this line, and sends each link what is told of it.

@@ -1,5 +1,5 @@
 // Lists of choice words that the command line may have, told by what a session reads with them, and texts that are none.
-use crate::hosts::{answers, client, run};
+use crate::hosts::{answers, client_of, run};
 use cell_base::Memory;
 use session_text::read_sessions;
 use std::alloc::Global;
@@ -95,7 +95,7 @@ fn takes_at<R: Threads + Wait + Eprint + Sync>(
     let sessions = read_sessions(alloc, TWO_ROWS)?;
     match sessions.get(place) {
         Some(session) => {
-            let client = client(&session.input, 64);
+            let client = client_of(&session.input, 64);
             Ok(answers(rt, alloc, level, list, &client, 0, &session.sent)?)
         }
         None => Ok(false),
@@ -147,7 +147,7 @@ fn refuses<R: Threads + Wait + Eprint + Sync>(
     alloc: Global,
     words: &[&[u8]],
 ) -> Result<bool, Memory> {
-    let done = run(rt, alloc, words, &client(b"", 64))?;
+    let done = run(rt, alloc, words, &client_of(b"", 64))?;
     Ok(done.code == 2 && done.printed.as_slice() == USAGE && done.sent.is_none())
 }
 

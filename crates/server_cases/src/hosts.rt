@@ -12,7 +12,7 @@ use std::sync::Wait;
 use std::thread::Threads;
 
 /// What a client sends over the standard link, and what fails.
-#[derive(Clone, Copy, Debug)]
+#[derive(Clone, Copy)]
 pub struct Client<'a> {
     pub bytes: &'a [u8],
     /// How many bytes a read gives at most. A write takes as many, and 64 where that is less.
@@ -24,7 +24,7 @@ pub struct Client<'a> {
 }
 
 /// A client of whom no read and no write fails.
-pub fn client(bytes: &[u8], piece: u32) -> Client<'_> {
+pub fn client_of(bytes: &[u8], piece: u32) -> Client<'_> {
     Client {
         bytes,
         piece,
@@ -34,7 +34,7 @@ pub fn client(bytes: &[u8], piece: u32) -> Client<'_> {
 }
 
 /// What a command came to: its status, what it printed, and what it sent over the standard link, or nothing where it took none.
-#[derive(Debug, Drop)]
+#[derive(Drop)]
 pub struct Done {
     pub code: u8,
     pub printed: Vec<u8>,
@@ -95,7 +95,7 @@ fn sent(alloc: Global, host: &MemHost) -> Result<Option<Vec<u8>>, Memory> {
     }
 }
 
-fn done(alloc: Global, code: u8, host: &MemHost) -> Result<Done, Memory> {
+fn done_in(alloc: Global, code: u8, host: &MemHost) -> Result<Done, Memory> {
     let sent = sent(alloc, host)?;
     match host.output() {
         Some(out) => Ok(Done {
@@ -118,7 +118,7 @@ pub fn run<R: Threads + Wait + Eprint + Sync>(
     let mut network = MemNetwork::new(alloc, Vec::new(alloc), Vec::new(alloc));
     let words = texts(alloc, words)?;
     let status = monkey_main(rt, alloc, &mut host, &mut network, words.as_slice());
-    done(alloc, status.code, &host)
+    done_in(alloc, status.code, &host)
 }
 
 /// Whether `pipe LEVEL LIST` ends with this status, prints nothing, and has sent the client these bytes.

@@ -1,5 +1,5 @@
 // The sessions of `session_text` over the whole program.
-use crate::hosts::{answers, client};
+use crate::hosts::{answers, client_of};
 use cell_base::Level;
 use session_text::{
     Session, block_sessions, delete_sessions, duplicate_key_sessions, level_sessions,
@@ -61,7 +61,7 @@ fn serves<R: Threads + Wait + Eprint + Sync>(
         alloc,
         level,
         list.as_str().as_bytes(),
-        &client(&session.input, piece),
+        &client_of(&session.input, piece),
         status,
         &session.sent,
     )?;
@@ -170,12 +170,30 @@ fn lengths_held_at<R: Threads + Wait + Eprint + Sync>(
     }
 }
 
-// The first two sessions of a row, and the one that reads a table that isn't there.
+// The first two sessions of a row, and the one that reads a table that isn't there. Each has a test of its own, since one takes long.
 #[test]
-fn serves_pieces_of_each_length(rt: HostRuntime) -> Result<(), Fail> {
-    let alloc = rt.alloc();
-    assert_eq!(rt; lengths_held_at(&rt, alloc, row_sessions(), 0, 200)?, 200);
-    assert_eq!(rt; lengths_held_at(&rt, alloc, row_sessions(), 1, 200)?, 200);
-    assert_eq!(rt; lengths_held_at(&rt, alloc, row_sessions(), 7, 200)?, 200);
+fn serves_a_read_that_misses_in_pieces_of_each_length(rt: HostRuntime) -> Result<(), Fail> {
+    assert_eq!(rt;
+        lengths_held_at(&rt, rt.alloc(), row_sessions(), 0, 200)?,
+        200
+    );
+    Ok(())
+}
+
+#[test]
+fn serves_a_read_that_finds_in_pieces_of_each_length(rt: HostRuntime) -> Result<(), Fail> {
+    assert_eq!(rt;
+        lengths_held_at(&rt, rt.alloc(), row_sessions(), 1, 200)?,
+        200
+    );
+    Ok(())
+}
+
+#[test]
+fn serves_a_read_of_no_table_in_pieces_of_each_length(rt: HostRuntime) -> Result<(), Fail> {
+    assert_eq!(rt;
+        lengths_held_at(&rt, rt.alloc(), row_sessions(), 7, 200)?,
+        200
+    );
     Ok(())
 }
