@@ -14,3 +14,4 @@ pub mod Spelled
 pub mod Strip
 pub mod WholeEvents
 pub mod Written
+pub mod DigitLemmas

@@ -2,6 +2,7 @@
 #![tactic(auto)]
 
 mod cells;
+mod digits;
 mod draft;
 mod event_lines;
 mod events;

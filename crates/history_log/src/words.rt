@@ -2,6 +2,7 @@
 ghost use Rattle.std.specs.Prelude.{◌≡◌, ◌≢◌, ◌∷◌, ℕ, List, MatchOption};
 ghost use Rattle.history_log.specs.Reading.{IsNumber, IsInteger, IsHex, IsText, IsKey, IsNamedValue, IsValue, IsLevel, Finds, Reads};
 
+use crate::digits::short_number;
 use crate::misread::Misread;
 use cell_base::{Items, Key, Level, Text, TextFault, Value};
 use itoa::Buffer;
@@ -10,6 +11,16 @@ use std::str;
 
 /// The number, without leading zeros and without a sign.
 pub fn number_of(word: &[u8]) -> Option<u32>
+    ensures { Finds IsNumber result word.now }
+{
+    match short_number(word) {
+        Some(n) => Some(n),
+        None => long_number(word),
+    }
+}
+
+/// The number, whatever its length.
+fn long_number(word: &[u8]) -> Option<u32>
     ensures { Finds IsNumber result word.now }
 {
     let Ok(text) = str::from_utf8(word) else {
@@ -27,6 +38,16 @@ pub fn number_of(word: &[u8]) -> Option<u32>
 
 /// The integer, without leading zeros, with a sign where it is below zero.
 pub fn integer_of(word: &[u8]) -> Option<i64>
+    ensures { Finds IsInteger result word.now }
+{
+    match short_number(word) {
+        Some(n) => Some(n as i64),
+        None => long_integer(word),
+    }
+}
+
+/// The integer, whatever its length.
+fn long_integer(word: &[u8]) -> Option<i64>
     ensures { Finds IsInteger result word.now }
 {
     let Ok(text) = str::from_utf8(word) else {

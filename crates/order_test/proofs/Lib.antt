@@ -9,3 +9,4 @@ pub mod UnkeptLaws
 pub mod Prefixed
 pub mod ListedLemmas
 pub mod QuickLemmas
+pub mod ReachLemmas

@@ -37,7 +37,7 @@ use Rattle.order_test.proofs.SearchLemmas.{less_unless, rival_bounds}
 direct_is_causal : (events : List Event) (a b : ℕ) → Precedes events a b → PrecedesCausally events a b
 direct_is_causal events a b p = chained_one (Precedes events) a b p
 
-visible_is_causal : (events : List Event) (reader place writer : ℕ) (level : Level) → IsVisibleAt level events reader place writer → PrecedesCausally events writer reader
+pub visible_is_causal : (events : List Event) (reader place writer : ℕ) (level : Level) → IsVisibleAt level events reader place writer → PrecedesCausally events writer reader
 visible_is_causal events reader place writer Rc before =
     direct_is_causal events writer reader (inr record { place = before.earlier; cell = before.cell; reads = before.reads })
 visible_is_causal events reader place writer Ra precedes = direct_is_causal events writer reader precedes
@@ -116,16 +116,16 @@ none_late events order txns places scene keeps lists listed writers cell limit f
 -- ---- a rival of a read
 
 -- the record of a rival, and that it writes the cell of the read
-record IsRivalTxn (events : List Event) (order : List ℕ) (txns : List Txn) (cell : Cell) (from other : ℕ) : Type 0 where
-  at : ℕ
-  txn : Txn
-  number : at + 1 ≡ other
-  is : slice_get txns at ≡ Some txn
-  apart : other ≡ from → ⊥
-  writes : Writes events other cell
-  late : StandsBefore order other from → ⊥
+pub record IsRivalTxn (events : List Event) (order : List ℕ) (txns : List Txn) (cell : Cell) (from other : ℕ) : Type 0 where
+  pub at : ℕ
+  pub txn : Txn
+  pub number : at + 1 ≡ other
+  pub is : slice_get txns at ≡ Some txn
+  pub apart : other ≡ from → ⊥
+  pub writes : Writes events other cell
+  pub late : StandsBefore order other from → ⊥
 
-rival_txn :
+pub rival_txn :
     (events : List Event) (order : List ℕ) (txns : List Txn) (places : Places) → IsScene events order txns places → (s : ℕ) (cell : Cell) (from count word : ℕ) (value : Value) (place reader : ℕ) →
     IsReadAt events place (Read s cell from count word value) reader → (other : ℕ) → IsRival events order place from reader other → IsRivalTxn events order txns cell from other
 rival_txn events order txns places scene s cell from count word value place reader read other (of, unmet) =

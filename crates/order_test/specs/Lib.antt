@@ -4,3 +4,4 @@ pub mod Places
 pub mod Pasts
 pub mod Sights
 pub mod Listed
+pub mod Reaches

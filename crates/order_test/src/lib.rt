@@ -9,6 +9,7 @@ mod listed;
 mod pasts;
 mod places;
 mod quick;
+mod reaches;
 mod rivals;
 mod search;
 mod sessions;

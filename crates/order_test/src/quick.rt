@@ -1,16 +1,18 @@
 // What is seen at once of a read: that it has no rival. Where that isn't seen, a search decides.
-ghost use Rattle.std.specs.Prelude.{◌≡◌, ◌<◌, ◌+◌, ℕ, Some, IsTrue, length, slice_get, slice_index};
+ghost use Rattle.std.specs.Prelude.{◌≡◌, ◌≤◌, ◌<◌, ◌+◌, ℕ, Some, IsTrue, length, slice_get, slice_index};
 ghost use Rattle.history_core.specs.declared.txn.Seen.{Seen as SeenOf};
 ghost use Rattle.saturation.specs.Views.{number_of, IsReadFrom};
 ghost use Rattle.history_core.specs.Relations.{IsSessionOrdered, ReadsBefore, ReadsFrom};
 ghost use Rattle.order_test.specs.Unkept.{KeepsSessions};
 ghost use Rattle.order_test.specs.Pasts.{ArePasts};
 ghost use Rattle.order_test.specs.Sights.{IsScene, IsReadAt, IsRival, origin_of};
+ghost use Rattle.order_test.specs.Reaches.{ReachesCommitted};
 ghost use Rattle.order_test.specs.Listed.{AreAllAscending, AreTxnsWithin, ListsCommitted, HasNoLate, HasNoRival, HasNoDirectRival, IsHarmless, AreHarmless, listed_at};
 
 use crate::listed::last_listed;
 use crate::pasts::{Past, Pasts};
 use crate::places::Places;
+use crate::reaches::{CellReaches, cell_is_clear};
 use crate::sessions::txn_of;
 use crate::sight::{number_in, past_of, top_of};
 use crate::unmet::is_rival;
@@ -68,6 +70,44 @@ fn past_has_none(
         }
     }
     true
+}
+
+/// A number that no transaction in the past is above.
+fn latest_in(past: &Past) -> u32
+    ensures { (session : ℕ) → slice_index past.now.tops.items session ≤ result }
+{
+    let mut latest = 0;
+    for session in 0..past.tops.len() {
+        latest = latest.max(past.tops[session]);
+    }
+    latest
+}
+
+/// Whether none of the committed writers of the cell up to the last number in the reader's causal past stands after the source.
+fn is_reached(
+    events: &[Event],
+    order: &[u32],
+    txns: &[Txn],
+    places: &Places,
+    pasts: &Pasts,
+    reaches: &CellReaches,
+    place: usize,
+    event: &Event,
+    reader: u32,
+) -> bool
+    requires scene { IsScene events.now order.now txns.now places.now }
+    requires pasts { ArePasts events.now pasts.now }
+    requires reaches { ReachesCommitted txns.now (length txns.now) places.now.at.items reaches.now }
+    requires read { IsReadAt events.now place event.now reader }
+    ensures { IsTrue result → HasNoRival events.now order.now place event.now reader }
+{
+    match event {
+        Event::Read { cell, source, .. } => {
+            let limit = latest_in(past_of(pasts, events, reader));
+            cell_is_clear(places, reaches, cell, limit, *source)
+        }
+        _ => false,
+    }
 }
 
 /// Whether in each session the last writer of the cell in the reader's causal past is the source or stands before it.
@@ -349,14 +389,16 @@ fn is_clear_directly(
     sources_are_clear(events, order, txns, places, pasts, place, event, reader)
 }
 
-/// Whether it is seen at once that the read has no rival, whatever its level: its causal past has none that is late, or at Read Atomic
-/// neither its sources nor its session have one, or at Read Committed none of its earlier sources is one.
+/// Whether it is seen at once that the read has no rival, whatever its level: no writer of the cell up to the last number in its causal past
+/// stands after its source, or its causal past has none that is late, or at Read Atomic neither its sources nor its session have one, or at Read
+/// Committed none of its earlier sources is one.
 pub fn is_clear(
     events: &[Event],
     order: &[u32],
     txns: &[Txn],
     places: &Places,
     pasts: &Pasts,
+    reaches: &CellReaches,
     lists: &[CellWriters],
     place: usize,
     event: &Event,
@@ -365,11 +407,17 @@ pub fn is_clear(
     requires scene { IsScene events.now order.now txns.now places.now }
     requires pasts { ArePasts events.now pasts.now }
     requires sessions { KeepsSessions events.now order.now }
+    requires reaches { ReachesCommitted txns.now (length txns.now) places.now.at.items reaches.now }
     requires lists { ListsCommitted txns.now (length txns.now) lists.now }
     requires within { AreTxnsWithin (length lists.now) txns.now }
     requires read { IsReadAt events.now place event.now reader }
     ensures { IsTrue result → HasNoRival events.now order.now place event.now reader }
 {
+    if is_reached(
+        events, order, txns, places, pasts, reaches, place, event, reader,
+    ) {
+        return true;
+    }
     if past_is_clear(
         events, order, txns, places, pasts, lists, place, event, reader,
     ) {

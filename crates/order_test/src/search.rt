@@ -6,6 +6,7 @@ ghost use Rattle.order_test.specs.Settled.{IsOrderly};
 ghost use Rattle.order_test.specs.Unkept.{KeepsSessions, IsFirstOutOfSession, IsFound};
 ghost use Rattle.order_test.specs.Pasts.{ArePasts, IsReading};
 ghost use Rattle.order_test.specs.Sights.{IsScene, IsNumber, IsReadAt, IsRival, IsAxiomOf, IsFoundAt, IsFoundAmong, origin_of};
+ghost use Rattle.order_test.specs.Reaches.{ReachesCommitted};
 ghost use Rattle.order_test.specs.Listed.{AreTxnsWithin, ListsCommitted};
 
 use crate::Unkept;
@@ -13,6 +14,7 @@ use crate::listed::lists_of;
 use crate::pasts::{Pasts, pasts_of};
 use crate::places::{Places, places_of};
 use crate::quick::is_clear;
+use crate::reaches::{CellReaches, reaches_of};
 use crate::rivals::{is_reading, origin, rival_cell};
 use crate::sessions::{first_out_of_session, is_late, keeps_sessions, txn_of};
 use crate::unmet::is_rival;
@@ -91,6 +93,7 @@ fn found_of(
     txns: &[Txn],
     places: &Places,
     pasts: &Pasts,
+    reaches: &CellReaches,
     lists: &[CellWriters],
     place: usize,
     event: &Event,
@@ -99,6 +102,7 @@ fn found_of(
     requires scene { IsScene events.now order.now txns.now places.now }
     requires pasts { ArePasts events.now pasts.now }
     requires sessions { KeepsSessions events.now order.now }
+    requires reaches { ReachesCommitted txns.now (length txns.now) places.now.at.items reaches.now }
     requires lists { ListsCommitted txns.now (length txns.now) lists.now }
     requires txns_within { AreTxnsWithin (length lists.now) txns.now }
     requires orderly { IsOrderly events.now }
@@ -116,7 +120,7 @@ fn found_of(
         }));
     }
     if is_clear(
-        events, order, txns, places, pasts, lists, place, event, reader,
+        events, order, txns, places, pasts, reaches, lists, place, event, reader,
     ) {
         return Ok(None);
     }
@@ -139,12 +143,14 @@ fn found_at(
     txns: &[Txn],
     places: &Places,
     pasts: &Pasts,
+    reaches: &CellReaches,
     lists: &[CellWriters],
     place: usize,
 ) -> Result<Option<Unkept>, Memory>
     requires scene { IsScene events.now order.now txns.now places.now }
     requires pasts { ArePasts events.now pasts.now }
     requires sessions { KeepsSessions events.now order.now }
+    requires reaches { ReachesCommitted txns.now (length txns.now) places.now.at.items reaches.now }
     requires lists { ListsCommitted txns.now (length txns.now) lists.now }
     requires txns_within { AreTxnsWithin (length lists.now) txns.now }
     requires orderly { IsOrderly events.now }
@@ -158,7 +164,7 @@ fn found_at(
     }
     let reader = pasts.readers[place];
     found_of(
-        alloc, events, order, txns, places, pasts, lists, place, event, reader,
+        alloc, events, order, txns, places, pasts, reaches, lists, place, event, reader,
     )
 }
 
@@ -170,11 +176,13 @@ fn found_among(
     txns: &[Txn],
     places: &Places,
     pasts: &Pasts,
+    reaches: &CellReaches,
     lists: &[CellWriters],
 ) -> Result<Option<Unkept>, Memory>
     requires scene { IsScene events.now order.now txns.now places.now }
     requires pasts { ArePasts events.now pasts.now }
     requires sessions { KeepsSessions events.now order.now }
+    requires reaches { ReachesCommitted txns.now (length txns.now) places.now.at.items reaches.now }
     requires lists { ListsCommitted txns.now (length txns.now) lists.now }
     requires txns_within { AreTxnsWithin (length lists.now) txns.now }
     requires orderly { IsOrderly events.now }
@@ -182,7 +190,9 @@ fn found_among(
     ensures { IfOk result (IsFoundAmong events.now order.now) }
 {
     for place in 0..events.len() {
-        match found_at(alloc, events, order, txns, places, pasts, lists, place)? {
+        match found_at(
+            alloc, events, order, txns, places, pasts, reaches, lists, place,
+        )? {
             Some(unkept) => return Ok(Some(unkept)),
             None => {}
         }
@@ -227,8 +237,9 @@ fn found_after(
     requires few { length events.now < 4294967296 }
     ensures { IfOk result (IsFoundAmong events.now order.now) }
 {
+    let reaches = reaches_of(alloc, txns, places)?;
     let lists = lists_of(alloc, txns, pasts.last.len())?;
-    found_among(alloc, events, order, txns, places, pasts, &lists)
+    found_among(alloc, events, order, txns, places, pasts, &reaches, &lists)
 }
 
 /// The first that the order doesn't keep, where it holds each transaction once and the initial one first.

@@ -13,7 +13,7 @@ mod expr;
 #[cfg(test)]
 mod lexemes;
 #[cfg(test)]
-mod long_texts;
+mod reading;
 #[cfg(test)]
 mod statement;
 #[cfg(test)]

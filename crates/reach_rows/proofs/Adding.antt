@@ -9,7 +9,7 @@ use Rattle.graph_base.specs.Walk.{IsInRange, HasCycle, Leads, Reaches}
 use Rattle.graph_base.specs.Closure.{SameClosure}
 use Rattle.graph_base.proofs.Walks.{leads_cases, leads_from_cases, leads_from_reaches, reaches_on, reaches_kept}
 use Rattle.bit_rows.specs.Members.{Gains, IsUnion}
-use Rattle.bit_rows.proofs.Marks.{contains_cons}
+use Rattle.bit_rows.proofs.Marks.{contains_cons, contains_first, contains_later}
 use Rattle.reach_rows.specs.Ancestry.{Ancestry, IsLast, IsDownOver}
 use Rattle.reach_rows.specs.Rows.{row_at, pairs_of, HasPair, IsClosed, IsDown, IsUpTo, GainsOne, GainsAll, JoinsAt, Spreads}
 use Rattle.reach_rows.specs.Stars.{star_of}
@@ -186,22 +186,23 @@ down_of_row rows row n closed is =
 -- ---- the same, from what the calls say
 
 pub added_into_last :
-    (rows new final : List (List ℕ)) (now : Ancestry) (source reader : ℕ) (row copied gained : List ℕ) → final ≡ new →
-    ancestry_of rows ≡ now → IsClosed rows → source < now.size → reader < now.size → (source ≡ reader → ⊥) →
-    IsLast now.pairs reader → row ≡ get_or rows source row → copied ≡ row → Gains copied gained source →
-    JoinsAt reader gained rows new → IsStarAdded now final (source ∷ []) reader
-added_into_last rows new final now source reader row copied gained same view closed from to apart last read copy gains joins =
-    let size : length rows ≡ now.size = size_of rows now view in
-    let is : copied ≡ row_at rows source = copy ∙ read ∙ get_or_default rows source row [] (omega arith) in
-    let brings : BringsStar (pairs_of rows) (source ∷ []) reader gained =
-    brings_source (pairs_of rows) rows source reader gained (closed_rows_of rows closed)
-    (subst (λ (r : List ℕ). Gains r gained source) is gains) in
+    (rows new final : List (List ℕ)) (now : Ancestry) (source reader : ℕ) → final ≡ new → ancestry_of rows ≡ now → IsClosed rows →
+    source < now.size → reader < now.size → (source ≡ reader → ⊥) → IsLast now.pairs reader →
+    JoinsAt reader (source ∷ row_at rows source) rows new → IsStarAdded now final (source ∷ []) reader
+added_into_last rows new final now source reader same view closed from to apart last joins =
+    let row : List ℕ = row_at rows source in
+    let gains : Gains row (source ∷ row) source = λ n. (
+      λ member. elim (contains_cons source row n member) [ inl is ↦ inr (sym is) | inr before ↦ inl before ],
+      λ either. elim either [ inl before ↦ contains_later source row n before | inr is ↦ contains_first source row n (sym is) ],
+    ) in
+    let brings : BringsStar (pairs_of rows) (source ∷ []) reader (source ∷ row) =
+    brings_source (pairs_of rows) rows source reader (source ∷ row) (closed_rows_of rows closed) gains in
     let within : All (λ m. m < now.size) (source ∷ []) =
     All-cons (λ m. m < now.size) source [] from (All-nil (λ m. m < now.size)) in
     subst (λ (rs : List (List ℕ)). IsStarAdded now rs (source ∷ []) reader) (sym same)
-    (star_added rows new now (source ∷ []) reader gained view closed to within
+    (star_added rows new now (source ∷ []) reader (source ∷ row) view closed to within
     (last_acyclic rows now source reader view closed apart last) brings
-    (spreads_at_last rows new now reader gained view closed last joins))
+    (spreads_at_last rows new now reader (source ∷ row) view closed last joins))
 
 pub added_star :
     (rows new final : List (List ℕ)) (now : Ancestry) (members : List ℕ) (target : ℕ) (row copied gained : List ℕ) → final ≡ new →

@@ -1,10 +1,10 @@
 -- Rows that gather what comes before some members, and rows that take it over.
-use Rattle.std.proofs.Common.{◌≡◌, ◌↔◌, ℕ, ◌+◌, ◌<◌, List, [], ◌∷◌, ◌++◌, length, get_or, set, take, get_or-set_same, get_or-set_other, ap, sym, ◌∙◌, subst, inl, inr, arith}
+use Rattle.std.proofs.Common.{◌≡◌, ◌↔◌, ℕ, ◌+◌, ◌<◌, ◌≤◌, List, [], ◌∷◌, length, get_or, set, drop, refl, get_or-set_same, get_or-set_other, ap, sym, ◌∙◌, subst, inl, inr, arith}
 use Rattle.std.specs.List.{Contains, Any}
 use Rattle.std.proofs.lemmas.Bool.{cases_eq, cases_lt}
-use Rattle.std.proofs.lemmas.List.{length-set, get_or_past, take_more}
-use Rattle.std.proofs.lemmas.List.Elements.{Contains-push_cases, Contains-push, Contains-append_left}
+use Rattle.std.proofs.lemmas.List.{length-set, length-drop, get_or_past, drop_more, set-set}
 use Rattle.bit_rows.specs.Members.{Gains, IsUnion}
+use Rattle.bit_rows.proofs.Marks.{contains_cons, contains_first, contains_later}
 use Rattle.reach_rows.specs.Rows.{row_at, HasPair, IsClosed, IsDown, IsUpTo, GainsOne, GainsAll, Carries, CarriesUpTo, JoinsAt, Spreads}
 use Rattle.reach_rows.proofs.OneStar.{any_from_contains}
 
@@ -55,17 +55,24 @@ up_to_goes_down rows closed a b m first second = elim second [
   | inr pair ↦ inr (closed.transitive a b m first pair)
 ]
 
+-- the row has gained what the members from place k on bring
 pub record IsGathering (rows : List (List ℕ)) (R : ℕ → ℕ → Type 0) (members : List ℕ) (k : ℕ) (old new : List ℕ) : Type 0 where
-  pub gains : GainsAll R (take k members) old new
+  pub gains : GainsAll R (drop k members) old new
   pub down : IsDown rows new
 
 pub gathering_start :
-    (rows : List (List ℕ)) (R : ℕ → ℕ → Type 0) (members : List ℕ) (row : List ℕ) → IsDown rows row →
-    IsGathering rows R members 0 row row
-gathering_start rows R members row down = record {
+    (rows : List (List ℕ)) (R : ℕ → ℕ → Type 0) (members : List ℕ) (k : ℕ) (row : List ℕ) → length members ≤ k → IsDown rows row →
+    IsGathering rows R members k row row
+gathering_start rows R members k row past down = record {
   gains = λ n. (
     λ member. inl member,
-    λ either. elim either [ inl member ↦ member | inr any ↦ let past = any.2 in absurd (omega arith) ],
+    λ either. elim either [
+      | inl member ↦ member
+      | inr any ↦
+          let small = any.2 in
+          let none = length-drop k members in
+          absurd (omega arith)
+    ],
   );
   down = down;
 }
@@ -73,31 +80,29 @@ gathering_start rows R members row down = record {
 pub gathering_more :
     (rows : List (List ℕ)) (R : ℕ → ℕ → Type 0) (members : List ℕ) (k m : ℕ) (old row new : List ℕ) → GoesDown rows R →
     k < length members → m ≡ get_or members k 0 → GainsOne R m row new →
-    IsGathering rows R members k old row → IsGathering rows R members (k + 1) old new
+    IsGathering rows R members (k + 1) old row → IsGathering rows R members k old new
 gathering_more rows R members k m old row new goes within is gains gathering =
-    let last : take (k + 1) members ≡ take k members ++ m ∷ [] =
-    take_more members k 0 within ∙ ap (λ (x : ℕ). take k members ++ x ∷ []) (sym is) in
-    let all : GainsAll R (take k members ++ m ∷ []) old new = λ n. (
+    let rest : List ℕ = drop (k + 1) members in
+    let first : drop k members ≡ m ∷ rest = drop_more members k 0 within ∙ ap (λ (x : ℕ). x ∷ rest) (sym is) in
+    let all : GainsAll R (m ∷ rest) old new = λ n. (
       λ member. elim ((gains n).0 member) [
         | inl so_far ↦ elim ((gathering.gains n).0 so_far) [
           | inl before ↦ inl before
           | inr (j, x, small, at, related) ↦
-              inr (any_from_contains (λ x. R n x) (take k members ++ m ∷ []) x
-              (Contains-append_left (take k members) (m ∷ []) x (j, small, at)) related)
+              inr (any_from_contains (λ x. R n x) (m ∷ rest) x (contains_later m rest x (j, small, at)) related)
         ]
-        | inr related ↦ inr (any_from_contains (λ x. R n x) (take k members ++ m ∷ []) m (Contains-push (take k members) m) related)
+        | inr related ↦ inr (any_from_contains (λ x. R n x) (m ∷ rest) m (contains_first m rest m refl) related)
       ],
       λ either. elim either [
         | inl before ↦ (gains n).1 (inl ((gathering.gains n).1 (inl before)))
-        | inr (j, x, small, at, related) ↦ elim (Contains-push_cases (take k members) m x (j, small, at)) [
-          | inl earlier ↦
-              (gains n).1 (inl ((gathering.gains n).1 (inr (any_from_contains (λ x. R n x) (take k members) x earlier related))))
-          | inr same ↦ (gains n).1 (inr (subst (λ (x : ℕ). R n x) (sym same) related))
+        | inr (j, x, small, at, related) ↦ elim (contains_cons m rest x (j, small, at)) [
+          | inl same ↦ (gains n).1 (inr (subst (λ (x : ℕ). R n x) (sym same) related))
+          | inr later ↦ (gains n).1 (inl ((gathering.gains n).1 (inr (any_from_contains (λ x. R n x) rest x later related))))
         ]
       ],
     ) in
     record {
-      gains = subst (λ (ms : List ℕ). GainsAll R ms old new) (sym last) all;
+      gains = subst (λ (ms : List ℕ). GainsAll R ms old new) (sym first) all;
       down = λ a b pair member. elim ((gains b).0 member) [
         | inl so_far ↦ (gains a).1 (inl (gathering.down a b pair so_far))
         | inr related ↦ (gains a).1 (inr (goes a b m pair related))
@@ -147,6 +152,33 @@ joins_at target gained rows row within union =
       joined = subst (λ (r : List ℕ). IsUnion (row_at rows target) gained r) (sym now) union;
       others = λ k other. get_or-set_other rows target k row [] other;
     }
+
+-- a row that was put elsewhere meanwhile, joined there and put back
+pub joins_back :
+    (number target : ℕ) (rows : List (List ℕ)) (spare joined final : List ℕ) → number < length rows → target < length rows →
+    (number ≡ target → ⊥) → IsUnion (row_at rows target) (row_at (set rows target spare) number) joined → Gains joined final number →
+    JoinsAt target (number ∷ row_at rows number) rows (set (set rows target spare) target final)
+joins_back number target rows spare joined final from to apart union gains =
+    let row : List ℕ = row_at rows number in
+    let same : row_at (set rows target spare) number ≡ row = get_or-set_other rows target number spare [] apart in
+    let whole : IsUnion (row_at rows target) (number ∷ row) final = λ n. (
+      λ member. elim ((gains n).0 member) [
+        | inl in_joined ↦ elim ((union n).0 in_joined) [
+          | inl before ↦ inl before
+          | inr more ↦ inr (contains_later number row n (subst (λ (r : List ℕ). Contains r n) same more))
+        ]
+        | inr is ↦ inr (contains_first number row n (sym is))
+      ],
+      λ either. elim either [
+        | inl before ↦ (gains n).1 (inl ((union n).1 (inl before)))
+        | inr more ↦ elim (contains_cons number row n more) [
+          | inl is ↦ (gains n).1 (inr (sym is))
+          | inr later ↦ (gains n).1 (inl ((union n).1 (inr (subst (λ (r : List ℕ). Contains r n) (sym same) later))))
+        ]
+      ],
+    ) in
+    subst (λ (rs : List (List ℕ)). JoinsAt target (number ∷ row) rows rs) (sym (set-set rows target spare final))
+    (joins_at target (number ∷ row) rows final to whole)
 
 pub carried_at :
     (target : ℕ) (gained : List ℕ) (old rows : List (List ℕ)) → CarriesUpTo (length old) target gained old rows →

@@ -1,10 +1,11 @@
 //! Rows that take over what new edges bring.
 
-ghost use Rattle.std.specs.Prelude.{◌≡◌, ◌<◌, ◌≤◌, ◌↔◌, ◌⊎◌, ℕ, All, Contains, length};
+ghost use Rattle.std.specs.Prelude.{◌≡◌, ◌<◌, ◌≤◌, ◌↔◌, ◌⊎◌, ◌∷◌, ℕ, All, Contains, length};
 ghost use Rattle.bit_rows.specs.declared.TheConstants.{ROW_BITS};
-ghost use Rattle.reach_rows.specs.Rows.{IsClosed, IsDown, IsUpTo, HasPair, GainsOne, GainsAll, Carries, CarriesUpTo, JoinsAt, Spreads};
+ghost use Rattle.reach_rows.specs.Rows.{IsClosed, IsDown, IsUpTo, HasPair, GainsOne, GainsAll, Carries, CarriesUpTo, JoinsAt, Spreads, row_at};
 
 use bit_rows::Row;
+use std::mem;
 
 /// Adds what comes before a number to the row, which has it already where it has the number.
 pub(crate) fn add_ancestors(row: &mut Row, rows: &[Row], number: u32)
@@ -31,28 +32,29 @@ fn add_up_to(row: &mut Row, rows: &[Row], number: u32)
     }
 }
 
-/// Adds what comes before the members to the row. A member that the row has brings nothing, so
-/// going down from the greatest costs the fewest unions.
+/// Adds what comes before the members to the row, from the last member down. A member that the row
+/// has brings nothing: where the members rise along one path, the last one brings all by one union.
 pub(crate) fn gather_ancestors(row: &mut Row, rows: &[Row], members: &[u32])
     requires members { All (λ m. m < length rows.now) members.now }
     requires closed { IsClosed rows.now }
     requires down { IsDown rows.now row.old }
     ensures { GainsAll (HasPair rows.now) members.now row.old row.new }
 {
-    for member in members {
-        add_ancestors(row, rows, *member);
+    for done in 0..members.len() {
+        add_ancestors(row, rows, members[members.len() - 1 - done]);
     }
 }
 
-/// Adds the members and what comes before them to the row.
+/// Adds the members and what comes before them to the row, from the last member down as
+/// `gather_ancestors` does.
 pub(crate) fn gather(row: &mut Row, rows: &[Row], members: &[u32])
     requires members { All (λ m. m < length rows.now) members.now }
     requires closed { IsClosed rows.now }
     requires down { IsDown rows.now row.old }
     ensures { GainsAll (IsUpTo rows.now) members.now row.old row.new }
 {
-    for member in members {
-        add_up_to(row, rows, *member);
+    for done in 0..members.len() {
+        add_up_to(row, rows, members[members.len() - 1 - done]);
     }
 }
 
@@ -82,6 +84,21 @@ pub(crate) fn join_at(rows: &mut [Row], target: u32, gained: &Row)
     ensures { JoinsAt target gained.now rows.old rows.new }
 {
     rows[target as usize].or_into(gained);
+}
+
+/// Adds a number and what comes before it to the row of another one, in one pass over that row. The
+/// spare row stands in its place meanwhile.
+pub(crate) fn join_up_to(rows: &mut [Row], number: u32, target: u32, spare: &mut Row)
+    requires number { number < length rows.old }
+    requires target { target < length rows.old }
+    requires apart { ¬ number ≡ target }
+    requires few { length rows.old ≤ ROW_BITS }
+    ensures { JoinsAt target (number ∷ row_at rows.old number) rows.old rows.new }
+{
+    mem::swap(spare, &mut rows[target as usize]);
+    spare.or_into(&rows[number as usize]);
+    spare.set(number);
+    mem::swap(spare, &mut rows[target as usize]);
 }
 
 /// Adds `gained` to the row of the target and to each row that has it.

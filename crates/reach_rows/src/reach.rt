@@ -8,7 +8,7 @@ ghost use Rattle.reach_rows.specs.Ancestry.{IsLast, IsDownOver};
 ghost use Rattle.reach_rows.specs.Stars.{star_of, edges_of, IsStarInRange};
 
 use crate::Star;
-use crate::carry::{add_ancestors, gather, gather_ancestors, join_at, spread};
+use crate::carry::{add_ancestors, gather, gather_ancestors, join_at, join_up_to, spread};
 use crate::stars::{close_over, rows_of_stars, stars_of_edges};
 use bit_rows::{ROW_BITS, Row};
 use graph_base::Edge;
@@ -120,9 +120,7 @@ impl Reach {
         if self.reaches(source, reader) {
             return;
         }
-        self.gained.copy_from(&self.rows[source as usize]);
-        self.gained.set(source);
-        join_at(&mut self.rows, reader, &self.gained);
+        join_up_to(&mut self.rows, source, reader, &mut self.gained);
     }
 
     /// Whether each member comes before the target.
@@ -189,7 +187,7 @@ impl Reach {
     }
 
     /// The ancestors of the members: a row that has a number exactly where it reaches some member.
-    /// A member that comes before an earlier one costs a bit test, any other one union. Takes the
+    /// A member that comes before a later one costs a bit test, any other one union. Takes the
     /// memory of a row; an error is out of memory.
     pub fn union_of(&self, members: &[u32]) -> Result<Row, AllocError>
         requires { All (λ m. m < self.now.size) members.now }

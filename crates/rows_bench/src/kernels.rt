@@ -9,7 +9,8 @@ use std::time::CpuClock;
 /// How many rows the pools have: 16 KiB of words, which the nearest cache holds, and 128 KiB.
 const POOLS: [u32; 2] = [2, 16];
 
-/// Rows that have each third number, so that no two rows of different rests meet.
+/// Rows that have each third number, so that no two rows of different rests meet, and each row has
+/// all its words.
 #[derive(Drop)]
 struct Pool {
     /// The rows, each with the numbers of rest 0 by 3.
@@ -80,6 +81,7 @@ fn measure_join(
 ) -> Result<()> {
     let calls = u64::from(rounds).saturating_mul(pool.rows.len() as u64);
     let mut row = Row::new(rt.alloc())?;
+    row.copy_from(&pool.probe);
     let start = rt.thread_cpu_time()?;
     for _ in 0..rounds {
         for other in &pool.rows {
@@ -95,7 +97,6 @@ fn measure_join(
         }
     }
     let loops = meter::each(rt, start, calls)?;
-    row.or_into(&pool.probe);
     report(
         rt,
         "or_into",

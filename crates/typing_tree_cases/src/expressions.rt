@@ -1,29 +1,21 @@
-// Conditions over one row, and constants of a type.
-use crate::samples::{column_of, equals, is_column, is_constant, name, table_of, text_of};
-use cell_base::{Items, SqlFault, SqlState, SqlType, Value};
+// Conditions over one row of t (n integer), and constants of a type.
+use crate::samples::{code_of, is_column, is_constant, read, tables_of};
+use cell_base::{SqlState, SqlType, Value};
 use expr_typing::{Entry, typed_constant, typed_flag};
-use sql_tree::{Expr, Op, Table, TypedExpr, TypedNode};
+use sql_tree::{Expr, Item, Op, Statement, Table, TypedExpr, TypedNode};
 use std::alloc::Global;
 use std::test::Fail;
 
-/// t (n integer).
-fn table(alloc: Global) -> Result<Table, Fail> {
-    let mut columns = Items::new(alloc);
-    columns.push(column_of(alloc, "n", SqlType::Integer)?)?;
-    table_of(alloc, "t", columns)
-}
+const TABLES: &[&str] = &["CREATE TABLE t (n integer PRIMARY KEY)"];
 
-/// `n = TEXT`, the right side quoted.
-fn equals_text(alloc: Global, text: &str) -> Result<Expr, Fail> {
-    equals(alloc, name(alloc, "n")?, Expr::Str(text_of(alloc, text)?))
-}
+// ---- conditions
 
 fn are_integers(left: &TypedExpr, right: &TypedExpr) -> bool {
     left.kind == SqlType::Integer && right.kind == SqlType::Integer
 }
 
 /// Whether it is a condition that compares column 0 of entry 0 with the integer 7.
-fn is_wanted(expr: &TypedExpr) -> bool {
+fn is_seven(expr: &TypedExpr) -> bool {
     match &expr.node {
         TypedNode::Binary(Op::Eq, left, right) => {
             expr.kind == SqlType::Boolean
@@ -35,7 +27,11 @@ fn is_wanted(expr: &TypedExpr) -> bool {
     }
 }
 
-fn types_it(alloc: Global, expr: &Expr, table: &Table) -> bool {
+/// Whether a condition over a row of the table compares n with 7.
+fn compares(alloc: Global, filter: Option<&Expr>, table: &Table) -> bool {
+    let Some(expr) = filter else {
+        return false;
+    };
     if table.columns.len() > 32 {
         return false;
     }
@@ -44,57 +40,102 @@ fn types_it(alloc: Global, expr: &Expr, table: &Table) -> bool {
         table,
     }];
     match typed_flag(alloc, expr, &scope) {
-        Ok(typed) => is_wanted(&typed),
+        Ok(typed) => is_seven(&typed),
         Err(_) => false,
     }
 }
 
-/// Whether the condition over a row of t is the one wanted.
-fn types(alloc: Global, expr: Expr) -> Result<bool, Fail> {
-    let table = table(alloc)?;
-    Ok(types_it(alloc, &expr, &table))
+fn compares_one(alloc: Global, found: &[Statement], tables: &[Table]) -> bool {
+    match (found, tables) {
+        ([Statement::Delete(delete)], [table]) => { compares(alloc, delete.filter.as_ref(), table) }
+        _ => false,
+    }
+}
+
+fn compares_text(alloc: Global, spelled: &str, tables: &[Table]) -> bool {
+    match read(alloc, spelled) {
+        Some(found) => compares_one(alloc, found.as_slice(), tables),
+        None => false,
+    }
 }
 
 #[test]
 fn types_a_condition(rt: HostRuntime) -> Result<(), Fail> {
-    let alloc = rt.alloc();
-    assert!(rt; types(alloc, equals_text(alloc, " 7 ")?)?);
+    let tables = tables_of(rt.alloc(), TABLES)?;
+    let holds = compares_text(
+        rt.alloc(),
+        "DELETE FROM t WHERE n = ' 7 '",
+        tables.as_slice(),
+    );
+    assert!(rt; holds);
     Ok(())
 }
 
-/// What a constant comes to as a value of this type.
-fn constant(alloc: Global, expr: Expr, kind: SqlType) -> Result<Value, SqlFault> {
-    typed_constant(alloc, &expr, kind)
+// ---- constants
+
+/// What a constant comes to.
+#[derive(Clone, Copy)]
+enum Want {
+    Number(i64),
+    Text(&'static str),
+    Refused(SqlState),
 }
 
-fn is_number(answer: Result<Value, SqlFault>, want: i64) -> bool {
-    match answer {
-        Ok(Value::Int(number)) => number == want,
+/// The item of each, as a value of the type.
+const CONSTANTS: &[(&str, SqlType, Want)] = &[
+    ("SELECT 7", SqlType::Integer, Want::Number(7)),
+    ("SELECT 'abc  '", SqlType::Varchar(3), Want::Text("abc")),
+    (
+        "SELECT 2147483648",
+        SqlType::Integer,
+        Want::Refused(SqlState::S22003),
+    ),
+];
+
+fn is_value(value: &Value, want: Want) -> bool {
+    match (value, want) {
+        (Value::Int(number), Want::Number(wanted)) => *number == wanted,
+        (Value::Text(text), Want::Text(wanted)) => text.as_str() == wanted,
         _ => false,
     }
 }
 
-fn is_text(answer: Result<Value, SqlFault>, want: &str) -> bool {
-    match answer {
-        Ok(Value::Text(text)) => text.as_str() == want,
+fn is_refused(code: Option<SqlState>, want: Want) -> bool {
+    match want {
+        Want::Refused(wanted) => code == Some(wanted),
         _ => false,
     }
 }
 
-fn is_fault(answer: Result<Value, SqlFault>, want: SqlState) -> bool {
-    match answer {
-        Ok(_) => false,
-        Err(fault) => fault == SqlFault::State(want),
+/// Whether a constant comes to what is wanted as a value of this type.
+fn is_constant_of(alloc: Global, expr: &Expr, kind: SqlType, want: Want) -> bool {
+    match typed_constant(alloc, expr, kind) {
+        Ok(value) => is_value(&value, want),
+        Err(fault) => is_refused(code_of(fault), want),
+    }
+}
+
+fn types_one(alloc: Global, found: &[Statement], kind: SqlType, want: Want) -> bool {
+    match found {
+        [Statement::Select(select)] => match select.items.as_slice() {
+            [Item::Expr(expr, None)] => is_constant_of(alloc, expr, kind, want),
+            _ => false,
+        },
+        _ => false,
+    }
+}
+
+fn types_text(alloc: Global, spelled: &str, kind: SqlType, want: Want) -> bool {
+    match read(alloc, spelled) {
+        Some(found) => types_one(alloc, found.as_slice(), kind, want),
+        None => false,
     }
 }
 
 #[test]
-fn types_constants(rt: HostRuntime) -> Result<(), Fail> {
-    let alloc = rt.alloc();
-    assert!(rt; is_number(constant(alloc, Expr::Int(7), SqlType::Integer), 7));
-    let cut = Expr::Str(text_of(alloc, "abc  ")?);
-    assert!(rt; is_text(constant(alloc, cut, SqlType::Varchar(3)), "abc"));
-    let wide = constant(alloc, Expr::Int(2147483648), SqlType::Integer);
-    assert!(rt; is_fault(wide, SqlState::S22003));
-    Ok(())
+fn types_constants(rt: HostRuntime) {
+    for (spelled, kind, want) in CONSTANTS {
+        let holds = types_text(rt.alloc(), spelled, *kind, *want);
+        assert!(rt; holds, "at {spelled}");
+    }
 }

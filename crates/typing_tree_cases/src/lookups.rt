@@ -1,20 +1,19 @@
 // What the typing of statements shares: tables and columns by name, WHERE, the key of a point read, and the columns that an
-// expression mentions.
-use crate::samples::{condition_of, integer, text_of, two_integers};
-use cell_base::{Boxed, Items, Key, SqlFault, SqlState, Text, Value};
+// expression mentions. All stands over s and t (k integer key, n integer).
+use crate::samples::{code_of, read, tables_of};
+use cell_base::{Key, SqlState, Text, TextFault};
 use expr_typing::Entry;
-use sql_tree::{Expr, Op, Table, TypedExpr, TypedNode};
+use sql_tree::{Delete, Expr, Statement, Table, TypedExpr};
 use std::alloc::Global;
 use std::test::Fail;
 use typing_parts::{Marks, column_named, point_of, table_named, typed_filter};
 
-/// The tables s and t.
-fn tables(alloc: Global) -> Result<Items<Table>, Fail> {
-    let mut tables = Items::new(alloc);
-    tables.push(two_integers(alloc, "s")?)?;
-    tables.push(two_integers(alloc, "t")?)?;
-    Ok(tables)
-}
+const TABLES: &[&str] = &[
+    "CREATE TABLE s (k integer PRIMARY KEY, n integer)",
+    "CREATE TABLE t (k integer PRIMARY KEY, n integer)",
+];
+
+// ---- names
 
 fn table_number(tables: &[Table], name: &Text) -> Result<u32, SqlState> {
     if tables.len() > 64 {
@@ -23,94 +22,62 @@ fn table_number(tables: &[Table], name: &Text) -> Result<u32, SqlState> {
     Ok(table_named(tables, name)?.number)
 }
 
-/// The number of the table of this name among s and t.
-fn table_found(alloc: Global, name: Text) -> Result<Result<u32, SqlState>, Fail> {
-    let tables = tables(alloc)?;
-    Ok(table_number(tables.as_slice(), &name))
-}
-
-#[test]
-fn finds_tables(rt: HostRuntime) -> Result<(), Fail> {
-    let alloc = rt.alloc();
-    assert_eq!(rt; table_found(alloc, text_of(alloc, "t")?)?, Ok(1));
-    assert_eq!(rt;
-        table_found(alloc, text_of(alloc, "q")?)?,
-        Err(SqlState::S42P01)
-    );
-    Ok(())
-}
-
-fn column_number(table: &Table, name: &Text) -> Result<u32, SqlState> {
-    if table.columns.len() > 32 {
-        return Err(SqlState::S54000);
+/// The number of the column of this name in the first table.
+fn column_number(tables: &[Table], name: &Text) -> Result<u32, SqlState> {
+    match tables.first() {
+        Some(table) if table.columns.len() <= 32 => {
+            Ok(column_named(table.columns.as_slice(), name)?.number)
+        }
+        _ => Err(SqlState::S54000),
     }
-    Ok(column_named(table.columns.as_slice(), name)?.number)
 }
 
-/// The number of the column of this name among k and n.
-fn column_found(alloc: Global, name: Text) -> Result<Result<u32, SqlState>, Fail> {
-    let table = two_integers(alloc, "t")?;
-    Ok(column_number(&table, &name))
+/// The number of the table of this name, and of the column.
+fn numbers(
+    alloc: Global,
+    tables: &[Table],
+    name: &str,
+) -> Result<(Result<u32, SqlState>, Result<u32, SqlState>), TextFault> {
+    let name = Text::from_bytes(alloc, name.as_bytes())?;
+    Ok((table_number(tables, &name), column_number(tables, &name)))
 }
 
 #[test]
-fn finds_columns(rt: HostRuntime) -> Result<(), Fail> {
-    let alloc = rt.alloc();
-    assert_eq!(rt; column_found(alloc, text_of(alloc, "n")?)?, Ok(1));
-    assert_eq!(rt;
-        column_found(alloc, text_of(alloc, "q")?)?,
-        Err(SqlState::S42703)
-    );
-    Ok(())
-}
-
-/// What WHERE comes to over one row of the table: whether it is there, or its code.
-fn is_filtered(alloc: Global, filter: Option<&Expr>, table: &Table) -> Result<bool, SqlFault> {
-    if table.columns.len() > 32 {
-        return Err(SqlFault::Memory);
+fn finds_tables_and_columns(rt: HostRuntime) -> Result<(), Fail> {
+    let tables = tables_of(rt.alloc(), TABLES)?;
+    for (name, table, column) in [
+        ("t", Ok(1), Err(SqlState::S42703)),
+        ("n", Err(SqlState::S42P01), Ok(1)),
+        ("q", Err(SqlState::S42P01), Err(SqlState::S42703)),
+    ] {
+        let found = numbers(rt.alloc(), tables.as_slice(), name)?;
+        assert_eq!(rt; found, (table, column), "at {name}");
     }
-    let scope = [Entry {
-        name: &table.name,
-        table,
-    }];
-    Ok(typed_filter(alloc, filter, &scope)?.is_some())
-}
-
-fn filtered(alloc: Global, filter: Option<Expr>) -> Result<Result<bool, SqlFault>, Fail> {
-    let table = two_integers(alloc, "t")?;
-    Ok(is_filtered(alloc, filter.as_ref(), &table))
-}
-
-#[test]
-fn types_where(rt: HostRuntime) -> Result<(), Fail> {
-    let alloc = rt.alloc();
-    assert_eq!(rt; filtered(alloc, None)?, Ok(false));
-    assert_eq!(rt; filtered(alloc, Some(Expr::Flag(true)))?, Ok(true));
-    assert_eq!(rt;
-        filtered(alloc, Some(Expr::Int(1)))?,
-        Err(SqlFault::State(SqlState::S42804))
-    );
     Ok(())
 }
 
-/// `n = 7`, where n is column 1 of this entry.
-fn first(alloc: Global, entry: u32) -> Result<TypedExpr, Fail> {
-    let seven = integer(TypedNode::Constant(Value::Int(7)));
-    condition_of(alloc, Op::Eq, integer(TypedNode::Column(entry, 1)), seven)
+// ---- conditions
+
+/// What a condition comes to.
+#[derive(Clone, Copy)]
+enum Want {
+    /// There is none.
+    Nothing,
+    /// There is one.
+    Something,
+    /// It is `n = 7 AND -5 = k` of t: k has the point -5 and n the point 7, and both columns are mentioned.
+    Points,
+    Refused(SqlState),
 }
 
-/// `-5 = k`, where k is column 0 of this entry.
-fn second(alloc: Global, entry: u32) -> Result<TypedExpr, Fail> {
-    let five = integer(TypedNode::Constant(Value::Int(5)));
-    let least = integer(TypedNode::Neg(Boxed::new(alloc, five)?));
-    condition_of(alloc, Op::Eq, least, integer(TypedNode::Column(entry, 0)))
-}
+const CONDITIONS: &[(&str, Want)] = &[
+    ("DELETE FROM t", Want::Nothing),
+    ("DELETE FROM t WHERE true", Want::Something),
+    ("DELETE FROM t WHERE 1", Want::Refused(SqlState::S42804)),
+    ("DELETE FROM t WHERE t.n = 7 AND -5 = t.k", Want::Points),
+];
 
-/// `n = 7 AND -5 = k`, where k is column 0 and n column 1 of this entry.
-fn condition(alloc: Global, entry: u32) -> Result<TypedExpr, Fail> {
-    condition_of(alloc, Op::And, first(alloc, entry)?, second(alloc, entry)?)
-}
-
+/// Whether this is the number at which the condition asks for a column of an entry; none where it asks for none.
 fn is_point(alloc: Global, expr: &TypedExpr, entry: u32, column: u32, want: Option<i64>) -> bool {
     match point_of(alloc, Some(expr), entry, column) {
         Ok(Some(Key::Int(key))) => want == Some(key),
@@ -120,44 +87,93 @@ fn is_point(alloc: Global, expr: &TypedExpr, entry: u32, column: u32, want: Opti
 }
 
 /// Whether the condition has both points, and none of another entry.
-fn has_points(alloc: Global, condition: TypedExpr) -> bool {
-    is_point(alloc, &condition, 1, 0, Some(-5))
-        && is_point(alloc, &condition, 1, 1, Some(7))
-        && is_point(alloc, &condition, 0, 0, None)
+fn has_points(alloc: Global, expr: &TypedExpr) -> bool {
+    is_point(alloc, expr, 1, 0, Some(-5))
+        && is_point(alloc, expr, 1, 1, Some(7))
+        && is_point(alloc, expr, 0, 0, None)
 }
 
-#[test]
-fn finds_points(rt: HostRuntime) -> Result<(), Fail> {
-    let alloc = rt.alloc();
-    assert!(rt; has_points(alloc, condition(alloc, 1)?));
-    Ok(())
-}
-
-/// Whether the columns, but for the key, of a table of this many that the expression mentions are the ones wanted.
-fn mentions(alloc: Global, expr: &TypedExpr, columns: usize, key: u32, want: &[u32]) -> bool {
-    if columns > 32 {
+/// Whether the columns, but for the key, of a table of three that the condition mentions of t are the ones wanted.
+fn mentions(alloc: Global, expr: &TypedExpr, key: u32, want: &[u32]) -> bool {
+    let Ok(mut marks) = Marks::new(alloc, 3) else {
         return false;
-    }
-    match Marks::new(alloc, columns) {
-        Ok(mut marks) => {
-            marks.add(expr, 1);
-            match marks.columns(alloc, key) {
-                Ok(columns) => columns.as_slice() == want && marks.has(1),
-                Err(_) => false,
-            }
-        }
+    };
+    marks.add(expr, 1);
+    match marks.columns(alloc, key) {
+        Ok(columns) => columns.as_slice() == want && marks.has(1),
         Err(_) => false,
     }
 }
 
 /// Whether the condition mentions both columns, or n alone where k is the key.
-fn mentions_both(alloc: Global, condition: TypedExpr) -> bool {
-    mentions(alloc, &condition, 3, 2, &[0, 1]) && mentions(alloc, &condition, 3, 0, &[1])
+fn mentions_both(alloc: Global, expr: &TypedExpr) -> bool {
+    mentions(alloc, expr, 2, &[0, 1]) && mentions(alloc, expr, 0, &[1])
+}
+
+fn is_wanted(alloc: Global, expr: Option<&TypedExpr>, want: Want) -> bool {
+    match (expr, want) {
+        (None, Want::Nothing) => true,
+        (Some(_), Want::Something) => true,
+        (Some(expr), Want::Points) => has_points(alloc, expr) && mentions_both(alloc, expr),
+        _ => false,
+    }
+}
+
+fn is_refused(code: Option<SqlState>, want: Want) -> bool {
+    match want {
+        Want::Refused(wanted) => code == Some(wanted),
+        _ => false,
+    }
+}
+
+/// Whether WHERE over a row of s and one of t comes to what is wanted.
+fn filters(alloc: Global, filter: Option<&Expr>, s: &Table, t: &Table, want: Want) -> bool {
+    if s.columns.len() > 32 || t.columns.len() > 32 {
+        return false;
+    }
+    let scope = [
+        Entry {
+            name: &s.name,
+            table: s,
+        },
+        Entry {
+            name: &t.name,
+            table: t,
+        },
+    ];
+    match typed_filter(alloc, filter, &scope) {
+        Ok(typed) => is_wanted(alloc, typed.as_ref(), want),
+        Err(fault) => is_refused(code_of(fault), want),
+    }
+}
+
+fn filters_of(alloc: Global, delete: &Delete, tables: &[Table], want: Want) -> bool {
+    match tables {
+        [s, t] => filters(alloc, delete.filter.as_ref(), s, t, want),
+        _ => false,
+    }
+}
+
+fn filters_one(alloc: Global, found: &[Statement], tables: &[Table], want: Want) -> bool {
+    match found {
+        [Statement::Delete(delete)] => filters_of(alloc, delete, tables, want),
+        _ => false,
+    }
+}
+
+fn filters_text(alloc: Global, spelled: &str, tables: &[Table], want: Want) -> bool {
+    match read(alloc, spelled) {
+        Some(found) => filters_one(alloc, found.as_slice(), tables, want),
+        None => false,
+    }
 }
 
 #[test]
-fn marks_columns(rt: HostRuntime) -> Result<(), Fail> {
-    let alloc = rt.alloc();
-    assert!(rt; mentions_both(alloc, condition(alloc, 1)?));
+fn types_where(rt: HostRuntime) -> Result<(), Fail> {
+    let tables = tables_of(rt.alloc(), TABLES)?;
+    for (spelled, want) in CONDITIONS {
+        let holds = filters_text(rt.alloc(), spelled, tables.as_slice(), *want);
+        assert!(rt; holds, "at {spelled}");
+    }
     Ok(())
 }

@@ -1,42 +1,60 @@
-// Parts of tables and trees that several tests are made of.
+// Statements and tables as the reader of SQL makes them of texts, and what several tests look for in typed trees.
+//
+// No function holds a tree while it makes another one: a text goes in, and a tree is only lent to what looks at it.
 ghost use Rattle.std.specs.Prelude.{◌≡◌, true};
 ghost use Rattle.typing_parts.specs.Narrow.{AreNarrow};
 
-use cell_base::{Boxed, Items, Key, SqlType, Text, Value};
-use sql_tree::{Column, Expr, Op, Table, TypedExpr, TypedNode};
+use cell_base::{Items, Key, Memory, SqlFault, SqlState, Text, Value};
+use sql_statements::statements;
+use sql_tree::{Statement, Table, TypedExpr, TypedNode};
 use std::alloc::Global;
-use std::test::Fail;
+use table_schema::build;
 
-pub fn text_of(alloc: Global, text: &str) -> Result<Text, Fail> {
-    Ok(Text::from_bytes(alloc, text.as_bytes())?)
+/// The longest text of a case.
+const MAX_TEXT: usize = 1_000;
+
+/// The statements of a text; none where it isn't read.
+pub fn read(alloc: Global, spelled: &str) -> Option<Items<Statement>> {
+    let Ok(text) = Text::from_bytes(alloc, spelled.as_bytes()) else {
+        return None;
+    };
+    if text.bytes().len() > MAX_TEXT {
+        return None;
+    }
+    statements(alloc, &text).ok()
 }
 
-/// A column that may be null, without a default.
-pub fn column_of(alloc: Global, name: &str, kind: SqlType) -> Result<Column, Fail> {
-    Ok(Column {
-        name: text_of(alloc, name)?,
-        kind,
-        not_null: false,
-        default: Value::Null,
-    })
+// ---- tables
+
+/// The table of the one CREATE TABLE of a text.
+fn built(alloc: Global, found: &[Statement]) -> Option<Table> {
+    match found {
+        [Statement::Create(create)] => build(alloc, create).ok(),
+        _ => None,
+    }
 }
 
-/// A table of these columns, whose key is the first, without CHECKs.
-pub fn table_of(alloc: Global, name: &str, columns: Items<Column>) -> Result<Table, Fail> {
-    Ok(Table {
-        name: text_of(alloc, name)?,
-        columns,
-        key: 0,
-        checks: Items::new(alloc),
-    })
+fn table_of(alloc: Global, spelled: &str) -> Option<Table> {
+    match read(alloc, spelled) {
+        Some(found) => built(alloc, found.as_slice()),
+        None => None,
+    }
 }
 
-/// A table of the integers k and n. Its key is k.
-pub fn two_integers(alloc: Global, name: &str) -> Result<Table, Fail> {
-    let mut columns = Items::new(alloc);
-    columns.push(column_of(alloc, "k", SqlType::Integer)?)?;
-    columns.push(column_of(alloc, "n", SqlType::Integer)?)?;
-    table_of(alloc, name, columns)
+fn push_table(alloc: Global, tables: &mut Items<Table>, spelled: &str) -> Result<(), Memory> {
+    match table_of(alloc, spelled) {
+        Some(table) => tables.push(table),
+        None => Err(Memory),
+    }
+}
+
+/// The tables of texts of one CREATE TABLE each, in the order of their numbers, from 0.
+pub fn tables_of(alloc: Global, texts: &[&str]) -> Result<Items<Table>, Memory> {
+    let mut tables = Items::new(alloc);
+    for spelled in texts {
+        push_table(alloc, &mut tables, spelled)?;
+    }
+    Ok(tables)
 }
 
 /// Whether statements over the tables may be typed: there are at most 64, each with at most 32 columns.
@@ -51,37 +69,14 @@ pub fn are_narrow(tables: &[Table]) -> bool
     tables.len() <= 64
 }
 
-pub fn name(alloc: Global, name: &str) -> Result<Expr, Fail> {
-    Ok(Expr::Column(None, text_of(alloc, name)?))
-}
+// ---- answers
 
-pub fn equals(alloc: Global, left: Expr, right: Expr) -> Result<Expr, Fail> {
-    Ok(Expr::Binary(Op::Eq, Boxed::new(alloc, left)?, Boxed::new(alloc, right)?))
-}
-
-/// `NAME = NUMBER`.
-pub fn column_equals(alloc: Global, column: &str, number: i64) -> Result<Expr, Fail> {
-    equals(alloc, name(alloc, column)?, Expr::Int(number))
-}
-
-pub fn integer(node: TypedNode) -> TypedExpr {
-    TypedExpr {
-        kind: SqlType::Integer,
-        node,
+/// The code of a fault, if it has one.
+pub fn code_of(fault: SqlFault) -> Option<SqlState> {
+    match fault {
+        SqlFault::State(code) => Some(code),
+        SqlFault::Memory => None,
     }
-}
-
-/// A condition of two typed operands.
-pub fn condition_of(
-    alloc: Global,
-    op: Op,
-    left: TypedExpr,
-    right: TypedExpr,
-) -> Result<TypedExpr, Fail> {
-    Ok(TypedExpr {
-        kind: SqlType::Boolean,
-        node: TypedNode::Binary(op, Boxed::new(alloc, left)?, Boxed::new(alloc, right)?),
-    })
 }
 
 pub fn is_column(expr: &TypedExpr, entry: u32, column: u32) -> bool {

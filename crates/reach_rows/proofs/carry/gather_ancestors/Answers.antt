@@ -1,19 +1,30 @@
-use Rattle.std.proofs.Common.{◌≤◌, ℕ, List, length, refl, subst}
-use Rattle.std.proofs.lemmas.List.{take_all}
+use Rattle.std.proofs.Common.{◌≡◌, ◌+◌, ◌-◌, ℕ, drop, length, arith, refl, subst}
 use Rattle.reach_rows.specs.Rows.{HasPair, GainsAll}
-use Rattle.reach_rows.proofs.Carrying.{past_goes_down, gathering_start, gathering_more}
+use Rattle.reach_rows.proofs.Carrying.{IsGathering, past_goes_down, gathering_start, gathering_more}
 use Rattle.reach_rows.proofs.carry.gather_ancestors.Goals as goal
 
-pub loop-member-init : goal.loop-member-init
-loop-member-init c = gathering_start c.args.rows.now (HasPair c.args.rows.now) c.args.members.now c.args.row.now c.requires.down
+pub loop-done-init : goal.loop-done-init
+loop-done-init c =
+    gathering_start c.args.rows.now (HasPair c.args.rows.now) c.args.members.now (length c.args.members.now - 0) c.args.row.now (omega arith)
+    c.requires.down
 
-pub loop-member-preserved : goal.loop-member-preserved
-loop-member-preserved c =
-    gathering_more c.args.rows.now (HasPair c.args.rows.now) c.args.members.now c.loop-member.member-index _ c.args.row.now c.loop-member.row
-    c.add_ancestors.new.row (past_goes_down c.args.rows.now c.requires.closed) c.loop-member-test.true refl c.add_ancestors.ensures c.loop-member.invariant
+pub loop-done-preserved : goal.loop-done-preserved
+loop-done-preserved c =
+    let rows = c.args.rows.now in
+    let members = c.args.members.now in
+    let done : ℕ = c.loop-done.done in
+    let k : ℕ = length members - 1 - done in
+    let small = c.loop-done-test.true in
+    let before : length members - done ≡ k + 1 = omega arith in
+    let after : k ≡ length members - (done + 1) = omega arith in
+    subst (λ (n : ℕ). IsGathering rows (HasPair rows) members n c.args.row.now c.add_ancestors.new.row) after
+    (gathering_more rows (HasPair rows) members k _ c.args.row.now c.loop-done.row c.add_ancestors.new.row
+    (past_goes_down rows c.requires.closed) (omega arith) refl c.add_ancestors.ensures
+    (subst (λ (n : ℕ). IsGathering rows (HasPair rows) members n c.args.row.now c.loop-done.row) before c.loop-done.invariant))
 
 pub returns : goal.returns
 returns c =
-    let end : length c.args.members.now ≤ c.loop-member.member-index = c.loop-member-test.false in
-    subst (λ (ms : List ℕ). GainsAll (HasPair c.args.rows.now) ms c.args.row.now c.loop-member.row)
-    (take_all c.loop-member.member-index c.args.members.now end) c.loop-member.invariant.gains
+    let end = c.loop-done-test.false in
+    let none : length c.args.members.now - c.loop-done.done ≡ 0 = omega arith in
+    subst (λ (n : ℕ). GainsAll (HasPair c.args.rows.now) (drop n c.args.members.now) c.args.row.now c.loop-done.row) none
+    c.loop-done.invariant.gains

@@ -4,7 +4,7 @@ use Rattle.std.proofs.lemmas.Int.{to_z-of_z}
 use Rattle.std.specs.Fmt.{signed_decimal}
 use Rattle.history_log.specs.Reading.{IsI64}
 use Rattle.history_log.proofs.Spelled.{integer_utf8, integer_parsed}
-use Rattle.history_log.proofs.words.integer_of.Goals as goal
+use Rattle.history_log.proofs.words.long_integer.Goals as goal
 
 integer_again : (n x : ℤ) → n ≡ x → IsI64 x → signed_decimal (to_z w64 (of_z w64 n)) ≡ signed_decimal x
 integer_again n x e fits = rw e (ap signed_decimal (to_z-of_z w64 x fits))

@@ -1,7 +1,7 @@
 use Rattle.std.proofs.Common.{◌≡◌, sym, ◌∙◌, ap, decimal}
 use Rattle.std.specs.Cmp.Lexicographic.{other_text}
 use Rattle.history_log.proofs.Spelled.{number_utf8, number_parsed}
-use Rattle.history_log.proofs.words.number_of.Goals as goal
+use Rattle.history_log.proofs.words.long_number.Goals as goal
 
 pub returns-in_default : goal.returns-in_default
 returns-in_default c = λ x is. c.in_default.ensures.cases.0 (number_utf8 x _ is)
