@@ -10,4 +10,8 @@ mod cut_short;
 #[cfg(test)]
 mod full;
 #[cfg(test)]
+mod in_turn;
+#[cfg(test)]
 mod sessions;
+#[cfg(test)]
+mod tables;

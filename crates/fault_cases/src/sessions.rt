@@ -38,11 +38,11 @@ pub enum Events {
 }
 
 // A side whose calls move at most so many bytes. The calls of these numbers, from 1 on, fail.
-fn plan(alloc: Global, fails: &[u64]) -> Result<MemPlan, Memory>
-    ensures { IfOk result (λ plan. plan.piece ≡ 10000) }
+fn plan(alloc: Global, piece: u32, fails: &[u64]) -> Result<MemPlan, Memory>
+    ensures { IfOk result (λ plan. plan.piece ≡ piece) }
 {
     Ok(MemPlan {
-        piece: 10_000,
+        piece,
         fails: Items::from_slice(alloc, fails)?,
         bytes: 10_000,
         reads: 100,
@@ -51,11 +51,24 @@ fn plan(alloc: Global, fails: &[u64]) -> Result<MemPlan, Memory>
 
 /// A link whose first read gives this whole input and whose writes take all that they are given, but for the calls that fail.
 pub fn link(alloc: Global, input: &[u8], reads: &[u64], writes: &[u64]) -> Result<MemLink, Memory> {
+    link_in_pieces(alloc, input, 10_000, reads, writes)
+}
+
+/// The same, whose reads give so many bytes at most.
+pub fn link_in_pieces(
+    alloc: Global,
+    input: &[u8],
+    piece: u32,
+    reads: &[u64],
+    writes: &[u64],
+) -> Result<MemLink, Memory>
+    requires { 0 < piece }
+{
     MemLink::new(
         alloc,
         Vec::from_slice(alloc, input)?,
-        plan(alloc, reads)?,
-        plan(alloc, writes)?,
+        plan(alloc, piece, reads)?,
+        plan(alloc, 10_000, writes)?,
     )
 }
 

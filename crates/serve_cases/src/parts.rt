@@ -1,144 +1,118 @@
-// What the tests serve: links and doors in memory, hosts, and options.
-ghost use Rattle.std.specs.Prelude.{◌≡◌, ◌≤◌, ◌<◌, All, IfOk};
+// Links, doors and networks in memory.
+ghost use Rattle.std.specs.Prelude.{◌≡◌, All, IfOk};
 ghost use Rattle.doors.specs.Passage.{IsUnused};
 ghost use Rattle.doors.specs.MemDoors.{mem_passage};
-ghost use Rattle.link_traits.specs.Host.{objects_out};
-ghost use Rattle.link_traits.specs.Hosts.{mem_hosted};
 
-use cell_base::{Items, Level, Memory, Text};
-use command_line::{Progress, ServeOptions};
+use cell_base::{Items, Memory};
 use doors::{MemDoor, MemNetwork};
-use link_traits::{HostFile, MemHost, MemLink, MemPlan, MemSink};
+use link_traits::{MemLink, MemPlan};
 use std::alloc::Global;
 
-fn plan(alloc: Global) -> MemPlan
-    ensures { 0 < result.piece }
+/// A link that comes in by a door.
+#[derive(Clone, Copy)]
+pub struct Visit<'a> {
+    /// What its client sends.
+    pub client: &'a [u8],
+    /// The numbers, from 1 on, of the writes to it that fail.
+    pub failing: &'a [u64],
+    /// What its client is sent, or nothing where that depends on which worker comes first.
+    pub sent: Option<&'a [u8]>,
+}
+
+/// What comes in by a door, one link after another.
+#[derive(Clone, Copy)]
+pub struct Entry<'a> {
+    pub visits: &'a [Visit<'a>],
+    /// The numbers, from 1 on, of the calls of `accept` that fail.
+    pub failing: &'a [u64],
+}
+
+/// A side whose calls move at most so many bytes. The calls of these numbers, from 1 on, fail.
+pub fn plan(alloc: Global, piece: u32, failing: &[u64]) -> Result<MemPlan, Memory>
+    ensures { IfOk result (λ plan. plan.piece ≡ piece) }
 {
-    MemPlan {
-        piece: 64,
-        fails: Items::new(alloc),
-        bytes: 1000,
-        reads: 100,
-    }
+    Ok(MemPlan {
+        piece,
+        fails: Items::from_slice(alloc, failing)?,
+        bytes: 10_000,
+        reads: 1_000,
+    })
 }
 
-fn text(alloc: Global, bytes: &[u8]) -> Result<Text, Memory> {
-    match Text::from_bytes(alloc, bytes) {
-        Ok(text) => Ok(text),
-        Err(_) => Err(Memory),
-    }
+// The link, whose reads give 64 bytes at most, and whose writes take all.
+fn link(alloc: Global, visit: &Visit<'_>) -> Result<MemLink, Memory> {
+    MemLink::new(
+        alloc,
+        Vec::from_slice(alloc, visit.client)?,
+        plan(alloc, 64, &[])?,
+        plan(alloc, 10_000, visit.failing)?,
+    )
 }
 
-// A link whose client sends these bytes.
-fn link(alloc: Global, client: &[u8]) -> Result<MemLink, Memory> {
-    let bytes = Vec::from_slice(alloc, client)?;
-    MemLink::new(alloc, bytes, plan(alloc), plan(alloc))
-}
-
-fn links(alloc: Global, client: &[u8], many: usize) -> Result<Vec<MemLink>, Memory> {
-    let mut links = Vec::with_capacity(alloc, many)?;
-    for _ in 0..many {
-        links.push(link(alloc, client)?)?;
+fn links(alloc: Global, visits: &[Visit<'_>]) -> Result<Vec<MemLink>, Memory> {
+    let mut links = Vec::with_capacity(alloc, visits.len())?;
+    for visit in visits {
+        links.push(link(alloc, visit)?)?;
     }
     Ok(links)
 }
 
-// A door of so many links of one client.
-fn door(alloc: Global, client: &[u8], many: usize) -> Result<MemDoor, Memory>
+fn door(alloc: Global, entry: &Entry<'_>) -> Result<MemDoor, Memory>
     ensures { IfOk result (λ door. IsUnused (mem_passage door)) }
 {
-    let links = links(alloc, client, many)?;
-    MemDoor::new(alloc, links, Vec::new(alloc))
+    let links = links(alloc, entry.visits)?;
+    MemDoor::new(alloc, links, Vec::from_slice(alloc, entry.failing)?)
 }
 
-fn one_door(alloc: Global, door: MemDoor) -> Result<Vec<MemDoor>, Memory>
-    requires { IsUnused (mem_passage door) }
+fn doors(alloc: Global, entries: &[Entry<'_>]) -> Result<Vec<MemDoor>, Memory>
     ensures { IfOk result (λ doors. All (λ door. IsUnused (mem_passage door)) doors.items) }
 {
-    let mut doors = Vec::with_capacity(alloc, 1)?;
-    doors.push(door)?;
+    let mut doors = Vec::with_capacity(alloc, entries.len())?;
+    for entry in entries {
+        let one = door(alloc, entry)?;
+        doors.push(one)?;
+    }
     Ok(doors)
 }
 
-/// A network of one door, by which this client comes in so many times.
-pub fn network(alloc: Global, client: &[u8], many: usize) -> Result<MemNetwork, Memory> {
-    let door = door(alloc, client, many)?;
-    let doors = one_door(alloc, door)?;
+/// A network of these doors.
+pub fn network(alloc: Global, entries: &[Entry<'_>]) -> Result<MemNetwork, Memory> {
+    let doors = doors(alloc, entries)?;
     Ok(MemNetwork::new(alloc, doors, Vec::new(alloc)))
 }
 
-// A host without a link, with these files. Nothing is out.
-fn host_of(alloc: Global, files: Items<HostFile>) -> Result<MemHost, Memory>
-    ensures { IfOk result (λ host. objects_out (mem_hosted host) ≡ 0) }
-{
-    let out = MemSink::new(alloc, plan(alloc))?;
-    let (opened, made) = (plan(alloc), plan(alloc));
-    let calls = Items::new(alloc);
-    Ok(MemHost::new(alloc, None, files, out, calls, opened, made))
-}
-
-/// A host without a link and without files. Nothing is out.
-pub fn host(alloc: Global) -> Result<MemHost, Memory>
-    ensures { IfOk result (λ host. objects_out (mem_hosted host) ≡ 0) }
-{
-    host_of(alloc, Items::new(alloc))
-}
-
-/// A host with a file `setup` of these bytes. Nothing is out.
-pub fn host_with(alloc: Global, setup: &[u8]) -> Result<MemHost, Memory>
-    ensures { IfOk result (λ host. objects_out (mem_hosted host) ≡ 0) }
-{
-    let mut files = Items::new(alloc);
-    files.push(HostFile {
-        path: text(alloc, b"setup")?,
-        bytes: Items::from_slice(alloc, setup)?,
-    })?;
-    host_of(alloc, files)
-}
-
-/// One worker that accepts two links, without a setup.
-pub fn options(alloc: Global, level: Level) -> Result<ServeOptions, Memory>
-    ensures { IfOk result (λ options. options.workers ≤ 64) }
-{
-    Ok(ServeOptions {
-        level,
-        seed: 7,
-        listen: text(alloc, b"here")?,
-        workers: 1,
-        accept: 2,
-        log: None,
-        setup: None,
-        progress: Progress::Quiet,
-    })
-}
-
-/// The same, with a setup of this path.
-pub fn options_after(alloc: Global, level: Level, path: &[u8]) -> Result<ServeOptions, Memory>
-    ensures { IfOk result (λ options. options.workers ≤ 64) }
-{
-    let mut options = options(alloc, level)?;
-    options.setup = Some(text(alloc, path)?);
-    Ok(options)
-}
-
-/// Whether the link that went back by the one door as this one was sent these bytes.
-pub fn was_sent(network: &MemNetwork, index: usize, bytes: &[u8]) -> bool {
-    let Some(doors) = network.back().first() else {
-        return false;
-    };
-    let Some(door) = doors.as_slice().first() else {
-        return false;
-    };
-    match door.back().get(index) {
-        Some(link) => link.written() == bytes,
-        None => false,
+// Whether the link was sent what is told of it.
+fn was_sent(link: &MemLink, visit: &Visit<'_>) -> bool {
+    match visit.sent {
+        Some(sent) => link.written() == sent,
+        None => true,
     }
 }
 
-/// Whether these bytes were written to the output.
-pub fn was_printed(host: &MemHost, bytes: &[u8]) -> bool {
-    match host.output() {
-        Some(out) => out.written() == bytes,
-        None => false,
-    }
+// Whether each link of a door came back, and none where accepting failed, and each was sent what is told of it.
+fn were_sent(door: &MemDoor, entry: &Entry<'_>) -> bool {
+    let came = if entry.failing.is_empty() {
+        entry.visits.len()
+    } else {
+        0
+    };
+    let back = door.back();
+    back.len() == came
+        && back
+            .iter()
+            .zip(entry.visits)
+            .all(|(link, visit)| was_sent(link, visit))
+}
+
+/// Whether each door came back once, with its links, and each of these was sent what is told of it.
+pub fn came_back(network: &MemNetwork, entries: &[Entry<'_>]) -> bool {
+    let [doors] = network.back() else {
+        return false;
+    };
+    let doors = doors.as_slice();
+    doors.len() == entries.len()
+        && doors
+            .iter()
+            .zip(entries)
+            .all(|(door, entry)| were_sent(door, entry))
 }

@@ -1,11 +1,8 @@
 // A server with a setup: its clients find the rows that it left, or no door is opened.
-use crate::parts::{host_with, network, options_after, was_printed, was_sent};
-use cell_base::{Level, Memory};
-use serve_command::serve;
-use std::alloc::Global;
-use std::sync::Wait;
+use crate::parts::{Entry, Visit};
+use crate::running::{ONE_WORKER, Start, opens_no_door, serves};
+use cell_base::Level;
 use std::test::Fail;
-use std::thread::Threads;
 
 // The row of the fixture, as it is changed last.
 const FIXTURE: &[u8] =
@@ -28,52 +25,54 @@ const SECOND: &[u8] =
 // Session 1 opens, defines the table and closes; each client opens, looks, begins, scans, reads the presence and the field, commits and closes.
 const LINE: &[u8] = b"served 3 sessions 2 transactions 19 events\n";
 
-// Whether two clients of a server at a level find the row of the fixture.
-fn find_the_row<R: Threads + Wait + Eprint + Sync>(
-    rt: &R,
-    alloc: Global,
-    level: Level,
-) -> Result<bool, Memory> {
-    let (mut host, mut network) = (host_with(alloc, FIXTURE)?, network(alloc, READS, 2)?);
-    let options = options_after(alloc, level, b"setup")?;
-    let status = serve(rt, alloc, &mut host, &mut network, &options);
-    Ok(
-        status.code == 0
-            && was_sent(&network, 0, FIRST)
-            && was_sent(&network, 1, SECOND)
-            && was_printed(&host, LINE),
-    )
-}
+// The links of the one door: two clients that read the row.
+const VISITS: &[Visit<'static>] = &[
+    Visit {
+        client: READS,
+        failing: &[],
+        sent: Some(FIRST),
+    },
+    Visit {
+        client: READS,
+        failing: &[],
+        sent: Some(SECOND),
+    },
+];
 
-// The status of a server whose setup is the file of a path, or 100 where a door was opened or a line printed.
-fn status_before_doors<R: Threads + Wait + Eprint + Sync>(
-    rt: &R,
-    alloc: Global,
-    path: &[u8],
-) -> Result<u8, Memory> {
-    let (mut host, mut network) = (host_with(alloc, FAILS)?, network(alloc, READS, 2)?);
-    let options = options_after(alloc, Level::Rc, path)?;
-    let status = serve(rt, alloc, &mut host, &mut network, &options);
-    if network.back().is_empty() && was_printed(&host, b"") {
-        Ok(status.code)
-    } else {
-        Ok(100)
+// A server at a level with the setup of this path, and what stands in the file `setup`.
+fn start_at(level: Level, path: &'static [u8], file: &'static [u8]) -> Start<'static> {
+    Start {
+        level,
+        setup: Some(path),
+        file,
+        ..ONE_WORKER
     }
 }
 
 #[test]
 fn clients_find_the_rows_of_a_setup_at_each_level(rt: HostRuntime) -> Result<(), Fail> {
     let alloc = rt.alloc();
-    assert!(rt; find_the_row(&rt, alloc, Level::Rc)?);
-    assert!(rt; find_the_row(&rt, alloc, Level::Ra)?);
-    assert!(rt; find_the_row(&rt, alloc, Level::Cc)?);
+    let doors = [Entry {
+        visits: VISITS,
+        failing: &[],
+    }];
+    for level in [Level::Rc, Level::Ra, Level::Cc] {
+        let start = start_at(level, b"setup", FIXTURE);
+        assert!(rt; serves(&rt, alloc, &start, &doors, 0, LINE)?);
+    }
     Ok(())
 }
 
 #[test]
 fn a_setup_that_fails_opens_no_door(rt: HostRuntime) -> Result<(), Fail> {
     let alloc = rt.alloc();
-    assert_eq!(rt; status_before_doors(&rt, alloc, b"setup")?, 1);
-    assert_eq!(rt; status_before_doors(&rt, alloc, b"missing")?, 6);
+    let doors = [Entry {
+        visits: VISITS,
+        failing: &[],
+    }];
+    let fails = start_at(Level::Rc, b"setup", FAILS);
+    assert!(rt; opens_no_door(&rt, alloc, &fails, &doors, 1)?);
+    let missing = start_at(Level::Rc, b"missing", FIXTURE);
+    assert!(rt; opens_no_door(&rt, alloc, &missing, &doors, 6)?);
     Ok(())
 }

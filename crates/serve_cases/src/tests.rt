@@ -1,7 +1,7 @@
 // A server over a network in memory: what its links are sent, and what it prints.
-use crate::parts::{host, network, options, was_printed, was_sent};
+use crate::parts::{Entry, Visit};
+use crate::running::{ONE_WORKER, Start, serves};
 use cell_base::Level;
-use serve_command::serve;
 use std::test::Fail;
 
 // A client that makes a table.
@@ -19,12 +19,26 @@ const LINE: &[u8] = b"served 2 sessions 0 transactions 6 events\n";
 #[test]
 fn serves_two_links_over_one_history(rt: HostRuntime) -> Result<(), Fail> {
     let alloc = rt.alloc();
-    let (mut host, mut network) = (host(alloc)?, network(alloc, MAKES, 2)?);
-    let options = options(alloc, Level::Cc)?;
-    let status = serve(&rt, alloc, &mut host, &mut network, &options);
-    assert_eq!(rt; status.code, 0);
-    assert!(rt; was_sent(&network, 0, MADE));
-    assert!(rt; was_sent(&network, 1, TAKEN));
-    assert!(rt; was_printed(&host, LINE));
+    let visits = [
+        Visit {
+            client: MAKES,
+            failing: &[],
+            sent: Some(MADE),
+        },
+        Visit {
+            client: MAKES,
+            failing: &[],
+            sent: Some(TAKEN),
+        },
+    ];
+    let doors = [Entry {
+        visits: &visits,
+        failing: &[],
+    }];
+    let start = Start {
+        level: Level::Cc,
+        ..ONE_WORKER
+    };
+    assert!(rt; serves(&rt, alloc, &start, &doors, 0, LINE)?);
     Ok(())
 }

@@ -1,40 +1,115 @@
 // Lists of choice words that the command line may have, told by what a session reads with them, and texts that are none.
-use crate::hosts::{answers, answers_at, prints};
+use crate::hosts::{answers, client_of, run};
 use cell_base::Memory;
+use session_text::read_sessions;
 use std::alloc::Global;
 use std::sync::Wait;
 use std::test::Fail;
 use std::thread::Threads;
 
-// A startup, a table, a key inserted twice, a read of its row, and the end. The second word is drawn where the second INSERT asks
-// whether the key is there: an even one finds the state before all transactions. The third is drawn where the SELECT asks the same,
-// and picks among that state and the two INSERTs; the fourth is drawn for the value, and picks among the writes from there on.
-const TWO_ROWS: &[u8] =
-    b"\0\0\0\x10\0\x03\0\0user\0a\0\0Q\0\0\04CREATE TABLE t (k bigint PRIMARY KEY, v bigint)\0Q\0\0\0!INSERT INTO t VALUES (1, 10)\0Q\0\0\0!INSERT INTO t VALUES (1, 11)\0Q\0\0\0 SELECT v FROM t WHERE k = 1\0X\0\0\0\x04";
-// What is sent where the SELECT finds no row.
-const NONE: &[u8] =
-    b"R\0\0\0\x08\0\0\0\0S\0\0\0\x18server_version\014.0\0S\0\0\0\x19server_encoding\0UTF8\0S\0\0\0\x19client_encoding\0UTF8\0S\0\0\0\x17DateStyle\0ISO, MDY\0S\0\0\0\x19integer_datetimes\0on\0S\0\0\0#standard_conforming_strings\0on\0K\0\0\0\x0c\0\0\0\x01\0\0\0\0Z\0\0\0\x05IC\0\0\0\x11CREATE TABLE\0Z\0\0\0\x05IC\0\0\0\x0fINSERT 0 1\0Z\0\0\0\x05IC\0\0\0\x0fINSERT 0 1\0Z\0\0\0\x05IT\0\0\0\x1a\0\x01v\0\0\0\0\0\0\0\0\0\0\x14\0\x08\xff\xff\xff\xff\0\0C\0\0\0\x0dSELECT 0\0Z\0\0\0\x05I";
-// What is sent where it finds the first.
-const TEN: &[u8] =
-    b"R\0\0\0\x08\0\0\0\0S\0\0\0\x18server_version\014.0\0S\0\0\0\x19server_encoding\0UTF8\0S\0\0\0\x19client_encoding\0UTF8\0S\0\0\0\x17DateStyle\0ISO, MDY\0S\0\0\0\x19integer_datetimes\0on\0S\0\0\0#standard_conforming_strings\0on\0K\0\0\0\x0c\0\0\0\x01\0\0\0\0Z\0\0\0\x05IC\0\0\0\x11CREATE TABLE\0Z\0\0\0\x05IC\0\0\0\x0fINSERT 0 1\0Z\0\0\0\x05IC\0\0\0\x0fINSERT 0 1\0Z\0\0\0\x05IT\0\0\0\x1a\0\x01v\0\0\0\0\0\0\0\0\0\0\x14\0\x08\xff\xff\xff\xff\0\0D\0\0\0\x0c\0\x01\0\0\0\x0210C\0\0\0\x0dSELECT 1\0Z\0\0\0\x05I";
-// What is sent where it finds the second.
-const ELEVEN: &[u8] =
-    b"R\0\0\0\x08\0\0\0\0S\0\0\0\x18server_version\014.0\0S\0\0\0\x19server_encoding\0UTF8\0S\0\0\0\x19client_encoding\0UTF8\0S\0\0\0\x17DateStyle\0ISO, MDY\0S\0\0\0\x19integer_datetimes\0on\0S\0\0\0#standard_conforming_strings\0on\0K\0\0\0\x0c\0\0\0\x01\0\0\0\0Z\0\0\0\x05IC\0\0\0\x11CREATE TABLE\0Z\0\0\0\x05IC\0\0\0\x0fINSERT 0 1\0Z\0\0\0\x05IC\0\0\0\x0fINSERT 0 1\0Z\0\0\0\x05IT\0\0\0\x1a\0\x01v\0\0\0\0\0\0\0\0\0\0\x14\0\x08\xff\xff\xff\xff\0\0D\0\0\0\x0c\0\x01\0\0\0\x0211C\0\0\0\x0dSELECT 1\0Z\0\0\0\x05I";
-// What is sent where the second INSERT finds the first, and so does the SELECT.
-const TAKEN: &[u8] =
-    b"R\0\0\0\x08\0\0\0\0S\0\0\0\x18server_version\014.0\0S\0\0\0\x19server_encoding\0UTF8\0S\0\0\0\x19client_encoding\0UTF8\0S\0\0\0\x17DateStyle\0ISO, MDY\0S\0\0\0\x19integer_datetimes\0on\0S\0\0\0#standard_conforming_strings\0on\0K\0\0\0\x0c\0\0\0\x01\0\0\0\0Z\0\0\0\x05IC\0\0\0\x11CREATE TABLE\0Z\0\0\0\x05IC\0\0\0\x0fINSERT 0 1\0Z\0\0\0\x05IE\0\0\0JSERROR\0VERROR\0C23505\0Mduplicate key value violates unique constraint\0\0Z\0\0\0\x05IT\0\0\0\x1a\0\x01v\0\0\0\0\0\0\0\0\0\0\x14\0\x08\xff\xff\xff\xff\0\0D\0\0\0\x0c\0\x01\0\0\0\x0210C\0\0\0\x0dSELECT 1\0Z\0\0\0\x05I";
+// The second word is drawn where the second INSERT asks whether the key is there: an even one finds the state before all transactions.
+// The third is drawn where the SELECT asks the same, and picks among that state and the two INSERTs; the fourth is drawn for the value, and
+// picks among the writes from there on.
+const TWO_ROWS: &str = r"
+# the SELECT finds no row
+> StartupMessage user=a
++ started
++ table t
++ row (1, 10) with the word 0
+> Query INSERT INTO t VALUES (1, 11)
+< CommandComplete INSERT 0 1
+< ReadyForQuery I
+> Query SELECT v FROM t WHERE k = 1
+< RowDescription v bigint
+< CommandComplete SELECT 0
+< ReadyForQuery I
+> Terminate
+
+# it finds the first
+> StartupMessage user=a
++ started
++ table t
++ row (1, 10) with the word 0
+> Query INSERT INTO t VALUES (1, 11)
+< CommandComplete INSERT 0 1
+< ReadyForQuery I
+> Query SELECT v FROM t WHERE k = 1
+< RowDescription v bigint
+< DataRow 10
+< CommandComplete SELECT 1
+< ReadyForQuery I
+> Terminate
+
+# it finds the second
+> StartupMessage user=a
++ started
++ table t
++ row (1, 10) with the word 0
+> Query INSERT INTO t VALUES (1, 11)
+< CommandComplete INSERT 0 1
+< ReadyForQuery I
+> Query SELECT v FROM t WHERE k = 1
+< RowDescription v bigint
+< DataRow 11
+< CommandComplete SELECT 1
+< ReadyForQuery I
+> Terminate
+
+# the second INSERT finds the first, and so does the SELECT
+> StartupMessage user=a
++ started
++ table t
++ row (1, 10) with the word 0
+> Query INSERT INTO t VALUES (1, 11)
+< ErrorResponse ERROR 23505 duplicate key value violates unique constraint
+< ReadyForQuery I
+> Query SELECT v FROM t WHERE k = 1
+< RowDescription v bigint
+< DataRow 10
+< CommandComplete SELECT 1
+< ReadyForQuery I
+> Terminate
+";
+
+// The places of these sessions.
+const NONE: usize = 0;
+
+const TEN: usize = 1;
+
+const ELEVEN: usize = 2;
+
+const TAKEN: usize = 3;
+
 // What is printed where the words are no command.
 const USAGE: &[u8] =
     b"usage: monkeydb pipe LEVEL WORDS | serve [OPTIONS] | check PATH | sim LEVEL SEED SESSIONS QUERIES | stop [ADDRESS]\n";
 
-// Whether a session with this list is sent these bytes.
+// Whether `pipe LEVEL LIST` serves the session at this place.
+fn takes_at<R: Threads + Wait + Eprint + Sync>(
+    rt: &R,
+    alloc: Global,
+    level: &[u8],
+    list: &[u8],
+    place: usize,
+) -> Result<bool, Fail> {
+    let sessions = read_sessions(alloc, TWO_ROWS)?;
+    match sessions.get(place) {
+        Some(session) => {
+            let client = client_of(&session.input, 64);
+            Ok(answers(rt, alloc, level, list, &client, 0, &session.sent)?)
+        }
+        None => Ok(false),
+    }
+}
+
+// The same for `pipe rc LIST`.
 fn takes<R: Threads + Wait + Eprint + Sync>(
     rt: &R,
     alloc: Global,
     list: &[u8],
-    sent: &[u8],
-) -> Result<bool, Memory> {
-    answers(rt, alloc, list, TWO_ROWS, 64, 0, sent)
+    place: usize,
+) -> Result<bool, Fail> {
+    takes_at(rt, alloc, b"rc", list, place)
 }
 
 #[test]
@@ -60,54 +135,78 @@ fn takes_numbers_with_commas(rt: HostRuntime) -> Result<(), Fail> {
 #[test]
 fn takes_levels(rt: HostRuntime) -> Result<(), Fail> {
     let alloc = rt.alloc();
-    assert!(rt; answers_at(&rt, alloc, b"ra", b"0", TWO_ROWS, 64, 0, TAKEN)?);
-    assert!(rt; answers_at(&rt, alloc, b"cc", b"7,8,9", TWO_ROWS, 64, 0, TAKEN)?);
-    assert!(rt; answers_at(&rt, alloc, b"rc", b"7", TWO_ROWS, 64, 0, NONE)?);
+    assert!(rt; takes_at(&rt, alloc, b"ra", b"0", TAKEN)?);
+    assert!(rt; takes_at(&rt, alloc, b"cc", b"7,8,9", TAKEN)?);
+    assert!(rt; takes_at(&rt, alloc, b"rc", b"7", NONE)?);
     Ok(())
 }
 
-// Whether `pipe LEVEL LIST` is no command.
-fn refuses_at<R: Threads + Wait + Eprint + Sync>(
-    rt: &R,
-    alloc: Global,
-    level: &[u8],
-    list: &[u8],
-) -> Result<bool, Memory> {
-    prints(rt, alloc, level, list, USAGE)
-}
-
-#[test]
-fn refuses_other_levels(rt: HostRuntime) -> Result<(), Fail> {
-    let alloc = rt.alloc();
-    assert!(rt; refuses_at(&rt, alloc, b"", b"1")?);
-    assert!(rt; refuses_at(&rt, alloc, b"RC", b"1")?);
-    assert!(rt; refuses_at(&rt, alloc, b"si", b"1")?);
-    assert!(rt; refuses_at(&rt, alloc, b"rcc", b"1")?);
-    assert!(rt; refuses_at(&rt, alloc, b"default", b"1")?);
-    assert!(rt; refuses_at(&rt, alloc, b"cc", b"1,")?);
-    Ok(())
-}
-
-// Whether `pipe rc LIST` is no command.
+// Whether words are no command: the status is 2, the usage line is printed, and no link is taken.
 fn refuses<R: Threads + Wait + Eprint + Sync>(
     rt: &R,
     alloc: Global,
-    list: &[u8],
+    words: &[&[u8]],
 ) -> Result<bool, Memory> {
-    refuses_at(rt, alloc, b"rc", list)
+    let done = run(rt, alloc, words, &client_of(b"", 64))?;
+    Ok(done.code == 2 && done.printed.as_slice() == USAGE && done.sent.is_none())
+}
+
+// Levels, and lists of words, that `pipe` doesn't have.
+const NO_PIPES: [[&[u8]; 2]; 15] = [
+    [b"", b"1"],
+    [b"RC", b"1"],
+    [b"si", b"1"],
+    [b"rcc", b"1"],
+    [b"default", b"1"],
+    [b"cc", b"1,"],
+    [b"rc", b""],
+    [b"rc", b"1,"],
+    [b"rc", b",1"],
+    [b"rc", b"1,,2"],
+    [b"rc", b"1, 2"],
+    [b"rc", b"+1"],
+    [b"rc", b"-1"],
+    [b"rc", b"1a"],
+    [b"rc", b"4294967296"],
+];
+
+#[test]
+fn refuses_other_levels_and_lists(rt: HostRuntime) -> Result<(), Fail> {
+    let alloc = rt.alloc();
+    for [level, list] in NO_PIPES {
+        assert!(rt; refuses(&rt, alloc, &[b"pipe", level, list])?);
+    }
+    Ok(())
+}
+
+// Options and values that `serve` doesn't have.
+const NO_SERVERS: [[&[u8]; 2]; 8] = [
+    [b"--workers", b"0"],
+    [b"--workers", b"65"],
+    [b"--accept", b"0"],
+    [b"--accept", b"4097"],
+    [b"--level", b"si"],
+    [b"--seed", b"-1"],
+    [b"--seed", b"18446744073709551616"],
+    [b"--host", b"here"],
+];
+
+#[test]
+fn refuses_other_options(rt: HostRuntime) -> Result<(), Fail> {
+    let alloc = rt.alloc();
+    for [option, value] in NO_SERVERS {
+        assert!(rt; refuses(&rt, alloc, &[b"serve", option, value])?);
+    }
+    Ok(())
 }
 
 #[test]
-fn refuses_other_texts(rt: HostRuntime) -> Result<(), Fail> {
+fn refuses_other_words(rt: HostRuntime) -> Result<(), Fail> {
     let alloc = rt.alloc();
-    assert!(rt; refuses(&rt, alloc, b"")?);
-    assert!(rt; refuses(&rt, alloc, b"1,")?);
-    assert!(rt; refuses(&rt, alloc, b",1")?);
-    assert!(rt; refuses(&rt, alloc, b"1,,2")?);
-    assert!(rt; refuses(&rt, alloc, b"1, 2")?);
-    assert!(rt; refuses(&rt, alloc, b"+1")?);
-    assert!(rt; refuses(&rt, alloc, b"-1")?);
-    assert!(rt; refuses(&rt, alloc, b"1a")?);
-    assert!(rt; refuses(&rt, alloc, b"4294967296")?);
+    assert!(rt; refuses(&rt, alloc, &[])?);
+    assert!(rt; refuses(&rt, alloc, &[b""])?);
+    assert!(rt; refuses(&rt, alloc, &[b"pipe", b"rc"])?);
+    assert!(rt; refuses(&rt, alloc, &[b"serve", b"--workers"])?);
+    assert!(rt; refuses(&rt, alloc, &[b"Serve"])?);
     Ok(())
 }

@@ -1,72 +1,199 @@
-// Sessions with what is sent in them. The bytes were put together by hand from the messages.
-use crate::hosts::{answers, events};
+// The sessions of `session_text` over the whole program.
+use crate::hosts::{answers, client_of};
+use cell_base::Level;
+use session_text::{
+    Session, block_sessions, delete_sessions, duplicate_key_sessions, level_sessions,
+    lone_sessions, message_sessions, query_sessions, read_sessions, refusal_sessions, row_sessions,
+    statement_sessions,
+};
+use std::alloc::{AllocError, Global};
+use std::sync::Wait;
 use std::test::Fail;
+use std::thread::Threads;
 
-// A startup, a table, a row, a read of the row, and the end.
-const ROW: &[u8] =
-    b"\0\0\0\x10\0\x03\0\0user\0a\0\0Q\0\0\04CREATE TABLE t (k bigint PRIMARY KEY, v bigint)\0Q\0\0\0!INSERT INTO t VALUES (1, 10)\0Q\0\0\0 SELECT v FROM t WHERE k = 1\0X\0\0\0\x04";
-// What is sent where the read finds no row.
-const MISSED: &[u8] =
-    b"R\0\0\0\x08\0\0\0\0S\0\0\0\x18server_version\014.0\0S\0\0\0\x19server_encoding\0UTF8\0S\0\0\0\x19client_encoding\0UTF8\0S\0\0\0\x17DateStyle\0ISO, MDY\0S\0\0\0\x19integer_datetimes\0on\0S\0\0\0#standard_conforming_strings\0on\0K\0\0\0\x0c\0\0\0\x01\0\0\0\0Z\0\0\0\x05IC\0\0\0\x11CREATE TABLE\0Z\0\0\0\x05IC\0\0\0\x0fINSERT 0 1\0Z\0\0\0\x05IT\0\0\0\x1a\0\x01v\0\0\0\0\0\0\0\0\0\0\x14\0\x08\xff\xff\xff\xff\0\0C\0\0\0\x0dSELECT 0\0Z\0\0\0\x05I";
-// What is sent where the read finds the row.
-const FOUND: &[u8] =
-    b"R\0\0\0\x08\0\0\0\0S\0\0\0\x18server_version\014.0\0S\0\0\0\x19server_encoding\0UTF8\0S\0\0\0\x19client_encoding\0UTF8\0S\0\0\0\x17DateStyle\0ISO, MDY\0S\0\0\0\x19integer_datetimes\0on\0S\0\0\0#standard_conforming_strings\0on\0K\0\0\0\x0c\0\0\0\x01\0\0\0\0Z\0\0\0\x05IC\0\0\0\x11CREATE TABLE\0Z\0\0\0\x05IC\0\0\0\x0fINSERT 0 1\0Z\0\0\0\x05IT\0\0\0\x1a\0\x01v\0\0\0\0\0\0\0\0\0\0\x14\0\x08\xff\xff\xff\xff\0\0D\0\0\0\x0c\0\x01\0\0\0\x0210C\0\0\0\x0dSELECT 1\0Z\0\0\0\x05I";
-// A startup that names no user.
-const NO_USER: &[u8] = b"\0\0\0\x09\0\x03\0\0\0";
-// The refusal of such a startup.
-const REFUSED: &[u8] = b"E\0\0\0;SFATAL\0VFATAL\0C28000\0Mno user name in startup message\0\0";
-// A read of a table that is not there, and a statement that the server doesn't run.
-const NO_TABLE: &[u8] =
-    b"\0\0\0\x10\0\x03\0\0user\0a\0\0Q\0\0\0 SELECT v FROM t WHERE k = 1\0Q\0\0\0\x0bVACUUM\0";
-// Their errors.
-const ERRORS: &[u8] =
-    b"R\0\0\0\x08\0\0\0\0S\0\0\0\x18server_version\014.0\0S\0\0\0\x19server_encoding\0UTF8\0S\0\0\0\x19client_encoding\0UTF8\0S\0\0\0\x17DateStyle\0ISO, MDY\0S\0\0\0\x19integer_datetimes\0on\0S\0\0\0#standard_conforming_strings\0on\0K\0\0\0\x0c\0\0\0\x01\0\0\0\0Z\0\0\0\x05IE\0\0\03SERROR\0VERROR\0C42P01\0Mrelation does not exist\0\0Z\0\0\0\x05IE\0\0\01SERROR\0VERROR\0C0A000\0Mfeature not supported\0\0Z\0\0\0\x05I";
-// A table made twice, and a key inserted twice.
-const TWICE: &[u8] =
-    b"\0\0\0\x10\0\x03\0\0user\0a\0\0Q\0\0\04CREATE TABLE t (k bigint PRIMARY KEY, v bigint)\0Q\0\0\04CREATE TABLE t (k bigint PRIMARY KEY, v bigint)\0Q\0\0\0!INSERT INTO t VALUES (1, 10)\0Q\0\0\0!INSERT INTO t VALUES (1, 11)\0X\0\0\0\x04";
-// What is sent where the second insert finds the first.
-const TAKEN: &[u8] =
-    b"R\0\0\0\x08\0\0\0\0S\0\0\0\x18server_version\014.0\0S\0\0\0\x19server_encoding\0UTF8\0S\0\0\0\x19client_encoding\0UTF8\0S\0\0\0\x17DateStyle\0ISO, MDY\0S\0\0\0\x19integer_datetimes\0on\0S\0\0\0#standard_conforming_strings\0on\0K\0\0\0\x0c\0\0\0\x01\0\0\0\0Z\0\0\0\x05IC\0\0\0\x11CREATE TABLE\0Z\0\0\0\x05IE\0\0\03SERROR\0VERROR\0C42P07\0Mrelation already exists\0\0Z\0\0\0\x05IC\0\0\0\x0fINSERT 0 1\0Z\0\0\0\x05IE\0\0\0JSERROR\0VERROR\0C23505\0Mduplicate key value violates unique constraint\0\0Z\0\0\0\x05I";
+fn level_word(level: Level) -> &'static [u8] {
+    match level {
+        Level::Rc => b"rc",
+        Level::Ra => b"ra",
+        Level::Cc => b"cc",
+    }
+}
 
-// A SELECT spelled in another way before its table is there, and three texts that aren't read.
-const READ: &[u8] =
-    b"\0\0\0\x10\0\x03\0\0user\0a\0\0Q\0\0\0+select V from T where K = (1) ; -- one\0Q\0\0\0\x16SELECT 1; SELEC 2\0Q\0\0\0\x0dSELECT \xff\0Q\0\0\0\x1fSELECT 9223372036854775808\0X\0\0\0\x04";
-// Their errors.
-const UNREAD: &[u8] =
-    b"R\0\0\0\x08\0\0\0\0S\0\0\0\x18server_version\014.0\0S\0\0\0\x19server_encoding\0UTF8\0S\0\0\0\x19client_encoding\0UTF8\0S\0\0\0\x17DateStyle\0ISO, MDY\0S\0\0\0\x19integer_datetimes\0on\0S\0\0\0#standard_conforming_strings\0on\0K\0\0\0\x0c\0\0\0\x01\0\0\0\0Z\0\0\0\x05IE\0\0\03SERROR\0VERROR\0C42P01\0Mrelation does not exist\0\0Z\0\0\0\x05IE\0\0\0(SERROR\0VERROR\0C42601\0Msyntax error\0\0Z\0\0\0\x05IE\0\0\0CSERROR\0VERROR\0C22021\0Minvalid byte sequence for encoding UTF8\0\0Z\0\0\0\x05IE\0\0\0.SERROR\0VERROR\0C22003\0Mvalue out of range\0\0Z\0\0\0\x05I";
+// The choice words with commas between them, and 0 where there are none.
+fn list_of(alloc: Global, words: &[u32]) -> Result<String, AllocError> {
+    let mut out = String::new(alloc);
+    for word in words {
+        if !out.as_str().is_empty() {
+            out.push_str(",")?;
+        }
+        out.push_str(format!(in alloc; "{word}")?.as_str())?;
+    }
+    if words.is_empty() {
+        out.push_str("0")?;
+    }
+    Ok(out)
+}
 
-// Tables, statements that have no types, and an update that finds no row.
-const TYPED: &[u8] =
-    b"\0\0\0\x10\0\x03\0\0user\0a\0\0Q\0\0\0bCREATE TABLE s (k varchar(3) PRIMARY KEY, b boolean DEFAULT true NOT NULL, CHECK (k <> 'no'))\0Q\0\0\0(INSERT INTO s VALUES ('ab', 'true')\0Q\0\0\0*CREATE TABLE s (k bigint PRIMARY KEY)\0Q\0\0\0\x1eCREATE TABLE z (k bigint)\0Q\0\0\0\x14SELECT q FROM s\0Q\0\0\0\x14SELECT 1 FROM q\0Q\0\0\0\x18SELECT k + 1 FROM s\0Q\0\0\0(INSERT INTO s VALUES ('abcd', true)\0Q\0\0\0\x14SELECT 1 + true\0Q\0\0\0\x1bUPDATE s SET b = false\0X\0\0\0\x04";
-// What they are answered.
-const JUDGED: &[u8] =
-    b"R\0\0\0\x08\0\0\0\0S\0\0\0\x18server_version\014.0\0S\0\0\0\x19server_encoding\0UTF8\0S\0\0\0\x19client_encoding\0UTF8\0S\0\0\0\x17DateStyle\0ISO, MDY\0S\0\0\0\x19integer_datetimes\0on\0S\0\0\0#standard_conforming_strings\0on\0K\0\0\0\x0c\0\0\0\x01\0\0\0\0Z\0\0\0\x05IC\0\0\0\x11CREATE TABLE\0Z\0\0\0\x05IE\0\0\01SERROR\0VERROR\0C0A000\0Mfeature not supported\0\0Z\0\0\0\x05IE\0\0\03SERROR\0VERROR\0C42P07\0Mrelation already exists\0\0Z\0\0\0\x05IE\0\0\01SERROR\0VERROR\0C0A000\0Mfeature not supported\0\0Z\0\0\0\x05IE\0\0\01SERROR\0VERROR\0C42703\0Mcolumn does not exist\0\0Z\0\0\0\x05IE\0\0\03SERROR\0VERROR\0C42P01\0Mrelation does not exist\0\0Z\0\0\0\x05IE\0\0\0?SERROR\0VERROR\0C42883\0Moperator or function does not exist\0\0Z\0\0\0\x05IE\0\0\03SERROR\0VERROR\0C22001\0Mvalue too long for type\0\0Z\0\0\0\x05IE\0\0\0?SERROR\0VERROR\0C42883\0Moperator or function does not exist\0\0Z\0\0\0\x05IC\0\0\0\x0dUPDATE 0\0Z\0\0\0\x05I";
+// The status of a session's end: 1 where the input ended inside a message, had a fault, or was refused.
+fn status_of(end: &str) -> u8 {
+    if end.ends_with(": Terminated\n")
+        || end.ends_with(": Closed\n")
+        || end.ends_with(": Cancelled\n")
+    {
+        0
+    } else {
+        1
+    }
+}
+
+// Whether the program serves the session as its text says, for an input that comes in pieces of this length.
+fn serves<R: Threads + Wait + Eprint + Sync>(
+    rt: &R,
+    alloc: Global,
+    session: &Session,
+    piece: u32,
+) -> Result<bool, Fail> {
+    let list = list_of(alloc, &session.words)?;
+    let level = level_word(session.level);
+    let status = status_of(session.end.as_str());
+    let held = answers(
+        rt,
+        alloc,
+        level,
+        list.as_str().as_bytes(),
+        &client_of(&session.input, piece),
+        status,
+        &session.sent,
+    )?;
+    Ok(held)
+}
+
+// The name of the first session that isn't served as its text says, or none.
+fn first_unserved<R: Threads + Wait + Eprint + Sync>(
+    rt: &R,
+    alloc: Global,
+    sessions: &[Session],
+    piece: u32,
+) -> Result<String, Fail> {
+    for session in sessions {
+        if !session.unread.as_str().is_empty() || !serves(rt, alloc, session, piece)? {
+            return Ok(String::from_str(alloc, session.name.as_str())?);
+        }
+    }
+    Ok(String::new(alloc))
+}
+
+// The name of the first of a text's sessions that isn't served as the text says, in pieces of several lengths; or how many there are.
+fn outcome<R: Threads + Wait + Eprint + Sync>(
+    rt: &R,
+    alloc: Global,
+    text: &str,
+) -> Result<String, Fail> {
+    let sessions = read_sessions(alloc, text)?;
+    for piece in [1, 7, 64] {
+        let name = first_unserved(rt, alloc, &sessions, piece)?;
+        if !name.as_str().is_empty() {
+            return Ok(name);
+        }
+    }
+    let count = sessions.len();
+    Ok(format!(in alloc; "{count} held")?)
+}
 
 #[test]
-fn serves_sessions(rt: HostRuntime) -> Result<(), Fail> {
+fn serves_rows(rt: HostRuntime) -> Result<(), Fail> {
     let alloc = rt.alloc();
-    for piece in 1..200 {
-        assert!(rt; answers(&rt, alloc, b"1,0,2", ROW, piece, 0, MISSED)?);
-        assert!(rt; answers(&rt, alloc, b"1,1,2", ROW, piece, 0, FOUND)?);
-        assert!(rt; answers(&rt, alloc, b"0", NO_TABLE, piece, 0, ERRORS)?);
-    }
-    assert!(rt; answers(&rt, alloc, b"0,0", ROW, 7, 0, MISSED)?);
-    assert!(rt; answers(&rt, alloc, b"0,1,7", ROW, 7, 0, FOUND)?);
-    assert!(rt; answers(&rt, alloc, b"0", NO_USER, 7, 1, REFUSED)?);
-    assert!(rt; answers(&rt, alloc, b"0,1", TWICE, 7, 0, TAKEN)?);
-    assert!(rt; answers(&rt, alloc, b"0", READ, 7, 0, UNREAD)?);
-    assert!(rt; answers(&rt, alloc, b"0", TYPED, 7, 0, JUDGED)?);
+    assert_eq!(rt; outcome(&rt, alloc, row_sessions())?.as_str(), "8 held");
+    assert_eq!(rt;
+        outcome(&rt, alloc, duplicate_key_sessions())?.as_str(),
+        "3 held"
+    );
+    assert_eq!(rt; outcome(&rt, alloc, delete_sessions())?.as_str(), "5 held");
     Ok(())
 }
 
 #[test]
-fn records_events(rt: HostRuntime) -> Result<(), Fail> {
+fn serves_messages(rt: HostRuntime) -> Result<(), Fail> {
     let alloc = rt.alloc();
-    assert_eq!(rt; events(alloc, &[1, 0, 2], ROW)?, 13);
-    assert_eq!(rt; events(alloc, &[1, 1, 2], ROW)?, 14);
-    assert_eq!(rt; events(alloc, &[0], NO_USER)?, 0);
-    assert_eq!(rt; events(alloc, &[0], NO_TABLE)?, 3);
-    assert_eq!(rt; events(alloc, &[0], READ)?, 3);
-    assert_eq!(rt; events(alloc, &[0], TYPED)?, 13);
+    assert_eq!(rt;
+        outcome(&rt, alloc, message_sessions())?.as_str(),
+        "10 held"
+    );
+    assert_eq!(rt; outcome(&rt, alloc, query_sessions())?.as_str(), "1 held");
+    assert_eq!(rt;
+        outcome(&rt, alloc, refusal_sessions())?.as_str(),
+        "15 held"
+    );
+    Ok(())
+}
+
+#[test]
+fn serves_statements(rt: HostRuntime) -> Result<(), Fail> {
+    let alloc = rt.alloc();
+    assert_eq!(rt;
+        outcome(&rt, alloc, statement_sessions())?.as_str(),
+        "6 held"
+    );
+    assert_eq!(rt; outcome(&rt, alloc, block_sessions())?.as_str(), "6 held");
+    assert_eq!(rt; outcome(&rt, alloc, level_sessions())?.as_str(), "4 held");
+    assert_eq!(rt; outcome(&rt, alloc, lone_sessions())?.as_str(), "3 held");
+    Ok(())
+}
+
+// How many piece lengths, from 1 on and below the bound, the session is served in, up to the first in which it isn't.
+fn lengths_held<R: Threads + Wait + Eprint + Sync>(
+    rt: &R,
+    alloc: Global,
+    session: &Session,
+    bound: u32,
+) -> Result<u32, Fail> {
+    for piece in 1..bound {
+        if !serves(rt, alloc, session, piece)? {
+            return Ok(piece);
+        }
+    }
+    Ok(bound)
+}
+
+// The same of the session at a place of a text.
+fn lengths_held_at<R: Threads + Wait + Eprint + Sync>(
+    rt: &R,
+    alloc: Global,
+    text: &str,
+    place: usize,
+    bound: u32,
+) -> Result<u32, Fail> {
+    let sessions = read_sessions(alloc, text)?;
+    match sessions.get(place) {
+        Some(session) => lengths_held(rt, alloc, session, bound),
+        None => Ok(0),
+    }
+}
+
+// The first two sessions of a row, and the one that reads a table that isn't there. Each has a test of its own, since one takes long.
+#[test]
+fn serves_a_read_that_misses_in_pieces_of_each_length(rt: HostRuntime) -> Result<(), Fail> {
+    assert_eq!(rt;
+        lengths_held_at(&rt, rt.alloc(), row_sessions(), 0, 200)?,
+        200
+    );
+    Ok(())
+}
+
+#[test]
+fn serves_a_read_that_finds_in_pieces_of_each_length(rt: HostRuntime) -> Result<(), Fail> {
+    assert_eq!(rt;
+        lengths_held_at(&rt, rt.alloc(), row_sessions(), 1, 200)?,
+        200
+    );
+    Ok(())
+}
+
+#[test]
+fn serves_a_read_of_no_table_in_pieces_of_each_length(rt: HostRuntime) -> Result<(), Fail> {
+    assert_eq!(rt;
+        lengths_held_at(&rt, rt.alloc(), row_sessions(), 7, 200)?,
+        200
+    );
     Ok(())
 }

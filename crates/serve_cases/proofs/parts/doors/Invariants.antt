@@ -1,0 +1,7 @@
+use Rattle.std.specs.Prelude.{All}
+use Rattle.doors.specs.Passage.{IsUnused}
+use Rattle.doors.specs.MemDoors.{mem_passage}
+use Rattle.serve_cases.proofs.parts.doors.Given as goal
+
+abbrev pub invariant-loop : goal.invariant-loop
+invariant-loop l = All (λ door. IsUnused (mem_passage door)) l.doors.items
