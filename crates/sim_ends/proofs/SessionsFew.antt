@@ -9,7 +9,7 @@ use Rattle.outcome_replies.specs.declared.description.RowDescription.TheVariants
 use Rattle.block_machine.specs.Calls as calls
 use Rattle.block_machine.specs.Knowledge.{Knowledge, at_start}
 use Rattle.block_machine.specs.Replies.{ready_reply, empty_reply}
-use Rattle.block_machine.specs.Messages as talk
+use Rattle.block_machine.specs.Messages as block_messages
 use Rattle.block_machine.specs.Messages.{Outside, owed_between, block_at, before}
 use Rattle.block_machine.specs.Script.{Entry, did, refused, short, unsent, stop, Said, Next, astray, Script}
 use Rattle.block_machine.specs.declared.block.Block.{Block}
@@ -37,13 +37,13 @@ record Encloses (n : ℕ) (outside : Outside) : Type 0 where
   next : (state : TransactionState) (k : Knowledge) → Few n (outside.next state k)
   broken : (owed : Owed) → Few n (outside.broken owed)
 
-readied : (n : ℕ) (outside : Outside) → Encloses n outside → (state : TransactionState) (known : Knowledge) → Few n (talk.readied state known outside)
+readied : (n : ℕ) (outside : Outside) → Encloses n outside → (state : TransactionState) (known : Knowledge) → Few n (block_messages.readied state known outside)
 readied n outside h state known =
     tell_few n (ready_reply state) (outside.broken (owed_between state)) (outside.next state known) (h.broken (owed_between state)) (h.next state known)
 
-ending : (n : ℕ) (outside : Outside) → Encloses n outside → (block : Block) (known : Knowledge) → Few (suc n) (talk.ends block known outside)
+ending : (n : ℕ) (outside : Outside) → Encloses n outside → (block : Block) (known : Knowledge) → Few (suc n) (block_messages.ends block known outside)
 ending n outside h (Implicit false) known = weaker n (suc n) _ (readied n outside h ready.Idle known) (omega arith)
-ending n outside h (Implicit true) known = ask_any n calls.Commit (λ _. talk.readied ready.Idle known outside) (λ a. readied n outside h ready.Idle known)
+ending n outside h (Implicit true) known = ask_any n calls.Commit (λ _. block_messages.readied ready.Idle known outside) (λ a. readied n outside h ready.Idle known)
 ending n outside h Regular known = weaker n (suc n) _ (readied n outside h ready.Block known) (omega arith)
 ending n outside h Failed known = weaker n (suc n) _ (readied n outside h ready.Failed known) (omega arith)
 
@@ -61,7 +61,7 @@ room_is n [] = omega arith
 room_is n (statement ∷ more) = let rest = room_is n more in omega arith
 
 statements : (n : ℕ) (outside : Outside) → Encloses n outside → (list : List Statement) (block : Block) (known : Knowledge) →
-    Few (room n list) (talk.statements list block known outside)
+    Few (room n list) (block_messages.statements list block known outside)
 statements n outside h [] block known = ending n outside h block known
 statements n outside h (statement ∷ more) block known =
     told_of (room n more) (before more outside)
@@ -81,12 +81,12 @@ alone n outside h = record {
 }
 
 opens : (n : ℕ) (outside : Outside) → Encloses n outside → (list : List Statement) (block : Block) (known : Knowledge) →
-    Few (room n list) (talk.opens list block known outside)
+    Few (room n list) (block_messages.opens list block known outside)
 opens n outside h [] block known = succeeds_at (suc n) (before [] outside) (alone n outside h) empty_reply block known
 opens n outside h (statement ∷ more) block known = statements n outside h (statement ∷ more) block known
 
 message : (n : ℕ) (outside : Outside) → Encloses n outside → (asked : Message) (state : TransactionState) (known : Knowledge) →
-    Few (3 + 2 * statements_in asked + n) (talk.message asked state known outside)
+    Few (3 + 2 * statements_in asked + n) (block_messages.message asked state known outside)
 message n outside h (messages.Unread code) state known =
     weaker (suc (suc n)) (3 + 2 * statements_in (messages.Unread code) + n) _
     (fails_at (suc n) (before [] outside) (alone n outside h) code (block_at state) known) (omega arith)
@@ -172,7 +172,7 @@ serving : (asked : Request) (n : ℕ) → 2 ≤ n → (state : TransactionState)
     Few (most_for asked + n) (told.serving asked state known rest)
 serving (query asked) n two state known rest few = message n (outside_of rest) (encloses n two rest few) asked state known
 serving unread_query n two state known rest few =
-    short_few (3 + n) false (talk.message (messages.Unread states.S53200) state known (outside_of rest)) _
+    short_few (3 + n) false (block_messages.message (messages.Unread states.S53200) state known (outside_of rest)) _
     (message n (outside_of rest) (encloses n two rest few) (messages.Unread states.S53200) state known) (lost_few (3 + n))
 serving terminate n two state known rest few = ending_few (3 + n) (omega arith) (owed_between state) ends.Terminated
 serving sync n two state known rest few = weaker n (3 + n) _ (readied n (outside_of rest) (encloses n two rest few) state known) (omega arith)
