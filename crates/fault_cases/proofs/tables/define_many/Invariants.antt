@@ -1,5 +1,5 @@
 use Rattle.history_core.specs.Book.{IsIdle}
 use Rattle.fault_cases.proofs.tables.define_many.Given as goal
 
-abbrev pub invariant-loop : goal.invariant-loop
-invariant-loop l = IsIdle l.book.state
+abbrev pub invariant-loop-at : goal.invariant-loop-at
+invariant-loop-at l = IsIdle l.book.state

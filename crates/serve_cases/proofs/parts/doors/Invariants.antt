@@ -3,5 +3,5 @@ use Rattle.doors.specs.Passage.{IsUnused}
 use Rattle.doors.specs.MemDoors.{mem_passage}
 use Rattle.serve_cases.proofs.parts.doors.Given as goal
 
-abbrev pub invariant-loop : goal.invariant-loop
-invariant-loop l = All (λ door. IsUnused (mem_passage door)) l.doors.items
+abbrev pub invariant-loop-entry : goal.invariant-loop-entry
+invariant-loop-entry l = All (λ door. IsUnused (mem_passage door)) l.doors.items
