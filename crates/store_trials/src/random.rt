@@ -38,20 +38,20 @@ struct Run {
 /// Histories of up to six transactions: each offer beside the trial of all orders, and beside the forced pairs of each candidate.
 #[test]
 fn offers_beside_all_orders(rt: HostRuntime) -> Result<(), Fail> {
-    let run = run_of(rt.alloc(), 20_191, MOST, 150)?;
-    assert!(&rt; run.reads > 1_500);
+    let run = run_of(rt.alloc(), 20_191, MOST, 700)?;
+    assert!(&rt; run.reads > 6_500);
     assert!(&rt; run.permitted > run.reads);
-    assert!(&rt; run.refused > 100);
+    assert!(&rt; run.refused > 400);
     Ok(())
 }
 
 /// Histories of up to twelve transactions: each offer beside the forced pairs of each candidate.
 #[test]
 fn offers_beside_forced_pairs(rt: HostRuntime) -> Result<(), Fail> {
-    let run = run_of(rt.alloc(), 4_096, 12, 300)?;
-    assert!(&rt; run.reads > 3_000);
+    let run = run_of(rt.alloc(), 4_096, 12, 1_400)?;
+    assert!(&rt; run.reads > 13_000);
     assert!(&rt; run.permitted > run.reads);
-    assert!(&rt; run.refused > 200);
+    assert!(&rt; run.refused > 800);
     Ok(())
 }
 
