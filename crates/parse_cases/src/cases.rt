@@ -8,8 +8,6 @@ mod sessions;
 
 pub(crate) use changes::CHANGES;
 pub(crate) use expressions::EXPRESSIONS;
-pub(crate) use faults::{
-    CODES, COUNTS, FAULT_CODES, FAULTS, LONG, LONGEST, Long, NO_TEXTS, RESERVED, UNSUPPORTED,
-};
+pub(crate) use faults::{FAULTS, LONG, RESERVED, UNSUPPORTED};
 pub(crate) use selects::SELECTS;
 pub(crate) use sessions::SESSIONS;

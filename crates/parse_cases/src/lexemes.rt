@@ -1,6 +1,4 @@
 // Texts with their tokens or fault, found by hand from the rules.
-use cell_base::SqlState;
-use sql_lexer::LexFault;
 
 /// Each text with its tokens, or its fault with its place. A word is written `w:`, a quoted name `q:`, a string `s:`, a
 /// number `n:` and a parameter `p:`, each with what it holds, a sign by its name, and after each token stand its two
@@ -150,29 +148,4 @@ pub const LEXEMES: &[(&str, &str)] = &[
     ("/*/", "UnclosedComment(0)"),
     ("a;-- b\n/* /* */", "UnclosedComment(7)"),
     ("'a' \"b\" 'c", "UnclosedString(8)"),
-];
-
-/// Pieces, how many times each makes a text of a million bytes, and how many tokens that has, or its fault.
-pub const REPEATED: &[(&str, u32, Result<usize, LexFault>)] = &[
-    ("(", 1_000_000, Ok(1_000_000)),
-    ("-", 1_000_000, Ok(0)),
-    ("- ", 500_000, Ok(500_000)),
-    ("/*", 500_000, Err(LexFault::UnclosedComment(0))),
-    ("a", 1_000_000, Err(LexFault::NameTooLong(0))),
-    ("1", 1_000_000, Err(LexFault::TooWide(0))),
-    ("'", 1_000_000, Ok(1)),
-];
-
-/// Each fault with its code.
-pub const FAULTS: &[(LexFault, SqlState)] = &[
-    (LexFault::UnclosedString(0), SqlState::S42601),
-    (LexFault::UnclosedComment(1), SqlState::S42601),
-    (LexFault::UnclosedName(2), SqlState::S42601),
-    (LexFault::EmptyName(3), SqlState::S42601),
-    (LexFault::BadCharacter(4), SqlState::S42601),
-    (LexFault::Junk(5), SqlState::S42601),
-    (LexFault::TooWide(6), SqlState::S22003),
-    (LexFault::NameTooLong(7), SqlState::S54000),
-    (LexFault::Unsupported(8), SqlState::S0A000),
-    (LexFault::Memory, SqlState::S53200),
 ];

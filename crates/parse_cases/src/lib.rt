@@ -13,7 +13,7 @@ mod expr;
 #[cfg(test)]
 mod lexemes;
 #[cfg(test)]
-mod reading;
+mod long_texts;
 #[cfg(test)]
 mod statement;
 #[cfg(test)]

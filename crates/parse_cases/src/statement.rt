@@ -1,230 +1,214 @@
 // Statements as one line each.
-use crate::expr::show;
+use crate::expr::{show, show_number, show_text};
 use cell_base::{Items, SqlType, Text};
 use sql_tree::{
     ColumnDef, CreateTable, Delete, Expr, Insert, Item, OrderTerm, Select, Statement, TableRef,
     Update,
 };
-use std::alloc::AllocError;
+use std::alloc::{AllocError, Global};
 
-fn word_and_text(out: &mut String, word: &str, text: &Text) -> Result<(), AllocError> {
-    out.push_str(word)?;
-    out.push_str(text.as_str())
-}
-
-/// The texts, each after the word.
-fn texts(out: &mut String, word: &str, texts: &Items<Text>) -> Result<(), AllocError> {
-    for text in texts.as_slice() {
-        word_and_text(out, word, text)?;
+fn names(out: &mut String, names: &Items<Text>) -> Result<(), AllocError> {
+    for name in names.as_slice() {
+        out.push_str(" ")?;
+        show_text(out, name)?;
     }
     Ok(())
 }
 
-fn word_and_expr(out: &mut String, word: &str, expr: &Expr) -> Result<(), AllocError> {
-    out.push_str(word)?;
-    show(out, expr)
-}
-
-fn word_and_any(out: &mut String, word: &str, expr: &Option<Expr>) -> Result<(), AllocError> {
+fn word_and_expr(
+    alloc: Global,
+    out: &mut String,
+    word: &str,
+    expr: &Option<Expr>,
+) -> Result<(), AllocError> {
     match expr {
-        Some(expr) => word_and_expr(out, word, expr),
+        Some(expr) => {
+            out.push_str(word)?;
+            show(alloc, out, expr)
+        }
         None => Ok(()),
     }
-}
-
-fn word_if(out: &mut String, word: &str, holds: bool) -> Result<(), AllocError> {
-    out.push_str(if holds { word } else { "" })
 }
 
 fn alias(out: &mut String, alias: &Option<Text>) -> Result<(), AllocError> {
     match alias {
-        Some(alias) => word_and_text(out, " as ", alias),
+        Some(alias) => {
+            out.push_str(" as ")?;
+            show_text(out, alias)
+        }
         None => Ok(()),
     }
 }
 
-// ---- queries
-
-fn expr_and_alias(out: &mut String, expr: &Expr, name: &Option<Text>) -> Result<(), AllocError> {
-    word_and_expr(out, " ", expr)?;
-    alias(out, name)
-}
-
-fn items(out: &mut String, items: &[Item]) -> Result<(), AllocError> {
-    for item in items {
-        match item {
-            Item::Star => out.push_str(" *")?,
-            Item::Expr(expr, name) => expr_and_alias(out, expr, name)?,
+fn item(alloc: Global, out: &mut String, item: &Item) -> Result<(), AllocError> {
+    match item {
+        Item::Star => out.push_str(" *"),
+        Item::Expr(expr, name) => {
+            out.push_str(" ")?;
+            show(alloc, out, expr)?;
+            alias(out, name)
         }
     }
-    Ok(())
 }
 
-fn entry(out: &mut String, entry: &TableRef) -> Result<(), AllocError> {
-    word_and_text(out, " from ", &entry.name)?;
+fn entry(alloc: Global, out: &mut String, entry: &TableRef) -> Result<(), AllocError> {
+    out.push_str(" from ")?;
+    show_text(out, &entry.name)?;
     alias(out, &entry.alias)?;
-    word_and_any(out, " on ", &entry.on)
+    word_and_expr(alloc, out, " on ", &entry.on)
 }
 
-fn entries(out: &mut String, entries: &[TableRef]) -> Result<(), AllocError> {
-    for one in entries {
-        entry(out, one)?;
+fn term(alloc: Global, out: &mut String, term: &OrderTerm) -> Result<(), AllocError> {
+    out.push_str(" by ")?;
+    show(alloc, out, &term.expr)?;
+    if term.descending {
+        out.push_str(" desc")?;
     }
     Ok(())
 }
 
-fn terms(out: &mut String, terms: &[OrderTerm]) -> Result<(), AllocError> {
-    for term in terms {
-        word_and_expr(out, " by ", &term.expr)?;
-        word_if(out, " desc", term.descending)?;
-    }
-    Ok(())
-}
-
-fn count(out: &mut String, word: &str, number: Option<i64>) -> Result<(), AllocError> {
+fn count(
+    alloc: Global,
+    out: &mut String,
+    word: &str,
+    number: Option<i64>,
+) -> Result<(), AllocError> {
     match number {
-        Some(number) => write!(out, "{word}{number}"),
+        Some(number) => {
+            out.push_str(word)?;
+            show_number(alloc, out, number)
+        }
         None => Ok(()),
     }
 }
 
-fn cut(out: &mut String, select: &Select) -> Result<(), AllocError> {
-    count(out, " limit ", select.limit)?;
-    count(out, " offset ", select.offset)
-}
-
-fn source(out: &mut String, select: &Select) -> Result<(), AllocError> {
-    items(out, select.items.as_slice())?;
-    entries(out, select.from.as_slice())?;
-    word_and_any(out, " where ", &select.filter)
-}
-
-fn select(out: &mut String, select: &Select) -> Result<(), AllocError> {
+fn select(alloc: Global, out: &mut String, select: &Select) -> Result<(), AllocError> {
     out.push_str("select")?;
-    source(out, select)?;
-    terms(out, select.order.as_slice())?;
-    cut(out, select)
+    for one in select.items.as_slice() {
+        item(alloc, out, one)?;
+    }
+    for one in select.from.as_slice() {
+        entry(alloc, out, one)?;
+    }
+    word_and_expr(alloc, out, " where ", &select.filter)?;
+    for one in select.order.as_slice() {
+        term(alloc, out, one)?;
+    }
+    count(alloc, out, " limit ", select.limit)?;
+    count(alloc, out, " offset ", select.offset)
 }
 
-// ---- changes
-
-fn cell(out: &mut String, cell: &Option<Expr>) -> Result<(), AllocError> {
+fn cell(alloc: Global, out: &mut String, cell: &Option<Expr>) -> Result<(), AllocError> {
     match cell {
-        Some(expr) => show(out, expr),
+        Some(expr) => show(alloc, out, expr),
         None => out.push_str("default"),
     }
 }
 
-fn row(out: &mut String, row: &[Option<Expr>]) -> Result<(), AllocError> {
-    for one in row {
+fn row(alloc: Global, out: &mut String, row: &Items<Option<Expr>>) -> Result<(), AllocError> {
+    out.push_str(" row")?;
+    for one in row.as_slice() {
         out.push_str(" ")?;
-        cell(out, one)?;
+        cell(alloc, out, one)?;
     }
     Ok(())
 }
 
-fn rows(out: &mut String, rows: &[Items<Option<Expr>>]) -> Result<(), AllocError> {
-    for one in rows {
-        out.push_str(" row")?;
-        row(out, one.as_slice())?;
+fn insert(alloc: Global, out: &mut String, insert: &Insert) -> Result<(), AllocError> {
+    out.push_str("insert ")?;
+    show_text(out, &insert.table)?;
+    names(out, &insert.columns)?;
+    for one in insert.rows.as_slice() {
+        row(alloc, out, one)?;
     }
     Ok(())
 }
 
-fn insert(out: &mut String, insert: &Insert) -> Result<(), AllocError> {
-    word_and_text(out, "insert ", &insert.table)?;
-    texts(out, " ", &insert.columns)?;
-    rows(out, insert.rows.as_slice())
-}
-
-fn assignments(out: &mut String, set: &[(Text, Option<Expr>)]) -> Result<(), AllocError> {
-    for (column, value) in set {
-        word_and_text(out, " set ", column)?;
+fn update(alloc: Global, out: &mut String, update: &Update) -> Result<(), AllocError> {
+    out.push_str("update ")?;
+    show_text(out, &update.table)?;
+    for one in update.set.as_slice() {
+        out.push_str(" set ")?;
+        show_text(out, &one.0)?;
         out.push_str(" = ")?;
-        cell(out, value)?;
+        cell(alloc, out, &one.1)?;
+    }
+    word_and_expr(alloc, out, " where ", &update.filter)
+}
+
+fn delete(alloc: Global, out: &mut String, delete: &Delete) -> Result<(), AllocError> {
+    out.push_str("delete ")?;
+    show_text(out, &delete.table)?;
+    word_and_expr(alloc, out, " where ", &delete.filter)
+}
+
+fn kind(alloc: Global, out: &mut String, kind: SqlType) -> Result<(), AllocError> {
+    match kind {
+        SqlType::Boolean => out.push_str(" boolean"),
+        SqlType::Integer => out.push_str(" integer"),
+        SqlType::Bigint => out.push_str(" bigint"),
+        SqlType::Text => out.push_str(" text"),
+        SqlType::Numeric => out.push_str(" numeric"),
+        SqlType::Varchar(length) => {
+            out.push_str(" varchar ")?;
+            out.push_str(format!(in alloc; "{length}")?.as_str())
+        }
+    }
+}
+
+fn column(alloc: Global, out: &mut String, column: &ColumnDef) -> Result<(), AllocError> {
+    out.push_str(" column ")?;
+    show_text(out, &column.name)?;
+    kind(alloc, out, column.kind)?;
+    if column.not_null {
+        out.push_str(" not null")?;
+    }
+    word_and_expr(alloc, out, " default ", &column.default)?;
+    if column.key {
+        out.push_str(" key")?;
     }
     Ok(())
 }
 
-fn update(out: &mut String, update: &Update) -> Result<(), AllocError> {
-    word_and_text(out, "update ", &update.table)?;
-    assignments(out, update.set.as_slice())?;
-    word_and_any(out, " where ", &update.filter)
-}
-
-fn delete(out: &mut String, delete: &Delete) -> Result<(), AllocError> {
-    word_and_text(out, "delete ", &delete.table)?;
-    word_and_any(out, " where ", &delete.filter)
-}
-
-// ---- definitions
-
-fn kind(out: &mut String, kind: SqlType) -> Result<(), AllocError> {
-    let word = match kind {
-        SqlType::Varchar(length) => return write!(out, " varchar {length}"),
-        SqlType::Boolean => " boolean",
-        SqlType::Integer => " integer",
-        SqlType::Bigint => " bigint",
-        SqlType::Text => " text",
-        SqlType::Numeric => " numeric",
-    };
-    out.push_str(word)
-}
-
-fn name_and_kind(out: &mut String, column: &ColumnDef) -> Result<(), AllocError> {
-    word_and_text(out, " column ", &column.name)?;
-    kind(out, column.kind)
-}
-
-fn column(out: &mut String, column: &ColumnDef) -> Result<(), AllocError> {
-    name_and_kind(out, column)?;
-    word_if(out, " not null", column.not_null)?;
-    word_and_any(out, " default ", &column.default)?;
-    word_if(out, " key", column.key)
-}
-
-fn columns(out: &mut String, columns: &[ColumnDef]) -> Result<(), AllocError> {
-    for one in columns {
-        column(out, one)?;
+fn create(alloc: Global, out: &mut String, create: &CreateTable) -> Result<(), AllocError> {
+    out.push_str("create ")?;
+    show_text(out, &create.name)?;
+    for one in create.columns.as_slice() {
+        column(alloc, out, one)?;
+    }
+    for one in create.keys.as_slice() {
+        out.push_str(" key ")?;
+        show_text(out, one)?;
+    }
+    for one in create.checks.as_slice() {
+        out.push_str(" check ")?;
+        show(alloc, out, one)?;
     }
     Ok(())
-}
-
-fn checks(out: &mut String, checks: &[Expr]) -> Result<(), AllocError> {
-    for one in checks {
-        word_and_expr(out, " check ", one)?;
-    }
-    Ok(())
-}
-
-fn create(out: &mut String, create: &CreateTable) -> Result<(), AllocError> {
-    word_and_text(out, "create ", &create.name)?;
-    columns(out, create.columns.as_slice())?;
-    texts(out, " key ", &create.keys)?;
-    checks(out, create.checks.as_slice())
-}
-
-// ---- settings
-
-fn set(out: &mut String, name: &Text, values: &Items<Text>) -> Result<(), AllocError> {
-    write!(out, "set {} =", name.as_str())?;
-    texts(out, " ", values)
 }
 
 /// The statement as one line.
-pub fn line(out: &mut String, statement: &Statement) -> Result<(), AllocError> {
+pub fn line(alloc: Global, out: &mut String, statement: &Statement) -> Result<(), AllocError> {
     match statement {
-        Statement::Select(tree) => select(out, tree),
-        Statement::Insert(tree) => insert(out, tree),
-        Statement::Update(tree) => update(out, tree),
-        Statement::Delete(tree) => delete(out, tree),
-        Statement::Create(tree) => create(out, tree),
+        Statement::Select(tree) => select(alloc, out, tree),
+        Statement::Insert(tree) => insert(alloc, out, tree),
+        Statement::Update(tree) => update(alloc, out, tree),
+        Statement::Delete(tree) => delete(alloc, out, tree),
+        Statement::Create(tree) => create(alloc, out, tree),
         Statement::Begin(true) => out.push_str("start"),
         Statement::Begin(false) => out.push_str("begin"),
         Statement::Commit => out.push_str("commit"),
         Statement::Rollback => out.push_str("rollback"),
         Statement::SetModes => out.push_str("modes"),
-        Statement::Set(name, values) => set(out, name, values),
-        Statement::Show(name) => word_and_text(out, "show ", name),
+        Statement::Set(name, values) => {
+            out.push_str("set ")?;
+            show_text(out, name)?;
+            out.push_str(" =")?;
+            names(out, values)
+        }
+        Statement::Show(name) => {
+            out.push_str("show ")?;
+            show_text(out, name)
+        }
     }
 }

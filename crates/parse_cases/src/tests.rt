@@ -1,25 +1,42 @@
 // What no clause says: that the grammar is the one that is meant, by texts read by hand.
 ghost use Rattle.std.specs.Prelude.{◌<◌, ◌^◌, length};
 
-use crate::cases::{
-    CHANGES, CODES, COUNTS, EXPRESSIONS, FAULT_CODES, FAULTS, LONG, LONGEST, Long, NO_TEXTS,
-    RESERVED, SELECTS, SESSIONS, UNSUPPORTED,
-};
-use crate::reading::{MAX_TEXT, fault_of, outcome, push_times, verdict};
+use crate::cases::{CHANGES, EXPRESSIONS, FAULTS, LONG, RESERVED, SELECTS, SESSIONS, UNSUPPORTED};
+use crate::statement::line;
 use cell_base::{SqlState, Text, TextFault};
 use sql_lexer::tokens;
-use sql_statements::{ParseFault, parse};
-use sql_tree::Token;
+use sql_statements::{ParseFault, parse, statements};
+use sql_tree::Statement;
 use std::alloc::{AllocError, Global};
 use std::process::Abort;
 use std::test::Fail;
 
-// ---- texts with their statements
+/// The statements, each followed by a semicolon.
+fn lines(alloc: Global, found: &[Statement]) -> Result<String, AllocError> {
+    let mut out = String::new(alloc);
+    for statement in found {
+        line(alloc, &mut out, statement)?;
+        out.push_str(";")?;
+    }
+    Ok(out)
+}
+
+/// The text's statements, or its fault.
+fn show(alloc: Global, text: &Text) -> Result<String, AllocError>
+    requires { length text.now < 2 ^ 32 }
+{
+    match statements(alloc, text) {
+        Ok(found) => lines(alloc, found.as_slice()),
+        Err(fault) => format!(in alloc; "{fault:?}"),
+    }
+}
 
 /// Whether each text of the table is read as the table says.
 fn are_read(rt: &(impl Abort + AllocGlobal), table: &[(&str, &str)]) -> Result<(), Fail> {
     for (spelled, want) in table {
-        let found = outcome(rt.alloc(), spelled)?;
+        let text = Text::from_bytes(rt.alloc(), spelled.as_bytes())?;
+        assert!(rt; text.bytes().len() < 1_000);
+        let found = show(rt.alloc(), &text)?;
         assert_eq!(rt; found.as_str(), *want, "at {spelled}");
     }
     Ok(())
@@ -50,154 +67,139 @@ fn finds_faults(rt: HostRuntime) -> Result<(), Fail> {
     are_read(&rt, FAULTS)
 }
 
-// ---- long texts
-
-/// What the reader says of a long text.
-fn verdict_of(alloc: Global, long: &Long) -> Result<String, AllocError> {
-    let (first, open, times, inner, close, _) = long;
-    let mut spelled = String::from_str(alloc, first)?;
-    push_times(&mut spelled, open, *times)?;
-    spelled.push_str(inner)?;
-    push_times(&mut spelled, close, *times)?;
-    verdict(alloc, spelled.as_str())
+fn push_times(out: &mut String, part: &str, times: u32) -> Result<(), AllocError> {
+    for _ in 0..times {
+        out.push_str(part)?;
+    }
+    Ok(())
 }
 
-fn are_long(rt: &(impl Abort + AllocGlobal), table: &[Long]) -> Result<(), Fail> {
-    for long in table {
-        let found = verdict_of(rt.alloc(), long)?;
+/// The fault of the text, or `read`.
+fn verdict(alloc: Global, text: &Text) -> Result<String, AllocError>
+    requires { length text.now < 2 ^ 32 }
+{
+    match statements(alloc, text) {
+        Ok(_) => String::from_str(alloc, "read"),
+        Err(fault) => format!(in alloc; "{fault:?}"),
+    }
+}
+
+#[test]
+fn keeps_its_limits(rt: HostRuntime) -> Result<(), Fail> {
+    for (first, open, times, inner, close, want) in LONG {
+        let mut spelled = String::from_str(rt.alloc(), first)?;
+        push_times(&mut spelled, open, *times)?;
+        spelled.push_str(inner)?;
+        push_times(&mut spelled, close, *times)?;
+        let text = Text::from_bytes(rt.alloc(), spelled.as_bytes())?;
+        assert!(rt; text.bytes().len() < 1_000_000);
+        let found = verdict(rt.alloc(), &text)?;
         assert_eq!(rt;
             found.as_str(),
-            long.5,
-            "{} times {} after {}",
-            long.2,
-            long.1,
-            long.0
+            *want,
+            "{times} times {open} after {first}"
         );
     }
     Ok(())
 }
 
-#[test]
-fn keeps_its_limits(rt: HostRuntime) -> Result<(), Fail> {
-    are_long(&rt, LONG)
-}
-
-/// Each is answered in time: no call nests with their length.
-#[test]
-fn answers_long_texts(rt: HostRuntime) -> Result<(), Fail> {
-    are_long(&rt, LONGEST)
-}
-
-// ---- words
-
-/// The fault of a text of three parts.
-fn fault_around(
-    alloc: Global,
+/// What the reader says of a text of three parts.
+fn says(
+    rt: &(impl Abort + AllocGlobal),
     first: &str,
     word: &str,
     last: &str,
-) -> Result<Option<ParseFault>, AllocError> {
-    let mut spelled = String::from_str(alloc, first)?;
+) -> Result<String, Fail> {
+    let mut spelled = String::from_str(rt.alloc(), first)?;
     spelled.push_str(word)?;
     spelled.push_str(last)?;
-    Ok(fault_of(alloc, spelled.as_str()))
-}
-
-/// Whether each word, between these two parts, has this fault.
-fn have_fault(
-    rt: &(impl Abort + AllocGlobal),
-    first: &str,
-    words: &[&str],
-    last: &str,
-    want: Option<ParseFault>,
-) -> Result<(), Fail> {
-    for word in words {
-        let found = fault_around(rt.alloc(), first, word, last)?;
-        assert_eq!(rt; found, want, "at {word}");
-    }
-    Ok(())
+    let text = Text::from_bytes(rt.alloc(), spelled.as_bytes())?;
+    assert!(rt; text.bytes().len() < 1_000);
+    Ok(verdict(rt.alloc(), &text)?)
 }
 
 #[test]
 fn takes_no_reserved_word_for_a_name(rt: HostRuntime) -> Result<(), Fail> {
     for word in RESERVED {
-        let found = fault_around(rt.alloc(), "SELECT a FROM ", word, "")?;
-        assert!(rt; found.is_some(), "at {word}");
+        let bare = says(&rt, "SELECT a FROM ", word, "")?;
+        assert!(rt; bare.as_str() != "read");
+        let quoted = says(&rt, "SELECT a FROM \"", word, "\"")?;
+        assert_eq!(rt; quoted.as_str(), "read");
     }
-    have_fault(&rt, "SELECT a FROM \"", RESERVED, "\"", None)
+    Ok(())
 }
 
 #[test]
 fn knows_each_unsupported_word(rt: HostRuntime) -> Result<(), Fail> {
-    have_fault(&rt, "foo ", UNSUPPORTED, "", Some(ParseFault::Unsupported))?;
-    have_fault(&rt, "foo \"", UNSUPPORTED, "\"", Some(ParseFault::Syntax))
+    for word in UNSUPPORTED {
+        let bare = says(&rt, "foo ", word, "")?;
+        assert_eq!(rt; bare.as_str(), "Unsupported", "at {word}");
+        let quoted = says(&rt, "foo \"", word, "\"")?;
+        assert_eq!(rt; quoted.as_str(), "Syntax", "at {word}");
+    }
+    Ok(())
 }
 
-// ---- codes
-
 /// The code of the text's fault; none where it is read.
-fn code(alloc: Global, spelled: &str) -> Option<SqlState> {
-    match fault_of(alloc, spelled) {
-        Some(fault) => Some(fault.state()),
-        None => None,
+fn code(alloc: Global, text: &Text) -> Option<SqlState>
+    requires { length text.now < 2 ^ 32 }
+{
+    match statements(alloc, text) {
+        Ok(_) => None,
+        Err(fault) => Some(fault.state()),
     }
 }
 
 #[test]
-fn answers_a_code(rt: HostRuntime) {
-    for (spelled, want) in CODES {
-        assert_eq!(rt; code(rt.alloc(), spelled), *want, "at {spelled}");
+fn answers_a_code(rt: HostRuntime) -> Result<(), Fail> {
+    for (spelled, want) in [
+        ("SELECT DISTINCT v FROM t", Some(SqlState::S0A000)),
+        ("SAVEPOINT a", Some(SqlState::S0A000)),
+        ("SELECT 'a", Some(SqlState::S42601)),
+        ("SELECT 1.5", Some(SqlState::S0A000)),
+        ("SELECT 9223372036854775808", Some(SqlState::S22003)),
+        ("SELECT 1; SELEC 2", Some(SqlState::S42601)),
+        ("SELECT 1", None),
+    ] {
+        let text = Text::from_bytes(rt.alloc(), spelled.as_bytes())?;
+        assert!(rt; text.bytes().len() < 1_000);
+        assert_eq!(rt; code(rt.alloc(), &text), want);
     }
+    Ok(())
 }
 
 #[test]
 fn has_a_code_for_each_fault(rt: HostRuntime) {
-    for (fault, want) in FAULT_CODES {
-        assert_eq!(rt; fault.state(), *want);
-    }
-}
-
-// ---- bytes and tokens
-
-fn text_fault(alloc: Global, bytes: &[u8]) -> Option<TextFault> {
-    Text::from_bytes(alloc, bytes).err()
+    assert_eq!(rt; ParseFault::TooMany.state(), SqlState::S54000);
+    assert_eq!(rt; ParseFault::TooDeep.state(), SqlState::S54000);
+    assert_eq!(rt; ParseFault::Unsupported.state(), SqlState::S0A000);
+    assert_eq!(rt; ParseFault::Syntax.state(), SqlState::S42601);
+    assert_eq!(rt; ParseFault::Memory.state(), SqlState::S53200);
 }
 
 /// Bytes that are no text have no tokens.
 #[test]
 fn takes_text_alone(rt: HostRuntime) {
-    for bytes in NO_TEXTS {
-        assert_eq!(rt; text_fault(rt.alloc(), bytes), Some(TextFault::NotUtf8));
-    }
-}
-
-fn count_parsed(alloc: Global, found: &[Token]) -> Result<usize, ParseFault> {
-    Ok(parse(alloc, found)?.len())
-}
-
-fn count_of(alloc: Global, text: &Text) -> Result<usize, ParseFault>
-    requires { length text.now < 2 ^ 32 }
-{
-    match tokens(alloc, text) {
-        Ok(found) => count_parsed(alloc, found.as_slice()),
-        Err(fault) => Err(ParseFault::Lex(fault)),
+    for bytes in [b"\xff".as_slice(), b"SELECT '\xff'", b"SELECT \xc3"] {
+        let found = Text::from_bytes(rt.alloc(), bytes).err();
+        assert_eq!(rt; found, Some(TextFault::NotUtf8));
     }
 }
 
 /// How many statements the tokens of the text spell, all of them read by `parse`.
-fn count(alloc: Global, spelled: &str) -> Result<usize, ParseFault> {
-    let Ok(text) = Text::from_bytes(alloc, spelled.as_bytes()) else {
-        return Err(ParseFault::Memory);
-    };
-    if text.bytes().len() > MAX_TEXT {
-        return Err(ParseFault::Memory);
-    }
-    count_of(alloc, &text)
+fn count(alloc: Global, text: &Text) -> Result<usize, Fail>
+    requires { length text.now < 2 ^ 32 }
+{
+    let found = tokens(alloc, text)?;
+    Ok(parse(alloc, found.as_slice())?.len())
 }
 
 #[test]
-fn reads_no_statement_between_semicolons(rt: HostRuntime) {
-    for (spelled, want) in COUNTS {
-        assert_eq!(rt; count(rt.alloc(), spelled), Ok(*want), "at {spelled}");
+fn reads_no_statement_between_semicolons(rt: HostRuntime) -> Result<(), Fail> {
+    for (spelled, want) in [(";", 0), ("", 0), (";;COMMIT;", 1)] {
+        let text = Text::from_bytes(rt.alloc(), spelled.as_bytes())?;
+        assert!(rt; text.bytes().len() < 1_000);
+        assert_eq!(rt; count(rt.alloc(), &text)?, want);
     }
+    Ok(())
 }

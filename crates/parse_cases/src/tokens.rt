@@ -1,103 +1,115 @@
 // What no clause says: that the lexemes are those of SQL, by texts read by hand, and that a long text is answered at once.
-use crate::lexemes::{FAULTS, LEXEMES, REPEATED};
-use crate::reading::{MAX_TEXT, push_times};
-use cell_base::Text;
-use sql_lexer::{LexFault, Sign, Token, TokenKind, tokens};
+ghost use Rattle.std.specs.Prelude.{◌<◌, ◌^◌, length};
+
+use crate::lexemes::LEXEMES;
+use cell_base::{SqlState, Text};
+use sql_lexer::{LexFault, TokenKind, tokens};
 use std::alloc::{AllocError, Global};
 use std::test::Fail;
 
-fn push_text(out: &mut String, word: &str, text: &Text) -> Result<(), AllocError> {
-    out.push_str(word)?;
-    out.push_str(text.as_str())
-}
-
-fn push_sign(out: &mut String, sign: Sign) -> Result<(), AllocError> {
-    write!(out, "{sign:?}")
-}
-
-fn push_number(out: &mut String, word: &str, number: i64) -> Result<(), AllocError> {
-    write!(out, "{word}{number}")
-}
-
-fn push_kind(out: &mut String, kind: &TokenKind) -> Result<(), AllocError> {
+fn show_kind(alloc: Global, kind: &TokenKind) -> Result<String, AllocError> {
     match kind {
-        TokenKind::Word(name) => push_text(out, "w:", name),
-        TokenKind::Quoted(name) => push_text(out, "q:", name),
-        TokenKind::Str(text) => push_text(out, "s:", text),
-        TokenKind::Number(n) => push_number(out, "n:", *n),
-        TokenKind::Param(n) => push_number(out, "p:", i64::from(*n)),
-        TokenKind::Sign(sign) => push_sign(out, *sign),
+        TokenKind::Word(name) => format!(in alloc; "w:{}", name.as_str()),
+        TokenKind::Quoted(name) => format!(in alloc; "q:{}", name.as_str()),
+        TokenKind::Str(text) => format!(in alloc; "s:{}", text.as_str()),
+        TokenKind::Number(n) => format!(in alloc; "n:{n}"),
+        TokenKind::Param(n) => format!(in alloc; "p:{n}"),
+        TokenKind::Sign(sign) => format!(in alloc; "{sign:?}"),
     }
 }
 
-fn push_token(out: &mut String, token: &Token) -> Result<(), AllocError> {
-    push_kind(out, &token.kind)?;
-    write!(out, " {}-{}", token.start, token.end)
-}
-
-fn lines(alloc: Global, found: &[Token]) -> Result<String, AllocError> {
-    let mut out = String::new(alloc);
-    for (i, token) in found.iter().enumerate() {
-        if i > 0 {
-            out.push_str(" ")?;
+fn show(alloc: Global, text: &Text) -> Result<String, AllocError>
+    requires { length text.now < 2 ^ 32 }
+{
+    match tokens(alloc, text) {
+        Err(fault) => format!(in alloc; "{fault:?}"),
+        Ok(found) => {
+            let mut shown = String::new(alloc);
+            for token in &found {
+                if !shown.is_empty() {
+                    shown.push_str(" ")?;
+                }
+                shown.push_str(show_kind(alloc, &token.kind)?.as_str())?;
+                shown.push_str(format!(in alloc; " {}-{}", token.start, token.end)?.as_str())?;
+            }
+            Ok(shown)
         }
-        push_token(&mut out, token)?;
-    }
-    Ok(out)
-}
-
-fn name_of(alloc: Global, fault: LexFault) -> Result<String, AllocError> {
-    format!(in alloc; "{fault:?}")
-}
-
-fn cut(alloc: Global, spelled: &str) -> Result<Vec<Token>, LexFault> {
-    let Ok(text) = Text::from_bytes(alloc, spelled.as_bytes()) else {
-        return Err(LexFault::Memory);
-    };
-    if text.bytes().len() > MAX_TEXT {
-        return Err(LexFault::Memory);
-    }
-    tokens(alloc, &text)
-}
-
-/// The text's tokens, or its fault.
-fn outcome(alloc: Global, spelled: &str) -> Result<String, AllocError> {
-    match cut(alloc, spelled) {
-        Ok(found) => lines(alloc, found.as_slice()),
-        Err(fault) => name_of(alloc, fault),
     }
 }
 
 #[test]
 fn reads_each_lexeme(rt: HostRuntime) -> Result<(), Fail> {
+    let alloc = rt.alloc();
     for (spelled, want) in LEXEMES {
-        let found = outcome(rt.alloc(), spelled)?;
+        let text = Text::from_bytes(alloc, spelled.as_bytes())?;
+        assert!(rt; text.bytes().len() < 1_000);
+        let found = show(alloc, &text)?;
         assert_eq!(rt; found.as_str(), *want, "at {spelled}");
     }
     Ok(())
 }
 
-/// The number of tokens of the same piece so many times, or the fault.
-fn count(alloc: Global, piece: &str, times: u32) -> Result<usize, LexFault> {
-    let mut spelled = String::new(alloc);
-    push_times(&mut spelled, piece, times)?;
-    match cut(alloc, spelled.as_str()) {
-        Ok(found) => Ok(found.len()),
-        Err(fault) => Err(fault),
+/// The number of tokens of a million bytes, the same piece so many times, or the fault.
+fn repeated(alloc: Global, piece: &[u8], times: usize) -> Result<usize, LexFault> {
+    let mut bytes = Vec::new(alloc);
+    for _ in 0..times {
+        bytes.extend_from_slice(piece)?;
     }
+    let Ok(text) = Text::from_bytes(alloc, &bytes) else {
+        return Err(LexFault::Memory);
+    };
+    if text.bytes().len() != 1_000_000 {
+        return Err(LexFault::Memory);
+    }
+    Ok(tokens(alloc, &text)?.len())
 }
 
-/// A million bytes of each hard piece.
 #[test]
-fn cuts_a_million_bytes(rt: HostRuntime) {
-    for (piece, times, want) in REPEATED {
-        assert_eq!(rt; count(rt.alloc(), piece, *times), *want, "at {piece}");
-    }
+fn reads_a_million_parentheses(rt: HostRuntime) {
+    assert_eq!(rt; repeated(rt.alloc(), b"(", 1_000_000), Ok(1_000_000));
+}
+
+#[test]
+fn reads_a_million_minus_signs(rt: HostRuntime) {
+    assert_eq!(rt; repeated(rt.alloc(), b"-", 1_000_000), Ok(0));
+    assert_eq!(rt; repeated(rt.alloc(), b"- ", 500_000), Ok(500_000));
+}
+
+#[test]
+fn reads_half_a_million_comment_starts(rt: HostRuntime) {
+    assert_eq!(rt;
+        repeated(rt.alloc(), b"/*", 500_000),
+        Err(LexFault::UnclosedComment(0))
+    );
+}
+
+#[test]
+fn reads_a_word_of_a_million_letters(rt: HostRuntime) {
+    assert_eq!(rt;
+        repeated(rt.alloc(), b"a", 1_000_000),
+        Err(LexFault::NameTooLong(0))
+    );
+    assert_eq!(rt;
+        repeated(rt.alloc(), b"1", 1_000_000),
+        Err(LexFault::TooWide(0))
+    );
+    assert_eq!(rt; repeated(rt.alloc(), b"'", 1_000_000), Ok(1));
 }
 
 #[test]
 fn answers_a_code_for_each_fault(rt: HostRuntime) {
-    for (fault, want) in FAULTS {
-        assert_eq!(rt; fault.state(), *want);
+    for (fault, state) in [
+        (LexFault::UnclosedString(0), SqlState::S42601),
+        (LexFault::UnclosedComment(1), SqlState::S42601),
+        (LexFault::UnclosedName(2), SqlState::S42601),
+        (LexFault::EmptyName(3), SqlState::S42601),
+        (LexFault::BadCharacter(4), SqlState::S42601),
+        (LexFault::Junk(5), SqlState::S42601),
+        (LexFault::TooWide(6), SqlState::S22003),
+        (LexFault::NameTooLong(7), SqlState::S54000),
+        (LexFault::Unsupported(8), SqlState::S0A000),
+        (LexFault::Memory, SqlState::S53200),
+    ] {
+        assert_eq!(rt; fault.state(), state);
     }
 }

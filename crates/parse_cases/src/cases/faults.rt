@@ -1,7 +1,5 @@
 // Faults: those of the lexer, which come before all others, those of the tokens, and long texts; and the words with a rule
 // of their own.
-use cell_base::SqlState;
-use sql_statements::ParseFault;
 
 /// Each text with its fault, or its statements where it is just not at fault.
 pub(crate) const FAULTS: &[(&str, &str)] = &[
@@ -84,19 +82,9 @@ pub(crate) const FAULTS: &[(&str, &str)] = &[
     ("SELECT 1; SELEC 2", "Syntax"),
 ];
 
-/// A long text: how it begins, what opens so many times, what stands inside, what closes as often, and the fault, or `read` where
-/// there is none.
-pub(crate) type Long = (
-    &'static str,
-    &'static str,
-    u32,
-    &'static str,
-    &'static str,
-    &'static str,
-);
-
-/// Long texts on both sides of each limit.
-pub(crate) const LONG: &[Long] = &[
+/// Long texts on both sides of each limit: how a text begins, what opens so many times, what stands inside, what closes as
+/// often, and the fault, or `read` where there is none.
+pub(crate) const LONG: &[(&str, &str, u32, &str, &str, &str)] = &[
     // 256 statements
     ("", "COMMIT;", 256, ";;", "", "read"),
     ("", "COMMIT;", 257, "", "", "TooMany"),
@@ -157,20 +145,6 @@ pub(crate) const LONG: &[Long] = &[
     ("SELECT ", "-", 100_000, "1", "", "Syntax"),
     ("", "/*", 100_000, "", "", "Lex(UnclosedComment(0))"),
     ("SELECT ", "a", 100_000, "", "", "Lex(NameTooLong(7))"),
-];
-
-/// Texts of a million bytes.
-pub(crate) const LONGEST: &[Long] = &[
-    ("", "(", 1_000_000, "", "", "TooDeep"),
-    ("", "-", 1_000_000, "", "", "read"),
-    ("", "- ", 500_000, "", "", "Syntax"),
-    ("SELECT ", "- ", 500_000, "1", "", "TooDeep"),
-    ("", "NOT ", 250_000, "", "", "Syntax"),
-    ("SELECT ", "NOT ", 250_000, "true", "", "TooDeep"),
-    ("SELECT 1", "+1", 500_000, "", "", "TooDeep"),
-    ("", "/*", 500_000, "", "", "Lex(UnclosedComment(0))"),
-    ("", "a", 1_000_000, "", "", "Lex(NameTooLong(0))"),
-    ("SELECT ", "a ", 500_000, "", "", "Syntax"),
 ];
 
 /// The reserved words: names only in double quotes.
@@ -309,29 +283,3 @@ pub(crate) const UNSUPPORTED: &[&str] = &[
     "with",
     "without",
 ];
-
-/// Texts with the codes of their faults.
-pub(crate) const CODES: &[(&str, Option<SqlState>)] = &[
-    ("SELECT DISTINCT v FROM t", Some(SqlState::S0A000)),
-    ("SAVEPOINT a", Some(SqlState::S0A000)),
-    ("SELECT 'a", Some(SqlState::S42601)),
-    ("SELECT 1.5", Some(SqlState::S0A000)),
-    ("SELECT 9223372036854775808", Some(SqlState::S22003)),
-    ("SELECT 1; SELEC 2", Some(SqlState::S42601)),
-    ("SELECT 1", None),
-];
-
-/// Each fault that isn't the lexer's, with its code.
-pub(crate) const FAULT_CODES: &[(ParseFault, SqlState)] = &[
-    (ParseFault::TooMany, SqlState::S54000),
-    (ParseFault::TooDeep, SqlState::S54000),
-    (ParseFault::Unsupported, SqlState::S0A000),
-    (ParseFault::Syntax, SqlState::S42601),
-    (ParseFault::Memory, SqlState::S53200),
-];
-
-/// Bytes that aren't UTF-8.
-pub(crate) const NO_TEXTS: &[&[u8]] = &[b"\xff", b"SELECT '\xff'", b"SELECT \xc3"];
-
-/// Texts with their numbers of statements.
-pub(crate) const COUNTS: &[(&str, usize)] = &[(";", 0), ("", 0), (";;COMMIT;", 1)];
