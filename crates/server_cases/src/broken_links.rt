@@ -14,12 +14,12 @@ const WHOLE: &[u8] =
     b"R\0\0\0\x08\0\0\0\0S\0\0\0\x18server_version\014.0\0S\0\0\0\x19server_encoding\0UTF8\0S\0\0\0\x19client_encoding\0UTF8\0S\0\0\0\x17DateStyle\0ISO, MDY\0S\0\0\0\x19integer_datetimes\0on\0S\0\0\0#standard_conforming_strings\0on\0K\0\0\0\x0c\0\0\0\x01\0\0\0\0Z\0\0\0\x05IC\0\0\0\x0aBEGIN\0Z\0\0\0\x05T";
 
 // The status of `pipe rc 0`, and with how many bytes of the whole what was sent ends; or nothing where other bytes were sent.
-fn piped<R: Threads + Wait + Eprint + Sync>(
+fn piped<'a, R: Threads + Wait + Eprint + Sync>(
     rt: &R,
     alloc: Global,
-    bytes: &[u8],
-    reads: &[u64],
-    writes: &[u64],
+    bytes: &'a [u8],
+    reads: &'a [u64],
+    writes: &'a [u64],
 ) -> Result<(u8, Option<usize>), Memory> {
     let client = Client {
         bytes,

@@ -122,11 +122,11 @@ pub fn run<R: Threads + Wait + Eprint + Sync>(
 }
 
 /// Whether `pipe LEVEL LIST` ends with this status, prints nothing, and has sent the client these bytes.
-pub fn answers<R: Threads + Wait + Eprint + Sync>(
+pub fn answers<'a, R: Threads + Wait + Eprint + Sync>(
     rt: &R,
     alloc: Global,
-    level: &[u8],
-    list: &[u8],
+    level: &'a [u8],
+    list: &'a [u8],
     client: &Client<'_>,
     code: u8,
     sent: &[u8],
