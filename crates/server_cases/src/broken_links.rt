@@ -13,6 +13,16 @@ const CLIENT: &[u8] = b"\0\0\0\x10\0\x03\0\0user\0a\0\0Q\0\0\0\x0aBEGIN\0";
 const WHOLE: &[u8] =
     b"R\0\0\0\x08\0\0\0\0S\0\0\0\x18server_version\014.0\0S\0\0\0\x19server_encoding\0UTF8\0S\0\0\0\x19client_encoding\0UTF8\0S\0\0\0\x17DateStyle\0ISO, MDY\0S\0\0\0\x19integer_datetimes\0on\0S\0\0\0#standard_conforming_strings\0on\0K\0\0\0\x0c\0\0\0\x01\0\0\0\0Z\0\0\0\x05IC\0\0\0\x0aBEGIN\0Z\0\0\0\x05T";
 
+// How many bytes were sent, where they are what the whole begins with.
+fn front_of_whole(sent: &Option<Vec<u8>>) -> Option<usize> {
+    let bytes = sent.as_ref()?;
+    if WHOLE.starts_with(bytes.as_slice()) {
+        Some(bytes.len())
+    } else {
+        None
+    }
+}
+
 // The status of `pipe rc 0`, and with how many bytes of the whole what was sent ends; or nothing where other bytes were sent.
 fn piped<'a, R: Threads + Wait + Eprint + Sync>(
     rt: &R,
@@ -28,11 +38,7 @@ fn piped<'a, R: Threads + Wait + Eprint + Sync>(
         writes,
     };
     let done = run(rt, alloc, &[b"pipe", b"rc", b"0"], &client)?;
-    let sent = match done.sent {
-        Some(sent) if WHOLE.starts_with(sent.as_slice()) => Some(sent.len()),
-        _ => None,
-    };
-    Ok((done.code, sent))
+    Ok((done.code, front_of_whole(&done.sent)))
 }
 
 // What comes of the first so many bytes of the client.

@@ -132,7 +132,7 @@ pub fn answers<'a, R: Threads + Wait + Eprint + Sync>(
     sent: &[u8],
 ) -> Result<bool, Memory> {
     let done = run(rt, alloc, &[b"pipe", level, list], client)?;
-    Ok(match done.sent {
+    Ok(match &done.sent {
         Some(bytes) => { done.code == code && done.printed.is_empty() && bytes.as_slice() == sent }
         None => false,
     })
