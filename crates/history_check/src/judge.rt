@@ -1,8 +1,9 @@
 // What the rules say of one event.
-ghost use Rattle.std.specs.Prelude.{◌≡◌, ◌<◌, ◌≤◌, ◌+◌, ◌∷◌, ◌++◌, [], ℕ, List, length, IfOk, OnOk, IsTrue, take, Err};
+ghost use Rattle.std.specs.Prelude.{◌≡◌, ◌<◌, ◌≤◌, ◌+◌, ◌∷◌, ◌++◌, ◌⊎◌, [], ℕ, List, length, IfOk, OnOk, IsTrue, take, Err};
 ghost use Rattle.cell_base.specs.declared.cell.Cell.{Cell as CellValue};
 ghost use Rattle.cell_base.specs.declared.value.Value.{Value as ValueOf};
 ghost use Rattle.history_core.specs.declared.event.Event.{Event};
+ghost use Rattle.history_core.specs.Relations.{Writes};
 ghost use Rattle.history_check.specs.Rules.{IsInShape};
 ghost use Rattle.history_check.specs.Breaches.{IsVerdict};
 ghost use Rattle.history_check.specs.Notes.{AreNotes};
@@ -126,6 +127,19 @@ fn of_scan(
     Ok(Some(Breach::Keys { event }))
 }
 
+/// What is told of a read whose source doesn't give its value: that there is no such source, or that the value is wrong.
+fn wrong_source(notes: &Notes, before: &[Event], source: u32, cell: &Cell, event: u32) -> Breach
+    requires notes { AreNotes before.now notes.now }
+    requires few { length before.now < 4294967295 }
+    ensures { (Writes before.now source cell.now × (result ≡ Breach.Value event)) ⊎ ((¬ Writes before.now source cell.now) × (result ≡ Breach.Source event)) }
+{
+    if is_writer(notes, before, source, cell) {
+        Breach::Value { event }
+    } else {
+        Breach::Source { event }
+    }
+}
+
 /// The verdict on an external read.
 fn of_read(
     notes: &Notes,
@@ -147,11 +161,8 @@ fn of_read(
     if wrote_itself(notes, before, session, cell) {
         return Some(Breach::Own { event });
     }
-    if !is_writer(notes, before, source, cell) {
-        return Some(Breach::Source { event });
-    }
     if !gives_value(notes, initial, before, source, cell, value) {
-        return Some(Breach::Value { event });
+        return Some(wrong_source(notes, before, source, cell, event));
     }
     let candidates = count_writers(notes, before, cell);
     if count == 0 {

@@ -1,5 +1,6 @@
 // Who writes a cell, and what.
-ghost use Rattle.std.specs.Prelude.{◌≡◌, ◌<◌, ◌≤◌, ◌+◌, ◌↔◌, ℕ, length, IsTrue, Contains, Any};
+ghost use Rattle.std.specs.Prelude.{◌≡◌, ◌<◌, ◌≤◌, ◌+◌, ◌↔◌, ℕ, length, IsTrue, IfSome, IfNone, Contains, Any};
+ghost use Rattle.txn_buffer.specs.Buffer.{IsAbsent};
 ghost use Rattle.history_core.specs.Events.{begun};
 ghost use Rattle.history_core.specs.Initial.{WritesInitially, absent_value};
 ghost use Rattle.history_core.specs.Relations.{HasWritten, LastWrites, Writes, WritesValue};
@@ -13,6 +14,34 @@ use crate::rows::Rows;
 use cell_base::{Cell, Value};
 use cell_writers::writers_at;
 use history_core::{Event, TxnState};
+use txn_buffer::TxnBuffer;
+
+/// How many writes are looked at one by one.
+const FEW: usize = 8;
+
+/// The value that was written last to the cell.
+fn last_value<'a>(buffer: &'a TxnBuffer, cell: &Cell) -> Option<&'a Value>
+    ensures there { IfSome result (λ value. Contains buffer.now.writes (cell.now, value.now)) }
+    ensures absent { IfNone result (IsAbsent buffer.now.writes cell.now) }
+{
+    if buffer.writes().len() > FEW {
+        return buffer.get(cell);
+    }
+    value_among(buffer.writes(), cell)
+}
+
+/// The first value that stands at the cell.
+fn value_among<'a>(writes: &'a [(Cell, Value)], cell: &Cell) -> Option<&'a Value>
+    ensures there { IfSome result (λ value. Contains writes.now (cell.now, value.now)) }
+    ensures absent { IfNone result (IsAbsent writes.now cell.now) }
+{
+    for entry in writes {
+        if entry.0.is_same(cell) {
+            return Some(&entry.1);
+        }
+    }
+    None
+}
 
 /// Whether the transaction has written the cell, committed or not.
 pub fn has_written(notes: &Notes, before: &[Event], number: u32, cell: &Cell) -> bool
@@ -22,7 +51,7 @@ pub fn has_written(notes: &Notes, before: &[Event], number: u32, cell: &Cell) ->
     ensures { IsTrue result ↔ HasWritten before.now number cell.now }
 {
     let txn = txn_of(notes, before, number);
-    match txn.buffer.get(cell) {
+    match last_value(&txn.buffer, cell) {
         Some(_value) => true,
         None => false,
     }
@@ -36,7 +65,7 @@ fn wrote_last(notes: &Notes, before: &[Event], number: u32, cell: &Cell, value: 
     ensures { IsTrue result ↔ LastWrites before.now number cell.now value.now }
 {
     let txn = txn_of(notes, before, number);
-    match txn.buffer.get(cell) {
+    match last_value(&txn.buffer, cell) {
         Some(last) => last.is_same(value),
         None => false,
     }
