@@ -3,11 +3,12 @@ ghost use Rattle.history_core.specs.Events.{table_of};
 ghost use Rattle.history_core.specs.Book.{IsInTransaction, HasTable};
 
 use crate::cells::Spot;
-use crate::seats::{busy_seat, has_table, idle_seat, misplaced};
+use crate::seats::{Held, busy_seat, has_table, held, idle_seat, misplaced};
 use crate::stop::Stop;
 use cell_base::{Cell, Level};
 use history_core::{Book, BookFault, Limit};
-use valid_writes::{SeatBook, Store};
+use std::alloc::Global;
+use valid_writes::SeatBook;
 
 /// A call in a pending transaction.
 #[derive(Clone, Copy)]
@@ -29,24 +30,24 @@ pub enum Call {
 }
 
 /// Starts a transaction.
-pub fn begin(store: Store, session: u32, level: Level) -> Result<Store, Stop> {
+pub fn begin(alloc: Global, store: Held, session: u32, level: Level) -> Result<Held, Stop> {
     let mut book = idle_seat(store, session)?;
     book.begin(level)?;
-    Ok(book.into_store())
+    held(alloc, book)
 }
 
 /// Makes the call.
-pub fn go_on(store: Store, session: u32, call: Call) -> Result<Store, Stop> {
+pub fn go_on(alloc: Global, store: Held, session: u32, call: Call) -> Result<Held, Stop> {
     let mut book = busy_seat(store, session)?;
     if !has_table(&book) {
         return Err(misplaced(&book.into_store()));
     }
     act(&mut book, call)?;
-    Ok(book.into_store())
+    held(alloc, book)
 }
 
 /// Makes the call, which is to be refused since the load has no room for it.
-pub fn is_refused(store: Store, session: u32, call: Call) -> Result<Store, Stop> {
+pub fn is_refused(alloc: Global, store: Held, session: u32, call: Call) -> Result<Held, Stop> {
     let mut book = busy_seat(store, session)?;
     if !has_table(&book) {
         return Err(misplaced(&book.into_store()));
@@ -54,7 +55,7 @@ pub fn is_refused(store: Store, session: u32, call: Call) -> Result<Store, Stop>
     if act(&mut book, call) != Err(BookFault::Full(Limit::Load)) {
         return Err(misplaced(&book.into_store()));
     }
-    Ok(book.into_store())
+    held(alloc, book)
 }
 
 fn act(book: &mut SeatBook, call: Call) -> Result<(), BookFault>

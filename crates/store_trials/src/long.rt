@@ -2,7 +2,7 @@
 ghost use Rattle.std.specs.Prelude.{OnOk};
 ghost use Rattle.store_trials.specs.SessionStates.{IsReady, IsFresh, IsBusy};
 
-use crate::seats::ready_seat;
+use crate::seats::{Held, held, ready_seat};
 use crate::start::stage;
 use crate::stop::Stop;
 use cell_base::{Cell, Key, Level, Value};
@@ -14,51 +14,87 @@ use valid_writes::{SeatBook, Store};
 /// How many transactions read.
 const READERS: u32 = 4_000;
 
+/// What came of the reads.
+#[derive(Clone, Copy, Debug, PartialEq, Eq)]
+struct Outcome {
+    /// How many reads took this source of so many offered.
+    reads: usize,
+    /// How many transactions the order has, with the initial one.
+    size: u32,
+    /// Whether each order has the first writer before the last reader.
+    forward: bool,
+    /// Whether it is the other way round.
+    backward: bool,
+}
+
 /// Read Committed, one session: its first transaction writes the presence of row 1, and each of 4,000 more reads it by the word 0, and so
 /// misses it.
 #[test]
 fn misses_its_own_row_4000_times(rt: HostRuntime) -> Result<(), Fail> {
-    let store = read_4000_times(rt.alloc(), 1, Level::Rc)?;
-    assert_eq!(&rt; count_reads(store.history(), 0, 2), 4_000);
-    assert_eq!(&rt; store.reach().size(), 4_002);
-    assert!(&rt; reaches(&store, 1, 4_001));
-    assert!(&rt; !reaches(&store, 4_001, 1));
+    let found = read_4000_times(rt.alloc(), 1, Level::Rc, 0, 2)?;
+    assert_eq!(&rt; found, whole(true));
     Ok(())
 }
 
 /// Causal Consistency, one session: each of the 4,000 is offered the row alone.
 #[test]
 fn sees_its_own_row_4000_times(rt: HostRuntime) -> Result<(), Fail> {
-    let store = read_4000_times(rt.alloc(), 1, Level::Cc)?;
-    assert_eq!(&rt; count_reads(store.history(), 1, 1), 4_000);
-    assert_eq!(&rt; store.reach().size(), 4_002);
-    assert!(&rt; reaches(&store, 1, 4_001));
-    assert!(&rt; !reaches(&store, 4_001, 1));
+    let found = read_4000_times(rt.alloc(), 1, Level::Cc, 1, 1)?;
+    assert_eq!(&rt; found, whole(true));
     Ok(())
 }
 
 /// Causal Consistency, a second session: each of the 4,000 misses the first session's row, so that none stands before or after it.
 #[test]
 fn misses_another_row_4000_times(rt: HostRuntime) -> Result<(), Fail> {
-    let store = read_4000_times(rt.alloc(), 2, Level::Cc)?;
-    assert_eq!(&rt; count_reads(store.history(), 0, 2), 4_000);
-    assert_eq!(&rt; store.reach().size(), 4_002);
-    assert!(&rt; !reaches(&store, 1, 4_001));
-    assert!(&rt; !reaches(&store, 4_001, 1));
+    let found = read_4000_times(rt.alloc(), 2, Level::Cc, 0, 2)?;
+    assert_eq!(&rt; found, whole(false));
     Ok(())
 }
 
-/// A store in which session 1 has written the presence of row 1, and then the session has read it 4,000 times.
-fn read_4000_times(alloc: Global, session: u32, level: Level) -> Result<Store, Stop> {
-    let mut book = ready_seat(stage(alloc, 2)?, 1)?;
-    write_alone(&mut book)?;
-    read_in(book.into_store(), session, level)
+/// All 4,000 reads took what they were to take, and each order has the writer before the last of them, or none has.
+fn whole(forward: bool) -> Outcome {
+    Outcome {
+        reads: 4_000,
+        size: 4_002,
+        forward,
+        backward: false,
+    }
 }
 
-fn read_in(store: Store, session: u32, level: Level) -> Result<Store, Stop> {
+/// What comes of it that session 1 has written the presence of row 1, and then the session has read it 4,000 times, where reads of this source
+/// of so many offered are counted.
+fn read_4000_times(
+    alloc: Global,
+    session: u32,
+    level: Level,
+    source: u32,
+    count: u32,
+) -> Result<Outcome, Stop> {
+    let store = write_in(alloc, stage(alloc, 2)?)?;
+    let store = read_in(alloc, store, session, level)?;
+    Ok(outcome(store.get(), source, count))
+}
+
+fn outcome(store: &Store, source: u32, count: u32) -> Outcome {
+    Outcome {
+        reads: count_reads(store.history(), source, count),
+        size: store.reach().size(),
+        forward: reaches(store, 1, 4_001),
+        backward: reaches(store, 4_001, 1),
+    }
+}
+
+fn write_in(alloc: Global, store: Held) -> Result<Held, Stop> {
+    let mut book = ready_seat(store, 1)?;
+    write_alone(&mut book)?;
+    held(alloc, book)
+}
+
+fn read_in(alloc: Global, store: Held, session: u32, level: Level) -> Result<Held, Stop> {
     let mut book = ready_seat(store, session)?;
     read_many(&mut book, level)?;
-    Ok(book.into_store())
+    held(alloc, book)
 }
 
 /// A transaction that writes the presence of row 1.

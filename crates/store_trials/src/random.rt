@@ -8,7 +8,7 @@ use crate::cells::Spot;
 use crate::numbers::Numbers;
 use crate::orders::plain_offer;
 use crate::plain::MOST;
-use crate::seats::misplaced;
+use crate::seats::{Held, misplaced};
 use crate::start::stage;
 use crate::stop::Stop;
 use cell_base::{Cell, Level};
@@ -80,21 +80,21 @@ fn play_random(alloc: Global, run: &mut Run) -> Result<(), Stop> {
 }
 
 /// Makes any call in any session.
-fn make_any(alloc: Global, store: Store, run: &mut Run) -> Result<Store, Stop> {
+fn make_any(alloc: Global, store: Held, run: &mut Run) -> Result<Held, Stop> {
     let session = 1 + run.numbers.below(SESSIONS);
-    if store.history().pending(session).is_none() {
-        return begin_any(store, session, run);
+    if store.get().history().pending(session).is_none() {
+        return begin_any(alloc, store, session, run);
     }
     let call = any_call(&mut run.numbers);
     if let Call::See(spot, _) = call {
-        compare(alloc, &store, session, spot, run)?;
+        compare(alloc, store.get(), session, spot, run)?;
     }
-    go_on(store, session, call)
+    go_on(alloc, store, session, call)
 }
 
 /// Starts a transaction at any level, as long as there are few.
-fn begin_any(store: Store, session: u32, run: &mut Run) -> Result<Store, Stop> {
-    if store.history().begun() >= run.most {
+fn begin_any(alloc: Global, store: Held, session: u32, run: &mut Run) -> Result<Held, Stop> {
+    if store.get().history().begun() >= run.most {
         return Ok(store);
     }
     let level = match run.numbers.below(3) {
@@ -102,7 +102,7 @@ fn begin_any(store: Store, session: u32, run: &mut Run) -> Result<Store, Stop> {
         1 => Level::Ra,
         _ => Level::Cc,
     };
-    begin(store, session, level)
+    begin(alloc, store, session, level)
 }
 
 /// Any call of a transaction.

@@ -6,8 +6,18 @@ ghost use Rattle.history_core.specs.Book.{IsIdle, IsInTransaction, HasTable};
 ghost use Rattle.store_trials.specs.SessionStates.{IsReady};
 
 use crate::stop::Stop;
+use cell_base::Boxed;
 use history_core::{Event, History};
+use std::alloc::Global;
 use valid_writes::{SeatBook, Store};
+
+/// A store in a box. A check writes out what is moved or dropped with all that it holds, and a box is little.
+pub type Held = Boxed<Store>;
+
+/// The store of the book, in a box again.
+pub fn held(alloc: Global, book: SeatBook) -> Result<Held, Stop> {
+    Ok(Boxed::new(alloc, book.into_store())?)
+}
 
 /// The call can't be made here.
 pub fn misplaced(store: &Store) -> Stop {
@@ -51,20 +61,20 @@ fn is_open(history: &History, session: u32) -> bool
 }
 
 /// The book of an open session in which nothing is pending.
-pub fn idle_seat(store: Store, session: u32) -> Result<SeatBook, Stop>
+pub fn idle_seat(store: Held, session: u32) -> Result<SeatBook, Stop>
     ensures { IfOk result (λ book. IsIdle book.state) }
 {
-    if !is_open(store.history(), session) {
-        return Err(misplaced(&store));
+    if !is_open(store.get().history(), session) {
+        return Err(misplaced(store.get()));
     }
-    match store.history().pending(session) {
-        Some(_) => Err(misplaced(&store)),
-        None => Ok(store.seat(Some(session))),
+    match store.get().history().pending(session) {
+        Some(_) => Err(misplaced(store.get())),
+        None => Ok(store.into_inner().seat(Some(session))),
     }
 }
 
 /// The same where there is a table.
-pub fn ready_seat(store: Store, session: u32) -> Result<SeatBook, Stop>
+pub fn ready_seat(store: Held, session: u32) -> Result<SeatBook, Stop>
     ensures { IfOk result IsReady }
 {
     let book = idle_seat(store, session)?;
@@ -75,15 +85,15 @@ pub fn ready_seat(store: Store, session: u32) -> Result<SeatBook, Stop>
 }
 
 /// The book of a session whose transaction is pending.
-pub fn busy_seat(store: Store, session: u32) -> Result<SeatBook, Stop>
+pub fn busy_seat(store: Held, session: u32) -> Result<SeatBook, Stop>
     ensures { IfOk result (λ book. IsInTransaction book.state) }
 {
-    if !is_open(store.history(), session) {
-        return Err(misplaced(&store));
+    if !is_open(store.get().history(), session) {
+        return Err(misplaced(store.get()));
     }
-    match store.history().pending(session) {
-        Some(_) => Ok(store.seat(Some(session))),
-        None => Err(misplaced(&store)),
+    match store.get().history().pending(session) {
+        Some(_) => Ok(store.into_inner().seat(Some(session))),
+        None => Err(misplaced(store.get())),
     }
 }
 

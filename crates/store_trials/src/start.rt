@@ -1,39 +1,47 @@
 // A store whose first session has made the table.
 ghost use Rattle.std.specs.Prelude.{◌≡◌, IfOk};
 ghost use Rattle.sound_table.specs.Sound.{IsSound};
+ghost use Rattle.history_core.specs.Book.{no_session};
 
+use crate::seats::{Held, held};
 use crate::stop::Stop;
 use cell_base::{Items, Level, Memory, SqlType, Text, Value};
 use history_core::{Book, InitialState};
 use sql_tree::{Column, Table};
 use std::alloc::Global;
-use valid_writes::Store;
+use valid_writes::{SeatBook, Store};
 
 /// A store in which so many sessions are open, and the first one has made the table `t`.
-pub fn stage(alloc: Global, sessions: u32) -> Result<Store, Stop> {
-    let mut store = with_table(
-        alloc,
-        Store::new(alloc, Level::Cc, InitialState::empty(alloc))?,
-    )?;
+pub fn stage(alloc: Global, sessions: u32) -> Result<Held, Stop> {
+    let mut store = first(alloc)?;
     for _ in 1..sessions {
-        store = open(store)?;
+        store = open(alloc, store)?;
     }
     Ok(store)
 }
 
-fn with_table(alloc: Global, store: Store) -> Result<Store, Stop> {
-    let table = table(alloc)?;
+/// A store whose one session has made the table.
+fn first(alloc: Global) -> Result<Held, Stop> {
+    let store = Store::new(alloc, Level::Cc, InitialState::empty(alloc))?;
     let mut book = store.seat(None);
+    make_table(alloc, &mut book)?;
+    held(alloc, book)
+}
+
+fn make_table(alloc: Global, book: &mut SeatBook) -> Result<(), Stop>
+    requires { book.old.state ≡ no_session }
+{
+    let table = table(alloc)?;
     book.open()?;
     book.define(&table)?;
-    Ok(book.into_store())
+    Ok(())
 }
 
 /// Opens the next session.
-pub fn open(store: Store) -> Result<Store, Stop> {
-    let mut book = store.seat(None);
+pub fn open(alloc: Global, store: Held) -> Result<Held, Stop> {
+    let mut book = store.into_inner().seat(None);
     book.open()?;
-    Ok(book.into_store())
+    held(alloc, book)
 }
 
 /// The table of `CREATE TABLE t (k bigint PRIMARY KEY, v bigint)`.

@@ -1,4 +1,4 @@
-use Rattle.std.proofs.Common.{◌≡◌, refl, sym, subst}
+use Rattle.std.proofs.Common.{◌≡◌, ◌∙◌, refl, sym, subst}
 use Rattle.history_core.specs.Chronicle.{Chronicle}
 use Rattle.history_core.specs.Transactions.{IsPending}
 use Rattle.history_core.specs.Book.{IsInTransaction}
@@ -6,8 +6,11 @@ use Rattle.store_trials.proofs.seats.busy_seat.Goals as goal
 
 pub returns-in-Some : goal.returns-in-Some
 returns-in-Some c =
-    let pending : IsPending c.args.store.events c.in-Some.field-0 c.args.session =
-    subst (λ (h : Chronicle). IsPending h.events c.in-Some.field-0 c.args.session) c.history-2.ensures.is
+    let same : c.history-2.result.now ≡ c.into_inner.result =
+    c.history-2.ensures.is ∙ c.get-2.ensures ∙ sym c.into_inner.ensures
+    in
+    let pending : IsPending c.into_inner.result.events c.in-Some.field-0 c.args.session =
+    subst (λ (h : Chronicle). IsPending h.events c.in-Some.field-0 c.args.session) same
     ((c.pending.ensures c.in-Some.field-0).0 c.in-Some.is)
     in
     subst IsInTransaction (sym (c.seat.ensures.pending c.args.session refl (c.in-Some.field-0, pending))) tt
