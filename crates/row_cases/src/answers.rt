@@ -14,24 +14,24 @@ use std::alloc::{AllocError, Global};
 
 // ---- rows as text
 
-fn push_value(alloc: Global, out: &mut String, value: &Value) -> Result<(), AllocError> {
+fn push_value(out: &mut String, value: &Value) -> Result<(), AllocError> {
     match value {
         Value::Unset => out.push_str("unset"),
         Value::Null => out.push_str("null"),
         Value::Flag(true) => out.push_str("t"),
         Value::Flag(false) => out.push_str("f"),
-        Value::Int(n) => out.push_str(format!(in alloc; "{n}")?.as_str()),
-        Value::Wide(n) => out.push_str(format!(in alloc; "{n}")?.as_str()),
+        Value::Int(n) => write!(out, "{n}"),
+        Value::Wide(n) => write!(out, "{n}"),
         Value::Text(text) => out.push_str(text.as_str()),
     }
 }
 
-fn push_row(alloc: Global, out: &mut String, row: &[Value]) -> Result<(), AllocError> {
+fn push_row(out: &mut String, row: &[Value]) -> Result<(), AllocError> {
     for (i, value) in row.iter().enumerate() {
         if i > 0 {
             out.push_str(",")?;
         }
-        push_value(alloc, out, value)?;
+        push_value(out, value)?;
     }
     Ok(())
 }
@@ -45,7 +45,7 @@ fn rows_text(alloc: Global, rows: &[Items<Value>]) -> Result<String, AllocError>
         if i > 0 {
             out.push_str(";")?;
         }
-        push_row(alloc, &mut out, row.as_slice())?;
+        push_row(&mut out, row.as_slice())?;
     }
     Ok(out)
 }
@@ -85,6 +85,14 @@ fn counted(
     }
 }
 
+/// `none` or `same`, where both are the same, and else both.
+fn judged(alloc: Global, fast: &str, slow: &str) -> Result<String, AllocError> {
+    if fast != slow {
+        return format!(in alloc; "{fast} and not {slow}");
+    }
+    String::from_str(alloc, if fast == "none" { "none" } else { "same" })
+}
+
 fn compared(
     alloc: Global,
     select: &TypedSelect,
@@ -92,17 +100,7 @@ fn compared(
 ) -> Result<String, AllocError> {
     let fast = shown(alloc, rows_of(alloc, select, picture))?;
     let slow = shown(alloc, slow::rows_of(alloc, select, picture))?;
-    if fast.as_str() != slow.as_str() {
-        return format!(in alloc; "{fast} and not {slow}");
-    }
-    String::from_str(
-        alloc,
-        if fast.as_str() == "none" {
-            "none"
-        } else {
-            "same"
-        },
-    )
+    judged(alloc, fast.as_str(), slow.as_str())
 }
 
 fn answered(

@@ -171,3 +171,11 @@ pub const FAULTS: &[(&str, &str)] = &[
     ("SELECT count(*) / count(k) FROM e", "S22012"),
     ("SELECT 1 / 0", "S22012"),
 ];
+
+/// Texts with the length of a last long text, and how many rows each comes to, or its code.
+pub const COUNTS: &[(&str, usize, &str)] = &[
+    ("SELECT s FROM w", 62_720, "256"),
+    ("SELECT s FROM w", 62_721, "S54000"),
+    ("SELECT s FROM w LIMIT 255", 62_721, "255"),
+    ("SELECT s FROM w OFFSET 1", 62_721, "255"),
+];

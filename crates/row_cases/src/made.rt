@@ -49,24 +49,27 @@ fn push_column(chance: &mut Chance, out: &mut String, form: &[bool]) -> Result<(
 }
 
 fn push_number(chance: &mut Chance, out: &mut String, form: &[bool]) -> Result<(), AllocError> {
-    match chance.below(12) {
-        0 => out.push_str("0"),
-        1 => out.push_str("1"),
-        2 => out.push_str("2"),
-        3 => {
-            out.push_str("6 / ")?;
-            push_column(chance, out, form)
-        }
-        4 | 5 => {
-            push_column(chance, out, form)?;
-            out.push_str(" + 1")
-        }
-        6 => {
-            push_column(chance, out, form)?;
-            out.push_str(" % 2")
-        }
-        _ => push_column(chance, out, form),
+    let number = chance.below(12);
+    out.push_str(match number {
+        0 => "0",
+        1 => "1",
+        2 => "2",
+        3 => "6 / ",
+        _ => "",
+    })?;
+    if number > 2 {
+        push_column(chance, out, form)?;
     }
+    out.push_str(match number {
+        4 | 5 => " + 1",
+        6 => " % 2",
+        _ => "",
+    })
+}
+
+fn push_comparison(chance: &mut Chance, out: &mut String, form: &[bool]) -> Result<(), AllocError> {
+    out.push_str(one_of(chance, &[" = ", " <> ", " < ", " <= ", " > ", " >= "]))?;
+    push_number(chance, out, form)
 }
 
 fn push_test(chance: &mut Chance, out: &mut String, form: &[bool]) -> Result<(), AllocError> {
@@ -76,10 +79,7 @@ fn push_test(chance: &mut Chance, out: &mut String, form: &[bool]) -> Result<(),
         1 => out.push_str(" IS NOT NULL"),
         2 => out.push_str(" IN (1, NULL, 2)"),
         3 => out.push_str(" NOT IN (0, 3)"),
-        _ => {
-            out.push_str(one_of(chance, &[" = ", " <> ", " < ", " <= ", " > ", " >= "]))?;
-            push_number(chance, out, form)
-        }
+        _ => push_comparison(chance, out, form),
     }
 }
 
@@ -133,16 +133,24 @@ fn push_entry(
     form: &[bool],
     entry: usize,
 ) -> Result<(), AllocError> {
-    if entry > 0 {
-        out.push_str(" JOIN ")?;
-    }
+    out.push_str(if entry > 0 { " JOIN " } else { "" })?;
     out.push_str(table_name(form.get(entry) == Some(&true)))?;
     out.push_str(name_at(ALIASES, entry))?;
-    if entry > 0 {
-        out.push_str(" ON ")?;
-        push_condition(chance, out, seen(form, entry))?;
+    if entry == 0 {
+        return Ok(());
     }
-    Ok(())
+    push_after(chance, out, " ON ", seen(form, entry))
+}
+
+/// The word, and a condition.
+fn push_after(
+    chance: &mut Chance,
+    out: &mut String,
+    word: &str,
+    form: &[bool],
+) -> Result<(), AllocError> {
+    out.push_str(word)?;
+    push_condition(chance, out, form)
 }
 
 fn push_from(chance: &mut Chance, out: &mut String, form: &[bool]) -> Result<(), AllocError> {
@@ -150,11 +158,10 @@ fn push_from(chance: &mut Chance, out: &mut String, form: &[bool]) -> Result<(),
     for entry in 0..form.len() {
         push_entry(chance, out, form, entry)?;
     }
-    if chance.below(3) > 0 {
-        out.push_str(" WHERE ")?;
-        push_condition(chance, out, form)?;
+    if chance.below(3) == 0 {
+        return Ok(());
     }
-    Ok(())
+    push_after(chance, out, " WHERE ", form)
 }
 
 fn push_order(chance: &mut Chance, out: &mut String, form: &[bool]) -> Result<(), AllocError> {
