@@ -94,11 +94,7 @@ fn keeps_its_limits(rt: HostRuntime) -> Result<(), Fail> {
         let text = Text::from_bytes(rt.alloc(), spelled.as_bytes())?;
         assert!(rt; text.bytes().len() < 1_000_000);
         let found = verdict(rt.alloc(), &text)?;
-        assert_eq!(rt;
-            found.as_str(),
-            *want,
-            "{times} times {open} after {first}"
-        );
+        assert_eq!(rt; found.as_str(), *want, "{times} times {open} after {first}");
     }
     Ok(())
 }

@@ -212,11 +212,7 @@ fn keeps_its_limits(rt: HostRuntime) -> Result<(), Fail> {
     for (first, part, times, last, want) in LONG {
         let spelled = repeated(rt.alloc(), first, part, *times, last)?;
         let found = outcome(rt.alloc(), spelled.as_str(), tables.as_slice())?;
-        assert_eq!(rt;
-            found.as_str(),
-            *want,
-            "{times} times {part} after {first}"
-        );
+        assert_eq!(rt; found.as_str(), *want, "{times} times {part} after {first}");
     }
     Ok(())
 }
