@@ -218,7 +218,9 @@ fn turn<B: Book, L: Link, W: Words>(
     true
 }
 
-/// Serves until bytes are wanted or the end is there.
+/// Serves the session until it wants bytes or has ended: each call that it wants is made of the book, and each reply is sent, in the order in
+/// which it wants them. So when `drive` returns, all calls of which the client was told anything have been made of the book as it stands then.
+/// `serve_link` reads its link between two such calls.
 pub fn drive<B: Book, L: Link, W: Words>(
     session: &mut Session,
     book: &mut B,

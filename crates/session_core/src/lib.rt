@@ -25,6 +25,7 @@ mod want;
 
 pub use block_machine::{Answer, Call, End, Stop};
 pub use calling::{make_call, sessions_sit_while_others_go_on};
+pub use drive::drive;
 pub use serve::serve_link;
 pub use served::Served;
 pub use session::Session;
