@@ -110,10 +110,11 @@ next_above rows x state k e is =
 pub next_fits : (rows : List (Cell × Value)) (x : Cell × Value) → IsInitialState (rows ++ x ∷ []) → FitsCell rows x.0 x.1
 next_fits rows x state = fits_last rows x.0 x.1 (state.fits x.0 x.1 (contains_at (rows ++ x ∷ []) (length rows) x (at_end rows x)))
 
+pub no_rows : IsInitialState []
+no_rows = record { ascending = λ i j a b less at_i at_j. cc; fits = λ cell value member. let within = member.1 in absurd (omega arith) }
+
 pub one_row : (table : ℕ) (key : Key) → IsInitialState ((Presence table key, Flag true) ∷ [])
-one_row table key =
-    state_next [] (Presence table key, Flag true) (record { ascending = λ i j a b less at_i at_j. cc; fits = λ cell value member. let within = member.1 in absurd (omega arith) })
-    (λ k e is. cc) refl
+one_row table key = state_next [] (Presence table key, Flag true) no_rows (λ k e is. cc) refl
 
 -- ---- above the last is above all
 

@@ -15,6 +15,7 @@ use Rattle.history_log.specs.declared.version.Version.TheVariants.{Two, Three}
 use Rattle.history_log.specs.Reading.{FitsEvent, IsEventIn}
 use Rattle.history_log.specs.Log.{IsInitialCell, IsInitialIn, AreEventsIn, newest}
 use Rattle.history_log.proofs.Misreads.{all_push}
+use Rattle.history_log.proofs.RowLemmas.{no_rows}
 
 -- one more of a list's items
 pub all_step : {X : Type 0} (P : X → Type 0) (xs : List X) (i : ℕ) (x : X) → i < length xs → x ≡ get_or xs i x → AllByRecursion P (take i xs) → P x →
@@ -33,6 +34,12 @@ something (x ∷ xs) some none = cc
 pub initial_says : (initial : List (Cell × Value)) → IsInitialState initial → AllByRecursion IsInitialCell initial → IsInitialIn (newest initial) initial
 initial_says initial state cells =
     cond_both (length initial == 0) Two Three (λ (v : Version). IsInitialIn v initial) (λ none. nothing initial none) (λ some. (something initial some, (state, cells)))
+
+-- and what was said is an initial state
+pub said_initial : (initial : List (Cell × Value)) → IsInitialIn (newest initial) initial → IsInitialState initial
+said_initial initial =
+    cond_both (length initial == 0) Two Three (λ (v : Version). IsInitialIn v initial → IsInitialState initial)
+    (λ none is. subst (λ (cells : List (Cell × Value)). IsInitialState cells) (sym is) no_rows) (λ some is. is.1.0)
 
 in_two : (level : Level) (event : Event) → IsEventIn Two level event
 in_two level (Open s) = tt

@@ -4,7 +4,6 @@ use Rattle.std.specs.Prelude.{codes}
 use Rattle.std.specs.Fmt.{decimal}
 use Rattle.std.specs.List.{AllByRecursion}
 use Rattle.cell_base.specs.declared.cell.Cell.{Cell}
-use Rattle.cell_base.specs.declared.cell.Cell.TheVariants.{Presence, Field}
 use Rattle.cell_base.specs.declared.level.Level.{Level}
 use Rattle.cell_base.specs.declared.level.Level.TheVariants.{Rc, Ra, Cc}
 use Rattle.cell_base.specs.declared.value.Value.{Value}
@@ -14,7 +13,7 @@ use Rattle.history_log.specs.declared.version.Version.{Version}
 use Rattle.history_log.specs.declared.version.Version.TheVariants.{One, Two, Three}
 use Rattle.history_log.specs.Cut.{cut_at}
 use Rattle.history_log.specs.Spelling.{cell_word, value_word, level_word, version_word, keyword_word, keyword_of, fields, head_line, event_line, initial_line, order_line, end_line}
-use Rattle.history_log.specs.Reading.{IsU32, FitsValue, FitsEvent}
+use Rattle.history_log.specs.Reading.{IsU32, FitsEvent}
 use Rattle.history_log.specs.Log.{IsInitialCell, IsInitialIn, AreEventsIn}
 use Rattle.history_log.proofs.Plain.{Ink, Plain, ink, level_plain, plain_by_test, test_plain}
 use Rattle.history_log.proofs.EventForms.{known_as}

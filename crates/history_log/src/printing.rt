@@ -1,5 +1,5 @@
 // Prints a history.
-ghost use Rattle.std.specs.Prelude.{◌≡◌, ◌++◌, ◌∷◌, [], map, decimal, All, IfOk, OnOk};
+ghost use Rattle.std.specs.Prelude.{◌≡◌, ◌↔◌, ◌++◌, ◌∷◌, [], map, decimal, All, IfOk, OnOk};
 ghost use Rattle.history_log.specs.Spelling.{head_line, initial_line, event_line, order_line, lines, whole_lines, words_after};
 ghost use Rattle.std.specs.List.{AllByRecursion};
 ghost use Rattle.history_core.specs.Initial.{IsInitialState};
@@ -14,7 +14,8 @@ use history_core::Event;
 use std::alloc::Global;
 
 /// The text of a history with an order of its transactions: of version 2, or of version 3 where rows were there from the
-/// start. No value may be wide. Where what was there from the start is an initial state, `read` reads the history back.
+/// start. No value may be wide. It is a log, which `read` reads back as this history, exactly where what was there from the
+/// start is an initial state.
 pub fn print(
     alloc: Global,
     level: Level,
@@ -26,7 +27,7 @@ pub fn print(
     requires events { All HasNoWide events.now }
     ensures text { IfOk result (λ text. text.items ≡ whole_lines (lines (newest initial.now)
         (record { level = level; initial = initial.now; events = events.now; order = order.now }))) }
-    ensures log { IfOk result (λ text. IsInitialState initial.now → IsLog (newest initial.now)
+    ensures log { IfOk result (λ text. IsInitialState initial.now ↔ IsLog (newest initial.now)
         (record { level = level; initial = initial.now; events = events.now; order = order.now }) text.items) }
 {
     let mut out = Vec::new(alloc);
