@@ -54,7 +54,7 @@ fits_back rows more (Field table key column) value ascending place is fits =
     let within = slice_get_within rows place (Field table key column, value) is in
     elim (cases_lt there.0 (length rows)) [
       | inl before ↦ (contains_at rows there.0 (Presence table key, Flag true) (back rows more there.0 (Presence table key, Flag true) before there.1), fits.1)
-      | inr behind ↦ absurd (not_above table table key key column
+      | inr later ↦ absurd (not_above table table key key column
           (ascending place there.0 (Field table key column, value) (Presence table key, Flag true) (omega arith)
           (front rows more place (Field table key column, value) is) there.1))
     ]

@@ -1,4 +1,4 @@
--- Where a cell may stand behind others.
+-- Where a cell may stand after others.
 use Rattle.std.specs.Prelude.{◌≡◌, ℕ, Some, List, slice_get}
 use Rattle.std.specs.declared.cmp.Ordering.TheVariants.{Less}
 use Rattle.cell_base.specs.contracts.cell.CellOrd.TheImpl as cell_order

@@ -9,7 +9,7 @@ ghost use Rattle.history_log.specs.Rows.{IsAbove};
 use cell_base::{Cell, Key, Value};
 use std::cmp::Ordering;
 
-/// Whether the cells are still an initial state with this cell behind them, which has this value.
+/// Whether the cells are still an initial state with this cell, and its value, after them.
 pub fn fits_next(initial: &[(Cell, Value)], cell: &Cell, value: &Value) -> bool
     requires { IsInitialState initial.now }
     ensures { IsTrue result ↔ IsInitialState (initial.now ++ (cell.now, value.now) ∷ []) }
