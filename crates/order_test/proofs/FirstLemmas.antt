@@ -1,7 +1,7 @@
 -- The keys of presences that the transactions of a session wrote, as they are noted.
-use Rattle.std.proofs.Common.{rules, ◌≡◌, cond, ℕ, zero, suc, ◌+◌, ◌<◌, ◌≤◌, List, [], ◌∷◌, ◌++◌, Bool, true, false, Some, None, length, get_or, arith, refl, ap, sym, ◌∙◌, subst, inl, inr, ◌⊎◌, Option, set, Result, Ok, Err}
+use Rattle.std.proofs.Common.{rules, ◌≡◌, cond, ℕ, zero, suc, ◌+◌, ◌<◌, ◌≤◌, List, [], ◌∷◌, ◌++◌, Bool, true, Some, None, length, get_or, arith, refl, ap, sym, ◌∙◌, subst, inl, inr, ◌⊎◌, Option, set, Result, Ok, Err}
 use Rattle.std.specs.Prelude.{nat_eq, OnOk, OnErr}
-use Rattle.std.specs.List.{Contains, slice_get, slice_index}
+use Rattle.std.specs.List.{Contains, slice_get}
 use Rattle.std.specs.HashMap.{get}
 use Rattle.std.specs.Map.{lookup}
 use Rattle.std.proofs.lemmas.Bool.{cases_eq, cases_lt, cases_Bool}
@@ -19,7 +19,7 @@ use Rattle.history_core.specs.declared.txn.Txn.{Txn}
 use Rattle.history_core.specs.Kept.{ChangesOne}
 use Rattle.order_test.specs.declared.firsts.TableFirsts.{TableFirsts}
 use Rattle.order_test.specs.Listed.{ListsCommitted, NotesWrites, HasNoLate, listed_at, numbers_in}
-use Rattle.order_test.specs.Firsts.{some_pairs, firsts_at, IsRising, IsRisingTo, AreRising, AreAllRising, HasUpTo, KeepsFirsts, AreUpTo, HoldListed, HasWritten, HaveWritten, ListsUpTo, IsIndexOf, AreIndexes, NotesFirsts, AreWithoutKeys, PastIsListed}
+use Rattle.order_test.specs.Firsts.{some_pairs, firsts_at, IsRising, IsRisingTo, AreRising, AreAllRising, HasUpTo, KeepsFirsts, AreUpTo, HoldListed, HasWritten, HaveWritten, ListsUpTo, AreIndexes, NotesFirsts, AreWithoutKeys}
 
 -- ---- pairs that rise
 

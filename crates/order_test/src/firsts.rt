@@ -70,12 +70,7 @@ pub fn new_firsts(alloc: Global) -> TableFirsts
 }
 
 /// Notes one key at a table that has none.
-fn start_key(
-    firsts: &mut TableFirsts,
-    table: u32,
-    key: Key,
-    number: u32,
-) -> Result<(), Memory>
+fn start_key(firsts: &mut TableFirsts, table: u32, key: Key, number: u32) -> Result<(), Memory>
     requires rising { AreRising firsts.old number }
     requires empty { firsts_at firsts.old table ≡ [] }
     ensures rising { AreRising firsts.new number }

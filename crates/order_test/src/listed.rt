@@ -116,7 +116,14 @@ pub fn lists_of(alloc: Global, txns: &[Txn], width: usize) -> Result<Lists, Memo
     let mut writers = no_writers(alloc, width)?;
     let mut firsts = no_firsts(alloc, width)?;
     for at in 0..txns.len() {
-        list_txn(&mut writers, &mut firsts, txns, at, &txns[at], at as u32 + 1)?;
+        list_txn(
+            &mut writers,
+            &mut firsts,
+            txns,
+            at,
+            &txns[at],
+            at as u32 + 1,
+        )?;
     }
     Ok(Lists { writers, firsts })
 }

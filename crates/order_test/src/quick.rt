@@ -149,10 +149,21 @@ fn past_is_clear(
 {
     match event {
         Event::Read { cell, source, .. } => {
-            past_has_none(places, &lists.writers, past_of(pasts, events, reader), cell, *source)
+            past_has_none(
+                places,
+                &lists.writers,
+                past_of(pasts, events, reader),
+                cell,
+                *source,
+            )
         }
         Event::Scan { table, keys, .. } => {
-            past_is_listed(&lists.firsts, past_of(pasts, events, reader), *table, keys.as_slice())
+            past_is_listed(
+                &lists.firsts,
+                past_of(pasts, events, reader),
+                *table,
+                keys.as_slice(),
+            )
         }
         _ => false,
     }

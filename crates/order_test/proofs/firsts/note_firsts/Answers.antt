@@ -1,5 +1,5 @@
 use Rattle.std.proofs.Common.{length, refl, arith, sym, subst}
-use Rattle.std.proofs.lemmas.Option.{slice_get_read, slice_get_within}
+use Rattle.std.proofs.lemmas.Option.{slice_get_read}
 use Rattle.cell_base.specs.declared.cell.Cell.{Cell}
 use Rattle.cell_base.specs.declared.value.Value.{Value}
 use Rattle.order_test.specs.Firsts.{HasWritten}

@@ -1,4 +1,4 @@
-use Rattle.std.proofs.Common.{ℕ, length, arith, sym, subst, inl, inr}
+use Rattle.std.proofs.Common.{ℕ, arith, sym, subst, inl, inr}
 use Rattle.std.specs.List.{slice_index}
 use Rattle.std.proofs.lemmas.Bool.{cases_eq}
 use Rattle.std.proofs.lemmas.Option.{slice_get_within}
