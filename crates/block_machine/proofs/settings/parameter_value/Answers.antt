@@ -7,10 +7,10 @@ use Rattle.block_machine.proofs.settings.parameter_value.Goals.{then-eq-6, else-
 use Rattle.block_machine.proofs.settings.parameter_value.Goals as goal
 
 datetimes : IsShown (codes "integer_datetimes")
-datetimes = record { no_zero = no_zero_by (codes "integer_datetimes") refl; short = lit≤ tt }
+datetimes = record { no_zero = no_zero_by (codes "integer_datetimes") refl; fits = lit≤ tt }
 
 strings : IsShown (codes "standard_conforming_strings")
-strings = record { no_zero = no_zero_by (codes "standard_conforming_strings") refl; short = lit≤ tt }
+strings = record { no_zero = no_zero_by (codes "standard_conforming_strings") refl; fits = lit≤ tt }
 
 pub returns-then-eq-7-clause-shown : goal.returns-then-eq-7-clause-shown
 returns-then-eq-7-clause-shown c =
