@@ -2,7 +2,7 @@
 ghost use Rattle.std.specs.Prelude.{◌<◌, ◌^◌, length, map};
 ghost use Rattle.typing_rules.specs.Insert as spec;
 ghost use Rattle.typing_rules.specs.Outcome.{all_of};
-ghost use Rattle.expr_typing.specs.Gives.{Gives};
+ghost use Rattle.typing_rules.specs.Gives.{Gives};
 ghost use Rattle.typing_parts.specs.Narrow.{AreFewAndNarrow};
 ghost use Rattle.change_typing.specs.Targets.{AreColumns, targets};
 

@@ -6,7 +6,7 @@ ghost use Rattle.typing_rules.specs.Outcome.{and_then};
 ghost use Rattle.typing_rules.specs.Select as spec;
 ghost use Rattle.typing_parts.specs.Narrow.{AreFewAndNarrow};
 ghost use Rattle.select_typing.specs.Entries as shown;
-ghost use Rattle.select_typing.specs.GivesBy.{GivesBy};
+ghost use Rattle.typing_rules.specs.Gives.{GivesBy};
 
 use cell_base::{Items, Memory, SqlFault, SqlState, Text};
 use expr_typing::Entry;

@@ -2,7 +2,7 @@
 #![tactic(auto)]
 
 ghost use Rattle.typing_rules.specs.Typed as spec;
-ghost use Rattle.expr_typing.specs.Gives.{Gives};
+ghost use Rattle.typing_rules.specs.Gives.{Gives};
 ghost use Rattle.typing_parts.specs.Narrow.{AreFewAndNarrow};
 
 use cell_base::{SqlFault, SqlState};
