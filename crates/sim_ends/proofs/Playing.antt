@@ -1,4 +1,4 @@
--- A run of clients with short streams has few steps.
+-- A run of clients with streams of few bytes has few steps.
 use Rattle.std.proofs.Common.{◌≡◌, ◌≤◌, ◌<◌, ◌+◌, ◌%◌, inl, inr, ℕ, zero, suc, List, [], ◌∷◌, ◌++◌, length, Option, Some, Ok, ap, sym, subst, ◌∙◌, refl, arith, length-append}
 use Rattle.std.specs.Prelude.{slice_get}
 use Rattle.std.proofs.lemmas.Bool.{cases_eq}
@@ -139,7 +139,7 @@ record StepsOn (clients : List Client) (before after : Moment) (many : ℕ) : Ty
 
 moves_on : (level : Level) (clients : List Client) (pick : Pick) (before after : Moment) → HaveFewBytes clients → IsModestAt (length clients) before →
     (m : Moves level clients pick before after) → StepsOn clients before after m.many
-moves_on level clients pick before after short_all modest m =
+moves_on level clients pick before after few_all modest m =
     let within = slice_get_within clients pick.client m.client m.is in
     let g = m.grew in
     let calls_here : calls_of after pick.client ≡ calls_of before pick.client + m.many =
@@ -154,7 +154,7 @@ moves_on level clients pick before after short_all modest m =
         each = λ k less. elim (cases_eq k pick.client) [
           | inl here ↦
               subst (λ (j : ℕ). IsModest (after.accounts j)) (sym here)
-              (served_modest level after.history m.client m.end (after.accounts pick.client) m.served (short_all pick.client m.client m.is))
+              (served_modest level after.history m.client m.end (after.accounts pick.client) m.served (few_all pick.client m.client m.is))
           | inr apart ↦ subst IsModest (sym (m.others k apart)) (modest.each k less)
         ];
         events = sum_change (plain_of before) (plain_of after) pick.client (plain_in (events_of g.added)) (length clients) within plain_here
@@ -178,11 +178,11 @@ record Played (clients : List Client) (before after : Moment) (picks : List Pick
 
 plays : (level : Level) (clients : List Client) (picks : List Pick) (before after : Moment) → HaveFewBytes clients → IsModestAt (length clients) before →
     Runs level clients before picks after → Played clients before after picks
-plays level clients [] before after short_all modest run =
+plays level clients [] before after few_all modest run =
     subst (λ (m : Moment). Played clients before m []) run (record { modest = modest; calls = omega arith })
-plays level clients (pick ∷ picks) before after short_all modest run =
-    let step = moves_on level clients pick before run.0 short_all modest run.1 in
-    let rest = plays level clients picks run.0 after short_all step.modest run.2 in
+plays level clients (pick ∷ picks) before after few_all modest run =
+    let step = moves_on level clients pick before run.0 few_all modest run.1 in
+    let rest = plays level clients picks run.0 after few_all step.modest run.2 in
     record {
       modest = rest.modest;
       calls = omega (arith, rest.calls, step.calls, stepped_once pick.stepped run.1.many run.1.grew.added run.1.end (called_in picks) run.1.answer);
