@@ -62,13 +62,13 @@ is_short-entry answers.RolledBack e = refl
 is_short-entry (answers.Shown n) e = refl
 
 -- an answer, and a lack of memory that may stand after it
-pub flag-answered : (flag now both a_wants : Bool) (w : Option Shortage) (es : List Entry) (a : Answer) (e : Event) (sent : List ℕ) →
-    flag ≡ has_short es → now ≡ (flag || both) → both ≡ (a_wants || is_some w) →
-    a_wants ≡ lacks_memory a → now ≡ has_short ((es ++ entry_for a e ∷ []) ++ with_out_of_memory w sent [])
-flag-answered flag now both a_wants w es a e sent f g h k =
-    flag-fed (flag || a_wants) now w (es ++ entry_for a e ∷ []) sent
-    (flag-one flag (flag || a_wants) a_wants es (entry_for a e) f refl (is_short-entry a e ∙ sym k))
-    (g ∙ ap (λ b. flag || b) h ∙ sym (or_assoc flag a_wants (is_some w)))
+pub flag-answered : (flag now both a_lacks : Bool) (w : Option Shortage) (es : List Entry) (a : Answer) (e : Event) (sent : List ℕ) →
+    flag ≡ has_short es → now ≡ (flag || both) → both ≡ (a_lacks || is_some w) →
+    a_lacks ≡ lacks_memory a → now ≡ has_short ((es ++ entry_for a e ∷ []) ++ with_out_of_memory w sent [])
+flag-answered flag now both a_lacks w es a e sent f g h k =
+    flag-fed (flag || a_lacks) now w (es ++ entry_for a e ∷ []) sent
+    (flag-one flag (flag || a_lacks) a_lacks es (entry_for a e) f refl (is_short-entry a e ∙ sym k))
+    (g ∙ ap (λ b. flag || b) h ∙ sym (or_assoc flag a_lacks (is_some w)))
 
 -- ---- the number of the session
 

@@ -238,7 +238,7 @@ pub fn answered(
 }
 
 /// Whether an answer is a lack of memory of the book.
-pub fn is_want(answer: &Answer) -> bool
+pub fn lacks_memory(answer: &Answer) -> bool
     ensures { result ≡ lacks_memory answer.now }
 {
     matches!(answer, Answer::Refused(BookFault::Memory))
