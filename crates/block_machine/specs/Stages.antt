@@ -229,10 +229,10 @@ FitsWant (calls.Book c) a = Fits c a
 FitsWant _ a = ⊥
 
 -- the book was out of memory
-abbrev pub wants_memory : Answer → Bool
-wants_memory (answers.Refused faults.Memory) = true
-wants_memory (answers.Refused (faults.Full limit)) = false
-wants_memory _ = false
+abbrev pub lacks_memory : Answer → Bool
+lacks_memory (answers.Refused faults.Memory) = true
+lacks_memory (answers.Refused (faults.Full limit)) = false
+lacks_memory _ = false
 
 -- ---- steps
 

@@ -24,7 +24,7 @@ pub fn is_own(name: &str) -> bool
 // The word of a level.
 fn level_word(level: Level) -> &'static str
     ensures word { result.now ≡ level_word level }
-    ensures short { length result.now ≤ 64 }
+    ensures fits { length result.now ≤ 64 }
 {
     match level {
         Level::Rc => "rc",

@@ -3,7 +3,7 @@ use Rattle.std.proofs.Common.{◌≡◌, Bool, List, [], Ok, Err, refl, ap, sym,
 use Rattle.cell_base.specs.declared.sql_fault.SqlFault.{SqlFault}
 use Rattle.cell_base.specs.declared.sql_fault.SqlFault.TheVariants.{State, Memory}
 use Rattle.cell_base.specs.declared.sql_state.SqlState.{SqlState}
-use Rattle.expr_typing.specs.Gives.{Gives}
+use Rattle.typing_rules.specs.Gives.{Gives, GivesBy}
 use Rattle.sql_tree.specs.declared.statement.Select.{Select}
 use Rattle.sql_tree.specs.declared.table.Table.{Table}
 use Rattle.sql_tree.specs.declared.typed.TypedSelect.{TypedSelect}
@@ -11,7 +11,6 @@ use Rattle.typing_rules.specs.Changes.{filter_of}
 use Rattle.typing_rules.specs.Names.{Source}
 use Rattle.typing_rules.specs.Outcome.{Outcome, and_then}
 use Rattle.typing_rules.specs.Select.{Entry, entries_of, entry_sources, ons_of, items_from, place_of, order_of, has_aggregate, typed_select}
-use Rattle.select_typing.specs.GivesBy.{GivesBy}
 use Rattle.select_typing.specs.Parts.{SelectParts, select_parts, parts_of, whole}
 
 under : {A B : Type 0} (o : Outcome A) (f g : A → Outcome B) → ((a : A) → f a ≡ g a) → and_then o f ≡ and_then o g

@@ -1,11 +1,10 @@
 // The types of SELECT, part by part.
 ghost use Rattle.std.specs.Prelude.{◌≡◌, ◌++◌, IfOk, length, map};
 ghost use Rattle.typing_rules.specs.Select as spec;
-ghost use Rattle.expr_typing.specs.Gives.{Gives};
+ghost use Rattle.typing_rules.specs.Gives.{Gives, GivesBy};
 ghost use Rattle.expr_typing.specs.Scope.{IsNarrow, sources};
-ghost use Rattle.typing_parts.specs.Narrow.{AreNarrow};
+ghost use Rattle.typing_parts.specs.Narrow.{AreFewAndNarrow};
 ghost use Rattle.select_typing.specs.Entries as shown;
-ghost use Rattle.select_typing.specs.GivesBy.{GivesBy};
 ghost use Rattle.select_typing.specs.Parts.{select_parts, parts_of, whole};
 
 use crate::aggregates::has_aggregate;
@@ -136,7 +135,7 @@ pub fn typed_select(
     select: &Select,
     tables: &[Table],
 ) -> Result<TypedSelect, SqlFault>
-    requires { AreNarrow tables.now }
+    requires { AreFewAndNarrow tables.now }
     ensures { Gives (spec.typed_select tables.now select.now) result }
 {
     let entries = entries_of(alloc, tables, select.from.as_slice())?;

@@ -1,7 +1,7 @@
 // The replies of a session as bytes.
 ghost use Rattle.std.specs.Prelude.{◌≡◌, ◌++◌, IfOk, OnOk, OnErr};
 ghost use Rattle.cell_base.specs.Texts.{HasNoZero};
-ghost use Rattle.pg_framing.specs.Replies.{IsShortBody, ended, parameter};
+ghost use Rattle.pg_framing.specs.Replies.{FitsMessage, ended, parameter};
 ghost use Rattle.session_core.specs.Replies.{startup_reply, fatal_reply};
 
 use block_machine::parameters::{
@@ -29,7 +29,7 @@ pub fn fatal(alloc: Global, state: SqlState) -> Result<Vec<u8>, Memory>
 fn append_parameter(alloc: Global, reply: &mut Vec<u8>, setting: Parameter) -> Result<(), Memory>
     requires name { HasNoZero setting.name.now }
     requires value { HasNoZero setting.value.now }
-    requires short { IsShortBody (ended setting.name.now ++ ended setting.value.now) }
+    requires fits { FitsMessage (ended setting.name.now ++ ended setting.value.now) }
     ensures ok { OnOk result (reply.new.items ≡ reply.old.items ++ parameter setting.name.now setting.value.now) }
     ensures err { OnErr result (reply.new.items ≡ reply.old.items) }
 {

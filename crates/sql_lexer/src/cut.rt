@@ -19,7 +19,7 @@ fn rest(text: &[u8], at: usize) -> &[u8]
 }
 
 fn cut(alloc: Global, text: &[u8]) -> Result<Vec<Token>, LexFault>
-    requires short { length text.now < 2 ^ 32 }
+    requires fits { length text.now < 2 ^ 32 }
     requires utf8 { IsUtf8 text.now }
     ensures found { IfOk result (λ ts. AreTokensOf text.now ts.items) }
     ensures fault { IfErr result (λ f. IsFaultOf text.now f) }

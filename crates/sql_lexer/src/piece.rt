@@ -26,7 +26,7 @@ pub type Found = (Piece, usize);
 #[tactic(auto, unfolding(crate::specs::Front::comment_piece))]
 fn comment_piece(at: u32, z: &[u8]) -> Result<Found, LexFault>
     requires two { 2 ≤ length z.now }
-    requires short { length z.now < 2 ^ 32 }
+    requires fits { length z.now < 2 ^ 32 }
     ensures value { Gives (spec.comment_piece at z.now) result }
     ensures within { IfOk result (λ f. (1 ≤ f.1) × (f.1 ≤ length z.now)) }
 {
@@ -63,7 +63,7 @@ fn word(alloc: Global, at: u32, z: &[u8]) -> Result<Found, LexFault>
 #[tactic(auto, unfolding(crate::specs::Front::string))]
 fn string(alloc: Global, at: u32, z: &[u8]) -> Result<Found, LexFault>
     requires some { 1 ≤ length z.now }
-    requires short { length z.now < 2 ^ 32 }
+    requires fits { length z.now < 2 ^ 32 }
     requires quote { slice_index z.now 0 ≡ 39 }
     requires utf8 { IsUtf8 z.now }
     ensures value { Gives (spec.string at z.now) result }
@@ -81,7 +81,7 @@ fn string(alloc: Global, at: u32, z: &[u8]) -> Result<Found, LexFault>
 #[tactic(auto, unfolding(crate::specs::Front::quoted))]
 fn quoted(alloc: Global, at: u32, z: &[u8]) -> Result<Found, LexFault>
     requires some { 1 ≤ length z.now }
-    requires short { length z.now < 2 ^ 32 }
+    requires fits { length z.now < 2 ^ 32 }
     requires quote { slice_index z.now 0 ≡ 34 }
     requires utf8 { IsUtf8 z.now }
     ensures value { Gives (spec.quoted at z.now) result }
@@ -216,7 +216,7 @@ fn point(joined: bool, at: u32, z: &[u8]) -> Result<Found, LexFault>
 #[tactic(auto, unfolding(crate::specs::Front::piece))]
 pub fn front(alloc: Global, joined: bool, at: u32, z: &[u8]) -> Result<Found, LexFault>
     requires some { 1 ≤ length z.now }
-    requires short { length z.now < 2 ^ 32 }
+    requires fits { length z.now < 2 ^ 32 }
     requires utf8 { IsUtf8 z.now }
     ensures value { Gives (spec.piece joined at z.now) result }
     ensures within { IfOk result (λ f. (1 ≤ f.1) × (f.1 ≤ length z.now)) }

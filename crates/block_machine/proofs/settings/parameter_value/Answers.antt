@@ -6,7 +6,7 @@ use Rattle.block_machine.proofs.Zeros.{no_zero_by}
 use Rattle.block_machine.proofs.settings.parameter_value.Goals as goal
 
 strings : IsShown (codes "standard_conforming_strings")
-strings = record { no_zero = no_zero_by (codes "standard_conforming_strings") refl; short = lit≤ tt }
+strings = record { no_zero = no_zero_by (codes "standard_conforming_strings") refl; fits = lit≤ tt }
 
 pub returns-then-eq-7-clause-shown : goal.returns-then-eq-7-clause-shown
 returns-then-eq-7-clause-shown c =

@@ -4,7 +4,7 @@ use Rattle.std.proofs.lemmas.Grind.{common_steps}
 use Rattle.typing_rules.specs.Select.{entry_sources}
 use Rattle.expr_typing.specs.Scope.{sources}
 use Rattle.select_typing.specs.Entries.{entries, seen}
-use Rattle.select_typing.specs.GivesBy.{GivesBy}
+use Rattle.typing_rules.specs.Gives.{GivesBy}
 use Rattle.select_typing.specs.Parts.{select_parts, parts_of, whole}
 use Rattle.select_typing.proofs.NarrowEntries.{scope_many, scope_narrow, sources_seen}
 use Rattle.select_typing.proofs.Whole.{select_ok, select_failed}

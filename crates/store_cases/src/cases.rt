@@ -1,8 +1,8 @@
-// Courses of one session and of several, worked out by hand. A transaction's number stands after its statement.
+// Cases of one session and of several, worked out by hand. A transaction's number stands after its statement.
 use crate::cells::Spot::{Field as F, Presence as P};
 use crate::cells::{NULL, UNSET};
 use crate::play::Call::{At, Begin, Commit, Own, Read, RollBack, Scan, Write};
-use crate::play::{Calls, Course};
+use crate::play::{Calls, Case};
 use cell_base::Level;
 use cell_base::Level::{Cc, Ra, Rc};
 
@@ -26,7 +26,7 @@ const INSERT: Calls = &[
 ];
 
 /// Words 0,0: a session misses its own committed row.
-pub const MISSED: Course = Course {
+pub const MISSED: Case = Case {
     levels: RC,
     has_rows: false,
     before: INSERT,
@@ -34,7 +34,7 @@ pub const MISSED: Course = Course {
 };
 
 /// Words 0,1,7: it sees it.
-pub const SEEN: Course = Course {
+pub const SEEN: Case = Case {
     levels: RC,
     has_rows: false,
     before: INSERT,
@@ -47,7 +47,7 @@ pub const SEEN: Course = Course {
 };
 
 /// Words 0,1,1,0: after `UPDATE t SET v = 20 WHERE k = 1` (2) the row has the old value.
-pub const OLD_VALUE: Course = Course {
+pub const OLD_VALUE: Case = Case {
     levels: RC,
     has_rows: false,
     before: INSERT,
@@ -64,7 +64,7 @@ pub const OLD_VALUE: Course = Course {
 };
 
 /// Words 0,1,1,1: it has the new one.
-pub const NEW_VALUE: Course = Course {
+pub const NEW_VALUE: Case = Case {
     levels: RC,
     has_rows: false,
     before: INSERT,
@@ -81,7 +81,7 @@ pub const NEW_VALUE: Course = Course {
 };
 
 /// The same statements at the levels that keep a session's order, by words 0.
-pub const NEW_VALUE_ALONE: Course = Course {
+pub const NEW_VALUE_ALONE: Case = Case {
     levels: KEEP_SESSIONS,
     has_rows: false,
     before: INSERT,
@@ -98,7 +98,7 @@ pub const NEW_VALUE_ALONE: Course = Course {
 };
 
 /// Words 5,6: `BEGIN`, an INSERT, a SELECT of its row, `ROLLBACK`, and the SELECT again.
-pub const OWN_ROW: Course = Course {
+pub const OWN_ROW: Case = Case {
     levels: RC,
     has_rows: false,
     before: &[],
@@ -117,7 +117,7 @@ pub const OWN_ROW: Course = Course {
 };
 
 /// A cell that is written twice reads as it was written last.
-pub const LAST_WRITE: Course = Course {
+pub const LAST_WRITE: Case = Case {
     levels: ALL,
     has_rows: false,
     before: &[],
@@ -131,7 +131,7 @@ pub const LAST_WRITE: Course = Course {
 };
 
 /// A second INSERT of the key finds it taken, words 0,1.
-pub const TAKEN: Course = Course {
+pub const TAKEN: Case = Case {
     levels: RC,
     has_rows: false,
     before: INSERT,
@@ -139,7 +139,7 @@ pub const TAKEN: Course = Course {
 };
 
 /// It finds the key free, words 0,0.
-pub const FREE: Course = Course {
+pub const FREE: Case = Case {
     levels: RC,
     has_rows: false,
     before: INSERT,
@@ -153,7 +153,7 @@ pub const FREE: Course = Course {
 };
 
 /// `UPDATE t SET v = v + 1 WHERE k = 1` in two sessions at once (2, 3) loses an update; a third session is offered all three values.
-pub const LOST_UPDATE: Course = Course {
+pub const LOST_UPDATE: Case = Case {
     levels: CC,
     has_rows: false,
     before: INSERT,
@@ -190,7 +190,7 @@ const BETWEEN: Calls = &[
 ];
 
 /// The second row isn't there where the first wasn't.
-pub const NO_PART: Course = Course {
+pub const NO_PART: Case = Case {
     levels: KEEP_SESSIONS,
     has_rows: false,
     before: BETWEEN,
@@ -198,7 +198,7 @@ pub const NO_PART: Course = Course {
 };
 
 /// A fractured read.
-pub const A_PART: Course = Course {
+pub const A_PART: Case = Case {
     levels: RC,
     has_rows: false,
     before: BETWEEN,
@@ -219,7 +219,7 @@ const UPDATED: Calls = &[
 ];
 
 /// A SELECT twice in one transaction (3), words 1,1,0,0: it doesn't go back after the new value.
-pub const NEVER_BACK: Course = Course {
+pub const NEVER_BACK: Case = Case {
     levels: RC,
     has_rows: false,
     before: UPDATED,
@@ -233,7 +233,7 @@ pub const NEVER_BACK: Course = Course {
 };
 
 /// Words 1,0,0,1: it may go on from the old one.
-pub const NEWER_LATER: Course = Course {
+pub const NEWER_LATER: Case = Case {
     levels: RC,
     has_rows: false,
     before: UPDATED,
@@ -264,7 +264,7 @@ const TWO_UPDATES: Calls = &[
 ];
 
 /// Session 4 reads the value of 2 and then that of 3, which puts 2 before 3 for all: session 5, which has read from 3, isn't offered 2.
-pub const ONE_ORDER: Course = Course {
+pub const ONE_ORDER: Case = Case {
     levels: RC,
     has_rows: false,
     before: TWO_UPDATES,
@@ -299,7 +299,7 @@ const EFFECT: Calls = &[
 ];
 
 /// Session 3 sees the effect, words 1,0, and may miss the cause.
-pub const CAUSE_UNSEEN: Course = Course {
+pub const CAUSE_UNSEEN: Case = Case {
     levels: RA,
     has_rows: false,
     before: EFFECT,
@@ -312,7 +312,7 @@ pub const CAUSE_UNSEEN: Course = Course {
 };
 
 /// It may not.
-pub const CAUSE_SEEN: Course = Course {
+pub const CAUSE_SEEN: Case = Case {
     levels: CC,
     has_rows: false,
     before: EFFECT,
@@ -325,7 +325,7 @@ pub const CAUSE_SEEN: Course = Course {
 };
 
 /// The reader's own level decides, whatever the levels of the others: a transaction at each level sees the effect.
-pub const OWN_LEVEL: Course = Course {
+pub const OWN_LEVEL: Case = Case {
     levels: ALL,
     has_rows: false,
     before: EFFECT,
@@ -358,7 +358,7 @@ const SCANNED: Calls = &[
 ];
 
 /// The scan counts as a read of each row that it didn't list, so nothing of 2 is seen.
-pub const SCAN_KEPT: Course = Course {
+pub const SCAN_KEPT: Case = Case {
     levels: KEEP_SESSIONS,
     has_rows: false,
     before: SCANNED,
@@ -366,7 +366,7 @@ pub const SCAN_KEPT: Course = Course {
 };
 
 /// At Read Committed it may be.
-pub const SCAN_OVERTAKEN: Course = Course {
+pub const SCAN_OVERTAKEN: Case = Case {
     levels: RC,
     has_rows: false,
     before: SCANNED,
@@ -387,7 +387,7 @@ const ROLLED_BACK: Calls = &[
 ];
 
 /// What it read counts at Causal Consistency.
-pub const ROLLED_BACK_READ: Course = Course {
+pub const ROLLED_BACK_READ: Case = Case {
     levels: CC,
     has_rows: false,
     before: ROLLED_BACK,
@@ -395,7 +395,7 @@ pub const ROLLED_BACK_READ: Course = Course {
 };
 
 /// It doesn't at Read Atomic.
-pub const ROLLED_BACK_FREE: Course = Course {
+pub const ROLLED_BACK_FREE: Case = Case {
     levels: RA,
     has_rows: false,
     before: ROLLED_BACK,
@@ -403,7 +403,7 @@ pub const ROLLED_BACK_FREE: Course = Course {
 };
 
 /// What was rolled back is offered to nobody, also where its key is inserted again.
-pub const NO_ROLLED_BACK_ROW: Course = Course {
+pub const NO_ROLLED_BACK_ROW: Case = Case {
     levels: RC,
     has_rows: false,
     before: &[
@@ -427,7 +427,7 @@ pub const NO_ROLLED_BACK_ROW: Course = Course {
 };
 
 /// A transaction that has read from the third writer isn't offered what the first two wrote; in a second session all are offered again.
-pub const THIRD_WRITER: Course = Course {
+pub const THIRD_WRITER: Case = Case {
     levels: RC,
     has_rows: false,
     before: &[
@@ -457,7 +457,7 @@ pub const THIRD_WRITER: Course = Course {
 };
 
 /// The rows 5 and -3 are committed, and 7 and 5 are rolled back. A scan lists the committed rows and the own ones, also in a second session.
-pub const COMMITTED_AND_OWN: Course = Course {
+pub const COMMITTED_AND_OWN: Case = Case {
     levels: ALL,
     has_rows: false,
     before: &[
@@ -486,7 +486,7 @@ pub const COMMITTED_AND_OWN: Course = Course {
 };
 
 /// A removed row is listed, and a field alone makes no row.
-pub const PRESENCES: Course = Course {
+pub const PRESENCES: Case = Case {
     levels: ALL,
     has_rows: false,
     before: &[
@@ -499,7 +499,7 @@ pub const PRESENCES: Course = Course {
 };
 
 /// Integers order by value.
-pub const INTEGERS: Course = Course {
+pub const INTEGERS: Case = Case {
     levels: RC,
     has_rows: false,
     before: &[
@@ -542,7 +542,7 @@ const BLIND_ROW: Calls = &[
 ];
 
 /// A scan takes no offer away: after it a listed row may be missed, in the same session and in another.
-pub const AFTER_A_SCAN: Course = Course {
+pub const AFTER_A_SCAN: Case = Case {
     levels: RC,
     has_rows: false,
     before: BLIND_ROW,
@@ -562,7 +562,7 @@ pub const AFTER_A_SCAN: Course = Course {
 };
 
 /// `INSERT INTO t VALUES (1, NULL), (2, 5), (3, NULL)` (1), and a SELECT of all rows with their values: one scan and six reads.
-pub const NULLS: Course = Course {
+pub const NULLS: Case = Case {
     levels: CC,
     has_rows: false,
     before: &[
@@ -592,7 +592,7 @@ pub const NULLS: Course = Course {
 };
 
 /// Rows that nobody wrote since the start, and one that isn't there.
-pub const FIRST_ROWS: Course = Course {
+pub const FIRST_ROWS: Case = Case {
     levels: ALL,
     has_rows: true,
     before: &[],
@@ -606,7 +606,7 @@ pub const FIRST_ROWS: Course = Course {
 };
 
 /// A scan lists the rows from the start with those that were written, and one that was removed.
-pub const FIRST_ROWS_LISTED: Course = Course {
+pub const FIRST_ROWS_LISTED: Case = Case {
     levels: ALL,
     has_rows: true,
     before: &[
@@ -631,7 +631,7 @@ pub const FIRST_ROWS_LISTED: Course = Course {
 
 /// An update of a row from the start (1): both values are offered at Read Committed, and the new one alone at the levels that keep a session's
 /// order. In a second session both are, whatever the level.
-pub const FIRST_ROW_UPDATED: Course = Course {
+pub const FIRST_ROW_UPDATED: Case = Case {
     levels: RC,
     has_rows: true,
     before: &[(1, Begin), (1, Write(F(1), 11)), (1, Commit)],
@@ -659,7 +659,7 @@ pub const FIRST_ROW_UPDATED: Course = Course {
 
 /// In a lone session a read at Read Atomic or Causal Consistency is offered the last committed write alone, whatever the levels of the
 /// transactions before, and one at Read Committed each write that no later one has passed.
-pub const LONE_SESSION: Course = Course {
+pub const LONE_SESSION: Case = Case {
     levels: RC,
     has_rows: false,
     before: &[
@@ -697,7 +697,7 @@ pub const LONE_SESSION: Course = Course {
 /// In a second session all three writes of a field are offered at first. At Causal Consistency a read from the first of two writers puts it into
 /// the past of the whole transaction, so that a later read may neither miss it nor see the second. At Read Committed a read from the second
 /// leaves the first insert free to be missed, since it isn't in what was read.
-pub const SECOND_SESSION: Course = Course {
+pub const SECOND_SESSION: Case = Case {
     levels: RC,
     has_rows: false,
     before: &[
