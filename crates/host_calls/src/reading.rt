@@ -125,8 +125,6 @@ pub fn read_file<H: Host>(
     };
     let read = read_on(&mut file, &mut room, most, &mut bytes);
     host.file_back(file);
-    match read {
-        Ok(()) => Ok(bytes),
-        Err(fault) => Err(fault),
-    }
+    read?;
+    Ok(bytes)
 }
