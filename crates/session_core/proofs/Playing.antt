@@ -128,7 +128,7 @@ adds_later p m q e g same h = record {
   own = h.own ∙ ap (λ (x : List Event). x ++ e ∷ []) g.own;
 }
 
-reads_later : (p m : Past) (cell : Cell) (value : Value) (e : Event) → m.state ≡ p.state → ReadsBack m cell value e
+pub reads_later : (p m : Past) (cell : Cell) (value : Value) (e : Event) → m.state ≡ p.state → ReadsBack m cell value e
     ⊎ ReadsFrom m cell value e → ReadsBack p cell value e ⊎ ReadsFrom p cell value e
 reads_later p m cell value e same (inl h) = inl (record {
   written = subst (λ (s : SessionState). HasWrite cell s) same h.written;
@@ -143,7 +143,7 @@ reads_later p m cell value e same (inr h) = inr (record {
   event_is = h.event_is ∙ ap (λ (s : SessionState). Read (session_of s) cell h.source h.count h.word value) same;
 })
 
-reads_session : (p : Past) (cell : Cell) (value : Value) (e : Event) → ReadsBack p cell value e ⊎ ReadsFrom p cell value e →
+pub reads_session : (p : Past) (cell : Cell) (value : Value) (e : Event) → ReadsBack p cell value e ⊎ ReadsFrom p cell value e →
     session_in e ≡ session_of p.state
 reads_session p cell value e (inl h) = ap session_in h.event_is
 reads_session p cell value e (inr h) = ap session_in h.event_is

@@ -29,10 +29,7 @@ fn cut(alloc: Global, text: &[u8]) -> Result<Vec<Token>, LexFault>
     let mut at: usize = 0;
     while at < text.len() {
         let ahead = rest(text, at);
-        let (piece, len) = match front(alloc, joined, at as u32, ahead) {
-            Ok(found) => found,
-            Err(fault) => return Err(fault),
-        };
+        let (piece, len) = front(alloc, joined, at as u32, ahead)?;
         match piece {
             Piece::Gap => joined = false,
             Piece::Kind(kind) => {
