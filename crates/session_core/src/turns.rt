@@ -140,7 +140,13 @@ pub fn finish_of(cause: Stop, held: usize) -> Finish
     ensures lacks { LacksBy (end_of result) [] }
 {
     match cause {
-        Stop::EndOfInput => { if held == 0 { Finish::Closed } else { Finish::Cut } }
+        Stop::EndOfInput => {
+            if held == 0 {
+                Finish::Closed
+            } else {
+                Finish::Cut
+            }
+        }
         Stop::ReadFault => Finish::ReadFault,
         Stop::Spent => Finish::Fatal(Fatal::Spent),
     }
