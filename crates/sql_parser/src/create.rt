@@ -10,6 +10,7 @@ ghost use Rattle.sql_parser.specs.Reads.{Reads};
 use crate::change::NamePart;
 use crate::error::Refusal;
 use crate::expression::expression;
+use crate::kept::kept;
 use crate::parts::{Next, Part, listed, repeat};
 use crate::select::{at_name, name};
 use crate::table::table_of;
@@ -24,12 +25,10 @@ use std::alloc::Global;
 fn constant_word(tokens: &mut Tokens<'_>) -> Result<Expr, Refusal>
     ensures { Reads (reading st.constant_word tokens.old) result tokens.new }
 {
-    if tokens.at_key(Keyword::True) {
-        tokens.key(Keyword::True)?;
+    if tokens.takes_key(Keyword::True) {
         return Ok(Expr::Flag(true));
     }
-    if tokens.at_key(Keyword::False) {
-        tokens.key(Keyword::False)?;
+    if tokens.takes_key(Keyword::False) {
         return Ok(Expr::Flag(false));
     }
     tokens.key(Keyword::Null)?;
@@ -63,8 +62,7 @@ fn check(alloc: Global, tokens: &mut Tokens<'_>) -> Result<Expr, Refusal>
     tokens.reserved(Word::Check)?;
     tokens.sign(Sign::Open)?;
     let condition = expression(alloc, tokens)?;
-    tokens.sign(Sign::Close)?;
-    Ok(condition)
+    kept(condition, tokens.sign(Sign::Close))
 }
 
 /// [CONSTRAINT name]
