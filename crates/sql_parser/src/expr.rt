@@ -166,8 +166,8 @@ impl<F: Fn(Global, &mut Tokens<'_>, u32, Start) -> Result<Node, Refusal>> Gramma
                 return Ok(left);
             };
             tokens.skip();
-            let right = self.un(tokens)?;
-            left = binary(self.alloc, self.room, op, left, right)?;
+            let (before, right) = beside(left, self.un(tokens))?;
+            left = binary(self.alloc, self.room, op, before, right)?;
         }
         Err(Refusal::NotInGrammar)
     }
@@ -183,8 +183,8 @@ impl<F: Fn(Global, &mut Tokens<'_>, u32, Start) -> Result<Node, Refusal>> Gramma
                 return Ok(left);
             };
             tokens.skip();
-            let right = self.prod(tokens)?;
-            left = binary(self.alloc, self.room, op, left, right)?;
+            let (before, right) = beside(left, self.prod(tokens))?;
+            left = binary(self.alloc, self.room, op, before, right)?;
         }
         Err(Refusal::NotInGrammar)
     }
@@ -329,8 +329,8 @@ impl<F: Fn(Global, &mut Tokens<'_>, u32, Start) -> Result<Node, Refusal>> Gramma
                 return Ok(left);
             };
             tokens.skip();
-            let right = self.not(tokens)?;
-            left = binary(self.alloc, self.room, op, left, right)?;
+            let (before, right) = beside(left, self.not(tokens))?;
+            left = binary(self.alloc, self.room, op, before, right)?;
         }
         Err(Refusal::NotInGrammar)
     }
@@ -346,8 +346,8 @@ impl<F: Fn(Global, &mut Tokens<'_>, u32, Start) -> Result<Node, Refusal>> Gramma
                 return Ok(left);
             };
             tokens.skip();
-            let right = self.and(tokens)?;
-            left = binary(self.alloc, self.room, op, left, right)?;
+            let (before, right) = beside(left, self.and(tokens))?;
+            left = binary(self.alloc, self.room, op, before, right)?;
         }
         Err(Refusal::NotInGrammar)
     }
