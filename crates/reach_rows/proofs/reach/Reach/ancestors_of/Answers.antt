@@ -1,4 +1,4 @@
-use Rattle.std.proofs.Common.{◌≡◌, ◌↔◌, ℕ, List, [], length, arith, ◌∙◌, sym, subst}
+use Rattle.std.proofs.Common.{◌≡◌, ◌↔◌, ℕ, List, length, arith, sym, subst}
 use Rattle.std.specs.List.{Contains}
 use Rattle.graph_base.specs.declared.Edge.{Edge}
 use Rattle.graph_base.specs.Walk.{Reaches}

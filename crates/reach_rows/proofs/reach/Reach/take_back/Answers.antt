@@ -1,4 +1,4 @@
-use Rattle.std.proofs.Common.{◌≡◌, ◌-◌, ◌<◌, ℕ, List, length, arith}
+use Rattle.std.proofs.Common.{◌≡◌, ◌-◌, ℕ, List, length, arith}
 use Rattle.reach_rows.specs.Rows.{row_at}
 use Rattle.reach_rows.proofs.Closing.{size_of, taken_back}
 use Rattle.reach_rows.proofs.reach.Reach.take_back.Goals as goal
