@@ -411,14 +411,12 @@ on_err (Err e) p = p
 -- more room, where there was none for one line more
 pub more_lines :
     (room more : ℕ) (old new : List Extent) → AreLines room old → length old < ROW_BITS → 64 * room ≤ length old → AreWidened old new →
-    more ≡ min (2 * room) WORDS → ((k : ℕ) → k < length new → more ≤ (line_at new k).room) → AreLines more new × (length new < 64 * more)
-more_lines room more old new are few full wide least roomy =
-    let some = are.some in
-    let blocks = are.blocks in
-    let size = are.size in
+    more % BLOCK ≡ 0 → more ≤ WORDS → (room < WORDS → room < more) → ((k : ℕ) → k < length new → more ≤ (line_at new k).room) → AreLines more new × (length new < 64 * more)
+more_lines room more old new are few full wide blocks size larger roomy =
     let same = wide.size in
     let bound = are.few in
-    (lines_widened room more old new are wide (omega arith) (omega arith) (omega arith) roomy, omega arith)
+    let above : room < more = larger (omega arith) in
+    (lines_widened room more old new are wide (omega arith) blocks size roomy, omega arith)
 
 pub widened_shown :
     (lines wider final : List Extent) (now : List (List ℕ)) → rows_of lines ≡ now → AreWidened lines wider → final ≡ wider → rows_of final ≡ now

@@ -10,6 +10,9 @@ use std::alloc::{AllocError, Global};
 use std::marker::Model;
 use std::mem;
 
+/// From how many words on a line gets room for all.
+const LARGE: usize = 256;
+
 /// Gives each line so much room at least. An error is out of memory, and then some may have it.
 fn widen(lines: &mut [Line], room: usize) -> Result<(), AllocError>
     requires blocks { room % BLOCK ≡ 0 }
@@ -23,7 +26,20 @@ fn widen(lines: &mut [Line], room: usize) -> Result<(), AllocError>
     Ok(())
 }
 
-/// Gives each line twice the room, where there is none for one line more, and answers the room of
+/// The next larger room: twice as many words, and from 2 KB on that of a whole row, since words that
+/// aren't used take no memory of a large room, and then no words are moved again.
+fn wider(room: usize) -> usize
+    requires blocks { room % BLOCK ≡ 0 }
+    requires size { room ≤ WORDS }
+    requires some { 0 < room }
+    ensures blocks { result % BLOCK ≡ 0 }
+    ensures size { result ≤ WORDS }
+    ensures larger { room < WORDS → room < result }
+{
+    if room < LARGE { 2 * room } else { WORDS }
+}
+
+/// Gives each line more room, where there is none for one line more, and answers the room of
 /// each. An error is out of memory, and then no line has changed its members or lost room.
 fn make_room(lines: &mut [Line], room: usize) -> Result<usize, AllocError>
     requires lines { AreLines room lines.old }
@@ -35,7 +51,7 @@ fn make_room(lines: &mut [Line], room: usize) -> Result<usize, AllocError>
     if lines.len() < 64 * room {
         return Ok(room);
     }
-    let more = (2 * room).min(WORDS);
+    let more = wider(room);
     widen(lines, more)?;
     Ok(more)
 }
@@ -67,8 +83,8 @@ fn join_up_to(alloc: Global, lines: &mut [Line], number: u32, target: usize)
     mem::swap(&mut line, &mut lines[target]);
 }
 
-/// Rows of bits that grow together: a list of sets of numbers. Each row has the room that some
-/// power of two of rows needs, so few rows take little memory. Contracts see the list of rows, each
+/// Rows of bits that grow together: a list of sets of numbers. Few rows have
+/// little room each, so that they take little memory. Contracts see the list of rows, each
 /// the list of its members in rising order. Only `push` takes memory.
 #[derive(Debug, Drop)]
 pub struct BitMatrix {

@@ -55,10 +55,6 @@ pub fn tell_none<R: Eprint>(rt: &R, progress: Progress, worker: usize) {
 /// Tells why no further link is accepted.
 pub fn tell_fault<R: Eprint>(rt: &R, progress: Progress, worker: usize, fault: HostFault) {
     if progress == Progress::Told {
-        let why = match fault {
-            HostFault::Failed => "accepting failed",
-            HostFault::Memory => "out of memory",
-        };
-        let _ = eprintln!(rt; "worker {worker}: no further link is accepted: {why}");
+        let _ = eprintln!(rt; "worker {worker}: no further link is accepted: {fault}");
     }
 }

@@ -7,18 +7,22 @@ ghost use Rattle.host_calls.specs.Reading.{AddsPiece, IsReadFault, ReadWhole, Fi
 use cell_base::{Memory, Text};
 use link_traits::{Failed, Host, HostFault, Source};
 use std::alloc::{AllocError, Global};
+use thiserror::Error;
 
 /// How many bytes are read at once.
 const ROOM: usize = 65_536;
 
 /// Why a file wasn't read whole.
-#[derive(Clone, Copy, Debug, PartialEq, Eq)]
+#[derive(Clone, Copy, Debug, PartialEq, Eq, Error)]
 pub enum FileFault {
     /// It couldn't be opened, and the host counted that.
+    #[error("the file can't be opened")]
     Open,
     /// A read failed, and the file counted that.
+    #[error("reading the file failed")]
     Read,
     /// Out of memory.
+    #[error("out of memory")]
     Memory,
 }
 
@@ -121,8 +125,6 @@ pub fn read_file<H: Host>(
     };
     let read = read_on(&mut file, &mut room, most, &mut bytes);
     host.file_back(file);
-    match read {
-        Ok(()) => Ok(bytes),
-        Err(fault) => Err(fault),
-    }
+    read?;
+    Ok(bytes)
 }

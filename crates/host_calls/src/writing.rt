@@ -5,15 +5,19 @@ ghost use Rattle.host_calls.specs.Writing.{FileWritten, Unwritten};
 
 use cell_base::Text;
 use link_traits::{Host, HostFault, send_all};
+use thiserror::Error;
 
 /// Why a file wasn't written whole.
-#[derive(Clone, Copy, Debug, PartialEq, Eq)]
+#[derive(Clone, Copy, Debug, PartialEq, Eq, Error)]
 pub enum WriteFault {
     /// It couldn't be made, and the host counted that.
+    #[error("the file can't be made")]
     Make,
     /// A write failed, and the file counted that.
+    #[error("writing the file failed")]
     Write,
     /// Out of memory.
+    #[error("out of memory")]
     Memory,
 }
 

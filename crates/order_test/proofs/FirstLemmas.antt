@@ -301,7 +301,7 @@ listed_step pairs keys n pair at here before k other below is =
           subst (λ (p : ℕ × Key). Contains keys p.1) (sym one) here
     ]
 
--- the pair at the place is above the top, and so are all behind it
+-- the pair at the place is above the top, and so are all after it
 pub listed_before : (pairs : List (ℕ × Key)) (keys : List Key) (n top : ℕ) (pair : ℕ × Key) → IsRising pairs → slice_get pairs n ≡ Some pair → top < pair.0 → AreListed pairs keys n →
     ListsUpTo pairs keys top
 listed_before pairs keys n top pair rising at above before number key there up =

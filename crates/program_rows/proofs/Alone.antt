@@ -1,8 +1,6 @@
 -- A session that is served alone keeps rows whole.
-use Rattle.std.proofs.Common.{inl, inr, ℕ, List, Option, Some, None, sym, subst, ◌∙◌}
-use Rattle.std.proofs.lemmas.Bool.{cases_eq}
+use Rattle.std.proofs.Common.{ℕ, List, sym, subst}
 use Rattle.cell_base.specs.declared.level.Level.{Level}
-use Rattle.sql_tree.specs.declared.table.Table.{Table}
 use Rattle.history_core.specs.declared.event.Event.{Event}
 use Rattle.history_core.specs.Chronicle.{own_events}
 use Rattle.link_traits.specs.Traffic.{Sight}
@@ -13,27 +11,12 @@ use Rattle.session_core.specs.Record.{events_of}
 use Rattle.monkey_server.specs.Program.{no_past, ServesAlone}
 use Rattle.link_laws.specs.Openings.{AreOfOneSession}
 use Rattle.link_laws.proofs.OneOpening.{one_session}
-use Rattle.link_laws.proofs.OwnEvents.{own_all, own_none, all_of_it}
 use Rattle.whole_rows.specs.Rows.{ShowsNoUnset}
 use Rattle.session_rows.specs.Alone.{KeepsRowsAlone}
 use Rattle.session_rows.proofs.Fronts.{first_all}
+use Rattle.session_rows.proofs.Histories.{each_keeps}
 use Rattle.session_rows.proofs.Records.{told_keeps}
 use Rattle.program_rows.proofs.Rows.{shows_whole}
-
--- so of each session there are all of them, or none
-each_keeps : (tables : List Table) (number : Option ℕ) (events : List Event) → AreOfOneSession number events → KeepsRowsAlone tables events →
-    (session : ℕ) → KeepsRowsAlone tables (own_events events session)
-each_keeps tables None events none keeps session =
-    subst (λ (es : List Event). KeepsRowsAlone tables (own_events es session)) (sym none) tt
-each_keeps tables (Some n) events begins keeps session =
-    let of_it = all_of_it n events begins in
-    elim (cases_eq n session) [
-      | inl here ↦
-          subst (λ (s : ℕ). KeepsRowsAlone tables (own_events events s)) here (subst (λ (es : List Event). KeepsRowsAlone tables es) (sym (own_all events n of_it)) keeps)
-      | inr apart ↦
-          subst (λ (es : List Event). KeepsRowsAlone tables es)
-          (sym (own_none events session (λ k d within same. apart (sym (of_it k d within) ∙ same)))) tt
-    ]
 
 pub alone_whole : (level : Level) (words : List ℕ) (before : Sight) (outcome : Served) (after : Sight) → (alone : ServesAlone level words before outcome after) →
     ShowsNoUnset alone.past.seen.events

@@ -55,7 +55,7 @@ named_from tables name i (t ∷ ts) at =
     (λ _. let here : i ≡ i + 0 = omega arith in ap (λ (n : ℕ). slice_get tables n) here ∙ at 0)
     (λ _. named_from tables name (i + 1) ts (λ k. let next : i + 1 + k ≡ i + suc k = omega arith in ap (λ (n : ℕ). slice_get tables n) next ∙ at (suc k)))
 
-numbered : (tables : List Table) (name : List ℕ) → Holds (IsNumbered tables) (table_named tables name)
+pub numbered : (tables : List Table) (name : List ℕ) → Holds (IsNumbered tables) (table_named tables name)
 numbered tables name = named_from tables name 0 tables (λ k. let same : 0 + k ≡ k = omega arith in ap (λ (n : ℕ). slice_get tables n) same)
 
 -- ---- columns that are mentioned

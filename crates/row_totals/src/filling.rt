@@ -51,7 +51,8 @@ fn fill<'a>(expr: &'a TypedExpr, totals: &'a [Value]) -> Result<(Datum<'a>, &'a 
         }
         TypedNode::IsNull(operand, denies) => {
             let (operand, rest) = fill(operand.get(), totals)?;
-            Ok((null_test(operand, *denies), rest))
+            let tested = null_test(operand);
+            Ok((if *denies { denied(tested) } else { tested }, rest))
         }
         TypedNode::Binary(op, left, right) => {
             let (left, rest) = fill(left.get(), totals)?;

@@ -9,21 +9,25 @@ use committed_rows::start_after;
 use history_core::InitialState;
 use host_calls::{FileFault, Status, read_file};
 use link_traits::Host;
-use setup_session::{MOST_TEXT, SetupFault, StatementFault, run_setup};
+use setup_session::{MOST_TEXT, SetupFault, run_setup};
 use std::alloc::Global;
-use std::str;
+use thiserror::Error;
 use valid_writes::Store;
 
 /// Why a server didn't start.
-#[derive(Debug, Drop)]
+#[derive(Debug, Drop, Error)]
 pub enum StartFault {
     /// The file of the setup wasn't read whole.
+    #[error("setup: {0}")]
     File(FileFault),
     /// The setup failed.
+    #[error("setup: {0}")]
     Setup(SetupFault),
     /// What the setup left is more than a history begins with.
+    #[error("setup: it leaves more rows than a history begins with")]
     Heavy,
     /// Out of memory.
+    #[error("out of memory")]
     Memory,
 }
 
@@ -112,34 +116,7 @@ pub fn status_of(fault: &StartFault) -> Status
     Status { code }
 }
 
-// Bytes as text; a question mark where they are none.
-fn shown(bytes: &[u8]) -> &str {
-    str::from_utf8(bytes).unwrap_or("?")
-}
-
-// Tells of the statement that failed.
-fn tell_statement<R: Eprint>(rt: &R, fault: &StatementFault) {
-    let number = fault.number;
-    let code = shown(fault.code.as_slice());
-    let message = shown(fault.message.as_slice());
-    let _ = eprintln!(rt; "setup: statement {number} failed: {code} {message}");
-}
-
 /// Tells on standard error why a server didn't start, in one line.
 pub fn tell_fault<R: Eprint>(rt: &R, fault: &StartFault) {
-    let why = match fault {
-        StartFault::Setup(SetupFault::Statement(fault)) => return tell_statement(rt, fault),
-        StartFault::File(FileFault::Open) => "setup: the file can't be opened",
-        StartFault::File(FileFault::Read) => "setup: reading the file failed",
-        StartFault::Setup(SetupFault::TooLong) => "setup: the file has more than 1048571 bytes",
-        StartFault::Setup(SetupFault::Unfinished) => {
-            "setup: it ends inside a block: no COMMIT stands after its last BEGIN"
-        }
-        StartFault::Setup(SetupFault::Ended(_)) => "setup: its replies have too many bytes",
-        StartFault::Heavy => "setup: it leaves more rows than a history begins with",
-        StartFault::File(FileFault::Memory)
-        | StartFault::Setup(SetupFault::Memory)
-        | StartFault::Memory => "out of memory",
-    };
-    let _ = eprintln!(rt; "{why}");
+    let _ = eprintln!(rt; "{fault}");
 }

@@ -72,7 +72,7 @@ flag-answered flag now both a_lacks w es a e sent f g h k =
 
 -- ---- the number of the session
 
-opened-append : (n : Option ℕ) (xs ys : List Entry) → opened_from n (xs ++ ys) ≡ opened_from (opened_from n xs) ys
+pub opened-append : (n : Option ℕ) (xs ys : List Entry) → opened_from n (xs ++ ys) ≡ opened_from (opened_from n xs) ys
 opened-append n [] ys = refl
 opened-append n (did a e ∷ xs) ys = opened-append (opened_after n a) xs ys
 opened-append n (refused why ∷ xs) ys = opened-append n xs ys

@@ -128,7 +128,7 @@ adds_later p m q e g same h = record {
   own = h.own ∙ ap (λ (x : List Event). x ++ e ∷ []) g.own;
 }
 
-reads_later : (p m : Past) (cell : Cell) (value : Value) (e : Event) → m.state ≡ p.state → ReadsBack m cell value e
+pub reads_later : (p m : Past) (cell : Cell) (value : Value) (e : Event) → m.state ≡ p.state → ReadsBack m cell value e
     ⊎ ReadsFrom m cell value e → ReadsBack p cell value e ⊎ ReadsFrom p cell value e
 reads_later p m cell value e same (inl h) = inl (record {
   written = subst (λ (s : SessionState). HasWrite cell s) same h.written;
@@ -143,7 +143,7 @@ reads_later p m cell value e same (inr h) = inr (record {
   event_is = h.event_is ∙ ap (λ (s : SessionState). Read (session_of s) cell h.source h.count h.word value) same;
 })
 
-reads_session : (p : Past) (cell : Cell) (value : Value) (e : Event) → ReadsBack p cell value e ⊎ ReadsFrom p cell value e →
+pub reads_session : (p : Past) (cell : Cell) (value : Value) (e : Event) → ReadsBack p cell value e ⊎ ReadsFrom p cell value e →
     session_in e ≡ session_of p.state
 reads_session p cell value e (inl h) = ap session_in h.event_is
 reads_session p cell value e (inr h) = ap session_in h.event_is
@@ -235,7 +235,7 @@ may_ask_message (message_stage.Beginning plan description) known past c o k t s 
 may_ask_message (message_stage.Running run p) known past c o k t s w =
     subst (λ (x : Call). MayAsk x past) (book_of (call_for (first_demand (rest_of run.plan))) c w)
     (may_ask_cells (rest_of run.plan) (length known.tables) past (in_transaction past.state o) t k run.asks)
-may_ask_message (message_stage.Starting start) known past c o k t s w = subst (λ (x : Call). MayAsk x past) (book_of (calls.Begin known.level) c w)
+may_ask_message (message_stage.Starting words) known past c o k t s w = subst (λ (x : Call). MayAsk x past) (book_of (calls.Begin known.level) c w)
     (idle past.state o)
 may_ask_message (message_stage.Showing description block) known past c o k t s w = subst (λ (x : Call). MayAsk x past) (book_of calls.Show c w)
     (in_session_of block past.state o)
@@ -330,7 +330,7 @@ message_look (message_stage.Beginning plan description) known c w = subst (λ (x
 message_look (message_stage.Running run p) known c w =
     subst (λ (x : Call). LooksFrom x (length known.tables)) (book_of (call_for (first_demand (rest_of run.plan))) c w)
     (cells_look (first_demand (rest_of run.plan)) (length known.tables))
-message_look (message_stage.Starting start) known c w = subst (λ (x : Call). LooksFrom x (length known.tables)) (book_of (calls.Begin known.level) c w) tt
+message_look (message_stage.Starting words) known c w = subst (λ (x : Call). LooksFrom x (length known.tables)) (book_of (calls.Begin known.level) c w) tt
 message_look (message_stage.Showing description block) known c w = subst (λ (x : Call). LooksFrom x (length known.tables)) (book_of calls.Show c w) tt
 message_look (message_stage.Committing reply) known c w = subst (λ (x : Call). LooksFrom x (length known.tables)) (book_of calls.Commit c w) tt
 message_look (message_stage.RollingBack reply) known c w = subst (λ (x : Call). LooksFrom x (length known.tables)) (book_of calls.Rollback c w) tt

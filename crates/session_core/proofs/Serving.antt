@@ -119,7 +119,7 @@ one_at_most _ r = omega arith
 -- ---- one step more
 
 -- what is lost stays a part of the last reply where the record goes on
-last_more : (old new : Account) (b : List Entry) → new.entries ≡ old.entries ++ b → new.sent ≡ old.sent → new.lost ≡ old.lost →
+pub last_more : (old new : Account) (b : List Entry) → new.entries ≡ old.entries ++ b → new.sent ≡ old.sent → new.lost ≡ old.lost →
     IsOfLast old → IsOfLast new
 last_more old new b entries sent lost (inl none) = inl (lost ∙ none)
 last_more old new b entries sent lost (inr (n, has, le)) = inr (

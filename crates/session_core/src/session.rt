@@ -368,7 +368,7 @@ impl Session {
         ensures last { IsLast self.new.stage }
     {
         let phase = phase_at(self.stage);
-        let finish = finish_of(cause, self.frames.rest() == 0);
+        let finish = finish_of(cause, self.frames.rest());
         self.stage = leave(owed_by(phase), finish);
     }
 }

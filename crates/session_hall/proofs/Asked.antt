@@ -42,18 +42,19 @@ use Rattle.session_core.specs.Plays.{MayAsk, owed_of}
 use Rattle.session_core.specs.Wants as wishes
 use Rattle.session_core.specs.Stands.{IsLast, Lacks, outer, owed_at, served_of, wants}
 use Rattle.session_core.specs.Sessions.{Stands}
-use Rattle.session_core.specs.Serve.{Account, IsOfLast}
+use Rattle.session_core.specs.Serve.{Account}
 use Rattle.session_core.specs.Running.{Sits, MakesCall}
+use Rattle.session_core.proofs.Flags.{opened-append}
 use Rattle.session_core.proofs.Following.{book_message}
 use Rattle.session_core.proofs.Playing.{may_ask}
-use Rattle.session_core.proofs.Serving.{sits_on}
+use Rattle.session_core.proofs.Serving.{last_more, sits_on}
 use Rattle.session_core.proofs.ValidRecords.{Declines-goes, IsValidRecord-append}
 use Rattle.session_hall.specs.declared.client.Client.{Client}
 use Rattle.session_hall.specs.declared.seat.Seat.{Seat}
 use Rattle.session_hall.specs.Accounts.{Comes, Grew, KeepsNumber}
 use Rattle.session_hall.specs.Clients.{come_to}
 use Rattle.session_hall.specs.Seats.{Lives, IsFrom, Attends, Grows}
-use Rattle.session_hall.proofs.Entries.{opened-append, events-append, IsAlone, alone_short, short_from}
+use Rattle.session_hall.proofs.Entries.{events-append, IsAlone, alone_short, short_from}
 use Rattle.session_hall.proofs.Coming.{Came, IsForeignTo, asks_open, came_comes, came_of, one_later}
 use Rattle.session_hall.proofs.Living.{lives_called, keeps_called, own_called, opened_apart}
 use Rattle.session_hall.proofs.Turning.{all_from_more, laid_same}
@@ -173,15 +174,6 @@ call_from stream taken laid p c (refused why) q came = tt
 call_from stream taken laid p c (short final n) q came = absurd came
 call_from stream taken laid p c (unsent n) q came = absurd came
 call_from stream taken laid p c (stop cause) q came = absurd came
-
-last_more : (old new : Account) (b : List Entry) → new.entries ≡ old.entries ++ b → new.sent ≡ old.sent → new.lost ≡ old.lost →
-    IsOfLast old → IsOfLast new
-last_more old new b entries sent lost (inl none) = inl (lost ∙ none)
-last_more old new b entries sent lost (inr (n, has, le)) = inr (
-  n,
-  subst (λ (x : List Entry). Contains x (unsent n)) (sym entries) (Contains-append_left old.entries b (unsent n) has),
-  omega (arith, le, ap length sent, ap length lost),
-)
 
 -- the seat makes the call that its session wants
 pub asked_grows : (s t : Seat) (history now : Chronicle) (number : Option ℕ) (p q : Past) →

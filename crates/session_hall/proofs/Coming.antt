@@ -2,16 +2,14 @@
 use Rattle.std.proofs.Common.{◌≡◌, ◌≢◌, ℕ, List, [], ◌∷◌, ◌++◌, length, refl, sym, ◌∙◌, ap, subst, Option, Some, None, inl, inr}
 use Rattle.std.specs.Prelude.{◌⊎◌, All}
 use Rattle.std.proofs.lemmas.List.{append-nil, append_cancel_left}
-use Rattle.cell_base.specs.declared.cell.Cell.{Cell}
-use Rattle.cell_base.specs.declared.value.Value.{Value}
 use Rattle.sql_tree.specs.declared.table.Table.{Table}
 use Rattle.history_core.specs.declared.event.Event.{Event}
-use Rattle.history_core.specs.declared.event.Event.TheVariants.{Open, Close, Define, Look, Begin, Scan, Read, Own, Write, Commit, Rollback, Show}
+use Rattle.history_core.specs.declared.event.Event.TheVariants.{Open, Close, Define, Look, Begin, Scan, Write, Commit, Rollback, Show}
 use Rattle.history_core.specs.declared.fault.BookFault.{BookFault}
 use Rattle.history_core.specs.declared.fault.BookFault.TheVariants as faults
 use Rattle.history_core.specs.declared.fault.DefineAnswer.TheVariants as defines
 use Rattle.history_core.specs.Events.{session_in}
-use Rattle.history_core.specs.Book.{Past, SessionState, no_session, in_session, pending, HasSession, IsIdle, IsInTransaction, IsUnwritten, HasWrite, LastWrite, session_of, GoesOn, Adds}
+use Rattle.history_core.specs.Book.{Past, SessionState, no_session, in_session, pending, HasSession, IsIdle, IsInTransaction, IsUnwritten, HasWrite, session_of, GoesOn, Adds}
 use Rattle.valid_writes.specs.Owning.{OwnsAllThatComes}
 use Rattle.block_machine.specs.Calls.{Call}
 use Rattle.block_machine.specs.Calls as calls
@@ -19,8 +17,9 @@ use Rattle.block_machine.specs.Script.{Entry, did, refused, short, unsent, stop}
 use Rattle.block_machine.specs.declared.call.Answer.{Answer}
 use Rattle.block_machine.specs.declared.call.Answer.TheVariants as answers
 use Rattle.session_core.specs.Told.{opened_after}
-use Rattle.session_core.specs.Record.{Happens, Declines, Draws, StateAfter, IsValidRecord, ReadsBack, ReadsFrom, events_of}
+use Rattle.session_core.specs.Record.{Happens, Declines, Draws, StateAfter, IsValidRecord, events_of}
 use Rattle.session_core.specs.Plays.{MayAsk}
+use Rattle.session_core.proofs.Playing.{reads_later, reads_session}
 use Rattle.session_core.proofs.ValidRecords.{Happens-leaves, Declines-goes}
 use Rattle.session_hall.specs.Accounts.{Comes}
 use Rattle.session_hall.proofs.Later.{goes_later, adds_later, adds_in}
@@ -29,26 +28,6 @@ use Rattle.session_hall.proofs.Later.{goes_later, adds_later, adds_in}
 abbrev pub IsForeign : Call → Answer → List Event → Type 0
 IsForeign calls.Open (answers.Opened s) others = All (λ (x : Event). session_in x ≢ s) others
 IsForeign _ _ others = Unit {0}
-
-reads_later : (p m : Past) (cell : Cell) (value : Value) (e : Event) → m.state ≡ p.state →
-    ReadsBack m cell value e ⊎ ReadsFrom m cell value e → ReadsBack p cell value e ⊎ ReadsFrom p cell value e
-reads_later p m cell value e same (inl h) = inl (record {
-  written = subst (λ (s : SessionState). HasWrite cell s) same h.written;
-  last = subst (λ (s : SessionState). LastWrite cell value s) same h.last;
-  event_is = h.event_is ∙ ap (λ (s : SessionState). Own (session_of s) cell value) same;
-})
-reads_later p m cell value e same (inr h) = inr (record {
-  unwritten = subst (λ (s : SessionState). IsUnwritten cell s) same h.unwritten;
-  source = h.source;
-  count = h.count;
-  word = h.word;
-  event_is = h.event_is ∙ ap (λ (s : SessionState). Read (session_of s) cell h.source h.count h.word value) same;
-})
-
-reads_session : (p : Past) (cell : Cell) (value : Value) (e : Event) → ReadsBack p cell value e ⊎ ReadsFrom p cell value e →
-    session_in e ≡ session_of p.state
-reads_session p cell value e (inl h) = ap session_in h.event_is
-reads_session p cell value e (inr h) = ap session_in h.event_is
 
 draws_later : {W : Type 0} (gives : W → ℕ → W → Type 0) (p m : Past) (v : W) (c : Call) (x : Entry) (w : W) → m.state ≡ p.state →
     Draws gives m v c x w → Draws gives p v c x w

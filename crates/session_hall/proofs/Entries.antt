@@ -9,19 +9,11 @@ use Rattle.block_machine.specs.declared.end.Stop.TheVariants as stops
 use Rattle.block_machine.specs.Calls.{Call}
 use Rattle.block_machine.specs.Script.{Entry, did, refused, short, unsent, stop}
 use Rattle.history_core.specs.Book.{Past}
-use Rattle.session_core.specs.Told.{opened_after, opened_from}
+use Rattle.session_core.specs.Told.{opened_from}
 use Rattle.session_core.specs.Record.{IsValidRecord, events_of}
 use Rattle.session_core.specs.Steps.{IsShort}
 use Rattle.session_core.proofs.ValidRecords.{IsValidRecord-quiet, IsValidRecord-short}
 use Rattle.session_hall.specs.Seats.{IsFrom}
-
-pub opened-append : (n : Option ℕ) (xs ys : List Entry) → opened_from n (xs ++ ys) ≡ opened_from (opened_from n xs) ys
-opened-append n [] ys = refl
-opened-append n (did a e ∷ xs) ys = opened-append (opened_after n a) xs ys
-opened-append n (refused why ∷ xs) ys = opened-append n xs ys
-opened-append n (short final k ∷ xs) ys = opened-append n xs ys
-opened-append n (unsent k ∷ xs) ys = opened-append n xs ys
-opened-append n (stop cause ∷ xs) ys = opened-append n xs ys
 
 pub events-append : (xs ys : List Entry) → events_of (xs ++ ys) ≡ events_of xs ++ events_of ys
 events-append [] ys = refl

@@ -14,8 +14,9 @@ use Rattle.block_machine.specs.Script.{Entry}
 use Rattle.session_core.specs.Told.{opened_in}
 use Rattle.session_core.specs.Record.{events_of}
 use Rattle.session_core.specs.Serve.{Account}
+use Rattle.session_core.proofs.Flags.{opened-append}
 use Rattle.session_hall.specs.Accounts.{Comes, KeepsNumber, Grew}
-use Rattle.session_hall.proofs.Entries.{opened-append, events-append, IsAlone}
+use Rattle.session_hall.proofs.Entries.{events-append, IsAlone}
 
 pub comes_none : (history : Chronicle) → Comes history [] history
 comes_none history = record {

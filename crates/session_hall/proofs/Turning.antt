@@ -22,12 +22,13 @@ use Rattle.session_core.specs.Stands.{IsHolding, IsLast, IsStopped, Lacks, outer
 use Rattle.session_core.specs.Sessions.{Stands, StandsShort}
 use Rattle.session_core.specs.Serve.{Account}
 use Rattle.session_core.specs.Running.{Sits}
+use Rattle.session_core.proofs.Flags.{opened-append}
 use Rattle.session_core.proofs.Serving.{stage_waiting, stage_taking, Lacks-holding}
 use Rattle.valid_writes.specs.Beginnings.{no_past}
 use Rattle.session_hall.specs.declared.client.Client.{Client}
 use Rattle.session_hall.specs.declared.seat.Seat.{Seat}
 use Rattle.session_hall.specs.Seats.{Lives, IsLaid, IsFrom, Follows, Carries, Attends, Grows, GrowsAlone, Keeps}
-use Rattle.session_hall.proofs.Entries.{opened-append, IsAlone, alone_short, alone_unsent, alone_stop, short_from}
+use Rattle.session_hall.proofs.Entries.{IsAlone, alone_short, alone_unsent, alone_stop, short_from}
 use Rattle.session_hall.proofs.Growing.{grew_alone, grew_then}
 
 pub grows_then : (a : Seat) (m : ℕ) (b : Seat) (n : ℕ) (c : Seat) (h i j : Chronicle) → Grows h a m i b → Grows i b n j c → Grows h a (m + n) j c

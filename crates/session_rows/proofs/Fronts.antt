@@ -24,9 +24,13 @@ first_then xs ys zs one other = record {
   whole = other.whole ∙ ap (λ (ts : List Table). ts ++ other.more) one.whole ∙ append_assoc xs one.more other.more;
 }
 
-first_length : (xs ys : List Table) → AreFirst xs ys → length xs ≤ length ys
+pub first_length : (xs ys : List Table) → AreFirst xs ys → length xs ≤ length ys
 first_length xs ys first =
     let long : length ys ≡ length xs + length first.more = ap length first.whole ∙ length-append xs first.more in omega arith
+
+pub first_taken : (xs ys : List Table) → AreFirst xs ys → take (length xs) ys ≡ xs
+first_taken xs ys first =
+    ap (λ (ts : List Table). take (length xs) ts) first.whole ∙ take-append-le (length xs) xs first.more (omega arith) ∙ take_all (length xs) xs (omega arith)
 
 -- they stand at the same places
 first_get : (xs ys : List Table) (n : ℕ) → AreFirst xs ys → n < length xs → slice_get ys n ≡ slice_get xs n

@@ -1,5 +1,5 @@
 -- A history keeps rows whole where the events of each of its sessions do.
-use Rattle.std.proofs.Common.{◌≡◌, inl, inr, ◌⊎◌, ℕ, zero, suc, ◌+◌, ◌<◌, ◌≤◌, ◌==◌, true, false, List, [], ◌∷◌, length, drop, Option, Some, refl, sym, ap, subst, ◌∙◌, arith}
+use Rattle.std.proofs.Common.{◌≡◌, inl, inr, ◌⊎◌, ℕ, zero, suc, ◌+◌, ◌<◌, ◌≤◌, ◌==◌, true, false, List, [], ◌∷◌, length, drop, Option, Some, None, refl, sym, ap, subst, ◌∙◌, arith}
 use Rattle.std.specs.List.{slice_get, Contains}
 use Rattle.std.proofs.lemmas.Bool.{cases_eq, cases_order, cond_both, eqb-true, false≢true}
 use Rattle.cell_base.specs.declared.cell.Cell.{Cell}
@@ -16,7 +16,8 @@ use Rattle.history_core.specs.Transactions.{IsOf, IsStart}
 use Rattle.history_core.specs.Chronicle.{own_events}
 use Rattle.history_core.proofs.Places.{start_unique, start_session}
 use Rattle.history_core.proofs.RowLists.{slice_get-drop}
-use Rattle.link_laws.proofs.OwnEvents.{own_here, own_other}
+use Rattle.link_laws.specs.Openings.{AreOfOneSession}
+use Rattle.link_laws.proofs.OwnEvents.{own_here, own_other, own_all, own_none, all_of_it}
 use Rattle.whole_rows.specs.Rows.{IsField, NeedsWholeRows, WritesBetween, ShowsRow, WasShown, KeepsRows}
 use Rattle.row_courses.specs.Rows.{fields_from, fields_in, fields_of_row, shown_after, owed_after, MayWrite}
 use Rattle.session_rows.specs.Alone.{MayFollow, shown_following, owed_following, KeepsRowsFrom, KeepsRowsAlone}
@@ -381,3 +382,20 @@ keeps_rows tables events alone = record {
     following zero high le = (high, omega arith)
     following (suc low) zero le = absurd (omega arith)
     following (suc low) (suc high) le = let on = following low high (omega arith) in (on.0, let e = on.1 in omega arith)
+
+-- ---- a history with the events of one session, or none
+
+-- of each session there are all events of one session, or none
+pub each_keeps : (tables : List Table) (number : Option ℕ) (events : List Event) → AreOfOneSession number events → KeepsRowsAlone tables events →
+    (session : ℕ) → KeepsRowsAlone tables (own_events events session)
+each_keeps tables None events none keeps session = subst (λ (es : List Event). KeepsRowsAlone tables (own_events es session)) (sym none) tt
+each_keeps tables (Some n) events begins keeps session =
+    let of_it = all_of_it n events begins in
+    elim (cases_eq n session) [
+      | inl here ↦
+          subst (λ (s : ℕ). KeepsRowsAlone tables (own_events events s)) here
+          (subst (λ (es : List Event). KeepsRowsAlone tables es) (sym (own_all events n of_it)) keeps)
+      | inr apart ↦
+          subst (λ (es : List Event). KeepsRowsAlone tables es)
+          (sym (own_none events session (λ k d within same. apart (sym (of_it k d within) ∙ same)))) tt
+    ]

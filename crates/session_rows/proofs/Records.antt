@@ -32,7 +32,7 @@ use Rattle.session_rows.proofs.Standings.{Standing, MayCall, following, rows, ro
 adds_first : (p : Past) (e : Event) (m : Past) → Adds p e m → AreFirst p.seen.tables m.seen.tables
 adds_first p e m adds = record { more = adds.more; whole = adds.tables }
 
-happens_first : (p : Past) (c : Call) (a : Answer) (e : Event) (m : Past) → Happens p c a e m → AreFirst p.seen.tables m.seen.tables
+pub happens_first : (p : Past) (c : Call) (a : Answer) (e : Event) (m : Past) → Happens p c a e m → AreFirst p.seen.tables m.seen.tables
 happens_first p calls.Open (answers.Opened s) e m h = adds_first p e m h.1
 happens_first p calls.Close answers.Closed e m h = adds_first p e m h.1
 happens_first p (calls.Look known) (answers.Looked tables) e m h = adds_first p (events.Look (session_of p.state) (length m.seen.tables)) m h.1.adds
@@ -47,11 +47,11 @@ happens_first p calls.Rollback answers.RolledBack e m h = adds_first p e m h.1
 happens_first p calls.Show (answers.Shown n) e m h = adds_first p e m h.1
 happens_first p _ _ e m h = absurd h
 
-declines_first : (p : Past) (c : Call) (why : BookFault) (m : Past) → Declines p c why m → AreFirst p.seen.tables m.seen.tables
+pub declines_first : (p : Past) (c : Call) (why : BookFault) (m : Past) → Declines p c why m → AreFirst p.seen.tables m.seen.tables
 declines_first p c (faults.Full limit) m declines = record { more = declines.1.more; whole = declines.1.tables }
 declines_first p c faults.Memory m declines = record { more = declines.1.more; whole = declines.1.tables }
 
-valid_first : {W : Type 0} (gives : W → ℕ → W → Type 0) (p : Past) (v : W) (cs : List Call) (es : List Entry) (q : Past) (w : W) →
+pub valid_first : {W : Type 0} (gives : W → ℕ → W → Type 0) (p : Past) (v : W) (cs : List Call) (es : List Entry) (q : Past) (w : W) →
     IsValidRecord gives p v cs es q w → AreFirst p.seen.tables q.seen.tables
 valid_first gives p v [] [] q w valid = subst (λ (x : Past). AreFirst p.seen.tables x.seen.tables) (sym valid.0) (first_all p.seen.tables)
 valid_first gives p v (c ∷ cs) [] q w valid = absurd valid

@@ -1,6 +1,6 @@
 -- The rules of whole rows for the calls of a session.
-use Rattle.std.proofs.Common.{◌≡◌, ℕ, ◌+◌, ◌≤◌, List, [], ◌++◌, length, take, Ok, refl, sym, ap, subst, ◌∙◌, arith}
-use Rattle.std.proofs.lemmas.List.{append-nil, length-append, take-append-le, take_all}
+use Rattle.std.proofs.Common.{◌≡◌, ℕ, ◌≤◌, List, [], ◌++◌, length, take, Ok, refl, sym, ap, subst, ◌∙◌}
+use Rattle.std.proofs.lemmas.List.{append-nil}
 use Rattle.cell_base.specs.declared.cell.Cell.{Cell}
 use Rattle.cell_base.specs.declared.key.Key.{Key}
 use Rattle.cell_base.specs.declared.level.Level.{Level}
@@ -19,7 +19,7 @@ use Rattle.link_laws.proofs.Rules.{Rules, Breaks, AreFit}
 use Rattle.row_courses.specs.Rows.{shown_after, owed_after, MayAsk, MayWrite, KeepsWhole}
 use Rattle.row_courses.proofs.RowsKept.{statement_keeps}
 use Rattle.session_rows.specs.Alone.{AreFirst}
-use Rattle.session_rows.proofs.Fronts.{keeps_first}
+use Rattle.session_rows.proofs.Fronts.{first_length, first_taken, keeps_first}
 
 -- where a session stands: the tables that it was shown, the rows that it was shown to be there, the fields that it owes
 pub record Standing : Type 0 where
@@ -54,14 +54,6 @@ rows = record { State = Standing; may = MayCall; next = following; Fresh = IsRes
 
 -- ---- the tables that a look shows
 
-first_taken : (xs ys : List Table) → AreFirst xs ys → take (length xs) ys ≡ xs
-first_taken xs ys first =
-    ap (λ (ts : List Table). take (length xs) ts) first.whole ∙ take-append-le (length xs) xs first.more (omega arith) ∙ take_all (length xs) xs (omega arith)
-
-first_short : (xs ys : List Table) → AreFirst xs ys → length xs ≤ length ys
-first_short xs ys first =
-    let long : length ys ≡ length xs + length first.more = ap length first.whole ∙ length-append xs first.more in omega arith
-
 after_look : (s : Standing) (k : Knowledge) (a : Answer) → IsResting s k → IsResting (following s (calls.Look (length k.tables)) a) k
 after_look s k (answers.Looked tables) resting =
     (resting.0, record { more = tables; whole = ap (λ (ts : List Table). ts ++ tables) (first_taken k.tables s.known resting.1) })
@@ -95,7 +87,7 @@ pub rows_fit : AreFit rows
 rows_fit = record {
   opens = λ s k fresh. (fresh.0, λ session. fresh);
   closes = λ s k resting. resting.0;
-  looks = λ s k resting. ((resting.0, first_short k.tables s.known resting.1), λ a. after_look s k a resting);
+  looks = λ s k resting. ((resting.0, first_length k.tables s.known resting.1), λ a. after_look s k a resting);
   looked = λ s k tables resting. looked_at s k tables resting;
   levels = λ s k level resting. resting;
   defines = λ s k table resting. (resting.0, λ a. resting);

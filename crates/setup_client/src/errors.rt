@@ -7,6 +7,9 @@ ghost use Rattle.setup_client.specs.Errors.{text_at as text_before, is_field as 
 use byteorder::{BigEndian, ByteOrder};
 use cell_base::{Items, Memory};
 use std::alloc::Global;
+use std::error::Error;
+use std::fmt;
+use std::str;
 
 /// The error of a statement.
 #[derive(Debug, Drop)]
@@ -18,6 +21,22 @@ pub struct StatementFault {
     /// Its text.
     pub message: Items<u8>,
 }
+
+// Bytes as text; a question mark where they are none.
+fn shown(bytes: &[u8]) -> &str {
+    str::from_utf8(bytes).unwrap_or("?")
+}
+
+impl fmt::Display for StatementFault {
+    fn fmt<W: fmt::Write>(&self, f: &mut fmt::Formatter<W>) -> fmt::Result {
+        let number = self.number;
+        let code = shown(self.code.as_slice());
+        let message = shown(self.message.as_slice());
+        write!(f, "statement {number} failed: {code} {message}")
+    }
+}
+
+impl Error for StatementFault {}
 
 // The letters of messages and of fields.
 const ERROR: u8 = b'E';

@@ -6,9 +6,8 @@ use Rattle.sql_tree.specs.declared.table.Table.{Table}
 use Rattle.history_core.specs.declared.event.Event.{Event}
 use Rattle.history_core.specs.declared.event.Event.TheVariants as events
 use Rattle.history_core.specs.declared.fault.BookFault.{BookFault}
-use Rattle.history_core.specs.declared.fault.BookFault.TheVariants as faults
 use Rattle.history_core.specs.declared.fault.DefineAnswer.TheVariants as defines
-use Rattle.history_core.specs.Book.{Past, session_of, Adds, AnswersTables}
+use Rattle.history_core.specs.Book.{Past, session_of, AnswersTables}
 use Rattle.block_machine.specs.Calls.{Call}
 use Rattle.block_machine.specs.Calls as calls
 use Rattle.block_machine.specs.Knowledge.{at_start}
@@ -18,11 +17,12 @@ use Rattle.block_machine.specs.declared.call.Answer.TheVariants as answers
 use Rattle.session_core.specs.declared.phase.Phase.TheVariants as phases
 use Rattle.session_core.specs.Requests.{Requests}
 use Rattle.session_core.specs.Told.{told}
-use Rattle.session_core.specs.Record.{Happens, Declines, IsValidRecord, events_of}
+use Rattle.session_core.specs.Record.{Happens, IsValidRecord, events_of}
 use Rattle.link_laws.proofs.Rules.{Obeys}
 use Rattle.link_laws.proofs.SessionsKept.{session_keeps}
 use Rattle.session_rows.specs.Alone.{AreFirst}
 use Rattle.session_rows.proofs.Fronts.{first_all, first_then, looked}
+use Rattle.session_rows.proofs.Records.{happens_first, declines_first, valid_first}
 use Rattle.setup_rows.proofs.FieldsWritten.{IsFieldIn}
 use Rattle.setup_rows.proofs.Writing.{MayCall, following, fields, fields_fit, cell_first}
 
@@ -30,47 +30,6 @@ use Rattle.setup_rows.proofs.Writing.{MayCall, following, fields, fields_fit, ce
 abbrev pub WritesField : List Table → Event → Type 0
 WritesField tables (events.Write session cell value) = IsFieldIn tables cell
 WritesField tables _ = Unit {0}
-
--- ---- the tables that a book has seen
-
-adds_first : (p : Past) (e : Event) (m : Past) → Adds p e m → AreFirst p.seen.tables m.seen.tables
-adds_first p e m adds = record { more = adds.more; whole = adds.tables }
-
-happens_first : (p : Past) (c : Call) (a : Answer) (e : Event) (m : Past) → Happens p c a e m → AreFirst p.seen.tables m.seen.tables
-happens_first p calls.Open (answers.Opened s) e m h = adds_first p e m h.1
-happens_first p calls.Close answers.Closed e m h = adds_first p e m h.1
-happens_first p (calls.Look known) (answers.Looked tables) e m h = adds_first p (events.Look (session_of p.state) (length m.seen.tables)) m h.1.adds
-happens_first p (calls.Define table) (answers.Defined (defines.Defined n)) e m h = adds_first p (events.Define (session_of p.state) table.name) m h.1.3
-happens_first p (calls.Define table) (answers.Defined (defines.Taken n)) e m h = adds_first p (events.Look (session_of p.state) n) m h.1.2
-happens_first p (calls.Begin level) (answers.Begun n) e m h = adds_first p e m h.1
-happens_first p (calls.Scan table) (answers.Listed keys) e m h = adds_first p e m h.1
-happens_first p (calls.Touch cell) (answers.Found value) e m h = adds_first p e m h.1
-happens_first p (calls.Write cell value) answers.Written e m h = adds_first p e m h.1
-happens_first p calls.Commit answers.Committed e m h = adds_first p e m h.1
-happens_first p calls.Rollback answers.RolledBack e m h = adds_first p e m h.1
-happens_first p calls.Show (answers.Shown n) e m h = adds_first p e m h.1
-happens_first p _ _ e m h = absurd h
-
-declines_first : (p : Past) (c : Call) (why : BookFault) (m : Past) → Declines p c why m → AreFirst p.seen.tables m.seen.tables
-declines_first p c (faults.Full limit) m declines = record { more = declines.1.more; whole = declines.1.tables }
-declines_first p c faults.Memory m declines = record { more = declines.1.more; whole = declines.1.tables }
-
-valid_first : {W : Type 0} (gives : W → ℕ → W → Type 0) (p : Past) (v : W) (cs : List Call) (es : List Entry) (q : Past) (w : W) →
-    IsValidRecord gives p v cs es q w → AreFirst p.seen.tables q.seen.tables
-valid_first gives p v [] [] q w valid = subst (λ (x : Past). AreFirst p.seen.tables x.seen.tables) (sym valid.0) (first_all p.seen.tables)
-valid_first gives p v (c ∷ cs) [] q w valid = absurd valid
-valid_first gives p v [] (did a e ∷ es) q w valid = absurd valid
-valid_first gives p v (c ∷ cs) (did a e ∷ es) q w valid =
-    first_then p.seen.tables valid.0.seen.tables q.seen.tables (happens_first p c a e valid.0 valid.2) (valid_first gives valid.0 valid.1 cs es q w valid.4)
-valid_first gives p v [] (refused why ∷ es) q w valid = absurd valid
-valid_first gives p v (c ∷ cs) (refused why ∷ es) q w valid =
-    first_then p.seen.tables valid.0.seen.tables q.seen.tables (declines_first p c why valid.0 valid.2) (valid_first gives valid.0 valid.1 cs es q w valid.4)
-valid_first gives p v [] (short final n ∷ es) q w valid = valid_first gives p v [] es q w valid
-valid_first gives p v (c ∷ cs) (short final n ∷ es) q w valid = valid_first gives p v (c ∷ cs) es q w valid
-valid_first gives p v [] (unsent n ∷ es) q w valid = valid_first gives p v [] es q w valid
-valid_first gives p v (c ∷ cs) (unsent n ∷ es) q w valid = valid_first gives p v (c ∷ cs) es q w valid
-valid_first gives p v [] (stop cause ∷ es) q w valid = valid_first gives p v [] es q w valid
-valid_first gives p v (c ∷ cs) (stop cause ∷ es) q w valid = valid_first gives p v (c ∷ cs) es q w valid
 
 -- ---- one call
 

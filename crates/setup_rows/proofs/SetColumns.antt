@@ -1,5 +1,5 @@
 -- The columns that an UPDATE sets are fields of its table.
-use Rattle.std.proofs.Common.{◌≡◌, ◌≢◌, ℕ, suc, ◌+◌, ◌<◌, ◌==◌, List, [], ◌∷◌, ◌++◌, length, Option, Some, Ok, Err, subst, arith, ap, ◌∙◌}
+use Rattle.std.proofs.Common.{◌≡◌, ◌≢◌, ℕ, ◌+◌, ◌<◌, ◌==◌, List, [], ◌∷◌, ◌++◌, length, Option, Some, Ok, Err, subst, arith}
 use Rattle.std.specs.Prelude.{slice_get}
 use Rattle.std.specs.Str.{bytes_eq}
 use Rattle.std.specs.List.{AllByRecursion}
@@ -24,10 +24,11 @@ use Rattle.typing_rules.specs.Insert.{typed_insert}
 use Rattle.typing_rules.specs.Names.{Source}
 use Rattle.typing_rules.specs.Select as typing
 use Rattle.typing_rules.specs.Sound.{Holds}
-use Rattle.typing_rules.specs.Tables.{Numbered, Target, table_from, table_named, target_from, target_named, is_among}
+use Rattle.typing_rules.specs.Tables.{Target, table_named, target_from, target_named, is_among}
 use Rattle.typing_rules.specs.Typed.{typed}
 use Rattle.typing_rules.proofs.Numbers.{then_holds}
 use Rattle.course_laws.proofs.Inserting.{anything, both}
+use Rattle.row_courses.proofs.Fits.{IsNumbered, numbered}
 
 -- ---- one column
 
@@ -66,22 +67,6 @@ values_fit table sources (c ∷ cs) (a ∷ more) fit =
     then_holds (λ (x : TypedExpr). Unit {0}) (AreSettable table) (cell sources c.column a.1) _ (anything (cell sources c.column a.1)) (λ x _.
     then_holds (AreSettable table) (AreSettable table) (set_values sources cs more) (λ xs. Ok ((c.number, x) ∷ xs)) (values_fit table sources cs more fit.1)
     (λ xs h. (fit.0, h)))
-
--- ---- the table
-
-abbrev IsNumbered : List Table → Numbered → Type 0
-IsNumbered tables n = slice_get tables n.number ≡ Some n.table
-
-named_from : (tables : List Table) (name : List ℕ) (i : ℕ) (ts : List Table) → ((k : ℕ) → slice_get tables (i + k) ≡ slice_get ts k) →
-    Holds (IsNumbered tables) (table_from name i ts)
-named_from tables name i [] at = tt
-named_from tables name i (t ∷ ts) at =
-    cond_both (bytes_eq t.name name) (Ok (record { number = i; table = t })) (table_from name (i + 1) ts) (Holds (IsNumbered tables))
-    (λ _. let here : i ≡ i + 0 = omega arith in ap (λ (n : ℕ). slice_get tables n) here ∙ at 0)
-    (λ _. named_from tables name (i + 1) ts (λ k. let next : i + 1 + k ≡ i + suc k = omega arith in ap (λ (n : ℕ). slice_get tables n) next ∙ at (suc k)))
-
-numbered : (tables : List Table) (name : List ℕ) → Holds (IsNumbered tables) (table_named tables name)
-numbered tables name = named_from tables name 0 tables (λ k. let same : 0 + k ≡ k = omega arith in ap (λ (n : ℕ). slice_get tables n) same)
 
 -- ---- a statement
 

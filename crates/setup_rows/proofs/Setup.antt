@@ -1,11 +1,9 @@
 -- The rows that a setup leaves are whole.
-use Rattle.std.proofs.Common.{inl, inr, ℕ, List, [], Option, Some, None, sym, subst, ◌∙◌}
+use Rattle.std.proofs.Common.{ℕ, List, [], sym, subst}
 use Rattle.std.specs.List.{AllByRecursion}
-use Rattle.std.proofs.lemmas.Bool.{cases_eq}
 use Rattle.cell_base.specs.declared.cell.Cell.{Cell}
 use Rattle.cell_base.specs.declared.level.Level.TheVariants as levels
 use Rattle.cell_base.specs.declared.value.Value.{Value}
-use Rattle.sql_tree.specs.declared.table.Table.{Table}
 use Rattle.choice_stream.specs.Choices.{DrawsFirst}
 use Rattle.history_core.specs.declared.event.Event.{Event}
 use Rattle.history_core.specs.Chronicle.{Chronicle, own_events}
@@ -16,28 +14,12 @@ use Rattle.setup_session.specs.Setups.{no_past, SetsUp}
 use Rattle.committed_rows.specs.Rows.{AreCommittedRows}
 use Rattle.link_laws.specs.Openings.{AreOfOneSession}
 use Rattle.link_laws.proofs.OneOpening.{one_session}
-use Rattle.link_laws.proofs.OwnEvents.{own_all, own_none, all_of_it}
 use Rattle.session_rows.specs.Alone.{AreFirst, KeepsRowsAlone}
 use Rattle.session_rows.proofs.Fronts.{first_all}
-use Rattle.session_rows.proofs.Histories.{keeps_rows}
+use Rattle.session_rows.proofs.Histories.{each_keeps, keeps_rows}
 use Rattle.session_rows.proofs.Records.{told_keeps}
 use Rattle.setup_rows.proofs.Records.{WritesField, told_fits}
 use Rattle.setup_rows.proofs.Committed.{rows_whole}
-
--- of each session there are all events of one session, or none
-each_keeps : (tables : List Table) (number : Option ℕ) (events : List Event) → AreOfOneSession number events → KeepsRowsAlone tables events →
-    (session : ℕ) → KeepsRowsAlone tables (own_events events session)
-each_keeps tables None events none keeps session = subst (λ (es : List Event). KeepsRowsAlone tables (own_events es session)) (sym none) tt
-each_keeps tables (Some n) events begins keeps session =
-    let of_it = all_of_it n events begins in
-    elim (cases_eq n session) [
-      | inl here ↦
-          subst (λ (s : ℕ). KeepsRowsAlone tables (own_events events s)) here
-          (subst (λ (es : List Event). KeepsRowsAlone tables es) (sym (own_all events n of_it)) keeps)
-      | inr apart ↦
-          subst (λ (es : List Event). KeepsRowsAlone tables es)
-          (sym (own_none events session (λ k d within same. apart (sym (of_it k d within) ∙ same)))) tt
-    ]
 
 pub setup_whole : (text : List ℕ) (setup : Chronicle) (cells : List (Cell × Value)) → SetsUp text setup → AreCommittedRows setup cells →
     HoldsWholeRows setup.tables cells

@@ -1,6 +1,6 @@
 -- The rule for the calls of a session: the fields that it writes are those of tables that it was shown.
-use Rattle.std.proofs.Common.{◌≡◌, ◌+◌, ◌≤◌, List, [], ◌++◌, length, take, Ok, sym, ap, ◌∙◌, arith}
-use Rattle.std.proofs.lemmas.List.{append-nil, length-append, take-append-le, take_all}
+use Rattle.std.proofs.Common.{◌≡◌, ◌≤◌, List, [], ◌++◌, length, take, Ok, sym, ap, ◌∙◌}
+use Rattle.std.proofs.lemmas.List.{append-nil}
 use Rattle.cell_base.specs.declared.cell.Cell.{Cell}
 use Rattle.cell_base.specs.declared.cell.Cell.TheVariants.{Presence, Field}
 use Rattle.sql_tree.specs.declared.statement.Statement.{Statement}
@@ -16,7 +16,7 @@ use Rattle.block_machine.specs.declared.call.Answer.{Answer}
 use Rattle.block_machine.specs.declared.call.Answer.TheVariants as answers
 use Rattle.link_laws.proofs.Rules.{Rules, AreFit}
 use Rattle.session_rows.specs.Alone.{AreFirst}
-use Rattle.session_rows.proofs.Fronts.{field_first}
+use Rattle.session_rows.proofs.Fronts.{first_length, first_taken, field_first}
 use Rattle.setup_rows.proofs.FieldsWritten.{IsFieldIn, WritesFields, statement_writes}
 
 -- a session that was shown these tables may make the call
@@ -57,14 +57,6 @@ writes_first xs ys (done outcome) first on = tt
 
 -- ---- looks
 
-first_taken : (xs ys : List Table) → AreFirst xs ys → take (length xs) ys ≡ xs
-first_taken xs ys first =
-    ap (λ (ts : List Table). take (length xs) ts) first.whole ∙ take-append-le (length xs) xs first.more (omega arith) ∙ take_all (length xs) xs (omega arith)
-
-first_short : (xs ys : List Table) → AreFirst xs ys → length xs ≤ length ys
-first_short xs ys first =
-    let long : length ys ≡ length xs + length first.more = ap length first.whole ∙ length-append xs first.more in omega arith
-
 after_look : (shown : List Table) (k : Knowledge) (a : Answer) → Knows shown k → Knows (following shown (calls.Look (length k.tables)) a) k
 after_look shown k (answers.Looked tables) knows =
     record { more = tables; whole = ap (λ (ts : List Table). ts ++ tables) (first_taken k.tables shown knows) }
@@ -86,7 +78,7 @@ pub fields_fit : AreFit fields
 fields_fit = record {
   opens = λ s k knows. (tt, λ session. knows);
   closes = λ s k knows. tt;
-  looks = λ s k knows. (first_short k.tables s knows, λ a. after_look s k a knows);
+  looks = λ s k knows. (first_length k.tables s knows, λ a. after_look s k a knows);
   looked = λ s k tables knows. looked_at s k tables knows;
   levels = λ s k level knows. knows;
   defines = λ s k table knows. (tt, λ a. knows);

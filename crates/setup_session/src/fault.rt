@@ -1,20 +1,26 @@
 // Why a setup failed.
 use block_machine::End;
 use cell_base::Memory;
-use setup_client::StatementFault;
+use setup_client::{MOST_TEXT, StatementFault};
+use thiserror::Error;
 
 /// Why a setup failed.
-#[derive(Debug, Drop)]
+#[derive(Debug, Drop, Error)]
 pub enum SetupFault {
-    /// The text has more than [`MOST_TEXT`](setup_client::MOST_TEXT) bytes.
+    /// The text has more than [`MOST_TEXT`] bytes.
+    #[error("it has more than {} bytes", MOST_TEXT)]
     TooLong,
     /// A statement failed, or the text couldn't be read.
+    #[error("{0}")]
     Statement(StatementFault),
     /// No error was told, and the text ends inside a block: no COMMIT stands after its last BEGIN, so what the block wrote would be gone.
+    #[error("it ends inside a block: no COMMIT stands after its last BEGIN")]
     Unfinished,
     /// Neither came, and the session ended otherwise than its client said: so where its replies have more bytes than there is room for.
+    #[error("its replies have too many bytes")]
     Ended(End),
     /// Out of memory.
+    #[error("out of memory")]
     Memory,
 }
 

@@ -8,13 +8,16 @@ use cell_base::Memory;
 use choice_stream::SeedWords;
 use link_traits::Words;
 use session_hall::{Hall, Stepped};
+use thiserror::Error;
 
 /// Why a simulation doesn't come to its end.
-#[derive(Clone, Copy, Debug, PartialEq, Eq)]
+#[derive(Clone, Copy, Debug, PartialEq, Eq, Error)]
 pub enum SimFault {
     /// As many steps were made as are made at most.
+    #[error("4,294,967,295 steps were made, which is the limit")]
     Steps,
     /// Out of memory, in the simulation or in one of its sessions.
+    #[error("out of memory")]
     Memory,
 }
 

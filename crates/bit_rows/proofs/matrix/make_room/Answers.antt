@@ -9,5 +9,5 @@ returns-in_err-widen-clause-err c =
 pub returns-clause-ok : goal.returns-clause-ok
 returns-clause-ok c =
     let full = c.if-lines-room.false in
-    more_lines c.args.room c.min-more.result c.args.lines.now c.widen.new.lines c.requires.lines c.requires.few (omega arith)
-    c.widen.ensures.widened c.min-more.ensures c.in_ok-widen.ensures.ok
+    more_lines c.args.room c.wider-more.result c.args.lines.now c.widen.new.lines c.requires.lines c.requires.few (omega arith)
+    c.widen.ensures.widened c.wider-more.ensures.blocks c.wider-more.ensures.size c.wider-more.ensures.larger c.in_ok-widen.ensures.ok
