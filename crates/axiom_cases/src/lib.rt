@@ -7,7 +7,7 @@
 #[cfg(test)]
 mod answers;
 #[cfg(test)]
-mod courses;
+mod histories;
 #[cfg(test)]
 mod play;
 #[cfg(test)]

@@ -3,7 +3,7 @@ ghost use Rattle.std.specs.Prelude.{◌↔◌, IsTrue, IfOk};
 ghost use Rattle.graph_base.specs.Walk.{IsInRange};
 
 use crate::answers::trial;
-use crate::courses::{CHAINED, LISTED, LOST, ROLLED_BACK, SCANNED, U1, UPDATED};
+use crate::histories::{CHAINED, LISTED, LOST, ROLLED_BACK, SCANNED, U1, UPDATED};
 use crate::play::{Spot, Step, f, make, offer, p, play};
 use crate::stop::Stop;
 use cell_base::Level;

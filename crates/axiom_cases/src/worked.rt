@@ -1,7 +1,7 @@
 // What reads see and force, found by hand. Transactions are numbered from 1 in the order of their begins. The answers at a level are the same
 // whatever the level that the transactions run at.
 use crate::answers::{forces, sees};
-use crate::courses::{CHAINED, LISTED, LOST, ROLLED_BACK, SCANNED, U1, UPDATED};
+use crate::histories::{CHAINED, LISTED, LOST, ROLLED_BACK, SCANNED, U1, UPDATED};
 use crate::play::{Spot, Step, f, p, play};
 use crate::stop::Stop;
 use cell_base::Level;

@@ -1,16 +1,17 @@
 //! The words of a row as they lengthen, within the room that is there.
 
-ghost use Rattle.std.specs.Prelude.{◌≡◌, ◌<◌, ◌≤◌, ◌+◌, ◌++◌, length, vec_len, vec_capacity};
-ghost use Rattle.bit_rows.specs.Words.{AreBlocks, AreJoined, AreSame};
+ghost use Rattle.std.specs.Prelude.{◌≡◌, ◌<◌, ◌≤◌, ◌+◌, ◌*◌, ◌/◌, ◌%◌, ◌++◌, length, max, vec_len, vec_capacity};
+ghost use Rattle.bit_rows.specs.Words.{AreJoined, AreSame};
 
-use crate::{BLOCK, WORDS, lanes};
+use crate::{BLOCK, lanes};
 
 /// Lengthens the words by zeros to the end of a word's block, where the word isn't there.
 pub(crate) fn reach(words: &mut Vec<u64>, word: usize)
-    requires within { word < WORDS }
-    requires blocks { AreBlocks (vec_len words.old) (vec_capacity words.old) }
+    requires blocks { vec_len words.old % BLOCK ≡ 0 }
+    requires room { (word / BLOCK + 1) * BLOCK ≤ vec_capacity words.old }
     ensures there { word < vec_len words.new }
-    ensures blocks { AreBlocks (vec_len words.new) (vec_capacity words.new) }
+    ensures len { vec_len words.new ≡ max (vec_len words.old) ((word / BLOCK + 1) * BLOCK) }
+    ensures capacity { vec_capacity words.old ≤ vec_capacity words.new }
     ensures same { AreSame words.old.items words.new.items }
 {
     if word < words.len() {
@@ -38,9 +39,11 @@ pub(crate) fn append(words: &mut Vec<u64>, others: &[u64])
 /// Joins the words with others: as far as both go by the kernel, and then there are the others
 /// alone.
 pub(crate) fn join(words: &mut Vec<u64>, others: &[u64])
-    requires blocks { AreBlocks (vec_len words.old) (vec_capacity words.old) }
-    requires other_blocks { AreBlocks (length others.now) (vec_capacity words.old) }
-    ensures blocks { AreBlocks (vec_len words.new) (vec_capacity words.new) }
+    requires blocks { vec_len words.old % BLOCK ≡ 0 }
+    requires other_blocks { length others.now % BLOCK ≡ 0 }
+    requires room { length others.now ≤ vec_capacity words.old }
+    ensures len { vec_len words.new ≡ max (vec_len words.old) (length others.now) }
+    ensures capacity { vec_capacity words.old ≤ vec_capacity words.new }
     ensures joined { AreJoined words.old.items words.new.items others.now }
 {
     let common = words.len().min(others.len());

@@ -28,7 +28,7 @@ asks_call (stages.Looking statement description block) built known around outsid
 asks_call (stages.Beginning plan description) built known around outside said c h = by_call said _ c _ refl h
 asks_call (stages.Running run p) built known around outside said c h =
     by_call said (call_for (first_demand (rest_of run.plan))) c _ (runs_asks run.description (rest_of run.plan) (block_of p) known around said run.asks) h
-asks_call (stages.Starting start) built known around outside said c h = by_call said _ c _ refl h
+asks_call (stages.Starting words) built known around outside said c h = by_call said _ c _ refl h
 asks_call (stages.Showing description block) built known around outside said c h = by_call said _ c _ refl h
 asks_call (stages.Committing reply) built known around outside said c h = by_call said _ c _ refl h
 asks_call (stages.RollingBack reply) built known around outside said c h = by_call said _ c _ refl h

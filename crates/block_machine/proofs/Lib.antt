@@ -4,7 +4,7 @@ mod Holding
 mod Answered
 mod Tables
 mod Alone
-mod Wanting
+mod OutOfMemory
 mod Advancing
 mod Asking
 mod Turning

@@ -32,7 +32,7 @@ use Rattle.block_machine.specs.Statements.{Around, owed_in, refusal_state, fails
 use Rattle.block_machine.specs.Stages.{IsScriptAt, IsScriptOf, LeadsTo, Advances, Fits, NoBuilt, HasReply, answer_with, block_of}
 use Rattle.block_machine.proofs.Answered.{fits_demand}
 use Rattle.block_machine.proofs.Holding.{holding_some}
-use Rattle.block_machine.proofs.Wanting.{ok_at}
+use Rattle.block_machine.proofs.OutOfMemory.{ok_at}
 use Rattle.block_machine.proofs.Advancing.{run_advances, run_refused, begin_advances, look_advances, refresh_advances}
 use Rattle.block_machine.proofs.Passes.{passes}
 

@@ -139,7 +139,7 @@ skips (stages.Looking statement description block) built known more outside said
 skips (stages.Refreshing block) built known more outside said es h = absurd (cc h)
 skips (stages.Beginning plan description) built known more outside said es h = absurd (cc h)
 skips (stages.Running run p) built known more outside said es h = absurd (cc h)
-skips (stages.Starting start) built known more outside said es h = absurd (cc h)
+skips (stages.Starting words) built known more outside said es h = absurd (cc h)
 skips (stages.Showing description block) built known more outside said es h = absurd (cc h)
 skips (stages.Committing reply) built known more outside said es h = absurd (cc h)
 skips (stages.RollingBack reply) built known more outside said es h = absurd (cc h)

@@ -16,7 +16,7 @@ use Rattle.block_machine.specs.Replies.{show_reply}
 use Rattle.block_machine.specs.Settings.{history_name}
 use Rattle.block_machine.specs.Statements.{Around, unless_short_in, succeeds, prepares, looks, shows_value, performs}
 use Rattle.block_machine.specs.Stages.{IsScriptAt, IsScriptOf, LeadsTo, Advances, resumes, with_short}
-use Rattle.block_machine.proofs.Wanting.{ok_at}
+use Rattle.block_machine.proofs.OutOfMemory.{ok_at}
 
 -- a statement that looks at the tables
 pub leads_kept : (description : RowDescription) (statement : Statement) (block : Block) (known after : Knowledge) (next : MessageStage) (w : Bool) (built : List ℕ) → after ≡ known →

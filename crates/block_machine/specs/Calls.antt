@@ -8,7 +8,7 @@ use Rattle.statement_course.specs.declared.demand.Demand.{Demand}
 use Rattle.statement_course.specs.declared.demand.Demand.TheVariants as demands
 use Rattle.block_machine.specs.declared.call.Call.{Call as Plain}
 use Rattle.block_machine.specs.declared.call.Call.TheVariants as plain
-use Rattle.block_machine.specs.declared.want.MessageWant.{MessageWant as Told}
+use Rattle.block_machine.specs.declared.want.MessageWant.{MessageWant as CodeWant}
 use Rattle.block_machine.specs.declared.want.MessageWant.TheVariants as told
 
 -- a call of the book
@@ -61,7 +61,7 @@ call_for (demands.Write cell value) = Write cell value
 call_for (demands.Reply outcome) = Rollback
 
 -- the code's want is this one; the table of a definition and the cells of a statement stay with the machine
-abbrev pub IsWant : Told → MessageWant → Type 0
+abbrev pub IsWant : CodeWant → MessageWant → Type 0
 IsWant told.Define want = (table : Table) × (want ≡ Book (Define table))
 IsWant told.Cells want = (demand : Demand) × (asks_cells demand ≡ true) × (want ≡ Book (call_for demand))
 IsWant (told.Book c) want = want ≡ Book (call_of c)

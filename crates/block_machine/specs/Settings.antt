@@ -69,4 +69,4 @@ value_of level name = if bytes_eq name level_name then Some (level_word level) e
 -- a name that can be told as that of a column
 pub record IsShown (name : List ℕ) : Type 0 where
   pub no_zero : HasNoZero name
-  pub short : length name ≤ 64
+  pub fits : length name ≤ 64

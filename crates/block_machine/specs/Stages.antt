@@ -40,6 +40,8 @@ use Rattle.block_machine.specs.declared.stage.ErrorState.{ErrorState}
 use Rattle.block_machine.specs.declared.stage.ErrorState.TheVariants as errors
 use Rattle.block_machine.specs.declared.stage.MessageStage.{MessageStage}
 use Rattle.block_machine.specs.declared.stage.MessageStage.TheVariants as stages
+use Rattle.block_machine.specs.declared.stage.StartWords.{StartWords}
+use Rattle.block_machine.specs.declared.stage.StartWords.TheVariants as start_words
 
 -- a block whose transaction is pending
 abbrev pub block_of : Pending → Block
@@ -50,6 +52,11 @@ block_of pending.Regular = Regular
 abbrev pub state_after_error : ErrorState → TransactionState
 state_after_error errors.Idle = ready.Idle
 state_after_error errors.Failed = ready.Failed
+
+-- the flag of a statement that begins a block: true for START TRANSACTION
+abbrev pub is_start_transaction : StartWords → Bool
+is_start_transaction start_words.Begin = false
+is_start_transaction start_words.StartTransaction = true
 
 -- What a stage goes on with, given the reply that was built, what the session knows, what follows the statement, and what follows the end
 -- of the message. After a statement a runner rests in a block, or skips what follows in its message; after the end of the message it is over.
@@ -62,7 +69,7 @@ resumes (stages.Looking statement description block) built known around outside 
 resumes (stages.Refreshing block) built known around outside = refreshes block known around
 resumes (stages.Beginning plan description) built known around outside = begins description (rest_of plan) (Implicit false) known around
 resumes (stages.Running run p) built known around outside = runs run.description (rest_of run.plan) (block_of p) known around
-resumes (stages.Starting start) built known around outside = starts start (Implicit false) known around
+resumes (stages.Starting words) built known around outside = starts (is_start_transaction words) (Implicit false) known around
 resumes (stages.Showing description block) built known around outside = shows_history description block known around
 resumes (stages.Committing reply) built known around outside = ask calls.Commit (λ _. succeeds (fixed_reply reply) (Implicit false) known around)
 resumes (stages.RollingBack reply) built known around outside = ask calls.Rollback (λ _. succeeds (fixed_reply reply) (Implicit false) known around)
@@ -93,7 +100,7 @@ wants (stages.Looking statement description block) known = calls.Book (calls.Loo
 wants (stages.Refreshing block) known = calls.Book (calls.Look (length known.tables))
 wants (stages.Beginning plan description) known = calls.Book (calls.Begin known.level)
 wants (stages.Running run p) known = calls.Book (call_for (first_demand (rest_of run.plan)))
-wants (stages.Starting start) known = calls.Book (calls.Begin known.level)
+wants (stages.Starting words) known = calls.Book (calls.Begin known.level)
 wants (stages.Showing description block) known = calls.Book calls.Show
 wants (stages.Committing reply) known = calls.Book calls.Commit
 wants (stages.RollingBack reply) known = calls.Book calls.Rollback
@@ -113,7 +120,7 @@ owed_at (stages.Looking statement description block) = owed_in block
 owed_at (stages.Refreshing block) = owed_in block
 owed_at (stages.Beginning plan description) = owes.Close
 owed_at (stages.Running run p) = owes.Rollback
-owed_at (stages.Starting start) = owes.Close
+owed_at (stages.Starting words) = owes.Close
 owed_at (stages.Showing description block) = owed_in block
 owed_at (stages.Committing reply) = owes.Rollback
 owed_at (stages.RollingBack reply) = owes.Rollback
@@ -229,10 +236,10 @@ FitsWant (calls.Book c) a = Fits c a
 FitsWant _ a = ⊥
 
 -- the book was out of memory
-abbrev pub wants_memory : Answer → Bool
-wants_memory (answers.Refused faults.Memory) = true
-wants_memory (answers.Refused (faults.Full limit)) = false
-wants_memory _ = false
+abbrev pub lacks_memory : Answer → Bool
+lacks_memory (answers.Refused faults.Memory) = true
+lacks_memory (answers.Refused (faults.Full limit)) = false
+lacks_memory _ = false
 
 -- ---- steps
 
@@ -404,7 +411,7 @@ work_at (stages.Looking statement description block) = 7
 work_at (stages.Refreshing block) = 4
 work_at (stages.Beginning plan description) = 6
 work_at (stages.Running run p) = 5
-work_at (stages.Starting start) = 4
+work_at (stages.Starting words) = 4
 work_at (stages.Showing description block) = 4
 work_at (stages.Committing reply) = 4
 work_at (stages.RollingBack reply) = 4

@@ -19,7 +19,7 @@ ghost use Rattle.block_machine.specs.Statements.{Around, owed_in, succeeds, conc
 ghost use Rattle.block_machine.specs.Stages.{IsScriptAt, IsScriptOf, LeadsTo, Advances, IsSameButLevel, IsQuiet, IsBusy, IsRunning, IsSoundStage, IsSoundStatement, KnowsTables, NoBuilt, HasReply, owed_at, work_at};
 
 use crate::block::Block;
-use crate::blocks::{commit, refuse, roll_back, start};
+use crate::blocks::{commit, refuse, roll_back, start, words_of};
 use crate::courses::conclude;
 use crate::kept::Kept;
 use crate::known::Known;
@@ -308,7 +308,7 @@ fn act(
         },
         Statement::Insert(_) | Statement::Update(_) | Statement::Delete(_) => None,
         Statement::Create(create) => Some(or_short(define(alloc, create, block), block)),
-        Statement::Begin(flag) => Some(at_rest(start(*flag, block))),
+        Statement::Begin(flag) => Some(at_rest(start(words_of(*flag), block))),
         Statement::Commit => Some(at_rest(commit(block))),
         Statement::Rollback => Some(at_rest(roll_back(block))),
         Statement::Set(name, values) => Some(at_rest(set(name, values, block, known))),

@@ -56,7 +56,7 @@ pub fn advance(stage: &MessageStage, answer: &Answer) -> MessageStage
             | MessageStage::Showing(_, block),
             Answer::Refused(why),
         ) => fail(refusal(why), *block),
-        (MessageStage::Starting(flag), Answer::Begun(_)) => tell(started(*flag), Block::Regular),
+        (MessageStage::Starting(words), Answer::Begun(_)) => tell(started(*words), Block::Regular),
         (MessageStage::Starting(_), Answer::Refused(why)) => fail(
             refusal(why),
             Block::Implicit(false),

@@ -6,13 +6,13 @@ ghost use Rattle.block_machine.specs.Replies.{fixed_reply, start_reply, needless
 ghost use Rattle.block_machine.specs.Statements.{Around, owed_in, starts, commits, rolls_back, in_failed};
 ghost use Rattle.block_machine.specs.Messages.{Outside, owed_between, finishes};
 ghost use Rattle.block_machine.specs.Messages as spec;
-ghost use Rattle.block_machine.specs.Stages.{IsScriptOf, IsAtRest, IsQuiet, IsBusy, NoBuilt, owed_at, work_at, resumes};
+ghost use Rattle.block_machine.specs.Stages.{IsScriptOf, IsAtRest, IsQuiet, IsBusy, NoBuilt, is_start_transaction, owed_at, work_at, resumes};
 ghost use Rattle.block_machine.specs.Stages as stages_spec;
 
 use crate::block::{Block, Owed, Pending};
 use crate::ending::ReadyForQuery;
 use crate::reply::Fixed;
-use crate::stage::{ErrorState, MessageStage};
+use crate::stage::{ErrorState, MessageStage, StartWords};
 use crate::step::{fail, tell};
 use cell_base::SqlState;
 use pg_framing::TransactionState;
@@ -50,27 +50,40 @@ pub fn block_of(pending: Pending) -> Block
     }
 }
 
-/// The reply to BEGIN, or to START TRANSACTION where the flag is true.
-pub fn started(start: bool) -> Fixed
-    ensures { fixed_reply result ≡ start_reply start }
+/// The words of BEGIN, or of START TRANSACTION where the statement's flag is true.
+pub fn words_of(flag: bool) -> StartWords
+    ensures { is_start_transaction result ≡ flag }
 {
-    if start { Fixed::Started } else { Fixed::Begun }
-}
-
-// The same inside a block.
-fn started_again(start: bool) -> Fixed
-    ensures { fixed_reply result ≡ needless_start_reply start }
-{
-    if start {
-        Fixed::StartedAgain
+    if flag {
+        StartWords::StartTransaction
     } else {
-        Fixed::BegunAgain
+        StartWords::Begin
     }
 }
 
-/// The stage of BEGIN, or of START TRANSACTION where the flag is true.
-pub fn start(start: bool, block: Block) -> MessageStage
-    ensures goes { (built : List ℕ) → IsScriptOf (starts start block) result built }
+/// The reply to a statement that begins a block.
+pub fn started(words: StartWords) -> Fixed
+    ensures { fixed_reply result ≡ start_reply (is_start_transaction words) }
+{
+    match words {
+        StartWords::Begin => Fixed::Begun,
+        StartWords::StartTransaction => Fixed::Started,
+    }
+}
+
+// The same inside a block.
+fn started_again(words: StartWords) -> Fixed
+    ensures { fixed_reply result ≡ needless_start_reply (is_start_transaction words) }
+{
+    match words {
+        StartWords::Begin => Fixed::BegunAgain,
+        StartWords::StartTransaction => Fixed::StartedAgain,
+    }
+}
+
+/// The stage of a statement that begins a block.
+pub fn start(words: StartWords, block: Block) -> MessageStage
+    ensures goes { (built : List ℕ) → IsScriptOf (starts (is_start_transaction words) block) result built }
     ensures owed { owed_at result ≡ owed_in block }
     ensures work { work_at result ≤ 4 }
     ensures quiet { IsQuiet result }
@@ -78,9 +91,9 @@ pub fn start(start: bool, block: Block) -> MessageStage
     ensures constant { NoBuilt result }
 {
     match block {
-        Block::Implicit(false) => MessageStage::Starting(start),
-        Block::Implicit(true) => tell(started(start), Block::Regular),
-        Block::Regular => tell(started_again(start), Block::Regular),
+        Block::Implicit(false) => MessageStage::Starting(words),
+        Block::Implicit(true) => tell(started(words), Block::Regular),
+        Block::Regular => tell(started_again(words), Block::Regular),
         Block::Failed => fail(SqlState::S25P02, Block::Failed),
     }
 }

@@ -21,6 +21,7 @@ mod kept;
 mod known;
 mod message;
 mod message_runner;
+pub mod parameters;
 mod prepared;
 mod reading;
 mod ready;

@@ -24,7 +24,7 @@ fn unread(fault: &ParseFault) -> Result<Message, Memory>
 
 // What a text asks for.
 fn read_text(alloc: Global, text: &Text) -> Result<Message, Memory>
-    requires short { length text.now < 2 ^ 32 }
+    requires fits { length text.now < 2 ^ 32 }
     requires utf8 { IsUtf8 text.now }
     ensures message { IfOk result (IsMessage text.now) }
     ensures sound { HasNoZero text.now → IfOk result IsSoundMessage }

@@ -49,7 +49,7 @@ pub fn empty(alloc: Global) -> Result<Vec<u8>, Memory>
 #[tactic(auto, unfolding(crate::specs::Replies::done_reply))]
 pub fn done(alloc: Global, tag: &[u8]) -> Result<Vec<u8>, Memory>
     requires no_zero { HasNoZero tag.now }
-    requires short { length tag.now ≤ 32 }
+    requires fits { length tag.now ≤ 32 }
     ensures { IfOk result (λ reply. reply.items ≡ done_reply tag.now) }
 {
     let mut reply = Vec::new(alloc);
@@ -61,7 +61,7 @@ pub fn done(alloc: Global, tag: &[u8]) -> Result<Vec<u8>, Memory>
 #[tactic(auto, unfolding(crate::specs::Replies::warned_reply))]
 pub fn warned(alloc: Global, state: SqlState, tag: &[u8]) -> Result<Vec<u8>, Memory>
     requires no_zero { HasNoZero tag.now }
-    requires short { length tag.now ≤ 32 }
+    requires fits { length tag.now ≤ 32 }
     ensures { IfOk result (λ reply. reply.items ≡ warned_reply state tag.now) }
 {
     let mut reply = Vec::new(alloc);

@@ -2,6 +2,10 @@
 ghost use Rattle.std.specs.Prelude.{◌≡◌, ◌≤◌, length, Some, None, IfSome, IsNone};
 ghost use Rattle.block_machine.specs.Settings.{IsShown, is_own, level_word, level_named, chosen_level, parameter_value, value_of};
 
+use crate::parameters::{
+    CLIENT_ENCODING, DATE_STYLE, INTEGER_DATETIMES, SERVER_ENCODING, SERVER_VERSION,
+    STANDARD_CONFORMING_STRINGS,
+};
 use cell_base::{Level, Text};
 
 /// The setting whose value is the number of events of the history.
@@ -20,7 +24,7 @@ pub fn is_own(name: &str) -> bool
 // The word of a level.
 fn level_word(level: Level) -> &'static str
     ensures word { result.now ≡ level_word level }
-    ensures short { length result.now ≤ 64 }
+    ensures fits { length result.now ≤ 64 }
 {
     match level {
         Level::Rc => "rc",
@@ -66,14 +70,18 @@ fn parameter_value(name: &str) -> Option<&'static str>
     ensures none { IsNone result → parameter_value name.now ≡ None }
     ensures shown { IfSome result (λ value. IsShown name.now × (length value.now ≤ 64)) }
 {
-    if name == "server_version" {
-        Some("14.0")
-    } else if name == "server_encoding" || name == "client_encoding" {
-        Some("UTF8")
-    } else if name == "DateStyle" || name == "datestyle" {
-        Some("ISO, MDY")
-    } else if name == "integer_datetimes" || name == "standard_conforming_strings" {
-        Some("on")
+    if name == SERVER_VERSION.name {
+        Some(SERVER_VERSION.value)
+    } else if name == SERVER_ENCODING.name {
+        Some(SERVER_ENCODING.value)
+    } else if name == CLIENT_ENCODING.name {
+        Some(CLIENT_ENCODING.value)
+    } else if name == DATE_STYLE.name || name == "datestyle" {
+        Some(DATE_STYLE.value)
+    } else if name == INTEGER_DATETIMES.name {
+        Some(INTEGER_DATETIMES.value)
+    } else if name == STANDARD_CONFORMING_STRINGS.name {
+        Some(STANDARD_CONFORMING_STRINGS.value)
     } else {
         None
     }

@@ -33,6 +33,15 @@ pub enum ErrorState {
     Failed,
 }
 
+/// The words of a statement that begins a block.
+#[derive(Clone, Copy, Debug, PartialEq, Eq)]
+pub enum StartWords {
+    /// BEGIN.
+    Begin,
+    /// START TRANSACTION.
+    StartTransaction,
+}
+
 /// What comes next. A block is the one in which the statement stands, or which it leaves.
 #[derive(Debug, Drop)]
 pub enum MessageStage {
@@ -52,8 +61,8 @@ pub enum MessageStage {
     Beginning(Kept<Plan>, RowDescription),
     /// A statement asks for cells and writes them.
     Running(Run, Pending),
-    /// BEGIN, or START TRANSACTION where the flag is true, begins a transaction.
-    Starting(bool),
+    /// A statement of these words begins a transaction.
+    Starting(StartWords),
     /// SHOW monkey.history asks for its number.
     Showing(RowDescription, Block),
     /// COMMIT commits, and is then told this reply.

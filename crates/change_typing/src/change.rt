@@ -1,9 +1,9 @@
 // The types of UPDATE and DELETE.
 ghost use Rattle.std.specs.Prelude.{◌≡◌};
 ghost use Rattle.typing_rules.specs.Changes as spec;
-ghost use Rattle.expr_typing.specs.Gives.{Gives};
+ghost use Rattle.typing_rules.specs.Gives.{Gives};
 ghost use Rattle.expr_typing.specs.Scope.{IsNarrow, sources};
-ghost use Rattle.typing_parts.specs.Narrow.{AreNarrow};
+ghost use Rattle.typing_parts.specs.Narrow.{AreFewAndNarrow};
 ghost use Rattle.change_typing.specs.Targets.{targets};
 
 use crate::cell::cell;
@@ -43,7 +43,7 @@ pub fn typed_update(
     update: &Update,
     tables: &[Table],
 ) -> Result<TypedChange, SqlFault>
-    requires { AreNarrow tables.now }
+    requires { AreFewAndNarrow tables.now }
     ensures { Gives (spec.typed_update tables.now update.now) result }
 {
     let found = table_named(tables, &update.table)?;
@@ -73,7 +73,7 @@ pub fn typed_delete(
     delete: &Delete,
     tables: &[Table],
 ) -> Result<TypedChange, SqlFault>
-    requires { AreNarrow tables.now }
+    requires { AreFewAndNarrow tables.now }
     ensures { Gives (spec.typed_delete tables.now delete.now) result }
 {
     let found = table_named(tables, &delete.table)?;

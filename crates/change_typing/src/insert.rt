@@ -2,8 +2,8 @@
 ghost use Rattle.std.specs.Prelude.{◌<◌, ◌^◌, length, map};
 ghost use Rattle.typing_rules.specs.Insert as spec;
 ghost use Rattle.typing_rules.specs.Outcome.{all_of};
-ghost use Rattle.expr_typing.specs.Gives.{Gives};
-ghost use Rattle.typing_parts.specs.Narrow.{AreNarrow};
+ghost use Rattle.typing_rules.specs.Gives.{Gives};
+ghost use Rattle.typing_parts.specs.Narrow.{AreFewAndNarrow};
 ghost use Rattle.change_typing.specs.Targets.{AreColumns, targets};
 
 use crate::lengths::has_lengths;
@@ -26,7 +26,7 @@ pub fn typed_insert(
     insert: &Insert,
     tables: &[Table],
 ) -> Result<TypedInsert, SqlFault>
-    requires { AreNarrow tables.now }
+    requires { AreFewAndNarrow tables.now }
     ensures { Gives (spec.typed_insert tables.now insert.now) result }
 {
     let found = table_named(tables, &insert.table)?;

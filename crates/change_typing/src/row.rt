@@ -3,7 +3,7 @@ ghost use Rattle.std.specs.Prelude.{◌≡◌, List, Option, None, length, map, 
 ghost use Rattle.sql_tree.specs.declared.typed_expr.TypedExpr.{TypedExpr};
 ghost use Rattle.typing_rules.specs.Insert.{cells};
 ghost use Rattle.typing_rules.specs.Outcome.{all_of, and_then};
-ghost use Rattle.expr_typing.specs.Gives.{Gives};
+ghost use Rattle.typing_rules.specs.Gives.{Gives};
 ghost use Rattle.change_typing.specs.Rows as spec;
 ghost use Rattle.change_typing.specs.Targets.{AreColumns, targets};
 

@@ -35,7 +35,7 @@ reads_message bytes front more t = go t.spelled
         let k : 5 + length s.body ≡ 1 + number_at 1 bytes = omega (arith, n) in
         record {
           low = omega (arith, n);
-          high = omega (arith, n, s.short);
+          high = omega (arith, n, s.fits);
           whole = omega (arith, n, lens, s.size_is.0);
           kind_is = s.kind_is ∙ ap (λ (i : ℕ). Some i) (sym (ap (λ (x : List ℕ). slice_index x 0) a));
           body_is = (let P : List ℕ → Type 0 = λ (x : List ℕ). IsBody front x in subst P (sym same) s.body_is);
@@ -65,7 +65,7 @@ message_stands bytes front len e low high whole kind_is body_is =
         body = body;
         whole = refl;
         size_is = (four, sym e ∙ omega arith);
-        short = omega arith;
+        fits = omega arith;
         kind_is = kind_is;
         body_is = body_is;
       };
@@ -87,7 +87,7 @@ pub record IsGoodSoFar (bytes : List ℕ) : Type 0 where
   pub known : 0 < length bytes → IsType (slice_index bytes 0)
   pub length_fits : 5 ≤ length bytes → CanHaveLength (slice_index bytes 0) (number_at 1 bytes)
   pub high : 5 ≤ length bytes → number_at 1 bytes ≤ 1048576
-  pub short : 5 ≤ length bytes → length bytes < 1 + number_at 1 bytes
+  pub in_part : 5 ≤ length bytes → length bytes < 1 + number_at 1 bytes
 
 pub message_partial : (bytes : List ℕ) → IsGoodSoFar bytes → IsPartial true bytes
 message_partial bytes g = record { no_front = fronts; no_fault = faults }
@@ -97,7 +97,7 @@ message_partial bytes g = record { no_front = fronts; no_fault = faults }
         let s = reads_message bytes front more t in
         let low : 4 ≤ number_at 1 bytes = s.low in
         let whole : 1 + number_at 1 bytes ≤ length bytes = s.whole in
-        let short : length bytes < 1 + number_at 1 bytes = g.short (omega arith) in
+        let in_part : length bytes < 1 + number_at 1 bytes = g.in_part (omega arith) in
         omega arith
 
     faults : (fault : FrameFault) → HasFault true bytes fault → ⊥
@@ -107,7 +107,7 @@ message_partial bytes g = record { no_front = fronts; no_fault = faults }
     faults NoTerminator h =
         let low : 5 ≤ number_at 1 bytes = h.0.low in
         let whole : 1 + number_at 1 bytes ≤ length bytes = h.0.whole in
-        let short : length bytes < 1 + number_at 1 bytes = g.short (omega arith) in
+        let in_part : length bytes < 1 + number_at 1 bytes = g.in_part (omega arith) in
         omega arith
     faults BadStartup h = h
     faults Memory h = h
@@ -117,16 +117,16 @@ known bytes kind is = let P : ℕ → Type 0 = IsType in subst P is (is_type kin
 
 -- a type byte is held, and no length
 pub no_length_held : (bytes : List ℕ) (kind : MessageType) → byte_of kind ≡ slice_index bytes 0 → length bytes < 5 → IsPartial true bytes
-no_length_held bytes kind is few = message_partial bytes (record { known = λ _. known bytes kind is; length_fits = λ h. absurd (omega arith); high = λ h. absurd (omega arith); short = λ h. absurd (omega arith) })
+no_length_held bytes kind is few = message_partial bytes (record { known = λ _. known bytes kind is; length_fits = λ h. absurd (omega arith); high = λ h. absurd (omega arith); in_part = λ h. absurd (omega arith) })
 
 -- a good length is held
 pub not_whole : (bytes : List ℕ) (kind : MessageType) (len : ℕ) → byte_of kind ≡ slice_index bytes 0 → len ≡ number_at 1 bytes → CanHaveLength (byte_of kind) len → len ≤ 1048576 → length bytes < 1 + len → IsPartial true bytes
-not_whole bytes kind len is e can high short =
+not_whole bytes kind len is e can high in_part =
     message_partial bytes (record {
       known = λ _. known bytes kind is;
       length_fits = λ _. subst (λ (i : ℕ). CanHaveLength (slice_index bytes 0) i) e (subst (λ (k : ℕ). CanHaveLength k len) is can);
       high = λ _. omega arith;
-      short = λ _. omega arith;
+      in_part = λ _. omega arith;
     })
 
 -- a bad length is held

@@ -34,7 +34,7 @@ reads_opening bytes front more t = go t.spelled
         let k : 8 + length s.body ≡ number_at 0 bytes = omega (arith, n) in
         record {
           low = omega (arith, n);
-          high = omega (arith, n, s.short);
+          high = omega (arith, n, s.fits);
           whole = omega (arith, n, lens, s.size_is.0, s.code_held);
           code_is = s.code_is ∙ ap (λ (i : ℕ). Some i) (sym c);
           body_is = (let P : List ℕ → Type 0 = λ (x : List ℕ). IsBody front x in subst P (sym same) s.body_is);
@@ -63,7 +63,7 @@ opening_stands bytes front len e low high whole code_is body_is =
         body = body;
         whole = refl;
         size_is = (four, sym e ∙ omega arith);
-        short = omega arith;
+        fits = omega arith;
         code_held = more_four;
         code_is = code_is;
         body_is = body_is;
@@ -97,7 +97,7 @@ body_before bytes more front rest has t =
 
 -- a message will stand where what is held can be its body
 pub opens_later : (bytes : List ℕ) → HasCode bytes → CanBeBody (number_at 4 bytes) (number_at 0 bytes - 8) (held_body bytes) → length bytes < number_at 0 bytes → CannotOpen bytes → ⊥
-opens_later bytes has can short none =
+opens_later bytes has can in_part none =
     let held : 8 ≤ length bytes = has.held in
     let low : 8 ≤ number_at 0 bytes = has.low in
     let high : number_at 0 bytes ≤ 10000 = has.high in
@@ -115,7 +115,7 @@ opens_later bytes has can short none =
 pub record IsGoodSoFar (bytes : List ℕ) : Type 0 where
   pub low : 4 ≤ length bytes → 8 ≤ number_at 0 bytes
   pub high : 4 ≤ length bytes → number_at 0 bytes ≤ 10000
-  pub short : 8 ≤ length bytes → length bytes < number_at 0 bytes
+  pub in_part : 8 ≤ length bytes → length bytes < number_at 0 bytes
   pub body : HasCode bytes → CanBeBody (number_at 4 bytes) (number_at 0 bytes - 8) (held_body bytes)
 
 pub opening_partial : (bytes : List ℕ) → IsGoodSoFar bytes → IsPartial false bytes
@@ -126,20 +126,20 @@ opening_partial bytes g = record { no_front = fronts; no_fault = faults }
         let o = reads_opening bytes front more t in
         let low : 8 ≤ number_at 0 bytes = o.low in
         let whole : number_at 0 bytes ≤ length bytes = o.whole in
-        let short : length bytes < number_at 0 bytes = g.short (omega arith) in
+        let in_part : length bytes < number_at 0 bytes = g.in_part (omega arith) in
         omega arith
 
     faults : (fault : FrameFault) → HasFault false bytes fault → ⊥
     faults (BadLength n) h = let low : 8 ≤ number_at 0 bytes = g.low h.0 in omega (arith, h.1, h.2)
     faults (TooLong n) h = let high : number_at 0 bytes ≤ 10000 = g.high h.0 in omega (arith, h.1, h.2)
-    faults BadStartup h = opens_later bytes h.0 (g.body h.0) (g.short h.0.held) h.1
+    faults BadStartup h = opens_later bytes h.0 (g.body h.0) (g.in_part h.0.held) h.1
     faults (UnknownType k) h = h
     faults NoTerminator h = h
     faults Memory h = h
 
 -- fewer than four bytes
 pub no_length_yet : (bytes : List ℕ) → length bytes < 4 → IsPartial false bytes
-no_length_yet bytes few = opening_partial bytes (record { low = λ h. absurd (omega arith); high = λ h. absurd (omega arith); short = λ h. absurd (omega arith); body = λ h. absurd (omega (arith, h.held)) })
+no_length_yet bytes few = opening_partial bytes (record { low = λ h. absurd (omega arith); high = λ h. absurd (omega arith); in_part = λ h. absurd (omega arith); body = λ h. absurd (omega (arith, h.held)) })
 
 -- what the code holds, as the bytes say it
 as_held : (bytes held : List ℕ) (len code : ℕ) → len ≡ number_at 0 bytes → code ≡ number_at 4 bytes → held ≡ take (len - 8) (drop 8 bytes) → CanBeBody code (len - 8) held
@@ -150,8 +150,8 @@ as_held bytes held len code e f h can =
 -- a good length and a code are held, and what is held of the body can be one
 pub body_in_part : (bytes held : List ℕ) (len code : ℕ) → len ≡ number_at 0 bytes → code ≡ number_at 4 bytes → held ≡ take (len - 8) (drop 8 bytes) → 8 ≤ len → len ≤ 10000
     → CanBeBody code (len - 8) held → length bytes < len → IsPartial false bytes
-body_in_part bytes held len code e f h low high can short =
-    opening_partial bytes (record { low = λ _. omega arith; high = λ _. omega arith; short = λ _. omega arith; body = λ _. as_held bytes held len code e f h can })
+body_in_part bytes held len code e f h low high can in_part =
+    opening_partial bytes (record { low = λ _. omega arith; high = λ _. omega arith; in_part = λ _. omega arith; body = λ _. as_held bytes held len code e f h can })
 
 -- what is held of the body can't be one
 pub body_is_bad : (bytes held : List ℕ) (len code : ℕ) → 8 ≤ length bytes → len ≡ number_at 0 bytes → code ≡ number_at 4 bytes → held ≡ take (len - 8) (drop 8 bytes) → 8 ≤ len → len ≤ 10000

@@ -85,7 +85,7 @@ pub record IsOpening (front : FrontendMessage) (bytes : List ℕ) : Type 0 where
   pub body : List ℕ
   pub whole : bytes ≡ size ++ (code ++ body)
   pub size_is : IsInt32 (8 + length body) size
-  pub short : 8 + length body ≤ 10000
+  pub fits : 8 + length body ≤ 10000
   pub code_held : length code ≡ 4
   pub code_is : code_of front ≡ Some (number_of code)
   pub body_is : IsBody front body
@@ -97,7 +97,7 @@ pub record IsMessage (front : FrontendMessage) (bytes : List ℕ) : Type 0 where
   pub body : List ℕ
   pub whole : bytes ≡ kind ∷ (size ++ body)
   pub size_is : IsInt32 (4 + length body) size
-  pub short : 4 + length body ≤ 1048576
+  pub fits : 4 + length body ≤ 1048576
   pub kind_is : type_of front ≡ Some kind
   pub body_is : IsBody front body
 

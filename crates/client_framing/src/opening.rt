@@ -65,7 +65,7 @@ fn held_after_code(bytes: &[u8], len: usize) -> &[u8]
 
 // Whether the bytes can go on to be the body of a message of this type, so many bytes in all.
 fn can_be_body(kind: OpeningType, held: &[u8], size: usize) -> bool
-    requires short { length held.now ≤ size }
+    requires fits { length held.now ≤ size }
     requires named { IsRightlyNamed kind }
     ensures { IsTrue result ↔ CanBeBody (opening_code kind) size held.now }
 {

@@ -44,7 +44,7 @@ no_zero text none at =
     cc
 
 unnamed : IsPlainName (codes "?column?")
-unnamed = record { short = lit< tt; no_zero = no_zero (codes "?column?") refl }
+unnamed = record { fits = lit< tt; no_zero = no_zero (codes "?column?") refl }
 
 -- ---- the name of an expression
 

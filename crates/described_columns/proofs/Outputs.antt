@@ -17,14 +17,14 @@ use Rattle.typing_rules.specs.Names.{Source}
 use Rattle.typing_rules.specs.Select.{Output, column_outputs, star_outputs, star_of, width, outputs_of, items_from, name_or, plain_name}
 use Rattle.typing_rules.specs.Sound.{Holds}
 use Rattle.typing_rules.proofs.Numbers.{then_holds}
-use Rattle.pg_framing.specs.Replies.{IsShortType}
+use Rattle.pg_framing.specs.Replies.{FitsModifier}
 use Rattle.described_columns.specs.Described.{NamesPlainly}
 use Rattle.described_columns.proofs.Columns.{IsShown, AreShown}
-use Rattle.described_columns.proofs.Types.{IsShort, IsShortForm, typing_short, item_short}
+use Rattle.described_columns.proofs.Types.{TypeFits, FormFits, typing_fits, item_fits}
 
 pub record IsOutput (o : Output) : Type 0 where
   pub named : IsPlainName o.name
-  pub short : IsShortType o.expr.kind
+  pub fits : FitsModifier o.expr.kind
 
 -- ---- all columns of all entries
 
@@ -32,7 +32,7 @@ columns_output : (e c : ℕ) (xs : List Column) → All IsShown xs → All IsOut
 columns_output e c [] h = All-nil IsOutput
 columns_output e c (x ∷ xs) h =
     let is = All-head IsShown x xs h in
-    All-cons IsOutput _ (column_outputs e (c + 1) xs) (record { named = is.named; short = is.short }) (columns_output e (c + 1) xs (All-tail IsShown x xs h))
+    All-cons IsOutput _ (column_outputs e (c + 1) xs) (record { named = is.named; fits = is.fits }) (columns_output e (c + 1) xs (All-tail IsShown x xs h))
 
 star_output : (e : ℕ) (ss : List Source) → All AreShown ss → All IsOutput (star_outputs e ss)
 star_output e [] h = All-nil IsOutput
@@ -56,9 +56,9 @@ item_gives : (place : Place) (ss : List Source) (i : Item) → All AreShown ss �
 item_gives place ss item.Star h plain = star_gives place ss h
 item_gives place ss (item.Expr e alias) h plain =
     let name = name_or (plain_name (out-Expr e)) alias in
-    then_holds IsShortForm (AreOutputs 1) (typing ss e place) _ (typing_short ss h e place)
-    (λ x short. then_holds IsShort (AreOutputs 1) (forms.item x) (λ t. Ok (record { name = name; expr = t } ∷ [])) (item_short x short)
-    (λ t is. record { long = refl; each = All-cons IsOutput (record { name = name; expr = t }) [] (record { named = plain; short = is }) (All-nil IsOutput) }))
+    then_holds FormFits (AreOutputs 1) (typing ss e place) _ (typing_fits ss h e place)
+    (λ x fits. then_holds TypeFits (AreOutputs 1) (forms.item x) (λ t. Ok (record { name = name; expr = t } ∷ [])) (item_fits x fits)
+    (λ t is. record { long = refl; each = All-cons IsOutput (record { name = name; expr = t }) [] (record { named = plain; fits = is }) (All-nil IsOutput) }))
 
 -- at most as many columns as a result may have
 pub record AreFew (os : List Output) : Type 0 where

@@ -83,7 +83,7 @@ fn next_stream(listener: &TcpListener) -> io::Result<TcpStream> {
     Ok(stream)
 }
 
-// The next link, or none once the sign is raised. Its memory is taken before a stream is accepted, so that none is lost for want of it.
+// The next link, or none once the sign is raised. Its memory is taken before a stream is accepted, so that none is lost for lack of it.
 fn next_link(
     alloc: Global,
     listener: &TcpListener,

@@ -37,7 +37,10 @@ pub fn datum_of<'a>(expr: &'a TypedExpr, row: &'a [&'a [Value]]) -> Result<Datum
         TypedNode::Aggregate(_, _) => Ok(Datum::Null),
         TypedNode::Neg(operand) => negated(expr.kind, datum_of(operand.get(), row)?),
         TypedNode::Not(operand) => Ok(denied(datum_of(operand.get(), row)?)),
-        TypedNode::IsNull(operand, denies) => Ok(null_test(datum_of(operand.get(), row)?, *denies)),
+        TypedNode::IsNull(operand, denies) => {
+            let tested = null_test(datum_of(operand.get(), row)?);
+            Ok(if *denies { denied(tested) } else { tested })
+        }
         TypedNode::Binary(op, left, right) => {
             let left = datum_of(left.get(), row)?;
             let right = datum_of(right.get(), row)?;

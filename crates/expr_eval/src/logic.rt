@@ -1,5 +1,5 @@
 // Three-valued logic: null stands for unknown.
-ghost use Rattle.std.specs.Prelude.{◌≡◌};
+ghost use Rattle.std.specs.Prelude.{◌≡◌, false};
 ghost use Rattle.expr_eval.specs.Lent.{owned};
 ghost use Rattle.expr_eval.specs.Operators as operators;
 ghost use Rattle.expr_eval.specs.Values as values;
@@ -38,14 +38,9 @@ pub fn denied(operand: Datum<'_>) -> Datum<'_>
     }
 }
 
-/// IS NULL, or IS NOT NULL.
-pub fn null_test<'a>(operand: Datum<'a>, denies: bool) -> Datum<'a>
-    ensures { owned result ≡ values.null_test denies (owned operand.entry) }
+/// IS NULL.
+pub fn null_test<'a>(operand: Datum<'a>) -> Datum<'a>
+    ensures { owned result ≡ values.null_test false (owned operand.entry) }
 {
-    let is_null = matches!(operand, Datum::Null);
-    if denies {
-        Datum::Flag(!is_null)
-    } else {
-        Datum::Flag(is_null)
-    }
+    Datum::Flag(matches!(operand, Datum::Null))
 }

@@ -1,7 +1,7 @@
 // The types of aggregates.
 ghost use Rattle.std.specs.Prelude.{◌≡◌};
 ghost use Rattle.typing_rules.specs.Expressions as spec;
-ghost use Rattle.expr_typing.specs.Gives.{Gives};
+ghost use Rattle.typing_rules.specs.Gives.{Gives};
 
 use crate::operands::settled;
 use crate::operators::aggregate_type;

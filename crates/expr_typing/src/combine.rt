@@ -2,7 +2,7 @@
 ghost use Rattle.std.specs.Prelude.{◌≡◌, IfOk, map};
 ghost use Rattle.typing_rules.specs.Expressions as spec;
 ghost use Rattle.typing_rules.specs.Outcome.{all_of};
-ghost use Rattle.expr_typing.specs.Gives.{Gives};
+ghost use Rattle.typing_rules.specs.Gives.{Gives};
 ghost use Rattle.sql_tree.specs.declared.typed_expr.TypedNode.TheVariants as node;
 
 use crate::operands::{common_kind, condition, kind_of, settled};

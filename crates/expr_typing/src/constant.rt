@@ -2,7 +2,7 @@
 ghost use Rattle.std.specs.Prelude.{◌≡◌};
 ghost use Rattle.typing_rules.specs.Assignment as assignment;
 ghost use Rattle.typing_rules.specs.Constants as spec;
-ghost use Rattle.expr_typing.specs.Gives.{Gives};
+ghost use Rattle.typing_rules.specs.Gives.{Gives};
 
 use crate::literal::whole;
 use cell_base::{SqlFault, SqlState, SqlType, Text, Value};

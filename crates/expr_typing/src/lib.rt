@@ -4,7 +4,7 @@
 ghost use Rattle.std.specs.Prelude.{IfOk};
 ghost use Rattle.typing_rules.specs.Expressions.{flag};
 ghost use Rattle.typing_rules.specs.Sound.{IsCondition, column_types};
-ghost use Rattle.expr_typing.specs.Gives.{Gives};
+ghost use Rattle.typing_rules.specs.Gives.{Gives};
 ghost use Rattle.expr_typing.specs.Scope.{IsNarrow, sources};
 
 mod calls;

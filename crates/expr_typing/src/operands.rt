@@ -2,7 +2,7 @@
 ghost use Rattle.std.specs.Prelude.{◌≡◌, List, [], map, IfOk};
 ghost use Rattle.typing_rules.specs.Expressions as spec;
 ghost use Rattle.typing_rules.specs.Literals as literals;
-ghost use Rattle.expr_typing.specs.Gives.{Gives};
+ghost use Rattle.typing_rules.specs.Gives.{Gives};
 
 use crate::literal::whole;
 use crate::operators::{is_boolean, is_numeric};

@@ -6,7 +6,7 @@ ghost use Rattle.typing_rules.specs.Constants.{constant};
 ghost use Rattle.typing_rules.specs.Expressions as spec;
 ghost use Rattle.typing_rules.specs.Given as given;
 ghost use Rattle.typing_rules.specs.Outcome.{and_then};
-ghost use Rattle.expr_typing.specs.Gives.{Gives};
+ghost use Rattle.typing_rules.specs.Gives.{Gives};
 ghost use Rattle.expr_typing.specs.Scope.{IsNarrow, sources};
 
 use crate::Entry;

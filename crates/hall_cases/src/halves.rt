@@ -36,13 +36,14 @@ level ra
 1 < ReadyForQuery T
 1 + end inside a block
 
-# at Read Committed it may be read
+# half of a transaction is read, at Read Committed
 level rc
 1 > StartupMessage user=a
 1 + started
 1 + table t
 1 + block
 1 > Query SELECT v FROM t WHERE k = 1
+1 words 0
 * look 1 1
 * read 1 p.0.1 0 1 0 false
 1 < RowDescription v bigint
@@ -64,10 +65,13 @@ level rc
 2 < ReadyForQuery I
 2 + end
 1 > Query SELECT v FROM t WHERE k = 2
+1 words 1 0
 * look 1 1
-* read 1 p.0.2 0 2 0 false
+* read 1 p.0.2 2 2 1 true
+* read 1 f.0.2.1 2 1 0 20
 1 < RowDescription v bigint
-1 < CommandComplete SELECT 0
+1 < DataRow 20
+1 < CommandComplete SELECT 1
 1 < ReadyForQuery T
 1 + end inside a block
 

@@ -40,7 +40,7 @@ fn outcome(alloc: Global, text: &str) -> Result<String, Fail> {
 
 #[test]
 fn updates_are_as_they_are_written(rt: HostRuntime) -> Result<(), Fail> {
-    assert_eq!(rt; outcome(rt.alloc(), updates())?.as_str(), "4 hold");
+    assert_eq!(rt; outcome(rt.alloc(), updates())?.as_str(), "5 hold");
     Ok(())
 }
 

@@ -200,6 +200,74 @@ level rc
 3 + end
 4 + end inside a block
 5 + end inside a block
+
+# two doctors leave their call: write skew, at Causal Consistency
+# Each counts two on call and takes itself off, and nobody is left.
+level cc
+1 > StartupMessage user=a
+1 + started
+1 + table t
+1 > Query INSERT INTO t VALUES (1, 1), (2, 1)
+* look 1 1
+* begin 1 cc
+* read 1 p.0.1 0 1 0 false
+* read 1 p.0.2 0 1 0 false
+* write 1 p.0.1 true
+* write 1 f.0.1.1 1
+* write 1 p.0.2 true
+* write 1 f.0.2.1 1
+* commit 1
+1 < CommandComplete INSERT 0 2
+1 < ReadyForQuery I
+1 + end
+2 > StartupMessage user=a
+2 + started
+2 + block
+3 > StartupMessage user=a
+3 + started
+3 + block
+2 > Query SELECT sum(v) FROM t
+2 words 1 0 0 0
+* look 2 1
+* scan 2 0 1 2
+* read 2 p.0.1 1 2 1 true
+* read 2 f.0.1.1 1 1 0 1
+* read 2 p.0.2 1 1 0 true
+* read 2 f.0.2.1 1 1 0 1
+2 < RowDescription sum numeric
+2 < DataRow 2
+2 < CommandComplete SELECT 1
+2 < ReadyForQuery T
+3 > Query SELECT sum(v) FROM t
+3 words 1 0 0 0
+* look 3 1
+* scan 3 0 1 2
+* read 3 p.0.1 1 2 1 true
+* read 3 f.0.1.1 1 1 0 1
+* read 3 p.0.2 1 1 0 true
+* read 3 f.0.2.1 1 1 0 1
+3 < RowDescription sum numeric
+3 < DataRow 2
+3 < CommandComplete SELECT 1
+3 < ReadyForQuery T
+2 > Query UPDATE t SET v = 0 WHERE k = 1
+2 words 0
+* look 2 1
+* read 2 p.0.1 1 1 0 true
+* write 2 f.0.1.1 0
+2 < CommandComplete UPDATE 1
+2 < ReadyForQuery T
+2 + commit
+3 > Query UPDATE t SET v = 0 WHERE k = 2
+3 words 0
+* look 3 1
+* read 3 p.0.2 1 1 0 true
+* write 3 f.0.2.1 0
+3 < CommandComplete UPDATE 1
+3 < ReadyForQuery T
+3 + commit
+2 + end
+3 + end
 ";
 
 /// Interleavings in which values are raised, changed and read again.

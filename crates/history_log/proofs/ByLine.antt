@@ -24,7 +24,6 @@ use Rattle.history_log.specs.Reading.{FitsValue, FitsEvent, IsEventIn}
 use Rattle.history_log.specs.Draft.{IsRight, IsInitialSoFar, said, ending}
 use Rattle.history_log.specs.Faults.{CanGoOn, IsBadLine, IsCutShort, IsShort, HasFault, HasLineFault}
 use Rattle.history_log.proofs.Cuts.{cut_first, cut_last, joined_cut}
-use Rattle.history_log.proofs.Strip.{stand_fits}
 use Rattle.history_log.proofs.Going.{cells_so_far}
 use Rattle.history_log.proofs.GoesOn.{goes_on, not_whole, initial_in}
 
@@ -200,4 +199,4 @@ pub events_not_wide : (v : Version) (head : Level) (es : List Event) → AreEven
 events_not_wide v head es are = all_from (λ (e : Event). FitsEvent e × IsEventIn v head e) HasNoWide (λ e p. event_not_wide e p.0) es are
 
 pub rows_not_wide : (v : Version) (rows : List (Cell × Value)) → IsInitialSoFar v rows → All (λ x. IsNotWide x.1) rows
-rows_not_wide v rows are = all_from IsInitialCell (λ x. IsNotWide x.1) (λ x p. not_wide x.1 (stand_fits x.0 x.1 p.1)) rows (cells_so_far v rows are)
+rows_not_wide v rows are = all_from IsInitialCell (λ x. IsNotWide x.1) (λ x p. not_wide x.1 p.1) rows (cells_so_far v rows are)

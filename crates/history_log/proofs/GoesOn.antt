@@ -20,6 +20,8 @@ use Rattle.history_log.specs.Log.{IsInitialCell, IsInitialIn, AreEventsIn, CanSa
 use Rattle.history_log.specs.Draft.{IsRight, IsInitialSoFar, HasInitial, said, ending}
 use Rattle.history_log.specs.Faults.{CanGoOn}
 use Rattle.history_log.proofs.Strip.{order_not_initial, event_not_order}
+use Rattle.history_core.specs.Initial.{IsInitialState}
+use Rattle.history_log.proofs.RowLemmas.{one_row}
 use Rattle.history_log.proofs.Going.{goes}
 
 regroup : (a b c d : List (List ℕ)) → a ++ (b ++ (c ++ d)) ≡ (a ++ (b ++ c)) ++ d
@@ -57,13 +59,17 @@ by_place d right is Done = record {
 first_row : Cell × Value
 first_row = (Presence 0 (keys.Int (pos 0)), values.Flag true)
 
+first_state : IsInitialState (first_row ∷ [])
+unfolding first_row
+first_state = one_row 0 (keys.Int (pos 0))
+
 first : (level : Level) → CanGoOn (head_line Three level ∷ [])
 unfolding first_row
 first level = record {
   version = Three;
   trace = record { level = level; initial = first_row ∷ []; events = []; order = [] };
   more = initial_line first_row ∷ order_line [] ∷ end_line ∷ [];
-  says = record { initial = ((λ e. cc), (tt, (((omega arith, record { sfits = omega arith }), refl), tt))); events = tt; order = tt };
+  says = record { initial = ((λ e. cc), (first_state, (((omega arith, record { sfits = omega arith }), tt), tt))); events = tt; order = tt };
   goes = refl;
 }
 

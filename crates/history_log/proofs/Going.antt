@@ -16,11 +16,12 @@ use Rattle.history_log.specs.declared.version.Version.TheVariants.{One, Two, Thr
 use Rattle.history_log.specs.Cut.{cut_at}
 use Rattle.history_log.specs.Spelling.{cell_word, value_word, keyword_word, keyword_of, fields, event_line, initial_line, order_line, end_line}
 use Rattle.history_log.specs.Reading.{IsU32}
-use Rattle.history_log.specs.Log.{Ascends, IsInitialCell, IsInitialIn, AreEventsIn}
+use Rattle.history_log.specs.Log.{IsInitialCell, IsInitialIn, AreEventsIn}
 use Rattle.history_log.specs.Draft.{IsRight, IsInitialSoFar, HasInitial, IsNextRow, IsNextEvent, IsNextOrder, said, ending}
 use Rattle.history_log.specs.Faults.{CanGoOn}
 use Rattle.history_log.proofs.EventForms.{known_as}
 use Rattle.history_log.proofs.LineKinds.{event_cut, order_cut, same_keyword}
+use Rattle.history_log.proofs.RowLemmas.{state_so_far}
 use Rattle.history_log.proofs.Strip.{Goes, goes_after, same_head, row_cut}
 
 regroup : (a b c d e : List (List ℕ)) → ((a ++ (b ++ c)) ++ d) ++ e ≡ a ++ (b ++ (c ++ (d ++ e)))
@@ -67,12 +68,6 @@ is_three One rows x more is = absurd (not_nil rows x more is)
 is_three Two rows x more is = absurd (not_nil rows x more is)
 is_three Three rows x more is = refl
 
-ascends_so_far : (rows : List (Cell × Value)) (x : Cell × Value) (more : List (Cell × Value)) → Ascends (rows ++ x ∷ more) → Ascends (rows ++ x ∷ [])
-ascends_so_far [] x more is = tt
-ascends_so_far (a ∷ []) x [] is = is
-ascends_so_far (a ∷ []) x (y ∷ more) is = (is.0, tt)
-ascends_so_far (a ∷ b ∷ rows) x more is = (is.0, ascends_so_far (b ∷ rows) x more is.1)
-
 has_initial : (v : Version) (rows : List (Cell × Value)) → IsInitialIn v (rows ++ []) → HasInitial v rows
 has_initial v rows is e3 er = (subst (λ (w : Version). IsInitialIn w (rows ++ [])) e3 is).0 (ap (λ (xs : List (Cell × Value)). xs ++ []) er)
 
@@ -82,7 +77,7 @@ module _ (d : Draft) (text : List ℕ) (more : List (List ℕ)) where
   pick (x ∷ rows) events o all fr fe fo e either =
       let three = is_three d.version d.trace.initial x rows all in
       let whole = subst (λ (w : Version). IsInitialIn w (d.trace.initial ++ x ∷ rows)) three all in
-      inl (x, (three, no_events either, fr.0, ascends_so_far d.trace.initial x rows whole.1.0, refl), cc) where
+      inl (x, (three, no_events either, fr.0, state_so_far d.trace.initial x rows whole.1.0, refl), cc) where
         no_events : ((x ∷ rows ≡ []) ⊎ (d.trace.events ≡ [])) → d.trace.events ≡ []
         no_events (inl h) = cc
         no_events (inr h) = h

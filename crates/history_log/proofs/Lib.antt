@@ -8,6 +8,8 @@ pub mod LineKinds
 pub mod Misreads
 pub mod OneHistory
 pub mod Plain
+pub mod RowLemmas
+pub mod Said
 pub mod Same
 pub mod SameLine
 pub mod Spelled

@@ -20,7 +20,7 @@ use Rattle.history_log.specs.Faults.{IsBadLine, HasFault}
 use Rattle.history_log.proofs.Cuts.{cut_first, cut_last}
 use Rattle.history_log.proofs.Plain.{IsInk, Ink, all_append, all_weaker, lacks_from}
 use Rattle.history_log.proofs.LineKinds.{event_ink, initial_ink, order_ink, end_ink}
-use Rattle.history_log.proofs.Strip.{stand_fits, strip_rows, body_first, no_rows, event_not_order, head_ink, same_head}
+use Rattle.history_log.proofs.Strip.{strip_rows, body_first, no_rows, event_not_order, head_ink, same_head}
 use Rattle.history_log.proofs.SameLine.{same_event, same_order}
 use Rattle.history_log.proofs.Going.{same_events}
 use Rattle.history_log.proofs.ByLine.{snoc_same}
@@ -59,7 +59,7 @@ events_lack v head (x ∷ es) o fe fo = (line_lacks (keyword_word (keyword_of x)
 rows_lack : (xs : List (Cell × Value)) (ls : List (List ℕ)) → AllByRecursion IsInitialCell xs → AllByRecursion (Lacks 10) ls → AllByRecursion (Lacks 10) (map initial_line xs ++ ls)
 rows_lack [] ls fx all = all
 rows_lack (x ∷ xs) ls fx all =
-    (line_lacks (keyword_word keywords.Initial ∷ cell_word x.0 ∷ value_word x.1 ∷ []) (initial_ink x fx.0.0 (stand_fits x.0 x.1 fx.0.1)), rows_lack xs ls fx.1 all)
+    (line_lacks (keyword_word keywords.Initial ∷ cell_word x.0 ∷ value_word x.1 ∷ []) (initial_ink x fx.0.0 fx.0.1), rows_lack xs ls fx.1 all)
 
 pub log_cut : (v : Version) (t : Trace) (bytes : List ℕ) → IsLog v t bytes → cut_at 10 bytes ≡ lines v t ++ [] ∷ []
 log_cut v t bytes is = ap (cut_at 10) is.text ∙ cut_lines (lines v t) (

@@ -4,7 +4,6 @@ use Rattle.std.specs.Prelude.{codes}
 use Rattle.std.specs.Fmt.{decimal}
 use Rattle.std.specs.List.{AllByRecursion}
 use Rattle.cell_base.specs.declared.cell.Cell.{Cell}
-use Rattle.cell_base.specs.declared.cell.Cell.TheVariants.{Presence, Field}
 use Rattle.cell_base.specs.declared.level.Level.{Level}
 use Rattle.cell_base.specs.declared.level.Level.TheVariants.{Rc, Ra, Cc}
 use Rattle.cell_base.specs.declared.value.Value.{Value}
@@ -14,8 +13,8 @@ use Rattle.history_log.specs.declared.version.Version.{Version}
 use Rattle.history_log.specs.declared.version.Version.TheVariants.{One, Two, Three}
 use Rattle.history_log.specs.Cut.{cut_at}
 use Rattle.history_log.specs.Spelling.{cell_word, value_word, level_word, version_word, keyword_word, keyword_of, fields, head_line, event_line, initial_line, order_line, end_line}
-use Rattle.history_log.specs.Reading.{IsU32, FitsValue, FitsEvent}
-use Rattle.history_log.specs.Log.{CanStand, IsInitialCell, IsInitialIn, AreEventsIn}
+use Rattle.history_log.specs.Reading.{IsU32, FitsEvent}
+use Rattle.history_log.specs.Log.{IsInitialCell, IsInitialIn, AreEventsIn}
 use Rattle.history_log.proofs.Plain.{Ink, Plain, ink, level_plain, plain_by_test, test_plain}
 use Rattle.history_log.proofs.EventForms.{known_as}
 use Rattle.history_log.proofs.LineKinds.{line_cut, event_cut, initial_cut, order_cut, same_start}
@@ -27,12 +26,8 @@ pub event_not_order : (v : Version) (f : Event) (o : List ℕ) → FitsEvent f �
 event_not_order v f o ff fo e =
     known_as keywords.Order f (same_start (event_line v f) (keyword_of f) keywords.Order (fields v f) (map decimal o) (event_cut v f ff) (ap (cut_at 32) (sym e) ∙ order_cut o fo))
 
-pub stand_fits : (cell : Cell) (value : Value) → CanStand cell value → FitsValue value
-stand_fits (Presence table key) value is = subst (λ (v : Value). FitsValue v) (sym is) tt
-stand_fits (Field table key column) value is = is.0
-
 pub row_cut : (x : Cell × Value) → IsInitialCell x → cut_at 32 (initial_line x) ≡ keyword_word keywords.Initial ∷ cell_word x.0 ∷ value_word x.1 ∷ []
-row_cut x fx = initial_cut x fx.0 (stand_fits x.0 x.1 fx.1)
+row_cut x fx = initial_cut x fx.0 fx.1
 
 event_not_initial : (v : Version) (f : Event) (x : Cell × Value) → FitsEvent f → IsInitialCell x → initial_line x ≡ event_line v f → ⊥
 event_not_initial v f x ff fx e =
@@ -48,7 +43,7 @@ same_row : (x y : Cell × Value) → IsInitialCell x → IsInitialCell y → ini
 same_row x y fx fy e =
     let parts = sym (row_cut x fx) ∙ ap (cut_at 32) e ∙ row_cut y fy in
     let ce = same_cell x.0 y.0 fx.0 fy.0 (second parts) in
-    let ve = same_value x.1 y.1 (stand_fits x.0 x.1 fx.1) (stand_fits y.0 y.1 fy.1) (third parts) in
+    let ve = same_value x.1 y.1 fx.1 fy.1 (third parts) in
     ap (λ (c : Cell). (c, x.1)) ce ∙ ap (λ (v : Value). (y.0, v)) ve where
       second : {a b c d p q : List ℕ} → a ∷ b ∷ c ∷ [] ≡ p ∷ d ∷ q ∷ [] → b ≡ d
       second e = cc

@@ -12,7 +12,8 @@ use Rattle.history_log.specs.declared.version.Version.{Version}
 use Rattle.history_log.specs.declared.version.Version.TheVariants.{One, Two, Three}
 use Rattle.history_log.specs.Spelling.{cell_word, value_word, head_line, initial_line, event_line, order_line, end_line}
 use Rattle.history_log.specs.Reading.{IsU32, IsNumbers, IsEventAfter}
-use Rattle.history_log.specs.Log.{Ascends, IsInitialCell, AreInitialCells, AreEventsIn}
+use Rattle.history_core.specs.Initial.{IsInitialState}
+use Rattle.history_log.specs.Log.{IsInitialCell, AreInitialCells, AreEventsIn}
 
 -- the order and the end, as far as they have come
 abbrev pub ending : Place → List ℕ → List (List ℕ)
@@ -43,7 +44,7 @@ pub record IsRight (d : Draft) : Type 0 where
 
 -- the next cell of the initial state
 abbrev pub IsNextRow : Draft → Cell × Value → List (List ℕ) → Type 0
-IsNextRow d x words = (d.version ≡ Three) × (d.trace.events ≡ []) × IsInitialCell x × Ascends (d.trace.initial ++ x ∷ []) × (words ≡ cell_word x.0 ∷ value_word x.1 ∷ [])
+IsNextRow d x words = (d.version ≡ Three) × (d.trace.events ≡ []) × IsInitialCell x × IsInitialState (d.trace.initial ++ x ∷ []) × (words ≡ cell_word x.0 ∷ value_word x.1 ∷ [])
 
 -- the next event
 abbrev pub IsNextEvent : Draft → Keyword → Event → List (List ℕ) → Type 0

@@ -4,3 +4,4 @@ pub mod Reading
 pub mod Log
 pub mod Draft
 pub mod Faults
+pub mod Rows

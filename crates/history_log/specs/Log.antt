@@ -1,37 +1,26 @@
 -- The text of a history with an order, in its versions.
-use Rattle.std.specs.Prelude.{◌≡◌, ◌≢◌, ◌==◌, if◌then◌else◌, length, true, ℕ, List, [], ◌∷◌}
+use Rattle.std.specs.Prelude.{◌≡◌, ◌≢◌, ◌==◌, if◌then◌else◌, length, ℕ, List, []}
 use Rattle.std.specs.List.{AllByRecursion}
-use Rattle.std.specs.declared.cmp.Ordering.TheVariants.{Less}
-use Rattle.cell_base.specs.contracts.cell.CellOrd.TheImpl as cell_order
 use Rattle.cell_base.specs.declared.cell.Cell.{Cell}
-use Rattle.cell_base.specs.declared.cell.Cell.TheVariants.{Presence, Field}
 use Rattle.cell_base.specs.declared.level.Level.{Level}
 use Rattle.cell_base.specs.declared.value.Value.{Value}
 use Rattle.cell_base.specs.declared.value.Value.TheVariants as values
 use Rattle.history_core.specs.declared.event.Event.{Event}
 use Rattle.history_core.specs.declared.event.Event.TheVariants.{Read, Own, Write}
+use Rattle.history_core.specs.Initial.{IsInitialState}
 use Rattle.history_log.specs.declared.trace.Trace.{Trace}
 use Rattle.history_log.specs.declared.version.Version.{Version}
 use Rattle.history_log.specs.declared.version.Version.TheVariants.{One, Two, Three}
 use Rattle.history_log.specs.Spelling.{lines, whole_lines}
 use Rattle.history_log.specs.Reading.{IsU32, FitsCell, FitsValue, FitsEvent, IsEventIn}
 
--- each cell is below the next one, as cells are ordered
-abbrev pub Ascends : List (Cell × Value) → Type 0
-Ascends [] = Unit {0}
-Ascends (x ∷ []) = Unit {0}
-Ascends (x ∷ y ∷ rows) = ((cell_order.ghosts).cmp x.0 y.0 ≡ Less) × Ascends (y ∷ rows)
-
--- what may stand in a cell from the start: of a row, that it is there; of its fields, what can be written
-abbrev pub CanStand : Cell → Value → Type 0
-CanStand (Presence table key) value = value ≡ values.Flag true
-CanStand (Field table key column) value = FitsValue value × (value ≢ values.Unset)
-
+-- the cell and the value have words
 abbrev pub IsInitialCell : Cell × Value → Type 0
-IsInitialCell x = FitsCell x.0 × CanStand x.0 x.1
+IsInitialCell x = FitsCell x.0 × FitsValue x.1
 
+-- an initial state: cells that ascend, rows that are there, and fields of such rows
 abbrev pub AreInitialCells : List (Cell × Value) → Type 0
-AreInitialCells initial = Ascends initial × AllByRecursion IsInitialCell initial
+AreInitialCells initial = IsInitialState initial × AllByRecursion IsInitialCell initial
 
 -- what a text of this version can say was there from the start
 abbrev pub IsInitialIn : Version → List (Cell × Value) → Type 0

@@ -1,9 +1,7 @@
 // A history as far as its text has been read.
-ghost use Rattle.std.specs.Prelude.{◌≡◌, ◌≢◌, true, ◌∷◌, ◌++◌, [], ◌↔◌, IsTrue};
-ghost use Rattle.std.specs.declared.cmp.Ordering.TheVariants.{Less};
-ghost use Rattle.cell_base.specs.contracts.cell.CellOrd.TheImpl as cell_order;
-ghost use Rattle.history_log.specs.Reading.{FitsCell, FitsValue, Reads};
-ghost use Rattle.history_log.specs.Log.{Ascends, CanStand};
+ghost use Rattle.std.specs.Prelude.{◌≡◌, ◌≢◌, ◌↔◌, IsTrue};
+ghost use Rattle.history_core.specs.Initial.{IsInitialState};
+ghost use Rattle.history_log.specs.Reading.{Reads};
 ghost use Rattle.history_log.specs.Draft.{HasInitial, IsNextRow, IsNextEvent, IsNextOrder};
 
 use crate::Trace;
@@ -12,12 +10,12 @@ use crate::fields::{take_cell, take_end, take_value};
 use crate::keyword::Keyword;
 use crate::misread::Misread;
 use crate::parts::Parts;
+use crate::rows::fits_next;
 use crate::shapes::numbers_of;
 use crate::version::Version;
 use cell_base::{Cell, Items, Value};
 use history_core::Event;
 use std::alloc::Global;
-use std::cmp::Ordering;
 
 /// What may stand next in a text.
 #[derive(Clone, Copy, Debug, PartialEq, Eq)]
@@ -49,50 +47,9 @@ fn has_initial(version: Version, initial: &[(Cell, Value)]) -> bool
     }
 }
 
-/// Whether the value may stand in the cell from the start.
-fn can_stand(cell: &Cell, value: &Value) -> bool
-    requires { FitsValue value.now }
-    ensures { IsTrue result ↔ CanStand cell.now value.now }
-{
-    match cell {
-        Cell::Presence(..) => is_true(value),
-        Cell::Field(..) => !is_unset(value),
-    }
-}
-
-fn is_true(value: &Value) -> bool
-    ensures { IsTrue result ↔ (value.now ≡ Value.Flag true) }
-{
-    matches!(value, Value::Flag(true))
-}
-
-fn is_unset(value: &Value) -> bool
-    ensures { IsTrue result ↔ (value.now ≡ Value.Unset) }
-{
-    matches!(value, Value::Unset)
-}
-
-/// Whether the one cell is below the other.
-fn is_below(first: &Cell, second: &Cell) -> bool
-    ensures { IsTrue result ↔ ((cell_order.ghosts).cmp first.now second.now ≡ Less) }
-{
-    first.cmp(second) == Ordering::Less
-}
-
-/// Whether the cell is above all that ascend.
-fn is_above(initial: &[(Cell, Value)], cell: &Cell, _value: &Value) -> bool
-    requires { Ascends initial.now }
-    ensures { IsTrue result ↔ Ascends (initial.now ++ (cell.now, _value.now) ∷ []) }
-{
-    match initial.last() {
-        Some(last) => is_below(&last.0, cell),
-        None => true,
-    }
-}
-
 /// The next cell of the initial state.
 pub fn next_row(alloc: Global, draft: &Draft, words: &mut Parts) -> Result<(Cell, Value), Misread>
-    requires { Ascends draft.now.trace.initial }
+    requires { IsInitialState draft.now.trace.initial }
     ensures { Reads (IsNextRow draft.now) result words.old }
 {
     if draft.version != Version::Three {
@@ -108,19 +65,6 @@ pub fn next_row(alloc: Global, draft: &Draft, words: &mut Parts) -> Result<(Cell
         Ok((cell, value))
     } else {
         Err(Misread::Form)
-    }
-}
-
-/// Whether the cell may come next in the initial state, with this value.
-fn fits_next(initial: &[(Cell, Value)], cell: &Cell, value: &Value) -> bool
-    requires ascends { Ascends initial.now }
-    requires fits { FitsValue value.now }
-    ensures { IsTrue result ↔ (CanStand cell.now value.now × Ascends (initial.now ++ (cell.now, value.now) ∷ [])) }
-{
-    if can_stand(cell, value) {
-        is_above(initial, cell, value)
-    } else {
-        false
     }
 }
 

@@ -1,6 +1,8 @@
 // Writes the lines of events.
 ghost use Rattle.std.specs.Prelude.{◌≡◌, ◌++◌, ◌∷◌, decimal, OnOk, map};
+ghost use Rattle.std.specs.List.{AllByRecursion};
 ghost use Rattle.history_log.specs.Spelling.{key_word, cell_word, value_word, keyword_word, event_line, words_after};
+ghost use Rattle.history_log.specs.Reading.{IsU32, FitsKey, FitsCell, FitsValue, FitsEvent};
 ghost use Rattle.history_log.specs.Log.{IsNotWide, HasNoWide};
 
 use crate::keyword::Keyword;
@@ -13,7 +15,8 @@ use std::alloc::Global;
 /// Writes the line of an event, as versions 2 and 3 have it, without its line feed.
 pub fn put_event(alloc: Global, out: &mut Vec<u8>, event: &Event) -> Result<(), Memory>
     requires { HasNoWide event.now }
-    ensures { OnOk result (out.new.items ≡ out.old.items ++ event_line Version.Two event.now) }
+    ensures text { OnOk result (out.new.items ≡ out.old.items ++ event_line Version.Two event.now) }
+    ensures fits { OnOk result (FitsEvent event.now) }
 {
     match event {
         Event::Open { session } => put_start(out, Keyword::Open, *session),
@@ -70,7 +73,8 @@ pub fn put_event(alloc: Global, out: &mut Vec<u8>, event: &Event) -> Result<(), 
 
 /// A keyword, a session and a number.
 fn put_pair(out: &mut Vec<u8>, keyword: Keyword, session: u32, number: u32) -> Result<(), Memory>
-    ensures { OnOk result (out.new.items ≡ out.old.items ++ (keyword_word keyword ++ 32 ∷ (decimal session ++ 32 ∷ decimal number))) }
+    ensures text { OnOk result (out.new.items ≡ out.old.items ++ (keyword_word keyword ++ 32 ∷ (decimal session ++ 32 ∷ decimal number))) }
+    ensures fits { OnOk result (IsU32 session × IsU32 number) }
 {
     put_start(out, keyword, session)?;
     put(out, b" ")?;
@@ -79,7 +83,8 @@ fn put_pair(out: &mut Vec<u8>, keyword: Keyword, session: u32, number: u32) -> R
 
 /// Three numbers, each after a blank.
 fn put_three(out: &mut Vec<u8>, first: u32, second: u32, third: u32) -> Result<(), Memory>
-    ensures { OnOk result (out.new.items ≡ out.old.items ++ (32 ∷ (decimal first ++ 32 ∷ (decimal second ++ 32 ∷ decimal third)))) }
+    ensures text { OnOk result (out.new.items ≡ out.old.items ++ (32 ∷ (decimal first ++ 32 ∷ (decimal second ++ 32 ∷ decimal third)))) }
+    ensures fits { OnOk result (IsU32 first × IsU32 second × IsU32 third) }
 {
     put(out, b" ")?;
     put_number(out, first)?;
@@ -99,7 +104,8 @@ fn put_access(
     value: &Value,
 ) -> Result<(), Memory>
     requires { IsNotWide value.now }
-    ensures { OnOk result (out.new.items ≡ out.old.items ++ (keyword_word keyword ++ 32 ∷ (decimal session ++ 32 ∷ (cell_word cell.now ++ 32 ∷ value_word value.now)))) }
+    ensures text { OnOk result (out.new.items ≡ out.old.items ++ (keyword_word keyword ++ 32 ∷ (decimal session ++ 32 ∷ (cell_word cell.now ++ 32 ∷ value_word value.now)))) }
+    ensures fits { OnOk result (IsU32 session × FitsCell cell.now × FitsValue value.now) }
 {
     put_start(out, keyword, session)?;
     put(out, b" ")?;
@@ -110,7 +116,8 @@ fn put_access(
 
 /// Keys, each after a blank.
 fn put_keys(alloc: Global, out: &mut Vec<u8>, keys: &[Key]) -> Result<(), Memory>
-    ensures { OnOk result (out.new.items ≡ out.old.items ++ words_after (map key_word keys.now)) }
+    ensures text { OnOk result (out.new.items ≡ out.old.items ++ words_after (map key_word keys.now)) }
+    ensures fits { OnOk result (AllByRecursion FitsKey keys.now) }
 {
     for key in keys {
         put(out, b" ")?;

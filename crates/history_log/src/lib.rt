@@ -17,6 +17,7 @@ mod parts;
 mod printing;
 mod puts;
 mod reading;
+mod rows;
 mod shapes;
 mod trace;
 mod version;

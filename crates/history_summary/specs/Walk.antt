@@ -1,5 +1,5 @@
 -- How what a walk through the events keeps stands for the events that it has passed.
-use Rattle.std.specs.Prelude.{◌≡◌, ◌≢◌, ◌<◌, ◌≤◌, ◌+◌, ◌*◌, ◌⊎◌, ℕ, Bool, if◌then◌else◌, List, Contains, ◌++◌, codes, decimal, length, take, nat_eq, unwrap_or}
+use Rattle.std.specs.Prelude.{◌≡◌, ◌≢◌, ◌<◌, ◌≤◌, ◌+◌, ◌*◌, ◌⊎◌, ℕ, Bool, true, false, if◌then◌else◌, List, Contains, ◌++◌, codes, decimal, length, take, nat_eq, unwrap_or}
 use Rattle.std.specs.HashMap as hash_map
 use Rattle.indexmap.specs.IndexMap as index_map
 use Rattle.cell_base.specs.declared.cell.Cell.{Cell}
@@ -14,6 +14,8 @@ use Rattle.history_core.specs.Transactions.{IsPending}
 use Rattle.history_core.specs.Relations.{HasWritten}
 use Rattle.history_summary.specs.declared.counts.Counts.{Counts}
 use Rattle.history_summary.specs.declared.latest.Latest.{Latest}
+use Rattle.history_summary.specs.declared.latest.Weakness.{Weakness}
+use Rattle.history_summary.specs.declared.latest.Weakness.TheVariants as weakness
 use Rattle.history_summary.specs.declared.running.Running.{Running}
 use Rattle.history_summary.specs.declared.walk.Walk.{Walk}
 use Rattle.history_summary.specs.Latest.{IsLatest, HasWeakBelow}
@@ -51,6 +53,11 @@ TakesCells events number old new =
 abbrev pub IsStale : Latest → Event → Type 0
 IsStale latest (Read s cell source count word value) = source ≢ writer_at latest cell
 IsStale latest _ = ⊥
+
+-- whether it is counted as a weak read
+abbrev pub is_weak : Weakness → Bool
+is_weak weakness.Weak = true
+is_weak weakness.Other = false
 
 -- the writers are those before the place
 abbrev pub AreLatest : List Event → ℕ → Latest → Type 0

@@ -1,7 +1,8 @@
 // What is counted of a history's events.
 ghost use Rattle.std.specs.Prelude.{◌≡◌};
-ghost use Rattle.history_summary.specs.Walk.{HasRoom, CountsNext};
+ghost use Rattle.history_summary.specs.Walk.{HasRoom, CountsNext, is_weak};
 
+use crate::latest::Weakness;
 use history_core::Event;
 
 /// The numbers of the summary line.
@@ -35,13 +36,16 @@ pub fn none() -> Counts
     }
 }
 
-/// Counts one more event, which is a weak read or not.
-pub fn count(counts: &mut Counts, event: &Event, weak: bool)
+/// Counts one more event.
+pub fn count(counts: &mut Counts, event: &Event, weakness: Weakness)
     requires { HasRoom counts.old }
-    ensures { CountsNext counts.old event.now weak counts.new }
+    ensures { CountsNext counts.old event.now (is_weak weakness) counts.new }
 {
     counts.events += 1;
-    counts.weak += u64::from(weak);
+    match weakness {
+        Weakness::Weak => counts.weak += 1,
+        Weakness::Other => {}
+    }
     match event {
         Event::Open { .. } => counts.sessions += 1,
         Event::Begin { .. } => counts.transactions += 1,

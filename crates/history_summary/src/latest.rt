@@ -1,7 +1,7 @@
 // The committed writer of each cell with the latest Commit.
 ghost use Rattle.std.specs.Prelude.{◌≡◌, IsTrue, ◌↔◌, OnOk};
 ghost use Rattle.cell_base.specs.declared.cell.Cell.{Cell as CellData};
-ghost use Rattle.history_summary.specs.Walk.{writer_at, SetsWriter, SetsWriters, IsStale};
+ghost use Rattle.history_summary.specs.Walk.{writer_at, SetsWriter, SetsWriters, IsStale, is_weak};
 
 use cell_base::{Cell, Memory, Value};
 use history_core::Event;
@@ -13,6 +13,15 @@ use std::alloc::Global;
 pub struct Latest {
     pub alloc: Global,
     pub writers: IndexMap<Cell, u32>,
+}
+
+/// What an event is to the count of weak reads.
+#[derive(Clone, Copy, Debug)]
+pub enum Weakness {
+    /// A read from another source than the latest writer of its cell.
+    Weak,
+    /// A read from that writer, or another event.
+    Other,
 }
 
 /// No writer. Takes no memory.
@@ -36,12 +45,23 @@ fn writer_of(latest: &Latest, cell: &Cell) -> u32
 }
 
 /// Whether the event is a read from another source than the latest writer of its cell.
-pub fn is_stale(latest: &Latest, event: &Event) -> bool
+fn is_stale(latest: &Latest, event: &Event) -> bool
     ensures { IsTrue result ↔ IsStale latest.now event.now }
 {
     match event {
         Event::Read { cell, source, .. } => *source != writer_of(latest, cell),
         _ => false,
+    }
+}
+
+/// What the event is beside the latest writers.
+pub fn weakness_of(latest: &Latest, event: &Event) -> Weakness
+    ensures { IsTrue (is_weak result) ↔ IsStale latest.now event.now }
+{
+    if is_stale(latest, event) {
+        Weakness::Weak
+    } else {
+        Weakness::Other
     }
 }
 

@@ -5,7 +5,7 @@ ghost use Rattle.history_summary.specs.Counts.{AreCounts};
 ghost use Rattle.history_summary.specs.Walk.{TakesCells, IsCountable, IsWalked, IsNoted, IsPassed};
 
 use crate::counts::{self, Counts, count};
-use crate::latest::{self, Latest, is_stale, set_writers};
+use crate::latest::{self, Latest, set_writers, weakness_of};
 use crate::running::{self, Running, number_of, set_number};
 use cell_base::Memory;
 use history_core::{Event, History};
@@ -66,9 +66,9 @@ fn pass(walk: &mut Walk, history: &History, event: &Event) -> Result<(), Memory>
     requires next { slice_get history.now.events walk.old.counts.events ≡ Some event.now }
     ensures { OnOk result (IsPassed history.now.events walk.old walk.new) }
 {
-    let weak = is_stale(&walk.latest, event);
+    let weakness = weakness_of(&walk.latest, event);
     note(walk, history, event)?;
-    count(&mut walk.counts, event, weak);
+    count(&mut walk.counts, event, weakness);
     Ok(())
 }
 

@@ -13,7 +13,7 @@ fn is_refused(alloc: Global, text: &[u8], fault: LogFault) -> bool {
 
 #[test]
 fn faults_are_found(rt: HostRuntime) -> Result<(), Memory> {
-    let cases: [(&[u8], LogFault); 35] = [
+    let cases: [(&[u8], LogFault); 38] = [
         (b"", LogFault::Cut),
         (b"end", LogFault::Cut),
         (b"monkey-log 2 rc", LogFault::Cut),
@@ -49,6 +49,15 @@ fn faults_are_found(rt: HostRuntime) -> Result<(), Memory> {
         ),
         (
             b"monkey-log 3 rc\ninitial p.0.1 true\nopen 1\ninitial p.0.2 true\n",
+            LogFault::Line(4),
+        ),
+        (b"monkey-log 3 rc\ninitial f.0.1.1 5\n", LogFault::Line(2)),
+        (
+            b"monkey-log 3 rc\ninitial p.0.1 true\ninitial f.0.2.1 5\n",
+            LogFault::Line(3),
+        ),
+        (
+            b"monkey-log 3 rc\ninitial p.0.1 true\ninitial p.0.3 true\ninitial f.0.2.1 5\n",
             LogFault::Line(4),
         ),
         (b"monkey-log 2 rc\nend\n", LogFault::Line(2)),

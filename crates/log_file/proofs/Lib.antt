@@ -1,1 +1,2 @@
+pub mod CutLog
 pub mod NoWide

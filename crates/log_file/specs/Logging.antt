@@ -8,6 +8,7 @@ use Rattle.host_calls.specs.declared.writing.WriteFault.{WriteFault}
 use Rattle.host_calls.specs.declared.writing.WriteFault.TheVariants as faults
 use Rattle.host_calls.specs.Writing.{FileWritten, Unwritten}
 use Rattle.host_calls.specs.Printing.{Printed}
+use Rattle.history_log.specs.Log.{IsLog, newest}
 use Rattle.log_file.specs.Text.{trace_of, text_of}
 
 -- the first of all orders that meet the history, compared number by number
@@ -15,10 +16,11 @@ pub record IsFirstOrder (history : Chronicle) (order : List ℕ) : Type 0 where
   pub meets : Meets history.events order
   pub first : (other : List ℕ) → Meets history.events other → (order ≡ other) ⊎ IsLower order other
 
--- the file of the path holds the log of the history, with the first of the orders that meet it
+-- the file of the path holds the log of the history, with the first of the orders that meet it: a text that is of this history and order alone
 pub record LogWritten (path : List ℕ) (history : Chronicle) (before after : Hosted) : Type 0 where
   pub order : List ℕ
   pub order_is : IsFirstOrder history order
+  pub is_log : IsLog (newest history.initial) (trace_of history order) (text_of (trace_of history order))
   pub written : FileWritten path (text_of (trace_of history order)) before after
 
 -- the file couldn't be made, or a part of this log stands in it

@@ -1,5 +1,6 @@
 // The log of a history, written to a file.
 ghost use Rattle.std.specs.Prelude.{◌≡◌, ℕ, List, IfErr, IfOk, OnOk};
+ghost use Rattle.history_log.specs.Log.{IsLog, newest};
 ghost use Rattle.link_traits.specs.Host.{objects_out};
 ghost use Rattle.log_file.specs.Logging.{LogWritten, LogUnwritten, IsFirstOrder, Logs, LogsAndPrints, status_after as status_code};
 ghost use Rattle.log_file.specs.Text.{trace_of, text_of};
@@ -13,7 +14,8 @@ use valid_writes::Store;
 
 // The log of the history of a store, with the first of the orders that meet it.
 fn text_of_store(alloc: Global, store: &Store) -> Result<Vec<u8>, Memory>
-    ensures { IfOk result (λ text. (order : List ℕ) × IsFirstOrder store.now order × (text.items ≡ text_of (trace_of store.now order))) }
+    ensures { IfOk result (λ text. (order : List ℕ) × IsFirstOrder store.now order × (text.items ≡ text_of (trace_of store.now order))
+        × IsLog (newest store.now.initial) (trace_of store.now order) (text_of (trace_of store.now order))) }
 {
     let order = store.order()?;
     log_text(alloc, store.history(), &order)

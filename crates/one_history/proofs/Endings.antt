@@ -119,7 +119,7 @@ near_last : (a b q r : Past) → q ≡ a → r ≡ b → IsNear a b q r → IsNe
 near_last a b q r left right near =
     subst (λ (x : Past). IsNear x r q r) (sym left) (subst (λ (x : Past). IsNear a x q r) (sym right) near)
 
--- two ends are one, or two for want of bytes of which not the bytes made one
+-- two ends are one, or two for lack of bytes of which not the bytes made one
 abbrev pub AreAlike : End → End → Type 0
 AreAlike one other = (one ≡ other) ⊎ EndsApart one other
 

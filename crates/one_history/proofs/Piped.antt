@@ -39,7 +39,7 @@ Reached ends.Cut n = n < most_read
 Reached ends.Spent n = n ≡ most_read
 Reached _ n = Unit {0}
 
--- What was taken stands at the front of the input. Where the session ended for want of more, it is all of it, or as much as may be read.
+-- What was taken stands at the front of the input. Where the session ended for lack of more, it is all of it, or as much as may be read.
 record Takes (input taken : List ℕ) (end : End) : Type 0 where
   pub following : List ℕ
   pub split : input ≡ taken ++ following
@@ -113,7 +113,7 @@ none_long : (xs : List ℕ) → length xs ≡ 0 → xs ≡ []
 none_long [] none = refl
 none_long (x ∷ xs) none = absurd (omega (arith, none))
 
--- of a session that ended for want of more no other took more
+-- of a session that ended for lack of more no other took more
 took_all : (input taken other following : List ℕ) (end : End) (a : Takes input taken end) (longer : Longer taken other a.following following) →
     length other ≤ most_read → (longer.more ≡ []) ⊎ (¬ (WantsMore end))
 took_all input taken other following end a longer within =

@@ -74,7 +74,7 @@ WantsMore _ = ⊥
 abbrev pub ReadsPart : End → Type 0
 ReadsPart end = (end ≡ ends.ReadFault) ⊎ (end ≡ ends.Spent)
 
--- Two sessions ended for want of bytes, and not alike: a failed read or the limit of bytes ended one of them.
+-- Two sessions ended for lack of bytes, and not alike: a failed read or the limit of bytes ended one of them.
 pub record EndsApart (one other : End) : Type 0 where
   pub apart : one ≢ other
   pub first : WantsMore one
@@ -88,8 +88,8 @@ EndsAlike sent one told other = ((one ≡ other) × (sent ≡ told)) ⊎ (EndsAp
 
 -- Two sessions at one level, from one initial state, that took the same bytes and were given the same words have the same history: the same events in the same order, with
 -- source, count, word and value of each read, and the same tables. They leave the same words. They end alike and were told the same bytes,
--- but where both ended for want of bytes and a failed read or the limit of bytes ended one of them: there the ends may differ, and what
--- was told differs by what the two ends tell alone. The same holds where the second took more bytes and the first didn't end for want of
+-- but where both ended for lack of bytes and a failed read or the limit of bytes ended one of them: there the ends may differ, and what
+-- was told differs by what the two ends tell alone. The same holds where the second took more bytes and the first didn't end for lack of
 -- them; such two always end alike.
 abbrev pub OneHistory : Type 0
 OneHistory =

@@ -3,9 +3,9 @@ ghost use Rattle.one_history.specs.Laws.{OneHistory, PipeHasOneHistory, ProgramR
 
 /// Two sessions at one level that took the same bytes and were given the same list of choice words, each alone with its book from
 /// one initial state and no event on, in neither of which memory ran out or a write failed, have the same history and leave the same words. They end
-/// alike and were told the same bytes, but where both ended for want of bytes and a failed read or the limit of bytes ended one of
+/// alike and were told the same bytes, but where both ended for lack of bytes and a failed read or the limit of bytes ended one of
 /// them: there the ends may differ, and what was told differs by what the two ends tell alone. The same holds where the second took
-/// more bytes and the first didn't end for want of them; such two always end alike.
+/// more bytes and the first didn't end for lack of them; such two always end alike.
 pub fn bytes_have_one_history()
     ensures { OneHistory }
 {}

@@ -8,5 +8,6 @@ pub mod SearchLemmas
 pub mod UnkeptLaws
 pub mod Prefixed
 pub mod ListedLemmas
+pub mod FirstLemmas
 pub mod QuickLemmas
 pub mod ReachLemmas

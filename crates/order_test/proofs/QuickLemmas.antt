@@ -11,7 +11,11 @@ use Rattle.cell_base.specs.declared.value.Value.{Value}
 use Rattle.cell_writers.specs.declared.writers.CellWriters.{CellWriters}
 use Rattle.cell_writers.specs.Writers.{numbers_at, IsLastUpTo}
 use Rattle.history_core.specs.declared.event.Event.{Event}
-use Rattle.history_core.specs.declared.event.Event.TheVariants.{Read}
+use Rattle.history_core.specs.declared.event.Event.TheVariants.{Read, Scan}
+use Rattle.cell_base.specs.declared.cell.Cell.TheVariants.{Presence, Field}
+use Rattle.cell_base.specs.declared.key.Key.{Key}
+use Rattle.order_test.specs.declared.firsts.TableFirsts.{TableFirsts}
+use Rattle.order_test.specs.Firsts.{firsts_at, ListsUpTo, AreIndexes, PastIsListed}
 use Rattle.history_core.specs.declared.txn.Txn.{Txn}
 use Rattle.history_core.specs.declared.txn.Seen.{Seen}
 use Rattle.history_core.specs.Events.{begun}
@@ -24,11 +28,12 @@ use Rattle.saturation.proofs.Chains.{chained_one}
 use Rattle.saturation.proofs.Sights.{none_from_record, writes_later, record_reads_from, record_before}
 use Rattle.order_test.specs.declared.places.Places.{Places}
 use Rattle.order_test.specs.declared.pasts.Past.{Past}
-use Rattle.order_test.specs.Unkept.{KeepsSessions, StandsBefore}
+use Rattle.order_test.specs.Unkept.{KeepsSessions, StandsBefore, IsUnmet}
 use Rattle.order_test.specs.Pasts.{IsPastOf}
 use Rattle.order_test.specs.Sights.{IsScene, IsReadAt, IsRival, origin_of}
 use Rattle.order_test.specs.Listed.{AreTxnsWithin, ListsCommitted, HasNoLate, HasNoRival, HasNoDirectRival, IsHarmless, AreHarmless, AreKeptUpTo, listed_at, numbers_in}
 use Rattle.order_test.proofs.SightLemmas.{record_at, ordered_from_records, records_from_ordered, out_bounds, visible_at}
+use Rattle.order_test.proofs.FirstLemmas.{none_unlisted}
 use Rattle.order_test.proofs.PastSteps.{at_set}
 use Rattle.order_test.proofs.SearchLemmas.{less_unless, rival_bounds}
 
@@ -148,6 +153,44 @@ rival_txn events order txns places scene s cell from count word value place read
       }
     ]
 
+-- none that precedes the reader causally is a rival at the cell, where its session up to the last one in the past has no late writer of it
+pub none_unmet :
+    (events : List Event) (order : List ℕ) (txns : List Txn) (places : Places) → IsScene events order txns places → KeepsSessions events order → (lists : List CellWriters) →
+    ListsCommitted txns (length txns) lists → AreTxnsWithin (length lists) txns → (event : Event) (place reader : ℕ) → IsReadAt events place event reader → (width : ℕ) (past : Past) →
+    IsPastOf events width reader past → (other : ℕ) → PrecedesCausally events other reader → (cell : Cell) → (unmet : IsUnmet events order place (origin_of event) other reader cell) →
+    ((txn : Txn) → IsRecordOf events other txn → HasNoLate places.at.items (listed_at lists txn.session cell) (slice_index past.tops.items txn.session) (origin_of event)) → ⊥
+none_unmet events order txns places scene keeps lists listed within event place reader read width past is_past other causal cell unmet has_none =
+    let bounds = rival_bounds events order place event reader other scene.holds read (cell, unmet) in
+    let low = bounds.0 in let high = bounds.1 in
+    let size = scene.records.count in
+    elim (slice_get_cases txns (other - 1)).1 [
+      | inr beyond ↦ let far = beyond.0 in absurd (omega arith)
+      | inl (txn, near, is, same_value) ↦
+          let number : other - 1 + 1 ≡ other = omega arith in
+          let record_of = record_at events txns scene.records other (other - 1) txn number is in
+          let up : other ≤ slice_index past.tops.items txn.session = (is_past.exact txn.session other record_of.place record_of.started).1 causal in
+          let inside = within (other - 1) txn is in
+          elim (slice_get_cases lists txn.session).1 [
+            | inr beyond ↦ let far = beyond.0 in absurd (omega arith)
+            | inl (writers, close, row, value) ↦
+                let none : HasNoLate places.at.items (numbers_at writers cell) (slice_index past.tops.items txn.session) (origin_of event) =
+                subst (λ (ns : List ℕ). HasNoLate places.at.items ns (slice_index past.tops.items txn.session) (origin_of event)) (ap (λ (o : Option CellWriters). numbers_in o cell) row)
+                (has_none txn record_of) in
+                unmet.late (subst (λ (n : ℕ). StandsBefore order n (origin_of event)) number
+                (none_late events order txns places scene keeps lists listed writers cell (slice_index past.tops.items txn.session) (origin_of event) (other - 1) txn read.from is row none (omega arith)
+                (λ same. unmet.other (sym number ∙ same)) (subst (λ (n : ℕ). Writes events n cell) (sym number) unmet.writes)))
+          ]
+    ]
+
+-- the cell of a rival of a read is the one that is read
+read_cell :
+    (events : List Event) (order : List ℕ) (s : ℕ) (cell : Cell) (from count word : ℕ) (value : Value) (place reader other : ℕ) (of : Cell) →
+    IsReadAt events place (Read s cell from count word value) reader → IsUnmet events order place from other reader of → cell ≡ of
+read_cell events order s cell from count word value place reader other of read unmet =
+    let both : Some unmet.reads.event ≡ Some (Read s cell from count word value) = sym unmet.reads.of_reader.is ∙ read.of.is in
+    let same : unmet.reads.event ≡ Read s cell from count word value = cc in
+    (subst (λ (e : Event). Gives e of from) same unmet.reads.gives).0
+
 -- none that precedes the reader causally, where no session up to its last one in the past has a late writer
 pub clear_from :
     (events : List Event) (order : List ℕ) (txns : List Txn) (places : Places) → IsScene events order txns places → KeepsSessions events order → (lists : List CellWriters) →
@@ -156,22 +199,10 @@ pub clear_from :
     PrecedesCausally events other reader →
     ((txn : Txn) → IsRecordOf events other txn → HasNoLate places.at.items (listed_at lists txn.session cell) (slice_index past.tops.items txn.session) from) →
     IsRival events order place from reader other → ⊥
-clear_from events order txns places scene keeps lists listed within s cell from count word value place reader read width past is_past other causal has_none rival =
-    let t = rival_txn events order txns places scene s cell from count word value place reader read other rival in
-    let record_of = record_at events txns scene.records other t.at t.txn t.number t.is in
-    let up : other ≤ slice_index past.tops.items t.txn.session = (is_past.exact t.txn.session other record_of.place record_of.started).1 causal in
-    let inside = within t.at t.txn t.is in
-    elim (slice_get_cases lists t.txn.session).1 [
-      | inr beyond ↦ let far = beyond.0 in absurd (omega arith)
-      | inl (writers, near, row, same_value) ↦
-          let none : HasNoLate places.at.items (numbers_at writers cell) (slice_index past.tops.items t.txn.session) from =
-          subst (λ (ns : List ℕ). HasNoLate places.at.items ns (slice_index past.tops.items t.txn.session) from) (ap (λ (o : Option CellWriters). numbers_in o cell) row)
-          (has_none t.txn record_of) in
-          let number = t.number in
-          t.late (subst (λ (n : ℕ). StandsBefore order n from) t.number
-          (none_late events order txns places scene keeps lists listed writers cell (slice_index past.tops.items t.txn.session) from t.at t.txn read.from t.is row none (omega arith)
-          (λ same. t.apart (sym t.number ∙ same)) (subst (λ (n : ℕ). Writes events n cell) (sym t.number) t.writes)))
-    ]
+clear_from events order txns places scene keeps lists listed within s cell from count word value place reader read width past is_past other causal has_none (of, unmet) =
+    none_unmet events order txns places scene keeps lists listed within (Read s cell from count word value) place reader read width past is_past other causal of unmet
+    (λ txn record_of. subst (λ (c : Cell). HasNoLate places.at.items (listed_at lists txn.session c) (slice_index past.tops.items txn.session) from)
+    (read_cell events order s cell from count word value place reader other of read unmet) (has_none txn record_of))
 
 pub past_clear :
     (events : List Event) (order : List ℕ) (txns : List Txn) (places : Places) → IsScene events order txns places → KeepsSessions events order → (lists : List CellWriters) →
@@ -201,6 +232,62 @@ own_clear events order txns places scene keeps lists listed within s cell from c
     (λ txn record_of.
     subst (λ (n : ℕ). HasNoLate places.at.items (listed_at lists n cell) (slice_index past.tops.items n) from)
     (sym (records_from_ordered events other reader txn own bounds.0 record_of own_is ordered)) has_none)
+    rival
+
+-- ---- scans
+
+-- the cell of a rival of a scan is a presence of the table that isn't listed
+scan_cell : (s table : ℕ) (keys : List Key) (cell : Cell) → Gives (Scan s table keys) cell 0 → (key : Key) × (cell ≡ Presence table key) × (Contains keys key → ⊥)
+scan_cell s table keys (Presence of_table key) gives = (key, ap (λ (n : ℕ). Presence n key) gives.0, gives.1)
+scan_cell s table keys (Field of_table key column) gives = absurd gives
+
+scanned :
+    (events : List Event) (order : List ℕ) (s table : ℕ) (keys : List Key) (place reader other : ℕ) (cell : Cell) → IsReadAt events place (Scan s table keys) reader →
+    IsUnmet events order place 0 other reader cell → (key : Key) × (cell ≡ Presence table key) × (Contains keys key → ⊥)
+scanned events order s table keys place reader other cell read unmet =
+    let both : Some unmet.reads.event ≡ Some (Scan s table keys) = sym unmet.reads.of_reader.is ∙ read.of.is in
+    let same : unmet.reads.event ≡ Scan s table keys = cc in
+    scan_cell s table keys cell (subst (λ (e : Event). Gives e cell 0) same unmet.reads.gives)
+
+-- none that precedes the reader causally, where each key is listed whose presence the transactions of its session up to the last one in the past wrote
+scan_clear_from :
+    (events : List Event) (order : List ℕ) (txns : List Txn) (places : Places) → IsScene events order txns places → KeepsSessions events order → (lists : List CellWriters) →
+    ListsCommitted txns (length txns) lists → AreTxnsWithin (length lists) txns → (all : List TableFirsts) → AreIndexes lists (length txns) all → (s table : ℕ) (keys : List Key)
+    (place reader : ℕ) → IsReadAt events place (Scan s table keys) reader → (width : ℕ) (past : Past) → IsPastOf events width reader past → (other : ℕ) →
+    PrecedesCausally events other reader →
+    ((txn : Txn) → IsRecordOf events other txn → (firsts : TableFirsts) → slice_get all txn.session ≡ Some firsts →
+    ListsUpTo (firsts_at firsts table) keys (slice_index past.tops.items txn.session)) →
+    IsRival events order place 0 reader other → ⊥
+scan_clear_from events order txns places scene keeps lists listed within all indexes s table keys place reader read width past is_past other causal lists_all (of, unmet) =
+    let cell = scanned events order s table keys place reader other of read unmet in
+    none_unmet events order txns places scene keeps lists listed within (Scan s table keys) place reader read width past is_past other causal of unmet
+    (λ txn record_of. subst (λ (c : Cell). HasNoLate places.at.items (listed_at lists txn.session c) (slice_index past.tops.items txn.session) 0) (sym cell.1)
+    (none_unlisted places.at.items lists (length txns) all indexes txn.session table keys (slice_index past.tops.items txn.session) 0 (lists_all txn record_of) cell.0 cell.2))
+
+pub scan_clear :
+    (events : List Event) (order : List ℕ) (txns : List Txn) (places : Places) → IsScene events order txns places → KeepsSessions events order → (lists : List CellWriters) →
+    ListsCommitted txns (length txns) lists → AreTxnsWithin (length lists) txns → (all : List TableFirsts) → AreIndexes lists (length txns) all → (s table : ℕ) (keys : List Key)
+    (place reader : ℕ) → IsReadAt events place (Scan s table keys) reader → (width : ℕ) (past : Past) → IsPastOf events width reader past →
+    PastIsListed all past.tops.items table keys → HasNoRival events order place (Scan s table keys) reader
+scan_clear events order txns places scene keeps lists listed within all indexes s table keys place reader read width past is_past lists_all other rival =
+    let visible = rival.1.visible in
+    scan_clear_from events order txns places scene keeps lists listed within all indexes s table keys place reader read width past is_past other
+    (visible_is_causal events reader place other visible.level visible.sees) (λ txn record_of. lists_all txn.session) rival
+
+-- none of the reader's session
+pub own_scan_clear :
+    (events : List Event) (order : List ℕ) (txns : List Txn) (places : Places) → IsScene events order txns places → KeepsSessions events order → (lists : List CellWriters) →
+    ListsCommitted txns (length txns) lists → AreTxnsWithin (length lists) txns → (all : List TableFirsts) → AreIndexes lists (length txns) all → (s table : ℕ) (keys : List Key)
+    (place reader : ℕ) → IsReadAt events place (Scan s table keys) reader → (width : ℕ) (past : Past) → IsPastOf events width reader past → (own : Txn) → IsRecordOf events reader own →
+    ((firsts : TableFirsts) → slice_get all own.session ≡ Some firsts → ListsUpTo (firsts_at firsts table) keys (slice_index past.tops.items own.session)) →
+    (other : ℕ) → IsSessionOrdered events other reader → IsRival events order place 0 reader other → ⊥
+own_scan_clear events order txns places scene keeps lists listed within all indexes s table keys place reader read width past is_past own own_is lists_all other ordered rival =
+    let bounds = rival_bounds events order place (Scan s table keys) reader other scene.holds read rival in
+    scan_clear_from events order txns places scene keeps lists listed within all indexes s table keys place reader read width past is_past other
+    (direct_is_causal events other reader (inl ordered))
+    (λ txn record_of.
+    subst (λ (n : ℕ). (firsts : TableFirsts) → slice_get all n ≡ Some firsts → ListsUpTo (firsts_at firsts table) keys (slice_index past.tops.items n))
+    (sym (records_from_ordered events other reader txn own bounds.0 record_of own_is ordered)) lists_all)
     rival
 
 -- ---- sources

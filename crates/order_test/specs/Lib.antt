@@ -5,3 +5,4 @@ pub mod Pasts
 pub mod Sights
 pub mod Listed
 pub mod Reaches
+pub mod Firsts

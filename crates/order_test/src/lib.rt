@@ -4,6 +4,7 @@
 //! finds the causal pasts by itself.
 #![tactic(auto)]
 
+mod firsts;
 mod laws;
 mod listed;
 mod pasts;

@@ -8,15 +8,17 @@ ghost use Rattle.order_test.specs.Pasts.{ArePasts};
 ghost use Rattle.order_test.specs.Sights.{IsScene, IsReadAt, IsRival, origin_of};
 ghost use Rattle.order_test.specs.Reaches.{ReachesCommitted};
 ghost use Rattle.order_test.specs.Listed.{AreAllAscending, AreTxnsWithin, ListsCommitted, HasNoLate, HasNoRival, HasNoDirectRival, IsHarmless, AreHarmless, listed_at};
+ghost use Rattle.order_test.specs.Firsts.{AreRisingInAll, AreIndexes, PastIsListed};
 
-use crate::listed::last_listed;
+use crate::firsts::{TableFirsts, session_is_listed};
+use crate::listed::{Lists, last_listed};
 use crate::pasts::{Past, Pasts};
 use crate::places::Places;
 use crate::reaches::{CellReaches, cell_is_clear};
 use crate::sessions::txn_of;
 use crate::sight::{number_in, past_of, top_of};
 use crate::unmet::is_rival;
-use cell_base::{Cell, Level};
+use cell_base::{Cell, Key, Level};
 use cell_writers::CellWriters;
 use history_core::{Event, Seen, Txn};
 
@@ -84,7 +86,7 @@ fn latest_in(past: &Past) -> u32
 }
 
 /// Whether none of the committed writers of the cell up to the last number in the reader's causal past stands after the source.
-fn is_reached(
+pub fn is_reached(
     events: &[Event],
     order: &[u32],
     txns: &[Txn],
@@ -110,14 +112,28 @@ fn is_reached(
     }
 }
 
-/// Whether in each session the last writer of the cell in the reader's causal past is the source or stands before it.
+/// Whether a scan lists each key of the table whose presence a transaction in the past wrote.
+fn past_is_listed(firsts: &[TableFirsts], past: &Past, table: u32, keys: &[Key]) -> bool
+    requires { AreRisingInAll firsts.now }
+    ensures { IsTrue result → PastIsListed firsts.now past.now.tops.items table keys.now }
+{
+    for session in 0..firsts.len() {
+        if !session_is_listed(firsts, session, table, keys, top_of(past, session)) {
+            return false;
+        }
+    }
+    true
+}
+
+/// Whether in each session the last writer of the cell in the reader's causal past is the source or stands before it, or the scan lists each key
+/// whose presence a transaction in this past wrote.
 fn past_is_clear(
     events: &[Event],
     order: &[u32],
     txns: &[Txn],
     places: &Places,
     pasts: &Pasts,
-    lists: &[CellWriters],
+    lists: &Lists,
     place: usize,
     event: &Event,
     reader: u32,
@@ -125,27 +141,43 @@ fn past_is_clear(
     requires scene { IsScene events.now order.now txns.now places.now }
     requires pasts { ArePasts events.now pasts.now }
     requires sessions { KeepsSessions events.now order.now }
-    requires lists { ListsCommitted txns.now (length txns.now) lists.now }
-    requires within { AreTxnsWithin (length lists.now) txns.now }
+    requires lists { ListsCommitted txns.now (length txns.now) lists.now.writers.items }
+    requires firsts { AreIndexes lists.now.writers.items (length txns.now) lists.now.firsts.items }
+    requires within { AreTxnsWithin (length lists.now.writers.items) txns.now }
     requires read { IsReadAt events.now place event.now reader }
     ensures { IsTrue result → HasNoRival events.now order.now place event.now reader }
 {
     match event {
         Event::Read { cell, source, .. } => {
-            past_has_none(places, lists, past_of(pasts, events, reader), cell, *source)
+            past_has_none(
+                places,
+                &lists.writers,
+                past_of(pasts, events, reader),
+                cell,
+                *source,
+            )
+        }
+        Event::Scan { table, keys, .. } => {
+            past_is_listed(
+                &lists.firsts,
+                past_of(pasts, events, reader),
+                *table,
+                keys.as_slice(),
+            )
         }
         _ => false,
     }
 }
 
-/// Whether the last writer of the cell in the reader's session before the reader is the source or stands before it.
+/// Whether the last writer of the cell in the reader's session before the reader is the source or stands before it, or the scan lists each key whose
+/// presence was written in this session before.
 fn own_is_clear(
     events: &[Event],
     order: &[u32],
     txns: &[Txn],
     places: &Places,
     pasts: &Pasts,
-    lists: &[CellWriters],
+    lists: &Lists,
     place: usize,
     event: &Event,
     reader: u32,
@@ -153,8 +185,9 @@ fn own_is_clear(
     requires scene { IsScene events.now order.now txns.now places.now }
     requires pasts { ArePasts events.now pasts.now }
     requires sessions { KeepsSessions events.now order.now }
-    requires lists { ListsCommitted txns.now (length txns.now) lists.now }
-    requires within { AreTxnsWithin (length lists.now) txns.now }
+    requires lists { ListsCommitted txns.now (length txns.now) lists.now.writers.items }
+    requires firsts { AreIndexes lists.now.writers.items (length txns.now) lists.now.firsts.items }
+    requires within { AreTxnsWithin (length lists.now.writers.items) txns.now }
     requires read { IsReadAt events.now place event.now reader }
     ensures { IsTrue result → (other : ℕ) → IsSessionOrdered events.now other reader → ¬ IsRival events.now order.now place (origin_of event.now) reader other }
 {
@@ -162,7 +195,10 @@ fn own_is_clear(
     let limit = top_of(past_of(pasts, events, reader), session);
     match event {
         Event::Read { cell, source, .. } => {
-            session_has_none(places, lists, session, cell, limit, *source)
+            session_has_none(places, &lists.writers, session, cell, limit, *source)
+        }
+        Event::Scan { table, keys, .. } => {
+            session_is_listed(&lists.firsts, session, *table, keys.as_slice(), limit)
         }
         _ => false,
     }
@@ -368,7 +404,7 @@ fn is_clear_directly(
     txns: &[Txn],
     places: &Places,
     pasts: &Pasts,
-    lists: &[CellWriters],
+    lists: &Lists,
     place: usize,
     event: &Event,
     reader: u32,
@@ -376,8 +412,9 @@ fn is_clear_directly(
     requires scene { IsScene events.now order.now txns.now places.now }
     requires pasts { ArePasts events.now pasts.now }
     requires sessions { KeepsSessions events.now order.now }
-    requires lists { ListsCommitted txns.now (length txns.now) lists.now }
-    requires within { AreTxnsWithin (length lists.now) txns.now }
+    requires lists { ListsCommitted txns.now (length txns.now) lists.now.writers.items }
+    requires firsts { AreIndexes lists.now.writers.items (length txns.now) lists.now.firsts.items }
+    requires within { AreTxnsWithin (length lists.now.writers.items) txns.now }
     requires read { IsReadAt events.now place event.now reader }
     ensures { IsTrue result → HasNoDirectRival events.now order.now place event.now reader }
 {
@@ -399,7 +436,7 @@ pub fn is_clear(
     places: &Places,
     pasts: &Pasts,
     reaches: &CellReaches,
-    lists: &[CellWriters],
+    lists: &Lists,
     place: usize,
     event: &Event,
     reader: u32,
@@ -408,8 +445,9 @@ pub fn is_clear(
     requires pasts { ArePasts events.now pasts.now }
     requires sessions { KeepsSessions events.now order.now }
     requires reaches { ReachesCommitted txns.now (length txns.now) places.now.at.items reaches.now }
-    requires lists { ListsCommitted txns.now (length txns.now) lists.now }
-    requires within { AreTxnsWithin (length lists.now) txns.now }
+    requires lists { ListsCommitted txns.now (length txns.now) lists.now.writers.items }
+    requires firsts { AreIndexes lists.now.writers.items (length txns.now) lists.now.firsts.items }
+    requires within { AreTxnsWithin (length lists.now.writers.items) txns.now }
     requires read { IsReadAt events.now place event.now reader }
     ensures { IsTrue result → HasNoRival events.now order.now place event.now reader }
 {

@@ -76,10 +76,23 @@ fn written<'a>(cell: &'a Cell, writer: &Txn) -> Option<&'a Cell>
     }
 }
 
-/// Whether the key is listed.
-fn contains_key(keys: &[Key], key: &Key) -> bool
+/// Whether a search among keys that ascend finds the key.
+fn is_found(keys: &[Key], key: &Key) -> bool
+    ensures { IsTrue result → Contains keys.now key.now }
+{
+    match keys.binary_search(key) {
+        Ok(at) => keys[at].is_same(key),
+        Err(_at) => false,
+    }
+}
+
+/// Whether the key is listed. Keys of a right history ascend, so that a search finds it at once.
+pub fn contains_key(keys: &[Key], key: &Key) -> bool
     ensures { IsTrue result ↔ Contains keys.now key.now }
 {
+    if is_found(keys, key) {
+        return true;
+    }
     keys.iter().any(|own| own.is_same(key))
 }
 

@@ -3,23 +3,23 @@ ghost use Rattle.std.specs.Prelude.{◌≡◌, ◌≤◌, ◌<◌, ◌+◌, ◌�
 ghost use Rattle.history_core.specs.Events.{begun};
 ghost use Rattle.history_core.specs.Kept.{StandsForTxns};
 ghost use Rattle.order_test.specs.Settled.{IsOrderly};
-ghost use Rattle.order_test.specs.Unkept.{KeepsSessions, IsFirstOutOfSession, IsFound};
+ghost use Rattle.order_test.specs.Unkept.{KeepsSessions, IsFirstOutOfSession, IsFound, IsKeptAt, IsKeptBelow};
 ghost use Rattle.order_test.specs.Pasts.{ArePasts, IsReading};
 ghost use Rattle.order_test.specs.Sights.{IsScene, IsNumber, IsReadAt, IsRival, IsAxiomOf, IsFoundAt, IsFoundAmong, origin_of};
 ghost use Rattle.order_test.specs.Reaches.{ReachesCommitted};
 ghost use Rattle.order_test.specs.Listed.{AreTxnsWithin, ListsCommitted};
+ghost use Rattle.order_test.specs.Firsts.{AreIndexes};
 
 use crate::Unkept;
-use crate::listed::lists_of;
+use crate::listed::{Lists, lists_of};
 use crate::pasts::{Pasts, pasts_of};
 use crate::places::{Places, places_of};
-use crate::quick::is_clear;
+use crate::quick::{is_clear, is_reached};
 use crate::reaches::{CellReaches, reaches_of};
 use crate::rivals::{is_reading, origin, rival_cell};
 use crate::sessions::{first_out_of_session, is_late, keeps_sessions, txn_of};
 use crate::unmet::is_rival;
 use cell_base::Memory;
-use cell_writers::CellWriters;
 use history_core::{Event, Txn};
 use std::alloc::Global;
 
@@ -85,6 +85,85 @@ fn axiom_of(
     }
 }
 
+/// Whether it is seen by the reaches alone that the order keeps what the read or scan asks.
+fn read_is_reached(
+    events: &[Event],
+    order: &[u32],
+    txns: &[Txn],
+    places: &Places,
+    pasts: &Pasts,
+    reaches: &CellReaches,
+    place: usize,
+    event: &Event,
+    reader: u32,
+) -> bool
+    requires scene { IsScene events.now order.now txns.now places.now }
+    requires pasts { ArePasts events.now pasts.now }
+    requires reaches { ReachesCommitted txns.now (length txns.now) places.now.at.items reaches.now }
+    requires orderly { IsOrderly events.now }
+    requires read { IsReadAt events.now place event.now reader }
+    ensures { IsTrue result → IsKeptAt events.now order.now place }
+{
+    let from = origin(event);
+    if is_late(events, order, txns, places, from, reader) {
+        return false;
+    }
+    is_reached(
+        events, order, txns, places, pasts, reaches, place, event, reader,
+    )
+}
+
+/// The same of the event at the place.
+fn event_is_reached(
+    events: &[Event],
+    order: &[u32],
+    txns: &[Txn],
+    places: &Places,
+    pasts: &Pasts,
+    reaches: &CellReaches,
+    place: usize,
+) -> bool
+    requires scene { IsScene events.now order.now txns.now places.now }
+    requires pasts { ArePasts events.now pasts.now }
+    requires reaches { ReachesCommitted txns.now (length txns.now) places.now.at.items reaches.now }
+    requires orderly { IsOrderly events.now }
+    requires within { place < length events.now }
+    ensures { IsTrue result → IsKeptAt events.now order.now place }
+{
+    let event = &events[place];
+    if !is_reading(event) {
+        return true;
+    }
+    let reader = pasts.readers[place];
+    read_is_reached(
+        events, order, txns, places, pasts, reaches, place, event, reader,
+    )
+}
+
+/// The first event of which the reaches alone don't show that the order keeps what it asks, or the end.
+fn first_unreached(
+    events: &[Event],
+    order: &[u32],
+    txns: &[Txn],
+    places: &Places,
+    pasts: &Pasts,
+    reaches: &CellReaches,
+) -> usize
+    requires scene { IsScene events.now order.now txns.now places.now }
+    requires pasts { ArePasts events.now pasts.now }
+    requires reaches { ReachesCommitted txns.now (length txns.now) places.now.at.items reaches.now }
+    requires orderly { IsOrderly events.now }
+    ensures within { result ≤ length events.now }
+    ensures kept { IsKeptBelow events.now order.now result }
+{
+    for place in 0..events.len() {
+        if !event_is_reached(events, order, txns, places, pasts, reaches, place) {
+            return place;
+        }
+    }
+    events.len()
+}
+
 /// What is found of a read or a scan.
 fn found_of(
     alloc: Global,
@@ -94,7 +173,7 @@ fn found_of(
     places: &Places,
     pasts: &Pasts,
     reaches: &CellReaches,
-    lists: &[CellWriters],
+    lists: &Lists,
     place: usize,
     event: &Event,
     reader: u32,
@@ -103,8 +182,9 @@ fn found_of(
     requires pasts { ArePasts events.now pasts.now }
     requires sessions { KeepsSessions events.now order.now }
     requires reaches { ReachesCommitted txns.now (length txns.now) places.now.at.items reaches.now }
-    requires lists { ListsCommitted txns.now (length txns.now) lists.now }
-    requires txns_within { AreTxnsWithin (length lists.now) txns.now }
+    requires lists { ListsCommitted txns.now (length txns.now) lists.now.writers.items }
+    requires firsts { AreIndexes lists.now.writers.items (length txns.now) lists.now.firsts.items }
+    requires txns_within { AreTxnsWithin (length lists.now.writers.items) txns.now }
     requires orderly { IsOrderly events.now }
     requires read { IsReadAt events.now place event.now reader }
     requires reading { IsReading event.now }
@@ -144,15 +224,16 @@ fn found_at(
     places: &Places,
     pasts: &Pasts,
     reaches: &CellReaches,
-    lists: &[CellWriters],
+    lists: &Lists,
     place: usize,
 ) -> Result<Option<Unkept>, Memory>
     requires scene { IsScene events.now order.now txns.now places.now }
     requires pasts { ArePasts events.now pasts.now }
     requires sessions { KeepsSessions events.now order.now }
     requires reaches { ReachesCommitted txns.now (length txns.now) places.now.at.items reaches.now }
-    requires lists { ListsCommitted txns.now (length txns.now) lists.now }
-    requires txns_within { AreTxnsWithin (length lists.now) txns.now }
+    requires lists { ListsCommitted txns.now (length txns.now) lists.now.writers.items }
+    requires firsts { AreIndexes lists.now.writers.items (length txns.now) lists.now.firsts.items }
+    requires txns_within { AreTxnsWithin (length lists.now.writers.items) txns.now }
     requires orderly { IsOrderly events.now }
     requires within { place < length events.now }
     requires few { length events.now < 4294967296 }
@@ -168,7 +249,7 @@ fn found_at(
     )
 }
 
-/// The first of the events of which the order doesn't keep what it asks.
+/// The first of the events of which the order doesn't keep what it asks. It keeps what those before the start ask.
 fn found_among(
     alloc: Global,
     events: &[Event],
@@ -177,19 +258,22 @@ fn found_among(
     places: &Places,
     pasts: &Pasts,
     reaches: &CellReaches,
-    lists: &[CellWriters],
+    lists: &Lists,
+    start: usize,
 ) -> Result<Option<Unkept>, Memory>
     requires scene { IsScene events.now order.now txns.now places.now }
     requires pasts { ArePasts events.now pasts.now }
     requires sessions { KeepsSessions events.now order.now }
     requires reaches { ReachesCommitted txns.now (length txns.now) places.now.at.items reaches.now }
-    requires lists { ListsCommitted txns.now (length txns.now) lists.now }
-    requires txns_within { AreTxnsWithin (length lists.now) txns.now }
+    requires lists { ListsCommitted txns.now (length txns.now) lists.now.writers.items }
+    requires firsts { AreIndexes lists.now.writers.items (length txns.now) lists.now.firsts.items }
+    requires txns_within { AreTxnsWithin (length lists.now.writers.items) txns.now }
     requires orderly { IsOrderly events.now }
+    requires kept { IsKeptBelow events.now order.now start }
     requires few { length events.now < 4294967296 }
     ensures { IfOk result (IsFoundAmong events.now order.now) }
 {
-    for place in 0..events.len() {
+    for place in start..events.len() {
         match found_at(
             alloc, events, order, txns, places, pasts, reaches, lists, place,
         )? {
@@ -221,7 +305,8 @@ fn session_breach(
     Ok(first_out_of_session(events, order, txns, places))
 }
 
-/// The first of the events of which the order, which keeps session order, doesn't keep what it asks.
+/// The first of the events of which the order, which keeps session order, doesn't keep what it asks. The writers of each session are listed only
+/// where there is an event that the reaches alone don't clear.
 fn found_after(
     alloc: Global,
     events: &[Event],
@@ -238,8 +323,15 @@ fn found_after(
     ensures { IfOk result (IsFoundAmong events.now order.now) }
 {
     let reaches = reaches_of(alloc, txns, places)?;
-    let lists = lists_of(alloc, txns, pasts.last.len())?;
-    found_among(alloc, events, order, txns, places, pasts, &reaches, &lists)
+    let start = first_unreached(events, order, txns, places, pasts, &reaches);
+    if start == events.len() {
+        return Ok(None);
+    }
+    let width = pasts.last.len();
+    let lists = lists_of(alloc, txns, width)?;
+    found_among(
+        alloc, events, order, txns, places, pasts, &reaches, &lists, start,
+    )
 }
 
 /// The first that the order doesn't keep, where it holds each transaction once and the initial one first.

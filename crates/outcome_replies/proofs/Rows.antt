@@ -24,7 +24,7 @@ use Rattle.row_meaning.specs.Combinations.{combinations, kept_by}
 use Rattle.row_meaning.specs.Groups.{Call, call_value, calls_of, group_value, group_values, operand_values}
 use Rattle.row_meaning.specs.Ordering.{Sorted, order_by, placed, ordered, count_of, cut}
 use Rattle.row_meaning.specs.Selection.{sorted_row, plain_rows, group_row, result_rows, limited, selected, most_bytes}
-use Rattle.outcome_replies.specs.Replies.{IsShortRow}
+use Rattle.outcome_replies.specs.Replies.{RowFits}
 
 -- ---- what an evaluation comes to
 
@@ -117,31 +117,31 @@ length-data_row row =
     let body : List ℕ = two_bytes (length row) ++ flat_map value_bytes row in
     omega (arith, length-append (four_bytes (4 + length body)) body, length-four_bytes (4 + length body))
 
-row_short : (n : ℕ) (row : List Value) → n ≤ 1664 → length row ≡ n → length (data_row row) ≤ 16777216 → IsShortRow row
-row_short n row few wide h = record {
+row_fits : (n : ℕ) (row : List Value) → n ≤ 1664 → length row ≡ n → length (data_row row) ≤ 16777216 → RowFits row
+row_fits n row few wide h = record {
   few = omega (arith, few, wide);
-  short = omega (arith, h, length-data_row row);
+  fits = omega (arith, h, length-data_row row);
 }
 
-rows_short : (n : ℕ) (rows : List (List Value)) → n ≤ 1664 → AllByRecursion (HasWidth n) rows → sum_by (λ row. length (data_row row)) rows ≤ 16777216 → All IsShortRow rows
-rows_short n [] few wide h = All-nil IsShortRow
-rows_short n (row ∷ rows) few wide h =
+rows_fits : (n : ℕ) (rows : List (List Value)) → n ≤ 1664 → AllByRecursion (HasWidth n) rows → sum_by (λ row. length (data_row row)) rows ≤ 16777216 → All RowFits rows
+rows_fits n [] few wide h = All-nil RowFits
+rows_fits n (row ∷ rows) few wide h =
     let sum = sum_by-cons (λ (r : List Value). length (data_row r)) row rows in
-    All-cons IsShortRow row rows (row_short n row few wide.0 (omega (arith, h, sum))) (rows_short n rows few wide.1 (omega (arith, h, sum)))
+    All-cons RowFits row rows (row_fits n row few wide.0 (omega (arith, h, sum))) (rows_fits n rows few wide.1 (omega (arith, h, sum)))
 
 within_most : (n : ℕ) → nat_le n most_bytes ≡ true → n ≤ 16777216
 within_most n h = grind (arith, nat_tests)
 
-limited_short : (n : ℕ) (rows : List (List Value)) → n ≤ 1664 → AllByRecursion (HasWidth n) rows → Holds (All IsShortRow) (limited rows)
-limited_short n rows few wide =
-    cond_both (nat_le (sum_by (λ row. length (data_row row)) rows) most_bytes) (Ok rows) (Err S54000) (Holds (All IsShortRow))
-    (λ e. rows_short n rows few wide (within_most (sum_by (λ row. length (data_row row)) rows) e)) (λ _. tt)
+limited_fits : (n : ℕ) (rows : List (List Value)) → n ≤ 1664 → AllByRecursion (HasWidth n) rows → Holds (All RowFits) (limited rows)
+limited_fits n rows few wide =
+    cond_both (nat_le (sum_by (λ row. length (data_row row)) rows) most_bytes) (Ok rows) (Err S54000) (Holds (All RowFits))
+    (λ e. rows_fits n rows few wide (within_most (sum_by (λ row. length (data_row row)) rows) e)) (λ _. tt)
 
-pub selected_short : (select : TypedSelect) (picture : List TableRows) → length select.items ≤ 1664 → Holds (All IsShortRow) (selected select picture)
+pub selected_fits : (select : TypedSelect) (picture : List TableRows) → length select.items ≤ 1664 → Holds (All RowFits) (selected select picture)
 unfolding selected
-selected_short select picture few =
-    then_holds (λ (rows : List Row). Unit {0}) (All IsShortRow) (kept_by select.conditions (combinations (map (values_shown picture) select.tables))) _
+selected_fits select picture few =
+    then_holds (λ (rows : List Row). Unit {0}) (All RowFits) (kept_by select.conditions (combinations (map (values_shown picture) select.tables))) _
     (anything (kept_by select.conditions (combinations (map (values_shown picture) select.tables))))
     (λ rows _.
-    then_holds (AllByRecursion (HasWidth (length select.items))) (All IsShortRow) (result_rows select.aggregate select rows) _ (results_wide select.aggregate select rows)
-    (λ results wide. limited_short (length select.items) (cut select.offset select.limit results) few (cut_keeps (HasWidth (length select.items)) select.offset select.limit results wide)))
+    then_holds (AllByRecursion (HasWidth (length select.items))) (All RowFits) (result_rows select.aggregate select rows) _ (results_wide select.aggregate select rows)
+    (λ results wide. limited_fits (length select.items) (cut select.offset select.limit results) few (cut_keeps (HasWidth (length select.items)) select.offset select.limit results wide)))

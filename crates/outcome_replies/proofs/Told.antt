@@ -33,11 +33,11 @@ use Rattle.statement_course.specs.Course.{done}
 use Rattle.statement_course.specs.Statements.{parts_of_select, rows_outcome, course_of_select, course_of_rows, course_of_insert, part_of_change, course_of_changes, course_of_change, course_of}
 use Rattle.statement_course.specs.Writing.{write_all, insert_rows, inserts, updates, deletes}
 use Rattle.statement_course.specs.declared.demand.Outcome.TheVariants.{Updated, Deleted, Inserted}
-use Rattle.outcome_replies.specs.Replies.{CanBeTold, IsShortRow}
+use Rattle.outcome_replies.specs.Replies.{CanBeTold, RowFits}
 use Rattle.outcome_replies.specs.Ends.{EndsIn}
 use Rattle.outcome_replies.specs.Laws.{OutcomesCanBeTold}
 use Rattle.outcome_replies.proofs.Ending.{ends_written, ends_parts, ends_presences}
-use Rattle.outcome_replies.proofs.Rows.{selected_short}
+use Rattle.outcome_replies.proofs.Rows.{selected_fits}
 
 -- ---- a result has one column for each item
 
@@ -62,13 +62,13 @@ select_each tables s =
 
 -- ---- what statements come to
 
-rows_told : (t : TypedSelect) (rows : Result (List (List Value))) → AreDescribed t.fields → Holds (All IsShortRow) rows → CanBeTold (rows_outcome t rows)
-rows_told t (Ok rows) described short = (described, short)
-rows_told t (Err code) described short = tt
+rows_told : (t : TypedSelect) (rows : Result (List (List Value))) → AreDescribed t.fields → Holds (All RowFits) rows → CanBeTold (rows_outcome t rows)
+rows_told t (Ok rows) described fits = (described, fits)
+rows_told t (Err code) described fits = tt
 
 select_told : (tables : List Table) (t : TypedSelect) → AreDescribed t.fields → HasOneEach t → EndsIn CanBeTold (course_of_select tables t)
 select_told tables t described each =
-    ends_parts CanBeTold (parts_of_select tables t) [] _ (λ picture. rows_told t (selected t picture) described (selected_short t picture (omega (arith, each, described.few))))
+    ends_parts CanBeTold (parts_of_select tables t) [] _ (λ picture. rows_told t (selected t picture) described (selected_fits t picture (omega (arith, each, described.few))))
 
 inserted_told : (number key_column : ℕ) (rows : List TableRow) (found : Bool) → EndsIn CanBeTold (insert_rows number key_column rows found)
 inserted_told number key_column rows true = tt

@@ -3,7 +3,7 @@ use Rattle.std.specs.Prelude.{ℕ, ◌≤◌, List, [], ◌++◌, length, flat_m
 use Rattle.std.specs.Fmt.{decimal}
 use Rattle.cell_base.specs.declared.value.Value.{Value}
 use Rattle.pg_framing.specs.declared.replies.Severity.TheVariants as severities
-use Rattle.pg_framing.specs.Replies.{two_bytes, value_bytes, row_description, data_row, command_complete, error_response, IsShortBody}
+use Rattle.pg_framing.specs.Replies.{two_bytes, value_bytes, row_description, data_row, command_complete, error_response, FitsMessage}
 use Rattle.statement_course.specs.declared.demand.Outcome.{Outcome}
 use Rattle.statement_course.specs.declared.demand.Outcome.TheVariants.{Rows, Inserted, Updated, Deleted, Failed}
 use Rattle.sql_tree.specs.declared.table.OutField.{OutField}
@@ -27,11 +27,11 @@ outcome_reply description (Deleted n) = command_complete (codes "DELETE " ++ dec
 outcome_reply description (Failed code) = error_response severities.Error code
 
 -- a row fits one message
-pub record IsShortRow (row : List Value) : Type 0 where
+pub record RowFits (row : List Value) : Type 0 where
   pub few : length row ≤ 1664
-  pub short : IsShortBody (two_bytes (length row) ++ flat_map value_bytes row)
+  pub fits : FitsMessage (two_bytes (length row) ++ flat_map value_bytes row)
 
 -- what a statement came to fits messages
 abbrev pub CanBeTold : Outcome → Type 0
-CanBeTold (Rows fields rows) = AreDescribed fields × All IsShortRow rows
+CanBeTold (Rows fields rows) = AreDescribed fields × All RowFits rows
 CanBeTold _ = Unit {0}

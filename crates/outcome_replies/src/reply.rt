@@ -4,7 +4,7 @@ ghost use Rattle.std.specs.Fmt.{decimal};
 ghost use Rattle.cell_base.specs.Texts.{HasNoZero};
 ghost use Rattle.pg_framing.specs.Replies.{data_row, command_complete};
 ghost use Rattle.described_columns.specs.Described.{AreDescribed};
-ghost use Rattle.outcome_replies.specs.Replies.{columns_reply, outcome_reply, CanBeTold, IsShortRow};
+ghost use Rattle.outcome_replies.specs.Replies.{columns_reply, outcome_reply, CanBeTold, RowFits};
 
 use crate::description::RowDescription;
 use cell_base::{Items, Memory, Value};
@@ -19,7 +19,7 @@ use std::alloc::Global;
 
 // One message for each row.
 fn append_rows(alloc: Global, out: &mut Vec<u8>, rows: &[Items<Value>]) -> Result<(), Memory>
-    requires { All IsShortRow rows.now }
+    requires { All RowFits rows.now }
     ensures { OnOk result (out.new.items ≡ out.old.items ++ flat_map data_row rows.now) }
 {
     for row in rows {
@@ -31,7 +31,7 @@ fn append_rows(alloc: Global, out: &mut Vec<u8>, rows: &[Items<Value>]) -> Resul
 // CommandComplete, with a word and a number.
 fn append_count(alloc: Global, out: &mut Vec<u8>, word: &[u8], n: u64) -> Result<(), Memory>
     requires no_zero { HasNoZero word.now }
-    requires short { length word.now ≤ 16 }
+    requires fits { length word.now ≤ 16 }
     ensures { OnOk result (out.new.items ≡ out.old.items ++ command_complete (word.now ++ decimal n)) }
 {
     let mut tag = Vec::new(alloc);
@@ -67,7 +67,7 @@ fn append_result(
     description: RowDescription,
 ) -> Result<(), Memory>
     requires described { AreDescribed fields.now }
-    requires short { All IsShortRow rows.now }
+    requires fits { All RowFits rows.now }
     ensures { OnOk result (out.new.items ≡ out.old.items ++ outcome_reply description (Outcome.Rows fields.now rows.now)) }
 {
     append_columns(alloc, out, fields, description)?;

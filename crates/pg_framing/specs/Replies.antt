@@ -138,19 +138,20 @@ error_response severity state = framed 69 (report (severity_word severity) state
 unfoldable pub notice_response : SqlState → List ℕ
 notice_response state = framed 78 (report (codes "WARNING") state)
 
--- a column that can be described: no zero byte in its name, and a varchar of at most 65,536 characters
-abbrev pub IsShortType : SqlType → Type 0
-IsShortType (Varchar limit) = limit ≤ 65536
-IsShortType Boolean = Unit {0}
-IsShortType Bigint = Unit {0}
-IsShortType Integer = Unit {0}
-IsShortType types.Text = Unit {0}
-IsShortType Numeric = Unit {0}
+-- a type whose modifier can be told: a varchar has at most 65,536 characters
+abbrev pub FitsModifier : SqlType → Type 0
+FitsModifier (Varchar limit) = limit ≤ 65536
+FitsModifier Boolean = Unit {0}
+FitsModifier Bigint = Unit {0}
+FitsModifier Integer = Unit {0}
+FitsModifier types.Text = Unit {0}
+FitsModifier Numeric = Unit {0}
 
+-- a column that can be described: no zero byte in its name, and a type that can be told
 pub record IsField (field : OutField) : Type 0 where
   pub no_zero : HasNoZero field.name
-  pub short : IsShortType field.kind
+  pub fits : FitsModifier field.kind
 
 -- a body whose message has a length below 2 ^ 31
-abbrev pub IsShortBody : List ℕ → Type 0
-IsShortBody body = 4 + length body < 2 ^ 31
+abbrev pub FitsMessage : List ℕ → Type 0
+FitsMessage body = 4 + length body < 2 ^ 31

@@ -4,7 +4,7 @@
 ghost use Rattle.std.specs.Prelude.{◌≡◌, ◌+◌, ◌∷◌, ◌++◌, [], length, codes, IfOk, OnOk, OnErr};
 ghost use Rattle.cell_base.specs.Texts.{HasNoZero};
 ghost use Rattle.pg_framing.specs.Spelling.{four_bytes};
-ghost use Rattle.pg_framing.specs.Replies.{two_bytes, framed, IsShortBody, ended, auth_ok, parameter, key_data, ready, state_byte, command_complete, empty_query, report, severity_word, error_response, notice_response};
+ghost use Rattle.pg_framing.specs.Replies.{two_bytes, framed, FitsMessage, ended, auth_ok, parameter, key_data, ready, state_byte, command_complete, empty_query, report, severity_word, error_response, notice_response};
 
 use byteorder::{BigEndian, ByteOrder};
 use cell_base::{Memory, SqlState};
@@ -37,7 +37,7 @@ pub(crate) fn append_framed(
     kind: u8,
     body: &[u8],
 ) -> Result<(), Memory>
-    requires { IsShortBody body.now }
+    requires { FitsMessage body.now }
     ensures ok { OnOk result (out.new.items ≡ out.old.items ++ framed kind body.now) }
     ensures err { OnErr result (out.new.items ≡ out.old.items) }
 {
@@ -97,7 +97,7 @@ pub fn append_parameter_status(
 ) -> Result<(), Memory>
     requires name { HasNoZero name.now }
     requires value { HasNoZero value.now }
-    requires short { IsShortBody (ended name.now ++ ended value.now) }
+    requires fits { FitsMessage (ended name.now ++ ended value.now) }
     ensures ok { OnOk result (out.new.items ≡ out.old.items ++ parameter name.now value.now) }
     ensures err { OnErr result (out.new.items ≡ out.old.items) }
 {
@@ -148,7 +148,7 @@ fn byte_of(state: TransactionState) -> u8
 /// CommandComplete: a statement is done, by its tag. Out of memory, `out` stays as it was.
 pub fn append_command_complete(alloc: Global, out: &mut Vec<u8>, tag: &[u8]) -> Result<(), Memory>
     requires tag { HasNoZero tag.now }
-    requires short { IsShortBody (ended tag.now) }
+    requires fits { FitsMessage (ended tag.now) }
     ensures ok { OnOk result (out.new.items ≡ out.old.items ++ command_complete tag.now) }
     ensures err { OnErr result (out.new.items ≡ out.old.items) }
 {

@@ -3,7 +3,7 @@
 
 ghost use Rattle.std.specs.Prelude.{◌≡◌, ◌≤◌, ◌<◌, ◌+◌, ◌^◌, ◌∷◌, ◌++◌, [], length, flat_map, OnOk, OnErr};
 ghost use Rattle.std.specs.List.{All};
-ghost use Rattle.pg_framing.specs.Replies.{two_bytes, type_oid, type_length, type_modifier, field_bytes, row_description, text_bytes, value_bytes, data_row, IsField, IsShortType, IsShortBody};
+ghost use Rattle.pg_framing.specs.Replies.{two_bytes, type_oid, type_length, type_modifier, field_bytes, row_description, text_bytes, value_bytes, data_row, IsField, FitsModifier, FitsMessage};
 
 use crate::replies::{append_ended, append_four, append_framed, append_two};
 use cell_base::{Memory, SqlType, Value};
@@ -20,7 +20,7 @@ pub fn append_row_description(
 ) -> Result<(), Memory>
     requires number { length fields.now ≤ 1664 }
     requires each { All IsField fields.now }
-    requires short { IsShortBody (two_bytes (length fields.now) ++ flat_map field_bytes fields.now) }
+    requires fits { FitsMessage (two_bytes (length fields.now) ++ flat_map field_bytes fields.now) }
     ensures ok { OnOk result (out.new.items ≡ out.old.items ++ row_description fields.now) }
     ensures err { OnErr result (out.new.items ≡ out.old.items) }
 {
@@ -76,7 +76,7 @@ fn length_of(kind: SqlType) -> u16
 
 // The limit of a varchar and four; minus one, in 32 bits, where there is none.
 fn modifier_of(kind: SqlType) -> u32
-    requires { IsShortType kind }
+    requires { FitsModifier kind }
     ensures { result ≡ type_modifier kind }
 {
     match kind {
@@ -90,7 +90,7 @@ fn modifier_of(kind: SqlType) -> u32
 #[tactic(auto, unfolding(crate::specs::Replies::data_row))]
 pub fn append_data_row(alloc: Global, out: &mut Vec<u8>, values: &[Value]) -> Result<(), Memory>
     requires number { length values.now ≤ 1664 }
-    requires short { IsShortBody (two_bytes (length values.now) ++ flat_map value_bytes values.now) }
+    requires fits { FitsMessage (two_bytes (length values.now) ++ flat_map value_bytes values.now) }
     ensures ok { OnOk result (out.new.items ≡ out.old.items ++ data_row values.now) }
     ensures err { OnErr result (out.new.items ≡ out.old.items) }
 {

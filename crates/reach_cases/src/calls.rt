@@ -207,12 +207,17 @@ pub(crate) fn union_sizes(
 }
 
 /// How many numbers come before one; none where it is out of range.
-pub(crate) fn ancestor_count(reach: &Reach, number: u32) -> Option<u32> {
-    if number < reach.size() {
-        Some(reach.ancestors_of(number).count())
-    } else {
-        None
+pub(crate) fn ancestor_count(
+    alloc: Global,
+    reach: &Reach,
+    number: u32,
+) -> Result<Option<u32>, AllocError> {
+    if number >= reach.size() {
+        return Ok(None);
     }
+    let mut row = Row::new(alloc)?;
+    reach.ancestors_of(number, &mut row);
+    Ok(Some(row.count()))
 }
 
 /// An edge.

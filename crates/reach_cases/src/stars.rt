@@ -136,7 +136,7 @@ fn unions(rt: HostRuntime) -> Result<(), Fail> {
     assert!(&rt; try_star(&mut reach, &[2, 4], 3));
     assert_eq!(&rt; union_sizes(rt.alloc(), &reach, 3, 2)?, Some((4, 4)));
     assert_eq!(&rt; union_sizes(rt.alloc(), &reach, 2, 5)?, Some((2, 2)));
-    assert_eq!(&rt; ancestor_count(&reach, 3), Some(4));
-    assert_eq!(&rt; ancestor_count(&reach, 0), Some(0));
+    assert_eq!(&rt; ancestor_count(rt.alloc(), &reach, 3)?, Some(4));
+    assert_eq!(&rt; ancestor_count(rt.alloc(), &reach, 0)?, Some(0));
     Ok(())
 }

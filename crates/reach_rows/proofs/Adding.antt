@@ -2,7 +2,6 @@
 use Rattle.std.proofs.Common.{◌≡◌, ◌↔◌, ◌⊎◌, ℕ, ◌<◌, List, [], ◌∷◌, ◌++◌, length, get_or, refl, ap, sym, ◌∙◌, subst, inl, inr, arith}
 use Rattle.std.specs.List.{Contains, All}
 use Rattle.std.proofs.lemmas.Bool.{cases_eq}
-use Rattle.std.proofs.lemmas.List.{get_or_default}
 use Rattle.std.proofs.lemmas.List.Elements.{All-append, All-cons, All-nil}
 use Rattle.graph_base.specs.declared.Edge.{Edge}
 use Rattle.graph_base.specs.Walk.{IsInRange, HasCycle, Leads, Reaches}
@@ -186,10 +185,10 @@ down_of_row rows row n closed is =
 -- ---- the same, from what the calls say
 
 pub added_into_last :
-    (rows new final : List (List ℕ)) (now : Ancestry) (source reader : ℕ) → final ≡ new → ancestry_of rows ≡ now → IsClosed rows →
+    (rows new : List (List ℕ)) (now : Ancestry) (source reader : ℕ) → ancestry_of rows ≡ now → IsClosed rows →
     source < now.size → reader < now.size → (source ≡ reader → ⊥) → IsLast now.pairs reader →
-    JoinsAt reader (source ∷ row_at rows source) rows new → IsStarAdded now final (source ∷ []) reader
-added_into_last rows new final now source reader same view closed from to apart last joins =
+    JoinsAt reader (source ∷ row_at rows source) rows new → IsStarAdded now new (source ∷ []) reader
+added_into_last rows new now source reader view closed from to apart last joins =
     let row : List ℕ = row_at rows source in
     let gains : Gains row (source ∷ row) source = λ n. (
       λ member. elim (contains_cons source row n member) [ inl is ↦ inr (sym is) | inr before ↦ inl before ],
@@ -199,24 +198,19 @@ added_into_last rows new final now source reader same view closed from to apart 
     brings_source (pairs_of rows) rows source reader (source ∷ row) (closed_rows_of rows closed) gains in
     let within : All (λ m. m < now.size) (source ∷ []) =
     All-cons (λ m. m < now.size) source [] from (All-nil (λ m. m < now.size)) in
-    subst (λ (rs : List (List ℕ)). IsStarAdded now rs (source ∷ []) reader) (sym same)
-    (star_added rows new now (source ∷ []) reader (source ∷ row) view closed to within
+    star_added rows new now (source ∷ []) reader (source ∷ row) view closed to within
     (last_acyclic rows now source reader view closed apart last) brings
-    (spreads_at_last rows new now reader (source ∷ row) view closed last joins))
+    (spreads_at_last rows new now reader (source ∷ row) view closed last joins)
 
 pub added_star :
-    (rows new final : List (List ℕ)) (now : Ancestry) (members : List ℕ) (target : ℕ) (row copied gained : List ℕ) → final ≡ new →
-    ancestry_of rows ≡ now → IsClosed rows → target < now.size → All (λ m. m < now.size) members →
-    (HasCycle (now.pairs ++ star_of members target) → ⊥) → row ≡ get_or rows target row → copied ≡ row →
-    GainsAll (IsUpTo rows) members copied gained → Spreads target gained rows new → IsStarAdded now final members target
-added_star rows new final now members target row copied gained same view closed small within acyclic read copy gains spreads =
-    let size : length rows ≡ now.size = size_of rows now view in
-    let is : copied ≡ row_at rows target = copy ∙ read ∙ get_or_default rows target row [] (omega arith) in
+    (rows new : List (List ℕ)) (now : Ancestry) (members : List ℕ) (target : ℕ) (copied gained : List ℕ) → ancestry_of rows ≡ now → IsClosed rows → target < now.size → All (λ m. m < now.size) members →
+    (HasCycle (now.pairs ++ star_of members target) → ⊥) → copied ≡ row_at rows target →
+    GainsAll (IsUpTo rows) members copied gained → Spreads target gained rows new → IsStarAdded now new members target
+added_star rows new now members target copied gained view closed small within acyclic is gains spreads =
     let brings : BringsStar (pairs_of rows) members target gained =
     brings_gathered (pairs_of rows) rows members target gained (closed_rows_of rows closed)
     (subst (λ (r : List ℕ). GainsAll (IsUpTo rows) members r gained) is gains) in
-    subst (λ (rs : List (List ℕ)). IsStarAdded now rs members target) (sym same)
-    (star_added rows new now members target gained view closed small within acyclic brings spreads)
+    star_added rows new now members target gained view closed small within acyclic brings spreads
 
 pub last_after :
     (now : Ancestry) (new : List (List ℕ)) (members : List ℕ) (target : ℕ) → IsStarAdded now new members target →

@@ -1,11 +1,12 @@
 -- Rows that gather what comes before some members, and rows that take it over.
 use Rattle.std.proofs.Common.{◌≡◌, ◌↔◌, ℕ, ◌+◌, ◌<◌, ◌≤◌, List, [], ◌∷◌, length, get_or, set, drop, refl, get_or-set_same, get_or-set_other, ap, sym, ◌∙◌, subst, inl, inr, arith}
-use Rattle.std.specs.List.{Contains, Any}
+use Rattle.std.specs.List.{All, Contains, Any}
 use Rattle.std.proofs.lemmas.Bool.{cases_eq, cases_lt}
-use Rattle.std.proofs.lemmas.List.{length-set, length-drop, get_or_past, drop_more, set-set}
+use Rattle.std.proofs.lemmas.List.{length-set, length-drop, get_or_default, get_or_past, drop_more}
+use Rattle.std.proofs.lemmas.List.Elements.{All-contains}
 use Rattle.bit_rows.specs.Members.{Gains, IsUnion}
 use Rattle.bit_rows.proofs.Marks.{contains_cons, contains_first, contains_later}
-use Rattle.reach_rows.specs.Rows.{row_at, HasPair, IsClosed, IsDown, IsUpTo, GainsOne, GainsAll, Carries, CarriesUpTo, JoinsAt, Spreads}
+use Rattle.reach_rows.specs.Rows.{row_at, HasPair, IsClosed, IsDown, IsUpTo, GainsOne, GainsAll, Carries, CarriesAt, CarriesUpTo, JoinsAt, Spreads}
 use Rattle.reach_rows.proofs.OneStar.{any_from_contains}
 
 -- ---- what one number brings
@@ -142,43 +143,44 @@ carries_more k target gained old rows row within so_far here =
           get_or-set_other rows k j row [] other ∙ so_far.others j (omega arith);
     }
 
-pub joins_at :
-    (target : ℕ) (gained : List ℕ) (rows : List (List ℕ)) (row : List ℕ) → target < length rows →
-    IsUnion (row_at rows target) gained row → JoinsAt target gained rows (set rows target row)
-joins_at target gained rows row within union =
-    let now : row_at (set rows target row) target ≡ row = get_or-set_same rows target row [] within in
-    record {
-      size = length-set rows target row;
-      joined = subst (λ (r : List ℕ). IsUnion (row_at rows target) gained r) (sym now) union;
-      others = λ k other. get_or-set_other rows target k row [] other;
-    }
+pub carries_joined :
+    (number target : ℕ) (gained : List ℕ) (old new : List (List ℕ)) → Contains (row_at old number) target →
+    JoinsAt number gained old new → CarriesAt number target gained old new
+carries_joined number target gained old new has joins = record {
+  size = joins.size;
+  carried = carries_union target gained (row_at old number) (row_at new number) has joins.joined;
+  others = joins.others;
+}
 
--- a row that was put elsewhere meanwhile, joined there and put back
-pub joins_back :
-    (number target : ℕ) (rows : List (List ℕ)) (spare joined final : List ℕ) → number < length rows → target < length rows →
-    (number ≡ target → ⊥) → IsUnion (row_at rows target) (row_at (set rows target spare) number) joined → Gains joined final number →
-    JoinsAt target (number ∷ row_at rows number) rows (set (set rows target spare) target final)
-joins_back number target rows spare joined final from to apart union gains =
-    let row : List ℕ = row_at rows number in
-    let same : row_at (set rows target spare) number ≡ row = get_or-set_other rows target number spare [] apart in
-    let whole : IsUnion (row_at rows target) (number ∷ row) final = λ n. (
-      λ member. elim ((gains n).0 member) [
-        | inl in_joined ↦ elim ((union n).0 in_joined) [
-          | inl before ↦ inl before
-          | inr more ↦ inr (contains_later number row n (subst (λ (r : List ℕ). Contains r n) same more))
-        ]
-        | inr is ↦ inr (contains_first number row n (sym is))
-      ],
-      λ either. elim either [
-        | inl before ↦ (gains n).1 (inl ((union n).1 (inl before)))
-        | inr more ↦ elim (contains_cons number row n more) [
-          | inl is ↦ (gains n).1 (inr (sym is))
-          | inr later ↦ (gains n).1 (inl ((union n).1 (inr (subst (λ (r : List ℕ). Contains r n) (sym same) later))))
-        ]
-      ],
-    ) in
-    subst (λ (rs : List (List ℕ)). JoinsAt target (number ∷ row) rows rs) (sym (set-set rows target spare final))
-    (joins_at target (number ∷ row) rows final to whole)
+-- a row without the target stays
+pub carries_none :
+    (number target : ℕ) (gained : List ℕ) (rows : List (List ℕ)) → (Contains (row_at rows number) target → ⊥) →
+    CarriesAt number target gained rows rows
+carries_none number target gained rows hasnt = record {
+  size = refl;
+  carried = λ n. (
+    λ member. inl member,
+    λ either. elim either [ inl before ↦ before | inr over ↦ absurd (hasnt over.0) ],
+  );
+  others = λ k other. refl;
+}
+
+pub carries_next :
+    (k target : ℕ) (gained : List ℕ) (old rows new : List (List ℕ)) → CarriesUpTo k target gained old rows →
+    CarriesAt k target gained rows new → CarriesUpTo (k + 1) target gained old new
+carries_next k target gained old rows new so_far here = record {
+  size = here.size ∙ so_far.size;
+  carried = λ j small. elim (cases_eq j k) [
+    | inl same ↦
+        subst (λ (i : ℕ). Carries target gained (row_at old i) (row_at new i)) (sym same)
+        (subst (λ (r : List ℕ). Carries target gained r (row_at new k)) (so_far.others k (omega arith)) here.carried)
+    | inr other ↦
+        subst (λ (r : List ℕ). Carries target gained (row_at old j) r) (sym (here.others j other)) (so_far.carried j (omega arith))
+  ];
+  others = λ j past.
+      let other : j ≡ k → ⊥ = λ e. absurd (omega arith) in
+      here.others j other ∙ so_far.others j (omega arith);
+}
 
 pub carried_at :
     (target : ℕ) (gained : List ℕ) (old rows : List (List ℕ)) → CarriesUpTo (length old) target gained old rows →
@@ -249,3 +251,20 @@ gains_from_empty R members row new none gains n = (
   ],
   λ any. (gains n).1 (inr any),
 )
+
+-- all that a row has gathered is below the size
+pub gathered_below :
+    (rows : List (List ℕ)) (members : List ℕ) (target : ℕ) (copied gained : List ℕ) → IsClosed rows →
+    All (λ m. m < length rows) members → copied ≡ row_at rows target → GainsAll (IsUpTo rows) members copied gained →
+    All (λ n. n < length rows) gained
+gathered_below rows members target copied gained closed within is gains = λ k d small.
+    let x : ℕ = get_or gained k d in
+    elim ((gains x).0 (k, small, get_or_default gained k x d small)) [
+      | inl before ↦ closed.below x target (subst (λ (r : List ℕ). Contains r x) is before)
+      | inr (j, m, here, at, up) ↦
+          let below : m < length rows = All-contains (λ n. n < length rows) members m within (j, here, at) in
+          elim up [
+            | inl same ↦ subst (λ (n : ℕ). n < length rows) (sym same) below
+            | inr pair ↦ closed.below x m pair
+          ]
+    ]

@@ -1,13 +1,9 @@
 -- Rows of what comes before each number, as lists of members.
 use Rattle.std.specs.Prelude.{◌≡◌, ◌<◌, ◌≤◌, ◌↔◌, ◌⊎◌, ◌++◌, ◌∷◌, [], ℕ, suc, List, Any, Contains, length, map, slice_index_or}
 use Rattle.graph_base.specs.declared.Edge.{Edge}
-use Rattle.bit_rows.specs.Members.{IsUnion}
+pub use Rattle.bit_rows.specs.Matrix.{row_at, JoinsAt}
 use Rattle.bit_rows.specs.declared.TheConstants.{ROW_BITS}
 use Rattle.reach_rows.specs.declared.Star.{Star}
-
--- the members of row n, none where there is no such row
-abbrev pub row_at : List (List ℕ) → ℕ → List ℕ
-row_at rows n = slice_index_or rows n []
 
 abbrev pub edge_of : ℕ → ℕ → Edge
 edge_of n m = record { before = n; after = m }
@@ -53,17 +49,17 @@ GainsAll R members old new = (n : ℕ) → Contains new n ↔ (Contains old n �
 abbrev pub Carries : ℕ → List ℕ → List ℕ → List ℕ → Type 0
 Carries target gained old new = (n : ℕ) → Contains new n ↔ (Contains old n ⊎ (Contains old target × Contains gained n))
 
+-- one row has been carried over; all others stay
+pub record CarriesAt (number target : ℕ) (gained : List ℕ) (old new : List (List ℕ)) : Type 0 where
+  pub size : length new ≡ length old
+  pub carried : Carries target gained (row_at old number) (row_at new number)
+  pub others : (k : ℕ) → ¬ k ≡ number → row_at new k ≡ row_at old k
+
 -- each of so many rows, from the first on, has been carried over; all others stay
 pub record CarriesUpTo (count : ℕ) (target : ℕ) (gained : List ℕ) (old new : List (List ℕ)) : Type 0 where
   pub size : length new ≡ length old
   pub carried : (k : ℕ) → k < count → Carries target gained (row_at old k) (row_at new k)
   pub others : (k : ℕ) → count ≤ k → row_at new k ≡ row_at old k
-
--- the row of the target has been joined with another row; all others stay
-pub record JoinsAt (target : ℕ) (gained : List ℕ) (old new : List (List ℕ)) : Type 0 where
-  pub size : length new ≡ length old
-  pub joined : IsUnion (row_at old target) gained (row_at new target)
-  pub others : (k : ℕ) → ¬ k ≡ target → row_at new k ≡ row_at old k
 
 -- the row of the target, and each row that has the target, has gained the members of another row
 pub record Spreads (target : ℕ) (gained : List ℕ) (old new : List (List ℕ)) : Type 0 where

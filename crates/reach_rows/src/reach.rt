@@ -8,9 +8,9 @@ ghost use Rattle.reach_rows.specs.Ancestry.{IsLast, IsDownOver};
 ghost use Rattle.reach_rows.specs.Stars.{star_of, edges_of, IsStarInRange};
 
 use crate::Star;
-use crate::carry::{add_ancestors, gather, gather_ancestors, join_at, join_up_to, spread};
+use crate::carry::{add_ancestors, gather, gather_ancestors, spread};
 use crate::stars::{close_over, rows_of_stars, stars_of_edges};
-use bit_rows::{ROW_BITS, Row};
+use bit_rows::{BitMatrix, ROW_BITS, Row};
 use graph_base::Edge;
 use std::alloc::{AllocError, Global};
 use std::marker::Model;
@@ -21,7 +21,7 @@ use std::marker::Model;
 pub struct Reach {
     alloc: Global,
     /// Row `n` has the numbers that come before `n`.
-    rows: Vec<Row>,
+    rows: BitMatrix,
     /// Room for what new edges bring, so that adding them takes no memory.
     gained: Row,
 }
@@ -33,9 +33,9 @@ impl Model for Reach {
 
     ghost Value = { Ancestry };
 
-    ghost view = { λ reach. record { size = length reach.rows.items; pairs = pairs_of reach.rows.items } };
+    ghost view = { λ reach. record { size = length reach.rows; pairs = pairs_of reach.rows } };
 
-    ghost invariant = { λ reach. IsClosed reach.rows.items };
+    ghost invariant = { λ reach. IsClosed reach.rows };
 }
 
 impl Reach {
@@ -44,8 +44,8 @@ impl Reach {
         ensures { IfOk result (λ reach. reach ≡ record { size = 1; pairs = [] }) }
     {
         let gained = Row::new(alloc)?;
-        let mut rows = Vec::new(alloc);
-        rows.push(Row::new(alloc)?)?;
+        let mut rows = BitMatrix::new(alloc);
+        rows.push()?;
         Ok(Reach {
             alloc,
             rows,
@@ -61,8 +61,7 @@ impl Reach {
         ensures err { OnErr result (self.new ≡ self.old) }
         ensures last { OnOk result (IsLast self.new.pairs self.old.size) }
     {
-        let row = Row::new(self.alloc)?;
-        self.rows.push(row)?;
+        self.rows.push()?;
         Ok(())
     }
 
@@ -72,7 +71,7 @@ impl Reach {
         requires unnamed { IsInRange (self.old.size - 1) self.old.pairs }
         ensures { self.new ≡ record self.old { size = self.old.size - 1 } }
     {
-        let _ = self.rows.pop();
+        self.rows.pop();
     }
 
     /// How many numbers there are. The pairs are of numbers below the size, and have no cycle.
@@ -92,7 +91,7 @@ impl Reach {
         requires to { to < self.now.size }
         ensures { IsTrue result ↔ Reaches self.now.pairs from to }
     {
-        self.rows[to as usize].has(from)
+        self.rows.has(to, from)
     }
 
     /// Whether two numbers are one, or the first reaches the second.
@@ -120,7 +119,7 @@ impl Reach {
         if self.reaches(source, reader) {
             return;
         }
-        join_up_to(&mut self.rows, source, reader, &mut self.gained);
+        self.rows.join_up_to(source, reader);
     }
 
     /// Whether each member comes before the target.
@@ -147,7 +146,7 @@ impl Reach {
         if self.all_before(members, target) {
             return;
         }
-        self.gained.copy_from(&self.rows[target as usize]);
+        self.rows.copy_to(target, &mut self.gained);
         gather(&mut self.gained, &self.rows, members);
         spread(&mut self.rows, target, &self.gained);
     }
@@ -166,12 +165,12 @@ impl Reach {
         self.add_star(&members, edge.after);
     }
 
-    /// The ancestors of a number, those that come before it, as a row.
-    pub fn ancestors_of(&self, number: u32) -> &Row
+    /// Makes a row what comes before a number, its ancestors.
+    pub fn ancestors_of(&self, number: u32, row: &mut Row)
         requires { number < self.now.size }
-        ensures { (n : ℕ) → Contains result.now n ↔ Reaches self.now.pairs n number }
+        ensures { (n : ℕ) → Contains row.new n ↔ Reaches self.now.pairs n number }
     {
-        &self.rows[number as usize]
+        self.rows.copy_to(number, row);
     }
 
     /// Adds what comes before a number to a row that has, with each number, what comes before it.

@@ -10,7 +10,7 @@ ghost use Rattle.reach_rows.specs.Stars.{star_of, edges_of, IsStarInRange, LeadI
 
 use crate::carry::{carry_all, gather};
 use crate::{Reach, Star};
-use bit_rows::Row;
+use bit_rows::{BitMatrix, Row};
 use graph_base::Edge;
 use std::alloc::{AllocError, Global};
 
@@ -40,7 +40,7 @@ pub(crate) fn stars_of_edges(alloc: Global, trial: &[Edge]) -> Result<Vec<Star>,
 }
 
 /// The members of a star and what comes before them.
-fn row_of_star(alloc: Global, rows: &[Row], star: &Star) -> Result<Row, AllocError>
+fn row_of_star(alloc: Global, rows: &BitMatrix, star: &Star) -> Result<Row, AllocError>
     requires closed { IsClosed rows.now }
     requires in_range { IsStarInRange (length rows.now) star.now }
     ensures { IfOk result (λ row. (n : ℕ) → Contains row n ↔ Any (λ m. IsUpTo rows.now n m) star.now.members.items) }
@@ -53,7 +53,7 @@ fn row_of_star(alloc: Global, rows: &[Row], star: &Star) -> Result<Row, AllocErr
 /// For each star, the members and what comes before them.
 pub(crate) fn rows_of_stars(
     alloc: Global,
-    rows: &[Row],
+    rows: &BitMatrix,
     stars: &[Star],
 ) -> Result<Vec<Row>, AllocError>
     requires closed { IsClosed rows.now }

@@ -1,3 +1,2 @@
-pub mod GivesBy
 pub mod Seen
 pub mod Gathering

@@ -2,7 +2,7 @@
 ghost use Rattle.std.specs.Prelude.{◌≡◌, ◌^◌, ◌-◌, length, min, nat_le, sum_by};
 ghost use Rattle.pg_framing.specs.Replies.{value_bytes, data_row};
 ghost use Rattle.row_meaning.specs.Selection as meaning;
-ghost use Rattle.row_meaning.specs.Gives.{Gives};
+ghost use Rattle.typing_rules.specs.Gives.{Gives};
 
 use cell_base::{Items, SqlFault, SqlState, Value};
 use itoa::Buffer;
@@ -48,7 +48,7 @@ fn is_within(rows: &[Items<Value>]) -> bool
 
 /// The rows, where they aren't too many bytes.
 pub fn limited(rows: Vec<Items<Value>>) -> Result<Items<Items<Value>>, SqlFault>
-    ensures { Gives result (meaning.limited rows.items) }
+    ensures { Gives (meaning.limited rows.items) result }
 {
     if is_within(&rows) {
         Ok(Items::from_vec(rows))

@@ -1,6 +1,6 @@
 // What a statement comes to over rows, as text: the values of a row stand between commas, the rows between semicolons.
 ghost use Rattle.std.specs.Prelude.{◌≡◌, true};
-ghost use Rattle.typing_parts.specs.Narrow.{AreNarrow};
+ghost use Rattle.typing_parts.specs.Narrow.{AreFewAndNarrow};
 
 use crate::slow;
 use crate::world::MAX_TEXT;
@@ -121,7 +121,7 @@ fn answered(
 // ---- statements
 
 fn are_narrow(tables: &[Table]) -> bool
-    ensures { result ≡ true → AreNarrow tables.now }
+    ensures { result ≡ true → AreFewAndNarrow tables.now }
 {
     for table in tables {
         if table.columns.len() > 32 {

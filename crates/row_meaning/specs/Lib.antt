@@ -1,4 +1,3 @@
-pub mod Gives
 pub mod Pictures
 pub mod Combinations
 pub mod Groups

@@ -12,6 +12,8 @@ use Rattle.sql_tree.specs.declared.op.Aggregate.TheVariants as aggregate
 use Rattle.typing_rules.specs.Outcome.{Outcome, and_then}
 use Rattle.typing_rules.specs.Kinds.{is_null, fits, is_within}
 use Rattle.row_meaning.specs.Groups.{number_in, integer, sum_from, sum_of, better, best, total, not_null}
+use Rattle.row_totals.specs.declared.tally.Extreme.{Extreme}
+use Rattle.row_totals.specs.declared.tally.Extreme.TheVariants as extreme
 use Rattle.row_totals.specs.declared.tally.Partial.TheVariants.{Nothing, Number, Outside}
 use Rattle.row_totals.specs.declared.tally.Tally.{Tally}
 use Rattle.row_totals.specs.declared.tally.Tally.TheVariants.{Count, Sum, Best}
@@ -80,21 +82,21 @@ told_sum_is kind (v ∷ vs) = told_kept kind vs (pos 0 +ℤ integer v) (told_fro
 
 -- ---- min and max
 
-told_best_from : (greatest : Bool) (vs : List Value) (found : Value) → told (fold counted (Best greatest (Some found)) vs) ≡ Ok (fold (better (wins greatest)) found vs)
-told_best_from greatest [] found = refl
-told_best_from greatest (v ∷ vs) found = told_best_from greatest vs (better (wins greatest) found v)
+told_best_from : (sought : Extreme) (vs : List Value) (found : Value) → told (fold counted (Best sought (Some found)) vs) ≡ Ok (fold (better (wins sought)) found vs)
+told_best_from sought [] found = refl
+told_best_from sought (v ∷ vs) found = told_best_from sought vs (better (wins sought) found v)
 
-told_best : (greatest : Bool) (vs : List Value) → told (fold counted (Best greatest None) vs) ≡ Ok (best (wins greatest) vs)
-told_best greatest [] = refl
-told_best greatest (v ∷ vs) = told_best_from greatest vs v
+told_best : (sought : Extreme) (vs : List Value) → told (fold counted (Best sought None) vs) ≡ Ok (best (wins sought) vs)
+told_best sought [] = refl
+told_best sought (v ∷ vs) = told_best_from sought vs v
 
 -- ---- all of them
 
 told_total : (kind : SqlType) (function : Aggregate) (vs : List Value) → told (fold counted (started kind function) vs) ≡ total kind function vs
 told_total kind aggregate.Count vs = told_count vs 0 0 (inl refl) ∙ ap (λ k. number_in Bigint (pos k)) (omega arith)
 told_total kind aggregate.Sum vs = told_sum_is kind vs
-told_total kind aggregate.Min vs = told_best false vs
-told_total kind aggregate.Max vs = told_best true vs
+told_total kind aggregate.Min vs = told_best extreme.Least vs
+told_total kind aggregate.Max vs = told_best extreme.Greatest vs
 
 pub told_is : (kind : SqlType) (function : Aggregate) (vs : List Value) → told (fold with_value (started kind function) vs) ≡ total kind function (not_null vs)
 told_is kind function vs = ap told (kept_not_null (started kind function) vs) ∙ told_total kind function (not_null vs)

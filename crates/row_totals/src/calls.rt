@@ -3,7 +3,7 @@ ghost use Rattle.std.specs.Prelude.{◌≡◌, ◌++◌, [], map, flat_map, IfOk
 ghost use Rattle.typing_rules.specs.Outcome.{all_of};
 ghost use Rattle.expr_eval.specs.Lent.{seen};
 ghost use Rattle.row_meaning.specs.Groups.{meaning, calls_of};
-ghost use Rattle.row_meaning.specs.Gives.{Gives};
+ghost use Rattle.typing_rules.specs.Gives.{Gives};
 ghost use Rattle.row_totals.specs.Calls.{operand_value, meant, at_start, added_to, Leaves, NextTally};
 ghost use Rattle.row_totals.specs.Tallies as tallies;
 
@@ -99,7 +99,7 @@ fn next_tally(alloc: Global, call: &Call, row: &[&[Value]]) -> Result<Option<Tal
 
 /// The values of the aggregates, in order, or the first code.
 pub fn totals(alloc: Global, calls: Vec<Call>) -> Result<Items<Value>, SqlFault>
-    ensures { Gives result (all_of (map (λ call. tallies.told call.tally) calls.items)) }
+    ensures { Gives (all_of (map (λ call. tallies.told call.tally) calls.items)) result }
 {
     let mut values = Items::new(alloc);
     for call in calls {

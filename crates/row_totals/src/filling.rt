@@ -2,7 +2,7 @@
 ghost use Rattle.std.specs.Prelude.{map, Ok, false};
 ghost use Rattle.cell_base.specs.declared.value.Value.TheVariants.{Flag};
 ghost use Rattle.expr_eval.specs.Lent.{owned};
-ghost use Rattle.row_meaning.specs.Gives.{Gives};
+ghost use Rattle.typing_rules.specs.Gives.{Gives};
 ghost use Rattle.row_totals.specs.Filling as filling;
 ghost use Rattle.row_totals.specs.Filling.{Fills};
 
@@ -17,7 +17,7 @@ pub fn fill_all(
     exprs: &[TypedExpr],
     totals: &[Value],
 ) -> Result<Items<Value>, SqlFault>
-    ensures { Gives result (filling.all_filled exprs.now (map Ok totals.now)) }
+    ensures { Gives (filling.all_filled exprs.now (map Ok totals.now)) result }
 {
     let mut values = Items::new(alloc);
     let mut left = totals;
@@ -51,7 +51,8 @@ fn fill<'a>(expr: &'a TypedExpr, totals: &'a [Value]) -> Result<(Datum<'a>, &'a 
         }
         TypedNode::IsNull(operand, denies) => {
             let (operand, rest) = fill(operand.get(), totals)?;
-            Ok((null_test(operand, *denies), rest))
+            let tested = null_test(operand);
+            Ok((if *denies { denied(tested) } else { tested }, rest))
         }
         TypedNode::Binary(op, left, right) => {
             let (left, rest) = fill(left.get(), totals)?;

@@ -22,6 +22,15 @@ pub enum Partial {
     Outside,
 }
 
+/// Which value of several is looked for.
+#[derive(Clone, Copy, Debug)]
+pub enum Extreme {
+    /// The least one, for min.
+    Least,
+    /// The greatest one, for max.
+    Greatest,
+}
+
 /// What an aggregate keeps of the values that it has seen.
 #[derive(Debug, Drop)]
 pub enum Tally {
@@ -29,8 +38,8 @@ pub enum Tally {
     Count(u64),
     /// Of sum, with its type.
     Sum(SqlType, Partial),
-    /// Of min and max, true for max: the value that no other one wins over.
-    Best(bool, Option<Value>),
+    /// Of min and max: the value that no other one wins over.
+    Best(Extreme, Option<Value>),
 }
 
 /// Before the first value.
@@ -40,8 +49,8 @@ pub fn started(kind: SqlType, function: Aggregate) -> Tally
     match function {
         Aggregate::Count => Tally::Count(0),
         Aggregate::Sum => Tally::Sum(kind, Partial::Nothing),
-        Aggregate::Min => Tally::Best(false, None),
-        Aggregate::Max => Tally::Best(true, None),
+        Aggregate::Min => Tally::Best(Extreme::Least, None),
+        Aggregate::Max => Tally::Best(Extreme::Greatest, None),
     }
 }
 
@@ -55,37 +64,39 @@ pub fn changed(alloc: Global, tally: &Tally, value: Datum<'_>) -> Result<Option<
     match tally {
         Tally::Count(count) => Ok(Some(Tally::Count(count.saturating_add(1)))),
         Tally::Sum(kind, so_far) => Ok(Some(Tally::Sum(*kind, summed(*kind, so_far, value)))),
-        Tally::Best(greatest, found) => best(alloc, *greatest, found, value),
+        Tally::Best(extreme, found) => best(alloc, *extreme, found, value),
     }
 }
 
 fn best(
     alloc: Global,
-    greatest: bool,
+    extreme: Extreme,
     found: &Option<Value>,
     value: Datum<'_>,
 ) -> Result<Option<Tally>, Memory>
-    ensures { IfOk result (λ new. unwrap_or new (Tally.Best greatest found.now)
-        ≡ Tally.Best greatest (tallies.preferred greatest found.now (owned value.entry))) }
+    ensures { IfOk result (λ new. unwrap_or new (Tally.Best extreme found.now)
+        ≡ Tally.Best extreme (tallies.preferred extreme found.now (owned value.entry))) }
 {
     let stays = match found {
-        Some(found) => !wins(greatest, value, found),
+        Some(found) => !wins(extreme, value, found),
         None => false,
     };
     if stays {
         Ok(None)
     } else {
-        Ok(Some(Tally::Best(greatest, Some(to_value(alloc, value)?))))
+        Ok(Some(Tally::Best(extreme, Some(to_value(alloc, value)?))))
     }
 }
 
 /// Whether a value comes before the one that was found: above it for max, below it for min.
-fn wins(greatest: bool, value: Datum<'_>, found: &Value) -> bool
-    ensures { result ≡ unwrap_or (option_map (tallies.wins greatest) (operators.order_of (owned value.entry) found.now)) false }
+fn wins(extreme: Extreme, value: Datum<'_>, found: &Value) -> bool
+    ensures { result ≡ unwrap_or (option_map (tallies.wins extreme) (operators.order_of (owned value.entry) found.now)) false }
 {
     match order_of(value, found) {
-        Some(order) if greatest => order.is_gt(),
-        Some(order) => order.is_lt(),
+        Some(order) => match extreme {
+            Extreme::Greatest => order.is_gt(),
+            Extreme::Least => order.is_lt(),
+        },
         None => false,
     }
 }

@@ -4,7 +4,7 @@ ghost use Rattle.sql_tree.specs.declared.typed_expr.TypedExpr as tree;
 ghost use Rattle.expr_eval.specs.Lent.{seen};
 ghost use Rattle.expr_eval.specs.Values.{Row};
 ghost use Rattle.row_meaning.specs.Groups.{group_values};
-ghost use Rattle.row_meaning.specs.Gives.{Gives};
+ghost use Rattle.typing_rules.specs.Gives.{Gives};
 ghost use Rattle.typing_rules.specs.Outcome.{and_then, all_of};
 ghost use Rattle.row_totals.specs.Tallies.{told};
 ghost use Rattle.row_totals.specs.Filling.{all_filled};
@@ -43,7 +43,7 @@ impl Totals {
 
     /// The values of the expressions over the rows that were added. The expressions are those of `new`.
     pub fn finish(self, exprs: &[TypedExpr]) -> Result<Items<Value>, SqlFault>
-        ensures { (rows : List Row) → Stands self exprs.now rows → Gives result (group_values exprs.now rows) }
+        ensures { (rows : List Row) → Stands self exprs.now rows → Gives (group_values exprs.now rows) result }
     {
         let Totals { alloc, calls } = self;
         values_of(alloc, calls, exprs)
@@ -51,7 +51,7 @@ impl Totals {
 }
 
 fn values_of(alloc: Global, calls: Vec<Call>, exprs: &[TypedExpr]) -> Result<Items<Value>, SqlFault>
-    ensures { Gives result (and_then (all_of (map (λ call. told call.tally) calls.items)) (λ values. all_filled exprs.now (map Ok values))) }
+    ensures { Gives (and_then (all_of (map (λ call. told call.tally) calls.items)) (λ values. all_filled exprs.now (map Ok values))) result }
 {
     let values = totals(alloc, calls)?;
     fill_all(alloc, exprs, values.as_slice())

@@ -9,7 +9,7 @@ use Rattle.sql_tree.specs.declared.table.Column.{Column}
 use Rattle.sql_tree.specs.declared.typed_expr.TypedExpr.{TypedExpr}
 use Rattle.row_meaning.specs.Changes.{kind_at, is_assigned, has_missing, fields_from}
 use Rattle.row_meaning.specs.Storing.{is_missing}
-use Rattle.row_meaning.proofs.Lists.{cut_at}
+use Rattle.typing_rules.proofs.Lists.{cut_at}
 use Rattle.row_writes.specs.Places.{is_missing_at}
 
 pub kind_there : (cs : List Column) (n : ℕ) (c : Column) → n < length cs → c ≡ get_or cs n c → c.kind ≡ kind_at cs n

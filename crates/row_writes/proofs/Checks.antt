@@ -10,7 +10,7 @@ use Rattle.typing_rules.specs.Outcome.{Outcome, and_then}
 use Rattle.expr_eval.specs.Values.{value_of}
 use Rattle.row_meaning.specs.Changes.{checks_on}
 use Rattle.row_meaning.specs.Storing.{is_false, checked}
-use Rattle.row_meaning.proofs.Lists.{cut_at}
+use Rattle.typing_rules.proofs.Lists.{cut_at}
 
 value_fault : (o : Outcome Value) (code : SqlState) → Err code ≡ and_then o (λ v. Ok (is_false v)) → o ≡ Err code
 value_fault (Ok v) code e = cc

@@ -2,7 +2,7 @@
 ghost use Rattle.std.specs.Prelude.{◌≡◌, [], ◌∷◌, ◌++◌, slice_set, Some, None, IfOk, OnOk, if◌then◌else◌};
 ghost use Rattle.std.specs.Option.{option_map};
 ghost use Rattle.row_meaning.specs.Changes as changes;
-ghost use Rattle.row_meaning.specs.Gives.{Gives};
+ghost use Rattle.typing_rules.specs.Gives.{Gives};
 ghost use Rattle.row_meaning.specs.Pictures as pictures;
 ghost use Rattle.row_writes.specs.Places as places;
 
@@ -29,7 +29,7 @@ fn assigned_value(
     assignment: &(u32, TypedExpr),
     row: &[Value],
 ) -> Result<(u32, Value), SqlFault>
-    ensures { Gives result (places.assigning columns.now row.now assignment.now) }
+    ensures { Gives (places.assigning columns.now row.now assignment.now) result }
 {
     let (column, expr) = assignment;
     let value = value_over(alloc, expr, row)?;
@@ -44,7 +44,7 @@ pub fn assignments(
     set: &[(u32, TypedExpr)],
     row: &[Value],
 ) -> Result<Items<(u32, Value)>, SqlFault>
-    ensures { Gives result (changes.assignments columns.now set.now row.now) }
+    ensures { Gives (changes.assignments columns.now set.now row.now) result }
 {
     let mut values = Items::new(alloc);
     for assignment in set {

@@ -4,7 +4,7 @@ ghost use Rattle.typing_rules.specs.Assignment.{assigned};
 ghost use Rattle.typing_rules.specs.Outcome.{and_then};
 ghost use Rattle.expr_eval.specs.Values.{value_of};
 ghost use Rattle.row_meaning.specs.Combinations as combinations;
-ghost use Rattle.row_meaning.specs.Gives.{Gives};
+ghost use Rattle.typing_rules.specs.Gives.{Gives};
 ghost use Rattle.row_meaning.specs.Storing as storing;
 
 use cell_base::{SqlFault, SqlState, SqlType, Value};
@@ -14,14 +14,14 @@ use std::alloc::Global;
 
 /// The value of an expression that sees no row.
 pub fn value_alone(alloc: Global, expr: &TypedExpr) -> Result<Value, SqlFault>
-    ensures { Gives result (value_of expr.now []) }
+    ensures { Gives (value_of expr.now []) result }
 {
     eval(alloc, expr, &[])
 }
 
 /// The value of an expression over a row.
 pub fn value_over(alloc: Global, expr: &TypedExpr, row: &[Value]) -> Result<Value, SqlFault>
-    ensures { Gives result (value_of expr.now (row.now ∷ [])) }
+    ensures { Gives (value_of expr.now (row.now ∷ [])) result }
 {
     eval(alloc, expr, &[row])
 }
@@ -42,7 +42,7 @@ pub fn is_false(condition: &TypedExpr, row: &[Value]) -> Result<bool, SqlState>
 
 /// The value as one of a column's type.
 pub fn converted(alloc: Global, value: Value, kind: SqlType) -> Result<Value, SqlFault>
-    ensures { Gives result (assigned kind value) }
+    ensures { Gives (assigned kind value) result }
 {
     assign(alloc, value, kind)
 }

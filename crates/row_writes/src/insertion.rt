@@ -3,7 +3,7 @@ ghost use Rattle.std.specs.Prelude.{[], length, map, slice_get, unwrap_or, IfOk}
 ghost use Rattle.typing_rules.specs.Assignment.{assigned};
 ghost use Rattle.typing_rules.specs.Outcome.{and_then, all_of};
 ghost use Rattle.expr_eval.specs.Values.{value_of};
-ghost use Rattle.row_meaning.specs.Gives.{Gives};
+ghost use Rattle.typing_rules.specs.Gives.{Gives};
 ghost use Rattle.row_meaning.specs.Insertion as spec;
 ghost use Rattle.row_writes.specs.Widths.{AreWithin};
 
@@ -15,7 +15,7 @@ use sql_tree::{Column, Table, TypedExpr};
 use std::alloc::Global;
 
 fn value_for(alloc: Global, column: &Column, expr: &TypedExpr) -> Result<Value, SqlFault>
-    ensures { Gives result (and_then (value_of expr.now []) (assigned (column.now).kind)) }
+    ensures { Gives (and_then (value_of expr.now []) (assigned (column.now).kind)) result }
 {
     let value = value_alone(alloc, expr)?;
     converted(alloc, value, column.kind)
@@ -23,7 +23,7 @@ fn value_for(alloc: Global, column: &Column, expr: &TypedExpr) -> Result<Value, 
 
 /// The values of a row, each as one of its column's type.
 fn row_of(alloc: Global, columns: &[Column], exprs: &[TypedExpr]) -> Result<Items<Value>, SqlFault>
-    ensures { Gives result (spec.row_of columns.now exprs.now) }
+    ensures { Gives (spec.row_of columns.now exprs.now) result }
 {
     let mut row = Items::new(alloc);
     for (column, expr) in columns.iter().zip(exprs) {
@@ -34,7 +34,7 @@ fn row_of(alloc: Global, columns: &[Column], exprs: &[TypedExpr]) -> Result<Item
 
 /// The key that the value of the key's column is.
 fn key_of(alloc: Global, row: &[Value], key: u32) -> Result<Key, SqlFault>
-    ensures { Gives result (spec.key_of (unwrap_or (slice_get row.now key) Value.Null)) }
+    ensures { Gives (spec.key_of (unwrap_or (slice_get row.now key) Value.Null)) result }
 {
     match row.get(key as usize) {
         Some(Value::Int(n)) => Ok(Key::Int(*n)),
@@ -49,7 +49,7 @@ fn keyed_row(
     table: &Table,
     exprs: &[TypedExpr],
 ) -> Result<(Key, Items<Value>), SqlFault>
-    ensures { Gives result (spec.keyed_row table.now exprs.now) }
+    ensures { Gives (spec.keyed_row table.now exprs.now) result }
 {
     let row = row_of(alloc, table.columns.as_slice(), exprs)?;
     stored(table, row.as_slice())?;
@@ -63,7 +63,7 @@ fn keyed_rows(
     table: &Table,
     rows: &[Items<TypedExpr>],
 ) -> Result<Items<(Key, Items<Value>)>, SqlFault>
-    ensures { Gives result (all_of (map (spec.keyed_row table.now) rows.now)) }
+    ensures { Gives (all_of (map (spec.keyed_row table.now) rows.now)) result }
 {
     let mut made = Items::new(alloc);
     for row in rows {
@@ -85,7 +85,7 @@ pub fn rows_to_insert(
     table: &Table,
     rows: &[Items<TypedExpr>],
 ) -> Result<Items<(Key, Items<Value>)>, SqlFault>
-    ensures exact { Gives result (spec.rows_to_insert table.now rows.now) }
+    ensures exact { Gives (spec.rows_to_insert table.now rows.now) result }
     ensures within { IfOk result (λ made. AreWithin (length (table.now).columns) made) }
 {
     let made = keyed_rows(alloc, table, rows)?;

@@ -11,10 +11,10 @@ use Rattle.sql_tree.specs.declared.table.Table.{Table}
 use Rattle.typing_rules.specs.Outcome.{Outcome, and_then}
 use Rattle.typing_rules.specs.Tables.{Numbered, table_named}
 use Rattle.typing_rules.specs.Select.{Entry, name_or, entries_from}
-use Rattle.select_typing.specs.GivesBy.{GivesBy}
+use Rattle.typing_rules.specs.Gives.{GivesBy}
 use Rattle.select_typing.specs.declared.from.FromEntry.{FromEntry}
 use Rattle.select_typing.specs.Entries.{entries, entry_of}
-use Rattle.select_typing.proofs.Steps.{cut}
+use Rattle.typing_rules.proofs.Lists.{cut_at}
 
 chosen : (b : Bool) (e : Entry) (f : Entry → Outcome (List Entry))
     → cond {A = Outcome (List Entry)} b (Err S42712) (f e) ≡ and_then (cond {A = Outcome Entry} b (Err S42712) (Ok e)) f
@@ -55,14 +55,14 @@ entries_more tables all i r before after o within is found was =
     let one : entries_from tables (entries before) (r ∷ drop (i + 1) all) ≡ entries_from tables (entries after) (drop (i + 1) all) =
     entries_cons tables (entries before) r (drop (i + 1) all)
     ∙ by_entry tables (entries before) (entries after) (drop (i + 1) all) (entry_of tables (entries before) r) found in
-    sym one ∙ ap (entries_from tables (entries before)) (sym (cut all i r within is)) ∙ was
+    sym one ∙ ap (entries_from tables (entries before)) (sym (cut_at all i r within is)) ∙ was
 
 pub entries_fault : (tables : List Table) (all : List TableRef) (i : ℕ) (r : TableRef) (before : List FromEntry) (code : SqlState)
     (o : Outcome (List Entry)) → i < length all → r ≡ get_or all i r
     → and_then (entry_of tables (entries before) r) (λ e. Ok (entries before ++ e ∷ [])) ≡ Err code
     → entries_from tables (entries before) (drop i all) ≡ o → o ≡ Err code
 entries_fault tables all i r before code o within is found was =
-    sym was ∙ ap (entries_from tables (entries before)) (cut all i r within is) ∙ entries_cons tables (entries before) r (drop (i + 1) all)
+    sym was ∙ ap (entries_from tables (entries before)) (cut_at all i r within is) ∙ entries_cons tables (entries before) r (drop (i + 1) all)
     ∙ by_fault tables (entries before) (drop (i + 1) all) (entry_of tables (entries before) r) code found
 
 -- ---- one entry

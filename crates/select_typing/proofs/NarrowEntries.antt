@@ -13,7 +13,7 @@ use Rattle.typing_rules.specs.Tables.{Numbered, table_named, table_from}
 use Rattle.typing_rules.specs.Select.{Entry, name_or, entries_from, entries_of, entry_source, entry_sources}
 use Rattle.expr_typing.specs.declared.entry.Entry.{Entry as Seen}
 use Rattle.expr_typing.specs.Scope.{IsNarrow, sources}
-use Rattle.typing_parts.specs.Narrow.{AreNarrow}
+use Rattle.typing_parts.specs.Narrow.{AreFewAndNarrow}
 use Rattle.select_typing.specs.declared.from.FromEntry.{FromEntry}
 use Rattle.select_typing.specs.Entries.{entry, entries, seen}
 
@@ -112,11 +112,11 @@ few_entries tables from all e = ltb-false 4 (length from) (few_by (nat_lt 4 (len
 
 -- ---- the scope of the entries
 
-pub scope_many : (tables : List Table) (from : List TableRef) (es : List FromEntry) → AreNarrow tables → entries_of tables from ≡ Ok (entries es)
+pub scope_many : (tables : List Table) (from : List TableRef) (es : List FromEntry) → AreFewAndNarrow tables → entries_of tables from ≡ Ok (entries es)
     → length (map seen es) ≡ length from
 scope_many tables from es n e = length-map es seen ∙ sym (length-map es entry) ∙ (kept tables from (entries es) n.narrow e).as_many
 
-pub scope_narrow : (tables : List Table) (from : List TableRef) (es : List FromEntry) → AreNarrow tables → entries_of tables from ≡ Ok (entries es)
+pub scope_narrow : (tables : List Table) (from : List TableRef) (es : List FromEntry) → AreFewAndNarrow tables → entries_of tables from ≡ Ok (entries es)
     → IsNarrow (map seen es)
 scope_narrow tables from es n e =
     let few : length from ≤ 4 = few_entries tables from (entries es) e in

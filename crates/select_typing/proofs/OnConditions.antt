@@ -8,13 +8,13 @@ use Rattle.sql_tree.specs.declared.expr.Expr.{Expr}
 use Rattle.sql_tree.specs.declared.statement.TableRef.{TableRef}
 use Rattle.sql_tree.specs.declared.typed_expr.TypedExpr.{TypedExpr}
 use Rattle.expr_typing.specs.declared.entry.Entry.{Entry}
-use Rattle.expr_typing.specs.Gives.{Gives}
+use Rattle.typing_rules.specs.Gives.{Gives}
 use Rattle.expr_typing.specs.Scope.{IsNarrow}
 use Rattle.typing_rules.specs.Names.{Source}
 use Rattle.typing_rules.specs.Expressions.{flag}
 use Rattle.typing_rules.specs.Outcome.{Outcome, and_then}
 use Rattle.typing_rules.specs.Select.{on_before, ons_from}
-use Rattle.select_typing.proofs.Steps.{cut}
+use Rattle.typing_rules.proofs.Lists.{cut_at}
 
 -- what is typed, and then what is left
 abbrev pub ons_left : List TypedExpr → List Source → ℕ → List TableRef → Outcome (List TypedExpr)
@@ -57,14 +57,14 @@ pub ons_more : (sources : List Source) (all : List TableRef) (i : ℕ) (r : Tabl
     → ons_left done sources (i + 1) (drop i all) ≡ o → ons_left after sources (i + 1 + 1) (drop (i + 1) all) ≡ o
 ons_more sources all i r done after o within is e was =
     sym (on_more (take (i + 1) sources) r.on (ons_from sources (i + 1 + 1) (drop (i + 1) all)) done after e)
-    ∙ ap (ons_left done sources (i + 1)) (sym (cut all i r within is)) ∙ was
+    ∙ ap (ons_left done sources (i + 1)) (sym (cut_at all i r within is)) ∙ was
 
 pub ons_fault : (sources : List Source) (all : List TableRef) (i : ℕ) (r : TableRef) (done : List TypedExpr) (code : SqlState)
     (o : Outcome (List TypedExpr)) → i < length all → r ≡ get_or all i r
     → and_then (on_before (take (i + 1) sources) r.on (Ok [])) (λ more. Ok (done ++ more)) ≡ Err code
     → ons_left done sources (i + 1) (drop i all) ≡ o → o ≡ Err code
 ons_fault sources all i r done code o within is e was =
-    sym was ∙ ap (ons_left done sources (i + 1)) (cut all i r within is)
+    sym was ∙ ap (ons_left done sources (i + 1)) (cut_at all i r within is)
     ∙ on_fault (take (i + 1) sources) r.on (ons_from sources (i + 1 + 1) (drop (i + 1) all)) done code e
 
 -- the first entries are as narrow

@@ -11,7 +11,7 @@ use Rattle.typing_rules.specs.declared.place.Place.{Place}
 use Rattle.typing_rules.specs.Names.{Source}
 use Rattle.typing_rules.specs.Outcome.{Outcome, and_then}
 use Rattle.typing_rules.specs.Select.{Output as Column, width, outputs_of, items_from}
-use Rattle.select_typing.proofs.Steps.{cut}
+use Rattle.typing_rules.proofs.Lists.{cut_at}
 
 -- one column more
 pub outputs_more : (before : List Output) (o : Output) (rest : List Column) → outputs (before ++ o ∷ []) ++ rest ≡ outputs before ++ output o ∷ rest
@@ -37,7 +37,7 @@ items_more place sources all i x before after o within is narrow e was =
     let narrow' : nat_lt 1664 (length (outputs before) + width sources x) ≡ false = rw (length-map before output) narrow in
     let one : items_from place sources (outputs before) (x ∷ drop (i + 1) all) ≡ items_from place sources (outputs after) (drop (i + 1) all) =
     rw narrow' (step place sources (outputs before) (drop (i + 1) all) (outputs_of place sources x) (outputs after) e) in
-    sym one ∙ ap (items_from place sources (outputs before)) (sym (cut all i x within is)) ∙ was
+    sym one ∙ ap (items_from place sources (outputs before)) (sym (cut_at all i x within is)) ∙ was
 
 pub items_fault : (place : Place) (sources : List Source) (all : List Item) (i : ℕ) (x : Item) (before : List Output) (code : SqlState)
     (o : Outcome (List Column)) → i < length all → x ≡ get_or all i x
@@ -47,7 +47,7 @@ items_fault place sources all i x before code o within is narrow e was =
     let narrow' : nat_lt 1664 (length (outputs before) + width sources x) ≡ false = rw (length-map before output) narrow in
     let one : items_from place sources (outputs before) (x ∷ drop (i + 1) all) ≡ Err code =
     rw narrow' (fault place sources (outputs before) (drop (i + 1) all) (outputs_of place sources x) code e) in
-    sym was ∙ ap (items_from place sources (outputs before)) (cut all i x within is) ∙ one
+    sym was ∙ ap (items_from place sources (outputs before)) (cut_at all i x within is) ∙ one
 
 pub items_wide : (place : Place) (sources : List Source) (all : List Item) (i : ℕ) (x : Item) (before : List Output) (o : Outcome (List Column))
     → i < length all → x ≡ get_or all i x
@@ -55,4 +55,4 @@ pub items_wide : (place : Place) (sources : List Source) (all : List Item) (i : 
 items_wide place sources all i x before o within is wide was =
     let wide' : nat_lt 1664 (length (outputs before) + width sources x) ≡ true = rw (length-map before output) wide in
     let one : items_from place sources (outputs before) (x ∷ drop (i + 1) all) ≡ Err S54000 = rw wide' refl in
-    sym was ∙ ap (items_from place sources (outputs before)) (cut all i x within is) ∙ one
+    sym was ∙ ap (items_from place sources (outputs before)) (cut_at all i x within is) ∙ one

@@ -13,7 +13,8 @@ use Rattle.typing_parts.specs.Marked.{IsMarked}
 use Rattle.typing_parts.proofs.Marking.{marked_then, marked_as, any_more}
 use Rattle.select_typing.specs.declared.from.FromEntry.{FromEntry}
 use Rattle.select_typing.specs.Entries.{entry, entries, seen}
-use Rattle.select_typing.proofs.Steps.{cut, any_map}
+use Rattle.typing_rules.proofs.Lists.{cut_at}
+use Rattle.select_typing.proofs.Steps.{any_map}
 
 or_none : (b : Bool) → (b || false) ≡ b
 or_none true = refl
@@ -90,7 +91,7 @@ pub points_more : (all : List FromEntry) (filter : Option TypedExpr) (i : ℕ) (
 points_more all filter i t key before o within is k was =
     append_assoc before (key ∷ []) (points_from (entries all) filter (i + 1) (entries (drop (i + 1) all)))
     ∙ ap (λ x. before ++ x ∷ points_from (entries all) filter (i + 1) (entries (drop (i + 1) all))) k
-    ∙ ap (λ es. before ++ points_from (entries all) filter i (entries es)) (sym (cut all i t within is)) ∙ was
+    ∙ ap (λ es. before ++ points_from (entries all) filter i (entries es)) (sym (cut_at all i t within is)) ∙ was
 
 one_time : (b : Bool) (m n : ℕ) → m ≤ n → cond b 1 0 + m ≤ suc n
 one_time true m n h = omega arith

@@ -10,7 +10,7 @@ use Rattle.typing_rules.specs.Expressions.{typed_node}
 use Rattle.select_typing.proofs.Outputs.{outputs_more}
 use Rattle.typing_rules.specs.Names.{Source}
 use Rattle.typing_rules.specs.Select.{column_outputs, star_outputs}
-use Rattle.select_typing.proofs.Steps.{cut}
+use Rattle.typing_rules.proofs.Lists.{cut_at}
 
 many_columns : (e c : ℕ) (xs : List Column) → length (column_outputs e c xs) ≡ length xs
 many_columns e c [] = refl
@@ -35,7 +35,7 @@ pub width_more : (all : List Entry) (i : ℕ) (x : Entry) (w a top : ℕ) → i 
     → min (a + star_width (sources (drop (i + 1) all))) top ≡ min (w + star_width (sources (drop i all))) top
 width_more all i x w a top within is e =
     capped_step w (length x.table.now.columns) (star_width (sources (drop (i + 1) all))) top a e
-    ∙ ap (λ es. min (w + star_width (sources es)) top) (sym (cut all i x within is))
+    ∙ ap (λ es. min (w + star_width (sources es)) top) (sym (cut_at all i x within is))
 
 pub columns_more : (all : List Column) (i : ℕ) (x : Column) (e : ℕ) (before : List Output) (o : Output) → i < length all → x ≡ get_or all i x
     → output o ≡ record { name = x.name; expr = typed_node x.kind (node.Column e i) }
@@ -43,7 +43,7 @@ pub columns_more : (all : List Column) (i : ℕ) (x : Column) (e : ℕ) (before 
 columns_more all i x e before o within is named =
     outputs_more before o (column_outputs e (i + 1) (drop (i + 1) all))
     ∙ ap (λ c. outputs before ++ c ∷ column_outputs e (i + 1) (drop (i + 1) all)) named
-    ∙ ap (λ cs. outputs before ++ column_outputs e i cs) (sym (cut all i x within is))
+    ∙ ap (λ cs. outputs before ++ column_outputs e i cs) (sym (cut_at all i x within is))
 
 pub stars_more : (all : List Entry) (i : ℕ) (x : Entry) (before after : List Output) → i < length all → x ≡ get_or all i x
     → outputs after ≡ outputs before ++ column_outputs i 0 x.table.now.columns
@@ -51,7 +51,7 @@ pub stars_more : (all : List Entry) (i : ℕ) (x : Entry) (before after : List O
 stars_more all i x before after within is e =
     ap (λ cs. cs ++ star_outputs (i + 1) (sources (drop (i + 1) all))) e
     ∙ append_assoc (outputs before) (column_outputs i 0 x.table.now.columns) (star_outputs (i + 1) (sources (drop (i + 1) all)))
-    ∙ ap (λ es. outputs before ++ star_outputs i (sources es)) (sym (cut all i x within is))
+    ∙ ap (λ es. outputs before ++ star_outputs i (sources es)) (sym (cut_at all i x within is))
 
 -- so many columns so far, where so many are left of them all
 pub record IsCounted (width left all : ℕ) : Type 0 where

@@ -1,18 +1,18 @@
 -- A typed SELECT of its parts.
-use Rattle.std.proofs.Common.{◌≡◌, Bool, List, [], Ok, Err, refl, ap, sym, ◌∙◌}
+use Rattle.std.proofs.Common.{◌≡◌, Bool, true, false, List, [], Ok, Err, refl, ap, sym, ◌∙◌}
 use Rattle.cell_base.specs.declared.sql_fault.SqlFault.{SqlFault}
 use Rattle.cell_base.specs.declared.sql_fault.SqlFault.TheVariants.{State, Memory}
 use Rattle.cell_base.specs.declared.sql_state.SqlState.{SqlState}
-use Rattle.expr_typing.specs.Gives.{Gives}
+use Rattle.typing_rules.specs.Gives.{Gives, GivesBy}
 use Rattle.sql_tree.specs.declared.statement.Select.{Select}
 use Rattle.sql_tree.specs.declared.table.Table.{Table}
 use Rattle.sql_tree.specs.declared.typed.TypedSelect.{TypedSelect}
+use Rattle.typing_rules.specs.declared.place.Place.{Place}
 use Rattle.typing_rules.specs.Changes.{filter_of}
 use Rattle.typing_rules.specs.Names.{Source}
 use Rattle.typing_rules.specs.Outcome.{Outcome, and_then}
 use Rattle.typing_rules.specs.Select.{Entry, entries_of, entry_sources, ons_of, items_from, place_of, order_of, has_aggregate, typed_select}
-use Rattle.select_typing.specs.GivesBy.{GivesBy}
-use Rattle.select_typing.specs.Parts.{SelectParts, select_parts, parts_of, whole}
+use Rattle.select_typing.specs.Parts.{SelectParts, select_parts, parts_of, whole, is_group}
 
 under : {A B : Type 0} (o : Outcome A) (f g : A → Outcome B) → ((a : A) → f a ≡ g a) → and_then o f ≡ and_then o g
 under (Ok a) f g h = h a
@@ -22,48 +22,54 @@ assoc : {A B C : Type 0} (o : Outcome A) (f : A → Outcome B) (g : B → Outcom
 assoc (Ok a) f g = refl
 assoc (Err code) f g = refl
 
+-- groups of rows are where an aggregate is called
+pub group_is : (grouped : Bool) → is_group (place_of grouped) ≡ grouped
+group_is true = refl
+group_is false = refl
+
 -- what follows from the parts follows from each of them
-parts_then : {B : Type 0} (sources : List Source) (s : Select) (grouped : Bool) (k : SelectParts → Outcome B)
-    → and_then (parts_of sources s grouped) k
+parts_then : {B : Type 0} (sources : List Source) (s : Select) (at : Place) (grouped : Bool) (k : SelectParts → Outcome B)
+    → is_group at ≡ grouped
+    → and_then (parts_of sources s at) k
     ≡ and_then (ons_of sources s.from) (λ ons.
     and_then (filter_of sources s.filter) (λ filter.
-    and_then (items_from (place_of grouped) sources [] s.items) (λ outputs.
+    and_then (items_from at sources [] s.items) (λ outputs.
     and_then (order_of grouped sources outputs s.order) (λ order.
     k (record { ons = ons; filter = filter; outputs = outputs; order = order })))))
-parts_then sources s grouped k =
+parts_then sources s at grouped k is = rw (← is) (
     assoc (ons_of sources s.from) _ k ∙ under (ons_of sources s.from) _ _ (λ ons.
     assoc (filter_of sources s.filter) _ k ∙ under (filter_of sources s.filter) _ _ (λ filter.
-    assoc (items_from (place_of grouped) sources [] s.items) _ k ∙ under (items_from (place_of grouped) sources [] s.items) _ _ (λ outputs.
-    assoc (order_of grouped sources outputs s.order) _ k)))
+    assoc (items_from at sources [] s.items) _ k ∙ under (items_from at sources [] s.items) _ _ (λ outputs.
+    assoc (order_of (is_group at) sources outputs s.order) _ k))))
 
 select_is : (tables : List Table) (s : Select)
     → typed_select tables s
-    ≡ and_then (entries_of tables s.from) (λ es. and_then (parts_of (entry_sources es) s (has_aggregate s))
+    ≡ and_then (entries_of tables s.from) (λ es. and_then (parts_of (entry_sources es) s (place_of (has_aggregate s)))
     (λ p. Ok (whole es s (has_aggregate s) p)))
 unfolding typed_select
 select_is tables s = under (entries_of tables s.from) _ _ (λ es. sym
-    (parts_then (entry_sources es) s (has_aggregate s) (λ p. Ok (whole es s (has_aggregate s) p))))
+    (parts_then (entry_sources es) s (place_of (has_aggregate s)) (has_aggregate s) (λ p. Ok (whole es s (has_aggregate s) p)) (group_is (has_aggregate s))))
 
 pub select_ok : (tables : List Table) (s : Select) (es : List Entry) (sources : List Source) (p : SelectParts) → entries_of tables s.from ≡ Ok es
     → sources ≡ entry_sources es
-    → parts_of sources s (has_aggregate s) ≡ Ok p → typed_select tables s ≡ Ok (whole es s (has_aggregate s) p)
+    → parts_of sources s (place_of (has_aggregate s)) ≡ Ok p → typed_select tables s ≡ Ok (whole es s (has_aggregate s) p)
 select_ok tables s es sources p e f g =
-    let h : parts_of (entry_sources es) s (has_aggregate s) ≡ Ok p = rw (← f) g in
+    let h : parts_of (entry_sources es) s (place_of (has_aggregate s)) ≡ Ok p = rw (← f) g in
     select_is tables s
-    ∙ ap (λ o. and_then o (λ xs. and_then (parts_of (entry_sources xs) s (has_aggregate s)) (λ q. Ok (whole xs s (has_aggregate s) q)))) e
+    ∙ ap (λ o. and_then o (λ xs. and_then (parts_of (entry_sources xs) s (place_of (has_aggregate s))) (λ q. Ok (whole xs s (has_aggregate s) q)))) e
     ∙ ap (λ o. and_then o (λ q. Ok (whole es s (has_aggregate s) q))) h
 
 select_err : (tables : List Table) (s : Select) (es : List Entry) (sources : List Source) (code : SqlState) → entries_of tables s.from ≡ Ok es
     → sources ≡ entry_sources es
-    → parts_of sources s (has_aggregate s) ≡ Err code → typed_select tables s ≡ Err code
+    → parts_of sources s (place_of (has_aggregate s)) ≡ Err code → typed_select tables s ≡ Err code
 select_err tables s es sources code e f g =
-    let h : parts_of (entry_sources es) s (has_aggregate s) ≡ Err code = rw (← f) g in
+    let h : parts_of (entry_sources es) s (place_of (has_aggregate s)) ≡ Err code = rw (← f) g in
     select_is tables s
-    ∙ ap (λ o. and_then o (λ xs. and_then (parts_of (entry_sources xs) s (has_aggregate s)) (λ q. Ok (whole xs s (has_aggregate s) q)))) e
+    ∙ ap (λ o. and_then o (λ xs. and_then (parts_of (entry_sources xs) s (place_of (has_aggregate s))) (λ q. Ok (whole xs s (has_aggregate s) q)))) e
     ∙ ap (λ o. and_then o (λ q. Ok (whole es s (has_aggregate s) q))) h
 
 pub select_failed : (tables : List Table) (s : Select) (es : List Entry) (sources : List Source) (why : SqlFault)
     → entries_of tables s.from ≡ Ok es → sources ≡ entry_sources es
-    → GivesBy select_parts (parts_of sources s (has_aggregate s)) (Err why) → Gives {A = TypedSelect} (typed_select tables s) (Err why)
+    → GivesBy select_parts (parts_of sources s (place_of (has_aggregate s))) (Err why) → Gives {A = TypedSelect} (typed_select tables s) (Err why)
 select_failed tables s es sources (State code) e f g = select_err tables s es sources code e f g
 select_failed tables s es sources Memory e f g = tt

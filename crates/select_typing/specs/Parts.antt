@@ -1,12 +1,14 @@
 -- The parts of a SELECT after FROM, and the typed SELECT of them.
-use Rattle.std.specs.Prelude.{Bool, List, ◌++◌, [], map, Option, Ok}
+use Rattle.std.specs.Prelude.{Bool, true, false, List, ◌++◌, [], map, Option, Ok}
 use Rattle.sql_tree.specs.declared.statement.Select.{Select}
 use Rattle.sql_tree.specs.declared.typed.TypedSelect.{TypedSelect}
 use Rattle.sql_tree.specs.declared.typed_expr.TypedExpr.{TypedExpr}
+use Rattle.typing_rules.specs.declared.place.Place.{Place}
+use Rattle.typing_rules.specs.declared.place.Place.TheVariants as place
 use Rattle.typing_rules.specs.Changes.{filter_of}
 use Rattle.typing_rules.specs.Names.{Source}
 use Rattle.typing_rules.specs.Outcome.{Outcome, and_then}
-use Rattle.typing_rules.specs.Select.{Entry, Output, ons_of, items_from, place_of, order_of, field_of, mentioned_of, points_from, option_list, offset_of}
+use Rattle.typing_rules.specs.Select.{Entry, Output, ons_of, items_from, order_of, field_of, mentioned_of, points_from, option_list, offset_of}
 use Rattle.select_typing.specs.declared.select.Parts.{Parts}
 use Rattle.select_typing.specs.Outputs.{outputs}
 
@@ -19,12 +21,17 @@ pub record SelectParts : Type 0 where
 abbrev pub select_parts : Parts → SelectParts
 select_parts p = record { ons = p.ons; filter = p.filter; outputs = outputs p.outputs; order = p.order }
 
-abbrev pub parts_of : List Source → Select → Bool → Outcome SelectParts
-parts_of sources s grouped =
+-- whether the place is that of groups of rows
+abbrev pub is_group : Place → Bool
+is_group place.Group = true
+is_group place.Row = false
+
+abbrev pub parts_of : List Source → Select → Place → Outcome SelectParts
+parts_of sources s at =
     and_then (ons_of sources s.from) (λ ons.
     and_then (filter_of sources s.filter) (λ filter.
-    and_then (items_from (place_of grouped) sources [] s.items) (λ outputs.
-    and_then (order_of grouped sources outputs s.order) (λ order.
+    and_then (items_from at sources [] s.items) (λ outputs.
+    and_then (order_of (is_group at) sources outputs s.order) (λ order.
     Ok (record { ons = ons; filter = filter; outputs = outputs; order = order })))))
 
 -- all expressions that are read

@@ -4,9 +4,9 @@ ghost use Rattle.std.specs.List.{list_any};
 ghost use Rattle.std.specs.Str.{bytes_eq};
 ghost use Rattle.typing_rules.specs.Outcome.{and_then};
 ghost use Rattle.typing_rules.specs.Select as spec;
-ghost use Rattle.typing_parts.specs.Narrow.{AreNarrow};
+ghost use Rattle.typing_parts.specs.Narrow.{AreFewAndNarrow};
 ghost use Rattle.select_typing.specs.Entries as shown;
-ghost use Rattle.select_typing.specs.GivesBy.{GivesBy};
+ghost use Rattle.typing_rules.specs.Gives.{GivesBy};
 
 use cell_base::{Items, Memory, SqlFault, SqlState, Text};
 use expr_typing::Entry;
@@ -52,7 +52,7 @@ fn entry_of<'a>(
     before: &[FromEntry<'a>],
     written: &'a TableRef,
 ) -> Result<FromEntry<'a>, SqlState>
-    requires { AreNarrow tables.now }
+    requires { AreFewAndNarrow tables.now }
     ensures { shown.entry_or result ≡ shown.entry_of tables.now (shown.entries before.now) written.now }
 {
     let found = table_named(tables, &written.name)?;
@@ -68,7 +68,7 @@ fn with_entry<'a>(
     tables: &'a [Table],
     written: &'a TableRef,
 ) -> Result<Items<FromEntry<'a>>, SqlFault>
-    requires { AreNarrow tables.now }
+    requires { AreFewAndNarrow tables.now }
     ensures { GivesBy shown.entries
         (and_then (shown.entry_of tables.now (shown.entries before.entry) written.now) (λ e. Ok (shown.entries before.entry ++ e ∷ []))) result }
 {
@@ -83,7 +83,7 @@ fn entries_from<'a>(
     tables: &'a [Table],
     from: &'a [TableRef],
 ) -> Result<Items<FromEntry<'a>>, SqlFault>
-    requires { AreNarrow tables.now }
+    requires { AreFewAndNarrow tables.now }
     ensures { GivesBy shown.entries (spec.entries_from tables.now [] from.now) result }
 {
     let mut entries = Items::new(alloc);
@@ -100,7 +100,7 @@ pub fn entries_of<'a>(
     tables: &'a [Table],
     from: &'a [TableRef],
 ) -> Result<Items<FromEntry<'a>>, SqlFault>
-    requires { AreNarrow tables.now }
+    requires { AreFewAndNarrow tables.now }
     ensures { GivesBy shown.entries (spec.entries_of tables.now from.now) result }
 {
     if from.len() > MAX_ENTRIES {

@@ -4,7 +4,7 @@ ghost use Rattle.sql_tree.specs.declared.expr.Expr.{out-Expr};
 ghost use Rattle.typing_rules.specs.Outcome.{and_then};
 ghost use Rattle.typing_rules.specs.Select as spec;
 ghost use Rattle.expr_typing.specs.Scope.{IsNarrow, sources};
-ghost use Rattle.select_typing.specs.GivesBy.{GivesBy};
+ghost use Rattle.typing_rules.specs.Gives.{GivesBy};
 ghost use Rattle.select_typing.specs.Outputs.{outputs};
 
 use crate::output::{Output, with_output};

@@ -3,7 +3,7 @@ ghost use Rattle.std.specs.Prelude.{◌≡◌, ◌≤◌, ◌++◌, [], ◌∷�
 ghost use Rattle.typing_rules.specs.Expressions.{flag};
 ghost use Rattle.typing_rules.specs.Outcome.{and_then};
 ghost use Rattle.typing_rules.specs.Select as spec;
-ghost use Rattle.expr_typing.specs.Gives.{Gives};
+ghost use Rattle.typing_rules.specs.Gives.{Gives};
 ghost use Rattle.expr_typing.specs.Scope.{IsNarrow, sources};
 
 use cell_base::{Items, Memory, SqlFault};

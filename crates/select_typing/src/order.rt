@@ -3,9 +3,10 @@ ghost use Rattle.std.specs.Prelude.{◌≡◌, List, map};
 ghost use Rattle.sql_tree.specs.declared.expr.Expr.{out-Expr};
 ghost use Rattle.typing_rules.specs.Outcome.{all_of};
 ghost use Rattle.typing_rules.specs.Select as spec;
-ghost use Rattle.expr_typing.specs.Gives.{Gives};
+ghost use Rattle.typing_rules.specs.Gives.{Gives};
 ghost use Rattle.expr_typing.specs.Scope.{IsNarrow, sources};
 ghost use Rattle.select_typing.specs.Outputs as columns;
+ghost use Rattle.select_typing.specs.Parts.{is_group};
 
 use crate::output::{Output, output_named};
 use cell_base::{Items, SqlFault, SqlState};
@@ -88,25 +89,22 @@ fn terms_of(
     Ok(typed)
 }
 
-/// The terms of ORDER BY, from left to right. A SELECT with an aggregate has none.
+/// The terms of ORDER BY, from left to right. A SELECT over groups of rows has none.
 pub fn order_of(
     alloc: Global,
     terms: &[OrderTerm],
     scope: &[Entry<'_>],
     outputs: &[Output],
-    grouped: bool,
+    place: Place,
 ) -> Result<Items<(TypedExpr, bool)>, SqlFault>
     requires { IsNarrow scope.now }
-    ensures { Gives (spec.order_of grouped (sources scope.now) (columns.outputs outputs.now) terms.now) result }
+    ensures { Gives (spec.order_of (is_group place) (sources scope.now) (columns.outputs outputs.now) terms.now) result }
 {
     match terms {
         [] => Ok(Items::new(alloc)),
-        [_, ..] => {
-            if grouped {
-                Err(SqlFault::State(SqlState::S0A000))
-            } else {
-                terms_of(alloc, terms, scope, outputs)
-            }
-        }
+        [_, ..] => match place {
+            Place::Group => Err(SqlFault::State(SqlState::S0A000)),
+            Place::Row => terms_of(alloc, terms, scope, outputs),
+        },
     }
 }

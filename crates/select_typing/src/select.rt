@@ -1,12 +1,11 @@
 // The types of SELECT, part by part.
 ghost use Rattle.std.specs.Prelude.{◌≡◌, ◌++◌, IfOk, length, map};
 ghost use Rattle.typing_rules.specs.Select as spec;
-ghost use Rattle.expr_typing.specs.Gives.{Gives};
+ghost use Rattle.typing_rules.specs.Gives.{Gives, GivesBy};
 ghost use Rattle.expr_typing.specs.Scope.{IsNarrow, sources};
-ghost use Rattle.typing_parts.specs.Narrow.{AreNarrow};
+ghost use Rattle.typing_parts.specs.Narrow.{AreFewAndNarrow};
 ghost use Rattle.select_typing.specs.Entries as shown;
-ghost use Rattle.select_typing.specs.GivesBy.{GivesBy};
-ghost use Rattle.select_typing.specs.Parts.{select_parts, parts_of, whole};
+ghost use Rattle.select_typing.specs.Parts.{select_parts, parts_of, whole, is_group};
 
 use crate::aggregates::has_aggregate;
 use crate::from::{FromEntry, entries_of, numbers_of, scope_of};
@@ -33,10 +32,24 @@ pub struct Parts {
 }
 
 /// Where the items stand: over groups of rows where an aggregate is called.
-fn place_of(grouped: bool) -> Place
-    ensures { result ≡ spec.place_of grouped }
+fn place_of(select: &Select) -> Place
+    ensures { result ≡ spec.place_of (spec.has_aggregate select.now) }
 {
-    if grouped { Place::Group } else { Place::Row }
+    if has_aggregate(select) {
+        Place::Group
+    } else {
+        Place::Row
+    }
+}
+
+/// Whether it is that of groups of rows.
+fn is_group(place: Place) -> bool
+    ensures { result ≡ is_group place }
+{
+    match place {
+        Place::Group => true,
+        Place::Row => false,
+    }
 }
 
 /// The parts after FROM, in the order in which they are typed.
@@ -44,21 +57,21 @@ fn parts_of(
     alloc: Global,
     select: &Select,
     scope: &[Entry<'_>],
-    grouped: bool,
+    place: Place,
 ) -> Result<Parts, SqlFault>
     requires as_many { length scope.now ≡ length select.now.from }
     requires narrow { IsNarrow scope.now }
-    ensures { GivesBy select_parts (parts_of (sources scope.now) select.now grouped) result }
+    ensures { GivesBy select_parts (parts_of (sources scope.now) select.now place) result }
 {
     let ons = ons_of(alloc, select.from.as_slice(), scope)?;
     let filter = typed_filter(alloc, select.filter.as_ref(), scope)?;
-    let outputs = outputs_of(alloc, select.items.as_slice(), scope, place_of(grouped))?;
+    let outputs = outputs_of(alloc, select.items.as_slice(), scope, place)?;
     let order = order_of(
         alloc,
         select.order.as_slice(),
         scope,
         outputs.as_slice(),
-        grouped,
+        place,
     )?;
     Ok(Parts {
         ons,
@@ -88,10 +101,10 @@ fn whole(
     select: &Select,
     entries: &[FromEntry<'_>],
     parts: Parts,
-    grouped: bool,
+    place: Place,
 ) -> Result<TypedSelect, Memory>
     requires { IsNarrow (map shown.seen entries.now) }
-    ensures { IfOk result (λ typed. typed ≡ whole (shown.entries entries.now) select.now grouped (select_parts parts)) }
+    ensures { IfOk result (λ typed. typed ≡ whole (shown.entries entries.now) select.now (is_group place) (select_parts parts)) }
 {
     let Parts {
         ons,
@@ -116,7 +129,7 @@ fn whole(
         conditions,
         items,
         order,
-        aggregate: grouped,
+        aggregate: is_group(place),
         limit: select.limit,
         offset: select.offset.unwrap_or(0),
     })
@@ -136,12 +149,12 @@ pub fn typed_select(
     select: &Select,
     tables: &[Table],
 ) -> Result<TypedSelect, SqlFault>
-    requires { AreNarrow tables.now }
+    requires { AreFewAndNarrow tables.now }
     ensures { Gives (spec.typed_select tables.now select.now) result }
 {
     let entries = entries_of(alloc, tables, select.from.as_slice())?;
     let scope = scope_of(alloc, entries.as_slice())?;
-    let grouped = has_aggregate(select);
-    let parts = parts_of(alloc, select, scope.as_slice(), grouped)?;
-    Ok(whole(alloc, select, entries.as_slice(), parts, grouped)?)
+    let place = place_of(select);
+    let parts = parts_of(alloc, select, scope.as_slice(), place)?;
+    Ok(whole(alloc, select, entries.as_slice(), parts, place)?)
 }

@@ -5,7 +5,7 @@ ghost use Rattle.typing_rules.specs.Expressions.{typed_node};
 ghost use Rattle.typing_rules.specs.Outcome.{and_then};
 ghost use Rattle.typing_rules.specs.Select as spec;
 ghost use Rattle.expr_typing.specs.Scope.{IsNarrow, sources};
-ghost use Rattle.select_typing.specs.GivesBy.{GivesBy};
+ghost use Rattle.typing_rules.specs.Gives.{GivesBy};
 ghost use Rattle.select_typing.specs.Outputs.{output, outputs};
 
 use crate::output::{Output, with_output};

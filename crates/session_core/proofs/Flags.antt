@@ -6,7 +6,7 @@ use Rattle.history_core.specs.declared.fault.BookFault.TheVariants as faults
 use Rattle.block_machine.specs.declared.call.Answer.{Answer}
 use Rattle.block_machine.specs.declared.call.Answer.TheVariants as answers
 use Rattle.block_machine.specs.Script.{Entry, did, refused, short, unsent, stop, is_short, has_short}
-use Rattle.block_machine.specs.Stages.{entry_for, wants_memory}
+use Rattle.block_machine.specs.Stages.{entry_for, lacks_memory}
 use Rattle.session_core.specs.declared.turns.Shortage.{Shortage}
 use Rattle.session_core.specs.Told.{opened_after, opened_from, opened_in}
 use Rattle.session_core.specs.Steps.{with_out_of_memory}
@@ -46,7 +46,7 @@ flag-kept flag es e f h =
     ∙ sym (has_short-append es (e ∷ []))
 
 -- the entry of an answer
-pub is_short-entry : (a : Answer) (e : Event) → is_short (entry_for a e) ≡ wants_memory a
+pub is_short-entry : (a : Answer) (e : Event) → is_short (entry_for a e) ≡ lacks_memory a
 is_short-entry (answers.Refused faults.Memory) e = refl
 is_short-entry (answers.Refused (faults.Full limit)) e = refl
 is_short-entry (answers.Opened n) e = refl
@@ -62,13 +62,13 @@ is_short-entry answers.RolledBack e = refl
 is_short-entry (answers.Shown n) e = refl
 
 -- an answer, and a lack of memory that may stand after it
-pub flag-answered : (flag now both a_wants : Bool) (w : Option Shortage) (es : List Entry) (a : Answer) (e : Event) (sent : List ℕ) →
-    flag ≡ has_short es → now ≡ (flag || both) → both ≡ (a_wants || is_some w) →
-    a_wants ≡ wants_memory a → now ≡ has_short ((es ++ entry_for a e ∷ []) ++ with_out_of_memory w sent [])
-flag-answered flag now both a_wants w es a e sent f g h k =
-    flag-fed (flag || a_wants) now w (es ++ entry_for a e ∷ []) sent
-    (flag-one flag (flag || a_wants) a_wants es (entry_for a e) f refl (is_short-entry a e ∙ sym k))
-    (g ∙ ap (λ b. flag || b) h ∙ sym (or_assoc flag a_wants (is_some w)))
+pub flag-answered : (flag now both a_lacks : Bool) (w : Option Shortage) (es : List Entry) (a : Answer) (e : Event) (sent : List ℕ) →
+    flag ≡ has_short es → now ≡ (flag || both) → both ≡ (a_lacks || is_some w) →
+    a_lacks ≡ lacks_memory a → now ≡ has_short ((es ++ entry_for a e ∷ []) ++ with_out_of_memory w sent [])
+flag-answered flag now both a_lacks w es a e sent f g h k =
+    flag-fed (flag || a_lacks) now w (es ++ entry_for a e ∷ []) sent
+    (flag-one flag (flag || a_lacks) a_lacks es (entry_for a e) f refl (is_short-entry a e ∙ sym k))
+    (g ∙ ap (λ b. flag || b) h ∙ sym (or_assoc flag a_lacks (is_some w)))
 
 -- ---- the number of the session
 

@@ -1,7 +1,6 @@
 -- What a session's calls leave stands for the lists grown by them.
-use Rattle.std.proofs.Common.{◌≡◌, ◌≢◌, inl, inr, Bool, true, false, ℕ, ◌<◌, List, [], ◌∷◌, ◌++◌, length, refl, sym, ◌∙◌, ap, subst, append_assoc, arith, Option, None, length-append}
+use Rattle.std.proofs.Common.{◌≡◌, inl, inr, true, false, ℕ, ◌<◌, List, [], ◌∷◌, ◌++◌, length, refl, sym, ◌∙◌, ap, subst, append_assoc, arith, Option, None, length-append}
 use Rattle.std.proofs.lemmas.List.{append-nil}
-use Rattle.std.specs.Prelude.{◌==◌}
 use Rattle.cell_base.specs.declared.level.Level.{Level}
 use Rattle.history_core.specs.declared.event.Event.{Event}
 use Rattle.sql_tree.specs.declared.statement.Statement.{Statement}
@@ -36,7 +35,7 @@ use Rattle.session_core.specs.Told.{ending, broken, owed_by, outside_of, stop_en
 use Rattle.session_core.specs.Stands.{on, goes_on, least, StandsFor, IsAwake, IsBusy, Shows, Tells, HasReply, wants, reply_of, after_reply, IsHolding, IsLast, owed_at, end_of, served_of}
 use Rattle.session_core.specs.Steps.{LeadsTo, Feeds, Sends, Steps, Advances, with_out_of_memory}
 use Rattle.session_core.proofs.Entering.{takes_some}
-use Rattle.session_core.proofs.Passes.{eqb-ne, busy-last, least-busy, unless_unsent-passes, unless_unsent-takes, with_out_of_memory-append, IsFrom-with_out_of_memory, IsFrom-read, IsFed-last, IsFed-nothing, IsFed-back}
+use Rattle.session_core.proofs.Passes.{busy-last, least-busy, unless_unsent-passes, unless_unsent-takes, with_out_of_memory-append, IsFrom-with_out_of_memory, IsFrom-read, IsFed-last, IsFed-nothing, IsFed-back}
 use Rattle.session_core.proofs.Stepping.{session-short}
 
 -- ---- what is shown
@@ -318,14 +317,6 @@ StandsFor-stopped phase r startup held taken es asked sent stage cause end s lea
   waits = λ other is. absurd (subst IsBusy is (busy-last stage leads.0));
   some = some;
 }
-
--- the end by a stop is told of what is held
-pub stopped_right : (held : List ℕ) (cause : Stop) (end : End) (nothing : Bool) → nothing ≡ (length held == 0) →
-    (nothing ≡ true → end ≡ stop_end cause 0) → ((n : ℕ) → nothing ≡ false → n ≢ 0 → end ≡ stop_end cause n) →
-    stop_end cause (length held) ≡ end
-stopped_right [] cause end nothing e a b = sym (a e)
-stopped_right (x ∷ held) cause end nothing e a b =
-    sym (b (length (x ∷ held)) (e ∙ eqb-ne (length (x ∷ held)) 0 (λ z. omega (arith, z))) (λ z. omega (arith, z)))
 
 -- ---- the beginning
 

@@ -235,7 +235,7 @@ may_ask_message (message_stage.Beginning plan description) known past c o k t s 
 may_ask_message (message_stage.Running run p) known past c o k t s w =
     subst (λ (x : Call). MayAsk x past) (book_of (call_for (first_demand (rest_of run.plan))) c w)
     (may_ask_cells (rest_of run.plan) (length known.tables) past (in_transaction past.state o) t k run.asks)
-may_ask_message (message_stage.Starting start) known past c o k t s w = subst (λ (x : Call). MayAsk x past) (book_of (calls.Begin known.level) c w)
+may_ask_message (message_stage.Starting words) known past c o k t s w = subst (λ (x : Call). MayAsk x past) (book_of (calls.Begin known.level) c w)
     (idle past.state o)
 may_ask_message (message_stage.Showing description block) known past c o k t s w = subst (λ (x : Call). MayAsk x past) (book_of calls.Show c w)
     (in_session_of block past.state o)
@@ -330,7 +330,7 @@ message_look (message_stage.Beginning plan description) known c w = subst (λ (x
 message_look (message_stage.Running run p) known c w =
     subst (λ (x : Call). LooksFrom x (length known.tables)) (book_of (call_for (first_demand (rest_of run.plan))) c w)
     (cells_look (first_demand (rest_of run.plan)) (length known.tables))
-message_look (message_stage.Starting start) known c w = subst (λ (x : Call). LooksFrom x (length known.tables)) (book_of (calls.Begin known.level) c w) tt
+message_look (message_stage.Starting words) known c w = subst (λ (x : Call). LooksFrom x (length known.tables)) (book_of (calls.Begin known.level) c w) tt
 message_look (message_stage.Showing description block) known c w = subst (λ (x : Call). LooksFrom x (length known.tables)) (book_of calls.Show c w) tt
 message_look (message_stage.Committing reply) known c w = subst (λ (x : Call). LooksFrom x (length known.tables)) (book_of calls.Commit c w) tt
 message_look (message_stage.RollingBack reply) known c w = subst (λ (x : Call). LooksFrom x (length known.tables)) (book_of calls.Rollback c w) tt

@@ -5,7 +5,7 @@ use Rattle.sql_tree.specs.declared.table.Table.{Table}
 use Rattle.block_machine.specs.Calls.{Call, call_of, call_for, asks_cells}
 use Rattle.block_machine.specs.Calls as calls
 use Rattle.block_machine.specs.declared.end.End.{End}
-use Rattle.session_core.specs.declared.want.Want.{Want as Told}
+use Rattle.session_core.specs.declared.want.Want.{Want as CodeWant}
 use Rattle.session_core.specs.declared.want.Want.TheVariants as told
 
 pub data Want : Type 0 where
@@ -23,7 +23,7 @@ of_message calls.Send = Send
 of_message calls.Nothing = Send
 
 -- the code's want is this one; the table of a definition and the cells of a statement stay with the session
-abbrev pub IsWant : Told → Want → Type 0
+abbrev pub IsWant : CodeWant → Want → Type 0
 IsWant told.Bytes want = want ≡ Bytes
 IsWant told.Message want = want ≡ Message
 IsWant told.Define want = (table : Table) × (want ≡ Book (calls.Define table))

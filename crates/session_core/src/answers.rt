@@ -5,7 +5,7 @@ ghost use Rattle.cell_base.specs.declared.value.Value as values;
 ghost use Rattle.history_core.specs.Chronicle.{IsLegalChronicle};
 ghost use Rattle.block_machine.specs.Calls as calls;
 ghost use Rattle.block_machine.specs.Calls.{Call as Asked};
-ghost use Rattle.block_machine.specs.Stages.{IsKnownAfter, IsSameButLevel, owed_after, wants_memory};
+ghost use Rattle.block_machine.specs.Stages.{IsKnownAfter, IsSameButLevel, owed_after, lacks_memory};
 ghost use Rattle.block_machine.specs.Runners.{Runs, knowledge_of};
 ghost use Rattle.block_machine.specs.Writes.{IsWrite, MayWrite};
 ghost use Rattle.block_machine.specs.declared.message_runner.MessageRunner.{MessageRunner as Machine};
@@ -238,8 +238,8 @@ pub fn answered(
 }
 
 /// Whether an answer is a lack of memory of the book.
-pub fn is_want(answer: &Answer) -> bool
-    ensures { result ≡ wants_memory answer.now }
+pub fn lacks_memory(answer: &Answer) -> bool
+    ensures { result ≡ lacks_memory answer.now }
 {
     matches!(answer, Answer::Refused(BookFault::Memory))
 }

@@ -72,7 +72,7 @@ fn query(
     state: TransactionState,
     runner: &mut MessageRunner,
 ) -> SessionStep
-    requires short { length text.now < 2 ^ 32 }
+    requires fits { length text.now < 2 ^ 32 }
     requires no_zero { HasNoZero text.now }
     requires fit { IsFit runner.old }
     ensures goes { Meets (FrontendMessage.Query text.now) (Phase.Normal state) runner.old result.stage runner.new result.out_of_memory }

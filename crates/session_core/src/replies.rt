@@ -1,7 +1,13 @@
 // The replies of a session as bytes.
-ghost use Rattle.std.specs.Prelude.{◌≡◌, IfOk};
+ghost use Rattle.std.specs.Prelude.{◌≡◌, ◌++◌, IfOk, OnOk, OnErr};
+ghost use Rattle.cell_base.specs.Texts.{HasNoZero};
+ghost use Rattle.pg_framing.specs.Replies.{FitsMessage, ended, parameter};
 ghost use Rattle.session_core.specs.Replies.{startup_reply, fatal_reply};
 
+use block_machine::parameters::{
+    CLIENT_ENCODING, DATE_STYLE, INTEGER_DATETIMES, Parameter, SERVER_ENCODING, SERVER_VERSION,
+    STANDARD_CONFORMING_STRINGS,
+};
 use cell_base::{Memory, SqlState};
 use pg_framing::{
     Severity, TransactionState, append_authentication_ok, append_backend_key_data,
@@ -19,6 +25,22 @@ pub fn fatal(alloc: Global, state: SqlState) -> Result<Vec<u8>, Memory>
     Ok(reply)
 }
 
+// Adds the ParameterStatus of a setting. Out of memory, `reply` stays as it was.
+fn append_parameter(alloc: Global, reply: &mut Vec<u8>, setting: Parameter) -> Result<(), Memory>
+    requires name { HasNoZero setting.name.now }
+    requires value { HasNoZero setting.value.now }
+    requires fits { FitsMessage (ended setting.name.now ++ ended setting.value.now) }
+    ensures ok { OnOk result (reply.new.items ≡ reply.old.items ++ parameter setting.name.now setting.value.now) }
+    ensures err { OnErr result (reply.new.items ≡ reply.old.items) }
+{
+    append_parameter_status(
+        alloc,
+        reply,
+        setting.name.as_bytes(),
+        setting.value.as_bytes(),
+    )
+}
+
 /// What a session is told at its start.
 #[tactic(auto, unfolding(crate::specs::Replies::startup_reply))]
 pub fn startup(alloc: Global, session: u32) -> Result<Vec<u8>, Memory>
@@ -26,12 +48,12 @@ pub fn startup(alloc: Global, session: u32) -> Result<Vec<u8>, Memory>
 {
     let mut reply = Vec::new(alloc);
     append_authentication_ok(alloc, &mut reply)?;
-    append_parameter_status(alloc, &mut reply, b"server_version", b"14.0")?;
-    append_parameter_status(alloc, &mut reply, b"server_encoding", b"UTF8")?;
-    append_parameter_status(alloc, &mut reply, b"client_encoding", b"UTF8")?;
-    append_parameter_status(alloc, &mut reply, b"DateStyle", b"ISO, MDY")?;
-    append_parameter_status(alloc, &mut reply, b"integer_datetimes", b"on")?;
-    append_parameter_status(alloc, &mut reply, b"standard_conforming_strings", b"on")?;
+    append_parameter(alloc, &mut reply, SERVER_VERSION)?;
+    append_parameter(alloc, &mut reply, SERVER_ENCODING)?;
+    append_parameter(alloc, &mut reply, CLIENT_ENCODING)?;
+    append_parameter(alloc, &mut reply, DATE_STYLE)?;
+    append_parameter(alloc, &mut reply, INTEGER_DATETIMES)?;
+    append_parameter(alloc, &mut reply, STANDARD_CONFORMING_STRINGS)?;
     append_backend_key_data(alloc, &mut reply, session, 0)?;
     append_ready_for_query(alloc, &mut reply, TransactionState::Idle)?;
     Ok(reply)

@@ -22,7 +22,7 @@ ghost use Rattle.session_core.specs.Told.{opened_in};
 ghost use Rattle.session_core.specs.Stands.{FitsWant, InPhase, IsFit, IsHolding, IsLast, IsStopped, IsUnder, Lacks, Shows, Tells, left_at, message_at, message_work, outer, owed_at, reply_of, served_of, statement_at, wants};
 
 use crate::answers::{
-    SessionWrite, after_sent, answered, is_want, number_after, owed_holding, write_cell,
+    SessionWrite, after_sent, answered, lacks_memory, number_after, owed_holding, write_cell,
 };
 use crate::messages::{feed_piece, take_message};
 use crate::phase::Phase;
@@ -268,7 +268,7 @@ impl Session {
         ensures fit { IsFit self.new.runner }
         ensures last { IsLast self.old.stage → IsLast self.new.stage }
     {
-        let wants = is_want(&answer);
+        let lacks = lacks_memory(&answer);
         let number = number_after(self.number, &answer);
         let step = answered(
             self.alloc,
@@ -277,7 +277,7 @@ impl Session {
             answer,
             &mut self.startup,
         );
-        self.short = either(self.short, either(wants, step.out_of_memory.is_some()));
+        self.short = either(self.short, either(lacks, step.out_of_memory.is_some()));
         self.number = number;
         self.stage = step.stage;
     }
@@ -310,8 +310,8 @@ impl Session {
             answer,
             out_of_memory,
         } = write_cell(&mut self.runner, book);
-        let wants = is_want(&answer);
-        self.short = either(self.short, either(wants, out_of_memory.is_some()));
+        let lacks = lacks_memory(&answer);
+        self.short = either(self.short, either(lacks, out_of_memory.is_some()));
         answer
     }
 
@@ -368,7 +368,7 @@ impl Session {
         ensures last { IsLast self.new.stage }
     {
         let phase = phase_at(self.stage);
-        let finish = finish_of(cause, self.frames.rest() == 0);
+        let finish = finish_of(cause, self.frames.rest());
         self.stage = leave(owed_by(phase), finish);
     }
 }

@@ -1,5 +1,5 @@
 // The stages of a session that need no memory: what it owes, its ends, and what stands after an answer of its own.
-ghost use Rattle.std.specs.Prelude.{◌≡◌, ◌≢◌, ℕ, ◌<◌, ◌≤◌, List, [], Bool, true, false, None};
+ghost use Rattle.std.specs.Prelude.{◌≡◌, ℕ, ◌<◌, ◌≤◌, List, [], Bool, true, None};
 ghost use Rattle.block_machine.specs.Calls.{Call as Asked};
 ghost use Rattle.block_machine.specs.Messages as blocks;
 ghost use Rattle.block_machine.specs.Script.{Said, Entry};
@@ -133,15 +133,20 @@ pub fn owed_by(phase: Phase) -> Owed
     }
 }
 
-/// The finish that a stop comes to, where nothing of a message is held or where something is.
-pub fn finish_of(cause: Stop, nothing: bool) -> Finish
-    ensures nothing { nothing ≡ true → end_of result ≡ stop_end cause 0 }
-    ensures something { (n : ℕ) → nothing ≡ false → n ≢ 0 → end_of result ≡ stop_end cause n }
+/// The finish that a stop comes to, where so many bytes of a message are held.
+pub fn finish_of(cause: Stop, held: usize) -> Finish
+    ensures end { end_of result ≡ stop_end cause held }
     ensures outer { IsStopped cause (outer_end (end_of result)) }
     ensures lacks { LacksBy (end_of result) [] }
 {
     match cause {
-        Stop::EndOfInput => { if nothing { Finish::Closed } else { Finish::Cut } }
+        Stop::EndOfInput => {
+            if held == 0 {
+                Finish::Closed
+            } else {
+                Finish::Cut
+            }
+        }
         Stop::ReadFault => Finish::ReadFault,
         Stop::Spent => Finish::Fatal(Fatal::Spent),
     }

@@ -29,7 +29,7 @@ start_is = record {
   body = codes "user" ++ 0 ∷ (codes "setup" ++ 0 ∷ 0 ∷ []);
   whole = refl;
   size_is = (refl, number_is 20 (omega arith));
-  short = omega arith;
+  fits = omega arith;
   code_held = refl;
   code_is = ap (λ (n : ℕ). Some n) (sym (number_is 196608 (omega arith)));
   body_is = (((λ e. cc, no_zero_user, no_zero_setup), tt), refl);
@@ -44,7 +44,7 @@ query_is text none few =
       body = text ++ 0 ∷ [];
       whole = refl;
       size_is = (refl, number_is (length text + 5) (omega (arith, few)) ∙ omega (arith, long));
-      short = omega (arith, long, few);
+      fits = omega (arith, long, few);
       kind_is = refl;
       body_is = (none, refl);
     }
@@ -56,7 +56,7 @@ end_is = record {
   body = [];
   whole = ap (λ (bs : List ℕ). 88 ∷ bs) (sym (append-nil (to_be_bytes w32 4)));
   size_is = (refl, number_is 4 (omega arith));
-  short = omega arith;
+  fits = omega arith;
   kind_is = refl;
   body_is = refl;
 }

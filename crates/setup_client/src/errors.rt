@@ -106,7 +106,7 @@ fn fault_of(alloc: Global, number: u64, body: &[u8]) -> Result<StatementFault, M
 fn number_after_kind(bytes: &[u8]) -> usize
     requires { 5 ≤ length bytes.now }
     ensures value { result ≡ number_at 1 bytes.now }
-    ensures short { result < 4294967296 }
+    ensures small { result < 4294967296 }
 {
     BigEndian::read_u32(&bytes[1..5]) as usize
 }

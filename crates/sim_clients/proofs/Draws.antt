@@ -29,20 +29,20 @@ messages_more (q ∷ queries) query =
 
 -- no query yet
 pub puts_none : (generator : ChaCha) (out : List ℕ) → PutsQueries 0 generator out generator out
-puts_none generator out = record { queries = []; draws = refl; count = refl; bytes = sym (append-nil out); short = omega arith }
+puts_none generator out = record { queries = []; draws = refl; count = refl; bytes = sym (append-nil out); few = omega arith }
 
 -- one more query
 pub puts_more : (many : ℕ) (before between after : ChaCha) (old out new : List ℕ) (query : Query) → PutsQueries many before old between out →
     DrawsQuery between query after → new ≡ out ++ query_message (text_of query) → length new ≤ length out + 66 →
     PutsQueries (many + 1) before old after new
-puts_more many before between after old out new query puts draws bytes short = record {
+puts_more many before between after old out new query puts draws bytes few = record {
   queries = puts.queries ++ query ∷ [];
   draws = queries_more before between after puts.queries query puts.draws draws;
   count = length-append puts.queries (query ∷ []) ∙ ap (λ (n : ℕ). n + 1) puts.count;
   bytes = bytes ∙ ap (λ (bs : List ℕ). bs ++ query_message (text_of query)) puts.bytes
       ∙ append_assoc old (messages puts.queries) (query_message (text_of query))
       ∙ ap (λ (bs : List ℕ). old ++ bs) (sym (messages_more puts.queries query));
-  short = let h = puts.short in omega arith;
+  few = let h = puts.few in omega arith;
 }
 
 -- one more client

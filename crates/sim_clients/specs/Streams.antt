@@ -50,4 +50,4 @@ pub record PutsQueries (many : ℕ) (before : ChaCha) (old : List ℕ) (after : 
   pub draws : DrawsQueries before queries after
   pub count : length queries ≡ many
   pub bytes : new ≡ old ++ messages queries
-  pub short : length new ≤ length old + 66 * many
+  pub few : length new ≤ length old + 66 * many

@@ -59,7 +59,7 @@ pub fn put(out: &mut Vec<u8>, bytes: &[u8]) -> Result<(), Memory>
 // Writes a number in decimal.
 fn put_number(out: &mut Vec<u8>, number: u32) -> Result<(), Memory>
     ensures bytes { OnOk result (out.new.items ≡ out.old.items ++ decimal number) }
-    ensures short { OnOk result (length out.new.items ≤ length out.old.items + 10) }
+    ensures few { OnOk result (length out.new.items ≤ length out.old.items + 10) }
 {
     put(out, Buffer::new().format(number).as_bytes())
 }
@@ -67,7 +67,7 @@ fn put_number(out: &mut Vec<u8>, number: u32) -> Result<(), Memory>
 // Writes words, and the key after them.
 fn put_on_key(out: &mut Vec<u8>, words: &[u8], key: u32) -> Result<(), Memory>
     ensures bytes { OnOk result (out.new.items ≡ out.old.items ++ (words.now ++ decimal key)) }
-    ensures short { OnOk result (length out.new.items ≤ length out.old.items + (length words.now + 10)) }
+    ensures few { OnOk result (length out.new.items ≤ length out.old.items + (length words.now + 10)) }
 {
     put(out, words)?;
     put_number(out, key)
@@ -76,7 +76,7 @@ fn put_on_key(out: &mut Vec<u8>, words: &[u8], key: u32) -> Result<(), Memory>
 // Writes the insertion of a row.
 fn put_insert(out: &mut Vec<u8>, key: u32, value: u32) -> Result<(), Memory>
     ensures bytes { OnOk result (out.new.items ≡ out.old.items ++ (codes "INSERT INTO t VALUES (" ++ (decimal key ++ (codes ", " ++ (decimal value ++ codes ")"))))) }
-    ensures short { OnOk result (length out.new.items ≤ length out.old.items + 60) }
+    ensures few { OnOk result (length out.new.items ≤ length out.old.items + 60) }
 {
     put_on_key(out, b"INSERT INTO t VALUES (", key)?;
     put_on_key(out, b", ", value)?;
@@ -86,7 +86,7 @@ fn put_insert(out: &mut Vec<u8>, key: u32, value: u32) -> Result<(), Memory>
 /// Writes the text of a query.
 pub fn put_query(out: &mut Vec<u8>, query: Query) -> Result<(), Memory>
     ensures bytes { OnOk result (out.new.items ≡ out.old.items ++ text_of query) }
-    ensures short { OnOk result (length out.new.items ≤ length out.old.items + 60) }
+    ensures few { OnOk result (length out.new.items ≤ length out.old.items + 60) }
 {
     let key = query.key;
     match query.action {

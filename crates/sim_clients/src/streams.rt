@@ -30,7 +30,7 @@ fn put_length(out: &mut Vec<u8>, number: u32) -> Result<(), Memory>
 fn put_message(out: &mut Vec<u8>, text: &[u8]) -> Result<(), Memory>
     requires { length text.now ≤ 60 }
     ensures bytes { OnOk result (out.new.items ≡ out.old.items ++ query_message text.now) }
-    ensures short { OnOk result (length out.new.items ≤ length out.old.items + 66) }
+    ensures few { OnOk result (length out.new.items ≤ length out.old.items + 66) }
 {
     put(out, b"Q")?;
     put_length(out, text.len() as u32 + 5)?;
@@ -62,7 +62,7 @@ pub fn put_create_table(out: &mut Vec<u8>) -> Result<(), Memory>
 /// Writes the message of a query.
 pub fn put_query_message(alloc: Global, out: &mut Vec<u8>, query: Query) -> Result<(), Memory>
     ensures bytes { OnOk result (out.new.items ≡ out.old.items ++ query_message (text_of query)) }
-    ensures short { OnOk result (length out.new.items ≤ length out.old.items + 66) }
+    ensures few { OnOk result (length out.new.items ≤ length out.old.items + 66) }
 {
     let mut text = Vec::new(alloc);
     put_query(&mut text, query)?;

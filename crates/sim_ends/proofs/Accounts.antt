@@ -19,7 +19,7 @@ use Rattle.session_hall.specs.Clients.{IsShown, IsServed}
 use Rattle.sim_ends.specs.Free.{with_free, free_in}
 use Rattle.sim_ends.proofs.SessionsFew.{told_few}
 use Rattle.sim_ends.proofs.Heard.{heard_few}
-use Rattle.sim_ends.proofs.Streams.{IsShortStream}
+use Rattle.sim_ends.proofs.Streams.{HasFewBytes}
 use Rattle.sim_ends.proofs.Loads.{with_plain, plain_in, plain_least}
 
 -- ---- one call
@@ -86,7 +86,7 @@ shown_fine (Some end) astray (inl one) clash = let is = one.0 in cc
 shown_fine (Some end) astray (inr other) clash = let is = other.1 in cc
 
 pub served_modest : (level : Level) (history : Chronicle) (client : Client) (end : Option End) (account : Account) → IsServed level history client end account →
-    IsShortStream client → IsModest account
+    HasFewBytes client → IsModest account
 served_modest level history client end account s short_is =
     let size : length client.stream.items ≡ length account.taken + length s.rest = ap length s.stream_is ∙ length-append account.taken s.rest in
     let few = told_few level s.requests account.entries (record { bytes = account.sent; calls = account.calls }) s.next s.told_is (shown_fine end s.next s.shown) in

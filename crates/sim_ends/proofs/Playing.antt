@@ -1,4 +1,4 @@
--- A run of clients with short streams has few steps.
+-- A run of clients with streams of few bytes has few steps.
 use Rattle.std.proofs.Common.{◌≡◌, ◌≤◌, ◌<◌, ◌+◌, ◌%◌, inl, inr, ℕ, zero, suc, List, [], ◌∷◌, ◌++◌, length, Option, Some, Ok, ap, sym, subst, ◌∙◌, refl, arith, length-append}
 use Rattle.std.specs.Prelude.{slice_get}
 use Rattle.std.proofs.lemmas.Bool.{cases_eq}
@@ -21,7 +21,7 @@ use Rattle.sim_command.specs.Runs.{Moment, Pick, Moves, Runs, at_first}
 use Rattle.sim_command.specs.Simulations.{GoesOn, GoesToEnd, going_after, DrawsTo, numbers_from, IsFront}
 use Rattle.sim_ends.specs.Ending.{SimulationsEnd}
 use Rattle.sim_ends.proofs.Sums.{sum_to, sum_change, sum_below, sum_none}
-use Rattle.sim_ends.proofs.Streams.{IsShortStream, clients_short}
+use Rattle.sim_ends.proofs.Streams.{HasFewBytes, clients_few}
 use Rattle.sim_ends.proofs.Loads.{plain_in, plain-append, legal_few}
 use Rattle.sim_ends.proofs.Accounts.{IsModest, served_modest}
 
@@ -129,17 +129,17 @@ events-append (short final n ∷ before) after = events-append before after
 events-append (unsent n ∷ before) after = events-append before after
 events-append (stop cause ∷ before) after = events-append before after
 
-abbrev AreShort : List Client → Type 0
-AreShort clients = (k : ℕ) (client : Client) → slice_get clients k ≡ Some client → IsShortStream client
+abbrev HaveFewBytes : List Client → Type 0
+HaveFewBytes clients = (k : ℕ) (client : Client) → slice_get clients k ≡ Some client → HasFewBytes client
 
 -- a step keeps that, and its client has so many calls more
 record StepsOn (clients : List Client) (before after : Moment) (many : ℕ) : Type 0 where
   modest : IsModestAt (length clients) after
   calls : sum_to (calls_of after) (length clients) ≡ sum_to (calls_of before) (length clients) + many
 
-moves_on : (level : Level) (clients : List Client) (pick : Pick) (before after : Moment) → AreShort clients → IsModestAt (length clients) before →
+moves_on : (level : Level) (clients : List Client) (pick : Pick) (before after : Moment) → HaveFewBytes clients → IsModestAt (length clients) before →
     (m : Moves level clients pick before after) → StepsOn clients before after m.many
-moves_on level clients pick before after short_all modest m =
+moves_on level clients pick before after few_all modest m =
     let within = slice_get_within clients pick.client m.client m.is in
     let g = m.grew in
     let calls_here : calls_of after pick.client ≡ calls_of before pick.client + m.many =
@@ -154,7 +154,7 @@ moves_on level clients pick before after short_all modest m =
         each = λ k less. elim (cases_eq k pick.client) [
           | inl here ↦
               subst (λ (j : ℕ). IsModest (after.accounts j)) (sym here)
-              (served_modest level after.history m.client m.end (after.accounts pick.client) m.served (short_all pick.client m.client m.is))
+              (served_modest level after.history m.client m.end (after.accounts pick.client) m.served (few_all pick.client m.client m.is))
           | inr apart ↦ subst IsModest (sym (m.others k apart)) (modest.each k less)
         ];
         events = sum_change (plain_of before) (plain_of after) pick.client (plain_in (events_of g.added)) (length clients) within plain_here
@@ -176,13 +176,13 @@ record Played (clients : List Client) (before after : Moment) (picks : List Pick
   modest : IsModestAt (length clients) after
   calls : sum_to (calls_of before) (length clients) + called_in picks ≤ sum_to (calls_of after) (length clients)
 
-plays : (level : Level) (clients : List Client) (picks : List Pick) (before after : Moment) → AreShort clients → IsModestAt (length clients) before →
+plays : (level : Level) (clients : List Client) (picks : List Pick) (before after : Moment) → HaveFewBytes clients → IsModestAt (length clients) before →
     Runs level clients before picks after → Played clients before after picks
-plays level clients [] before after short_all modest run =
+plays level clients [] before after few_all modest run =
     subst (λ (m : Moment). Played clients before m []) run (record { modest = modest; calls = omega arith })
-plays level clients (pick ∷ picks) before after short_all modest run =
-    let step = moves_on level clients pick before run.0 short_all modest run.1 in
-    let rest = plays level clients picks run.0 after short_all step.modest run.2 in
+plays level clients (pick ∷ picks) before after few_all modest run =
+    let step = moves_on level clients pick before run.0 few_all modest run.1 in
+    let rest = plays level clients picks run.0 after few_all step.modest run.2 in
     record {
       modest = rest.modest;
       calls = omega (arith, rest.calls, step.calls, stepped_once pick.stepped run.1.many run.1.grew.added run.1.end (called_in picks) run.1.answer);
@@ -204,7 +204,7 @@ each_below many m modest k less =
 pub ends : SimulationsEnd
 ends level seed sessions queries few_sessions few_queries cut =
     let clients = cut.clients in
-    let played = plays level clients cut.picks (at_first level) cut.last (clients_short seed sessions queries clients few_queries cut.are) (modest_first level (length clients)) cut.run in
+    let played = plays level clients cut.picks (at_first level) cut.last (clients_few seed sessions queries clients few_queries cut.are) (modest_first level (length clients)) cut.run in
     let most = sum_below (calls_of cut.last) (plain_of cut.last) (length clients) (each_below (length clients) cut.last played.modest) in
     let many : length clients ≡ suc (length cut.are.askers) = ap length cut.are.is in
     omega (

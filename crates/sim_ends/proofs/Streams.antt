@@ -1,4 +1,4 @@
--- The streams of the clients of a simulation are short.
+-- The streams of the clients of a simulation have few bytes.
 use Rattle.std.proofs.Common.{◌≡◌, ◌≤◌, ◌<◌, ◌+◌, ◌*◌, ◌/◌, ◌%◌, ◌==◌, Bool, true, false, cond, ℕ, zero, suc, List, [], ◌∷◌, ◌++◌, length, Some, ap, sym, subst, ◌∙◌, refl, arith, length-append}
 use Rattle.std.specs.Prelude.{codes, slice_get}
 use Rattle.std.specs.Fmt.{decimal}
@@ -47,8 +47,8 @@ action_small : (value kind : ℕ) → value < 4294967296 → IsSmall (action_for
 action_small value kind small =
     either_small (kind == 0) (Insert value) _ small (either_small (kind == 1) Increment _ tt (either_small (kind == 2) Select Delete tt tt))
 
-text_short : (key : ℕ) (action : Action) → key < 4294967296 → IsSmall action → length (text_for key action) ≤ 60
-text_short key (Insert value) small fits =
+text_few : (key : ℕ) (action : Action) → key < 4294967296 → IsSmall action → length (text_for key action) ≤ 60
+text_few key (Insert value) small fits =
     let a : length (text_for key (Insert value)) ≡ length (codes "INSERT INTO t VALUES (") + length (decimal key ++ (codes ", " ++ (decimal value ++ codes ")"))) =
     length-append (codes "INSERT INTO t VALUES (") (decimal key ++ (codes ", " ++ (decimal value ++ codes ")"))) in
     let b = length-append (decimal key) (codes ", " ++ (decimal value ++ codes ")")) in
@@ -58,27 +58,27 @@ text_short key (Insert value) small fits =
     let f : length (codes ", ") ≡ 2 = refl in
     let g : length (codes ")") ≡ 1 = refl in
     omega (arith, a, b, c, d, e, f, g, digits_few key small, digits_few value fits)
-text_short key Increment small fits =
+text_few key Increment small fits =
     let a : length (text_for key Increment) ≡ length (codes "UPDATE t SET v = v + 1 WHERE k = ") + length (decimal key) =
     length-append (codes "UPDATE t SET v = v + 1 WHERE k = ") (decimal key) in
     let e : length (codes "UPDATE t SET v = v + 1 WHERE k = ") ≡ 33 = refl in
     omega (arith, a, e, digits_few key small)
-text_short key Select small fits =
+text_few key Select small fits =
     let a : length (text_for key Select) ≡ length (codes "SELECT v FROM t WHERE k = ") + length (decimal key) =
     length-append (codes "SELECT v FROM t WHERE k = ") (decimal key) in
     let e : length (codes "SELECT v FROM t WHERE k = ") ≡ 26 = refl in
     omega (arith, a, e, digits_few key small)
-text_short key Delete small fits =
+text_few key Delete small fits =
     let a : length (text_for key Delete) ≡ length (codes "DELETE FROM t WHERE k = ") + length (decimal key) =
     length-append (codes "DELETE FROM t WHERE k = ") (decimal key) in
     let e : length (codes "DELETE FROM t WHERE k = ") ≡ 24 = refl in
     omega (arith, a, e, digits_few key small)
 
-query_short : (before after : ChaCha) (query : Query) → DrawsQuery before query after → length (text_of query) ≤ 60
-query_short before after query d =
+query_few : (before after : ChaCha) (query : Query) → DrawsQuery before query after → length (text_of query) ≤ 60
+query_few before after query d =
     let small = drawn_small d.between after d.second d.more in
     subst (λ (q : Query). length (text_of q) ≤ 60) (sym d.is)
-    (text_short (1 + d.first % 8) (action_for (d.second / 4) (d.second % 4)) (omega arith) (action_small (d.second / 4) (d.second % 4) (omega (arith, small))))
+    (text_few (1 + d.first % 8) (action_for (d.second / 4) (d.second % 4)) (omega arith) (action_small (d.second / 4) (d.second % 4) (omega (arith, small))))
 
 -- ---- messages
 
@@ -91,12 +91,12 @@ message_size text =
     let f : length (to_be_bytes w32 (length text + 5)) ≡ 4 = refl in
     omega (arith, a, b, c, e, f)
 
-messages_short : (queries : List Query) (before after : ChaCha) → DrawsQueries before queries after → length (messages queries) ≤ 66 * length queries
-messages_short [] before after draws = omega arith
-messages_short (query ∷ queries) before after draws =
+messages_few : (queries : List Query) (before after : ChaCha) → DrawsQueries before queries after → length (messages queries) ≤ 66 * length queries
+messages_few [] before after draws = omega arith
+messages_few (query ∷ queries) before after draws =
     let a : length (messages (query ∷ queries)) ≡ length (query_message (text_of query)) + length (messages queries) =
     length-append (query_message (text_of query)) (messages queries) in
-    omega (arith, a, message_size (text_of query), query_short before draws.0 query draws.1, messages_short queries draws.0 after draws.2)
+    omega (arith, a, message_size (text_of query), query_few before draws.0 query draws.1, messages_few queries draws.0 after draws.2)
 
 startup_size : length startup ≡ 18
 startup_size = refl
@@ -112,34 +112,34 @@ wrapped bytes =
 
 -- ---- clients
 
-abbrev pub IsShortStream : Client → Type 0
-IsShortStream client = length client.stream.items ≤ 14000
+abbrev pub HasFewBytes : Client → Type 0
+HasFewBytes client = length client.stream.items ≤ 14000
 
-maker_short : (client : Client) → IsMaker client → IsShortStream client
-maker_short client is =
+maker_few : (client : Client) → IsMaker client → HasFewBytes client
+maker_few client is =
     let size : length create_table ≡ 47 = refl in
     let all : length client.stream.items ≡ 23 + length (query_message create_table) = ap length is.stream ∙ wrapped (query_message create_table) in
     omega (arith, size, all, message_size create_table)
 
-askers_short : (seed queries number : ℕ) (clients : List Client) (before after : ChaCha) → queries ≤ 200 → AreAskers seed queries number before clients after →
-    (k : ℕ) (client : Client) → slice_get clients k ≡ Some client → IsShortStream client
-askers_short seed queries number [] before after few are k client is = cc
-askers_short seed queries number (first ∷ clients) before after few are zero client is =
+askers_few : (seed queries number : ℕ) (clients : List Client) (before after : ChaCha) → queries ≤ 200 → AreAskers seed queries number before clients after →
+    (k : ℕ) (client : Client) → slice_get clients k ≡ Some client → HasFewBytes client
+askers_few seed queries number [] before after few are k client is = cc
+askers_few seed queries number (first ∷ clients) before after few are zero client is =
     let asker = are.1 in
     let same : first ≡ client = cc in
     let all : length first.stream.items ≡ 23 + length (messages asker.drawn) = ap length asker.stream ∙ wrapped (messages asker.drawn) in
-    subst IsShortStream same (omega (arith, all, few, asker.many, messages_short asker.drawn before are.0 asker.draws))
-askers_short seed queries number (first ∷ clients) before after few are (suc k) client is =
-    askers_short seed queries (number + 1) clients are.0 after few are.2 k client is
+    subst HasFewBytes same (omega (arith, all, few, asker.many, messages_few asker.drawn before are.0 asker.draws))
+askers_few seed queries number (first ∷ clients) before after few are (suc k) client is =
+    askers_few seed queries (number + 1) clients are.0 after few are.2 k client is
 
-all_short : (seed queries : ℕ) (maker : Client) (askers : List Client) (rest : ChaCha) (front : ChaCha) → queries ≤ 200 → IsMaker maker →
-    AreAskers seed queries 1 front askers rest → (k : ℕ) (client : Client) → slice_get (maker ∷ askers) k ≡ Some client → IsShortStream client
-all_short seed queries maker askers rest front few makes are zero client is =
-    let same : maker ≡ client = cc in subst IsShortStream same (maker_short maker makes)
-all_short seed queries maker askers rest front few makes are (suc k) client is = askers_short seed queries 1 askers front rest few are k client is
+all_few : (seed queries : ℕ) (maker : Client) (askers : List Client) (rest : ChaCha) (front : ChaCha) → queries ≤ 200 → IsMaker maker →
+    AreAskers seed queries 1 front askers rest → (k : ℕ) (client : Client) → slice_get (maker ∷ askers) k ≡ Some client → HasFewBytes client
+all_few seed queries maker askers rest front few makes are zero client is =
+    let same : maker ≡ client = cc in subst HasFewBytes same (maker_few maker makes)
+all_few seed queries maker askers rest front few makes are (suc k) client is = askers_few seed queries 1 askers front rest few are k client is
 
-pub clients_short : (seed sessions queries : ℕ) (clients : List Client) → queries ≤ 200 → AreClients seed sessions queries clients →
-    (k : ℕ) (client : Client) → slice_get clients k ≡ Some client → IsShortStream client
-clients_short seed sessions queries clients few are k client is =
-    all_short seed queries are.maker are.askers are.rest _ few are.first are.others k client
+pub clients_few : (seed sessions queries : ℕ) (clients : List Client) → queries ≤ 200 → AreClients seed sessions queries clients →
+    (k : ℕ) (client : Client) → slice_get clients k ≡ Some client → HasFewBytes client
+clients_few seed sessions queries clients few are k client is =
+    all_few seed queries are.maker are.askers are.rest _ few are.first are.others k client
     (subst (λ (cs : List Client). slice_get cs k ≡ Some client) are.is is)

@@ -19,27 +19,27 @@ use Rattle.typing_rules.specs.Literals.{quoted}
 use Rattle.typing_rules.specs.Outcome.{Outcome}
 use Rattle.typing_rules.specs.Sound.{Holds}
 use Rattle.typing_rules.proofs.Numbers.{IsConstant, quoted_is}
-use Rattle.sound_table.specs.WellFormed.{IsWithin, IsShort, IsSmall, IsDefault}
+use Rattle.sound_table.specs.WellFormed.{IsWithin, IsWithinLimit, IsSmall, IsDefault}
 
 pub holds_more : {A : Type 0} (P Q : A → Type 0) (o : Outcome A) → ((a : A) → P a → Q a) → Holds P o → Holds Q o
 holds_more P Q (Ok a) f h = f a h
 holds_more P Q (Err code) f h = tt
 
 null_is : (kind : SqlType) → IsDefault kind value.Null
-null_is Boolean = record { typed = refl; short = tt; small = tt }
-null_is Integer = record { typed = refl; short = tt; small = tt }
-null_is Bigint = record { typed = refl; short = tt; small = tt }
-null_is Text = record { typed = refl; short = tt; small = tt }
-null_is (Varchar limit) = record { typed = refl; short = tt; small = tt }
-null_is Numeric = record { typed = refl; short = tt; small = tt }
+null_is Boolean = record { typed = refl; within = tt; small = tt }
+null_is Integer = record { typed = refl; within = tt; small = tt }
+null_is Bigint = record { typed = refl; within = tt; small = tt }
+null_is Text = record { typed = refl; within = tt; small = tt }
+null_is (Varchar limit) = record { typed = refl; within = tt; small = tt }
+null_is Numeric = record { typed = refl; within = tt; small = tt }
 
 -- ---- texts
 
 stored_is : (kind : SqlType) (text : List ℕ)
-    → is_null_or_of kind (value.Text text) ≡ true → IsShort kind (value.Text text) → Holds (IsDefault kind) (stored_text text)
-stored_is kind text typed short =
+    → is_null_or_of kind (value.Text text) ≡ true → IsWithinLimit kind (value.Text text) → Holds (IsDefault kind) (stored_text text)
+stored_is kind text typed within =
     cond_both (nat_le (length text) 65536) (Ok (value.Text text)) (Err S54000) (Holds (IsDefault kind))
-    (λ e. record { typed = typed; short = short; small = leb-true (length text) 65536 e }) (λ _. tt)
+    (λ e. record { typed = typed; within = within; small = leb-true (length text) 65536 e }) (λ _. tt)
 
 -- what is left of a text that is too long
 shortened : (limit : ℕ) (text : List ℕ) → IsWithin limit (encode_utf8_all (take limit (chars text)))
@@ -60,8 +60,8 @@ limited_is limit text =
 
 -- ---- values
 
-plain_value : (kind : SqlType) (v : Value) → is_null_or_of kind v ≡ true → IsShort kind v → IsSmall v → IsDefault kind v
-plain_value kind v t s m = record { typed = t; short = s; small = m }
+plain_value : (kind : SqlType) (v : Value) → is_null_or_of kind v ≡ true → IsWithinLimit kind v → IsSmall v → IsDefault kind v
+plain_value kind v t s m = record { typed = t; within = s; small = m }
 
 assigned_is : (kind : SqlType) (v : Value) → Holds (IsDefault kind) (assigned kind v)
 assigned_is kind value.Unset = null_is kind

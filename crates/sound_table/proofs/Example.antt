@@ -62,7 +62,7 @@ no_zero text e at =
     let some : list_any (λ b. b == 0) text ≡ true = list_any_at (λ b. b == 0) text at.0 0 at.1 zero_there in
     cc
 
--- whether a word is short and has no zero byte; signs are plain, and other tokens aren't looked at
+-- whether a word has at most 63 bytes and has no zero byte; signs are plain, and other tokens aren't looked at
 is_plain : TokenKind → Bool
 is_plain (t.Word text) = nat_le (length text) 63 && not (list_any (λ b. b == 0) text)
 is_plain (t.Sign mark) = true
@@ -72,7 +72,7 @@ plain_kind : (kind : TokenKind) → is_plain kind ≡ true → IsPlainKind kind
 unfolding is_plain
 plain_kind (t.Word text) e =
     let parts = and_parts (nat_le (length text) 63) (not (list_any (λ b. b == 0) text)) e in
-    record { short = leb-true (length text) 63 parts.0; no_zero = no_zero text (not-true (list_any (λ b. b == 0) text) parts.1) }
+    record { fits = leb-true (length text) 63 parts.0; no_zero = no_zero text (not-true (list_any (λ b. b == 0) text) parts.1) }
 plain_kind (t.Sign mark) e = tt
 plain_kind _ e = absurd (cc)
 

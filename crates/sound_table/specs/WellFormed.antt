@@ -21,9 +21,9 @@ abbrev pub IsWithin : ℕ → List ℕ → Type 0
 IsWithin limit text = IsUtf8 text → (limit == 0 || nat_le (length (chars text)) limit) ≡ true
 
 -- a text of a varchar is within its limit
-abbrev pub IsShort : SqlType → Value → Type 0
-IsShort (Varchar limit) (value.Text text) = IsWithin limit text
-IsShort _ _ = Unit {0}
+abbrev pub IsWithinLimit : SqlType → Value → Type 0
+IsWithinLimit (Varchar limit) (value.Text text) = IsWithin limit text
+IsWithinLimit _ _ = Unit {0}
 
 -- a text has at most 65,536 bytes
 abbrev pub IsSmall : Value → Type 0
@@ -33,7 +33,7 @@ IsSmall _ = Unit {0}
 -- a default of the type: null, or a value of it
 pub record IsDefault (kind : SqlType) (v : Value) : Type 0 where
   pub typed : is_null_or_of kind v ≡ true
-  pub short : IsShort kind v
+  pub within : IsWithinLimit kind v
   pub small : IsSmall v
 
 -- a varchar has a length that a table may have, and the default is one of the type

@@ -15,8 +15,8 @@ use Rattle.sound_text.proofs.Zeros.{before, following, folded_free, quoted_free}
 kind_plain : {joined : Bool} {bytes after : List ℕ} {k : TokenKind} → IsToken joined bytes after k → HasNoZero bytes → IsPlainKind k
 kind_plain (IsToken.word joined b bytes after start all stops short free) h =
     let long = length-map (b ∷ bytes) to_ascii_lowercase in
-    record { short = omega (arith, long, short); no_zero = folded_free (b ∷ bytes) h }
-kind_plain (IsToken.quoted joined name after stops some short) h = record { short = short; no_zero = quoted_free 34 name h }
+    record { fits = omega (arith, long, short); no_zero = folded_free (b ∷ bytes) h }
+kind_plain (IsToken.quoted joined name after stops some short) h = record { fits = short; no_zero = quoted_free 34 name h }
 kind_plain (IsToken.string joined text after stops) h = quoted_free 39 text h
 kind_plain (IsToken.number joined b bytes after start all stops whole small) h = tt
 kind_plain (IsToken.parameter joined b bytes after start all short stops) h = tt

@@ -28,7 +28,7 @@ IsLimited ts xs = spells (message max_depth max_rows max_statements) ts xs
 -- ---- plain lists
 
 pub record IsPlainName (name : List ℕ) : Type 0 where
-  pub short : length name ≤ 63
+  pub fits : length name ≤ 63
   pub no_zero : HasNoZero name
 
 abbrev pub IsPlainNumber : ℤ → Type 0

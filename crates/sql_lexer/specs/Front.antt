@@ -1,10 +1,12 @@
 -- The piece at the front of a text, as the private functions find it. No public clause speaks of it.
-use Rattle.std.specs.Prelude.{◌≡◌, ℕ, ◌+◌, ◌-◌, Bool, false, not, ◌&&◌, ◌||◌, if◌then◌else◌, ◌==◌, nat_lt, List, length, take, drop, slice_index, Option, Some, None, Result, Ok, Err, pos}
+use Rattle.std.specs.Prelude.{◌≡◌, ℕ, ◌+◌, ◌-◌, Bool, true, false, not, ◌&&◌, ◌||◌, if◌then◌else◌, ◌==◌, nat_lt, List, length, take, drop, slice_index, Option, Some, None, Result, Ok, Err, pos}
 use Rattle.sql_tree.specs.declared.token.Sign.{Sign}
 use Rattle.sql_tree.specs.declared.token.Sign.TheVariants as s
 use Rattle.sql_tree.specs.declared.token.TokenKind.TheVariants as k
 use Rattle.sql_lexer.specs.declared.fault.LexFault.{LexFault}
 use Rattle.sql_lexer.specs.declared.fault.LexFault.TheVariants.{UnclosedString, UnclosedComment, UnclosedName, EmptyName, BadCharacter, Junk, TooWide, NameTooLong, Unsupported, Memory}
+use Rattle.sql_lexer.specs.declared.piece.Before.{Before}
+use Rattle.sql_lexer.specs.declared.piece.Before.TheVariants as before
 use Rattle.sql_lexer.specs.declared.piece.Piece.{Piece}
 use Rattle.sql_lexer.specs.declared.piece.Piece.TheVariants.{Gap, Kind}
 use Rattle.sql_lexer.specs.declared.scan.Class.TheVariants as class
@@ -24,6 +26,11 @@ Gives read (Err f) = read ≡ Err f
 abbrev pub gap_or : LexFault → Option ℕ → Front
 gap_or f None = Err f
 gap_or f (Some end) = Ok (Gap, end)
+
+-- whether a name or a closing parenthesis stands directly before
+abbrev pub is_joined : Before → Bool
+is_joined before.Joined = true
+is_joined before.Other = false
 
 unfoldable pub comment_piece : ℕ → List ℕ → Front
 comment_piece at z = gap_or (UnclosedComment at) (comment_from 0 false 2 (drop 2 z))

@@ -6,7 +6,7 @@ ghost use Rattle.sql_lexer.specs.declared.fault.LexFault.{LexFault};
 ghost use Rattle.sql_lexer.specs.Tokens.{AreTokensOf, IsFirstFaultOf, IsFaultOf, IsFaultOrMemory};
 
 use crate::LexFault;
-use crate::piece::{Piece, front, joins};
+use crate::piece::{Before, Piece, after, front};
 use cell_base::Text;
 use sql_tree::Token;
 use std::alloc::Global;
@@ -19,21 +19,21 @@ fn rest(text: &[u8], at: usize) -> &[u8]
 }
 
 fn cut(alloc: Global, text: &[u8]) -> Result<Vec<Token>, LexFault>
-    requires short { length text.now < 2 ^ 32 }
+    requires fits { length text.now < 2 ^ 32 }
     requires utf8 { IsUtf8 text.now }
     ensures found { IfOk result (λ ts. AreTokensOf text.now ts.items) }
     ensures fault { IfErr result (λ f. IsFaultOf text.now f) }
 {
     let mut found = Vec::new(alloc);
-    let mut joined = false;
+    let mut before = Before::Other;
     let mut at: usize = 0;
     while at < text.len() {
         let ahead = rest(text, at);
-        let (piece, len) = front(alloc, joined, at as u32, ahead)?;
+        let (piece, len) = front(alloc, before, at as u32, ahead)?;
         match piece {
-            Piece::Gap => joined = false,
+            Piece::Gap => before = Before::Other,
             Piece::Kind(kind) => {
-                joined = joins(&kind);
+                before = after(&kind);
                 let token = Token {
                     kind,
                     start: at as u32,

@@ -20,13 +20,22 @@ pub enum Piece {
     Kind(TokenKind),
 }
 
+/// What stands directly before a piece.
+#[derive(Clone, Copy)]
+pub enum Before {
+    /// A name or a closing parenthesis: a point here never begins a number.
+    Joined,
+    /// Anything else, or nothing.
+    Other,
+}
+
 /// A piece, and its length in bytes.
 pub type Found = (Piece, usize);
 
 #[tactic(auto, unfolding(crate::specs::Front::comment_piece))]
 fn comment_piece(at: u32, z: &[u8]) -> Result<Found, LexFault>
     requires two { 2 ≤ length z.now }
-    requires short { length z.now < 2 ^ 32 }
+    requires fits { length z.now < 2 ^ 32 }
     ensures value { Gives (spec.comment_piece at z.now) result }
     ensures within { IfOk result (λ f. (1 ≤ f.1) × (f.1 ≤ length z.now)) }
 {
@@ -63,7 +72,7 @@ fn word(alloc: Global, at: u32, z: &[u8]) -> Result<Found, LexFault>
 #[tactic(auto, unfolding(crate::specs::Front::string))]
 fn string(alloc: Global, at: u32, z: &[u8]) -> Result<Found, LexFault>
     requires some { 1 ≤ length z.now }
-    requires short { length z.now < 2 ^ 32 }
+    requires fits { length z.now < 2 ^ 32 }
     requires quote { slice_index z.now 0 ≡ 39 }
     requires utf8 { IsUtf8 z.now }
     ensures value { Gives (spec.string at z.now) result }
@@ -81,7 +90,7 @@ fn string(alloc: Global, at: u32, z: &[u8]) -> Result<Found, LexFault>
 #[tactic(auto, unfolding(crate::specs::Front::quoted))]
 fn quoted(alloc: Global, at: u32, z: &[u8]) -> Result<Found, LexFault>
     requires some { 1 ≤ length z.now }
-    requires short { length z.now < 2 ^ 32 }
+    requires fits { length z.now < 2 ^ 32 }
     requires quote { slice_index z.now 0 ≡ 34 }
     requires utf8 { IsUtf8 z.now }
     ensures value { Gives (spec.quoted at z.now) result }
@@ -199,26 +208,24 @@ fn param(at: u32, z: &[u8]) -> Result<Found, LexFault>
 }
 
 #[tactic(auto, unfolding(crate::specs::Front::point))]
-fn point(joined: bool, at: u32, z: &[u8]) -> Result<Found, LexFault>
+fn point(before: Before, at: u32, z: &[u8]) -> Result<Found, LexFault>
     requires some { 1 ≤ length z.now }
-    ensures value { Gives (spec.point joined at z.now) result }
+    ensures value { Gives (spec.point (spec.is_joined before) at z.now) result }
     ensures within { IfOk result (λ f. (1 ≤ f.1) × (f.1 ≤ length z.now)) }
 {
-    if !joined && is_in(Class::Digit, byte(z, 1)) {
-        Err(LexFault::Unsupported(at))
-    } else {
-        Ok((Piece::Kind(TokenKind::Sign(Sign::Dot)), 1))
+    match before {
+        Before::Other if is_in(Class::Digit, byte(z, 1)) => Err(LexFault::Unsupported(at)),
+        Before::Other | Before::Joined => Ok((Piece::Kind(TokenKind::Sign(Sign::Dot)), 1)),
     }
 }
 
-/// The piece at the front of the text `z`, which stands at the place `at`. `joined` says that a name or a closing
-/// parenthesis stands directly before.
+/// The piece at the front of the text `z`, which stands at the place `at`, directly after `before`.
 #[tactic(auto, unfolding(crate::specs::Front::piece))]
-pub fn front(alloc: Global, joined: bool, at: u32, z: &[u8]) -> Result<Found, LexFault>
+pub fn front(alloc: Global, before: Before, at: u32, z: &[u8]) -> Result<Found, LexFault>
     requires some { 1 ≤ length z.now }
-    requires short { length z.now < 2 ^ 32 }
+    requires fits { length z.now < 2 ^ 32 }
     requires utf8 { IsUtf8 z.now }
-    ensures value { Gives (spec.piece joined at z.now) result }
+    ensures value { Gives (spec.piece (spec.is_joined before) at z.now) result }
     ensures within { IfOk result (λ f. (1 ≤ f.1) × (f.1 ≤ length z.now)) }
 {
     let (b, next) = (z[0], byte(z, 1));
@@ -239,18 +246,18 @@ pub fn front(alloc: Global, joined: bool, at: u32, z: &[u8]) -> Result<Found, Le
     } else if b == b'$' {
         param(at, z)
     } else if b == b'.' {
-        point(joined, at, z)
+        point(before, at, z)
     } else {
         sign(at, z)
     }
 }
 
-/// Whether a point directly after this is never the start of a number.
-pub fn joins(kind: &TokenKind) -> bool
-    ensures { result ≡ lexemes.joins kind.now }
+/// What the token is for the piece directly after it.
+pub fn after(kind: &TokenKind) -> Before
+    ensures { spec.is_joined result ≡ lexemes.joins kind.now }
 {
-    matches!(
-        kind,
-        TokenKind::Word(_) | TokenKind::Quoted(_) | TokenKind::Sign(Sign::Close)
-    )
+    match kind {
+        TokenKind::Word(_) | TokenKind::Quoted(_) | TokenKind::Sign(Sign::Close) => Before::Joined,
+        _ => Before::Other,
+    }
 }

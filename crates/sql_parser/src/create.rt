@@ -10,6 +10,7 @@ ghost use Rattle.sql_parser.specs.Reads.{Reads};
 use crate::change::NamePart;
 use crate::error::Refusal;
 use crate::expression::expression;
+use crate::kept::kept;
 use crate::parts::{Next, Part, listed, repeat};
 use crate::select::{at_name, name};
 use crate::table::table_of;
@@ -24,12 +25,10 @@ use std::alloc::Global;
 fn constant_word(tokens: &mut Tokens<'_>) -> Result<Expr, Refusal>
     ensures { Reads (reading st.constant_word tokens.old) result tokens.new }
 {
-    if tokens.at_key(Keyword::True) {
-        tokens.key(Keyword::True)?;
+    if tokens.takes_key(Keyword::True) {
         return Ok(Expr::Flag(true));
     }
-    if tokens.at_key(Keyword::False) {
-        tokens.key(Keyword::False)?;
+    if tokens.takes_key(Keyword::False) {
         return Ok(Expr::Flag(false));
     }
     tokens.key(Keyword::Null)?;
@@ -63,8 +62,7 @@ fn check(alloc: Global, tokens: &mut Tokens<'_>) -> Result<Expr, Refusal>
     tokens.reserved(Word::Check)?;
     tokens.sign(Sign::Open)?;
     let condition = expression(alloc, tokens)?;
-    tokens.sign(Sign::Close)?;
-    Ok(condition)
+    kept(condition, tokens.sign(Sign::Close))
 }
 
 /// [CONSTRAINT name]
@@ -83,22 +81,18 @@ fn label(alloc: Global, tokens: &mut Tokens<'_>) -> Result<(), Refusal>
 fn constraint_body(alloc: Global, tokens: &mut Tokens<'_>) -> Result<Constraint, Refusal>
     ensures { Reads (reading (st.constraint_body max_depth) tokens.old) result tokens.new }
 {
-    if tokens.at_reserved(Word::Primary) {
-        tokens.reserved(Word::Primary)?;
+    if tokens.takes_reserved(Word::Primary) {
         tokens.word(Word::Key)?;
         return Ok(Constraint::Primary);
     }
-    if tokens.at_key(Keyword::Not) {
-        tokens.key(Keyword::Not)?;
+    if tokens.takes_key(Keyword::Not) {
         tokens.key(Keyword::Null)?;
         return Ok(Constraint::NotNull);
     }
-    if tokens.at_key(Keyword::Null) {
-        tokens.key(Keyword::Null)?;
+    if tokens.takes_key(Keyword::Null) {
         return Ok(Constraint::Null);
     }
-    if tokens.at_reserved(Word::Default) {
-        tokens.reserved(Word::Default)?;
+    if tokens.takes_reserved(Word::Default) {
         return Ok(Constraint::Default(constant(alloc, tokens)?));
     }
     Ok(Constraint::Check(check(alloc, tokens)?))
@@ -149,10 +143,9 @@ impl Next for NextConstraint {
 fn size(tokens: &mut Tokens<'_>) -> Result<Option<i64>, Refusal>
     ensures { Reads (reading st.size tokens.old) result tokens.new }
 {
-    if !tokens.at_sign(Sign::Open) {
+    if !tokens.takes_sign(Sign::Open) {
         return Ok(None);
     }
-    tokens.sign(Sign::Open)?;
     let number = tokens.integer()?;
     tokens.sign(Sign::Close)?;
     Ok(Some(number))

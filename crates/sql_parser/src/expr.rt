@@ -7,7 +7,10 @@ ghost use Rattle.sql_parser.specs.Levels.{level_of_start};
 ghost use Rattle.sql_parser.specs.Nests.{Nests};
 ghost use Rattle.sql_parser.specs.Reads.{Reads};
 
+mod ranges;
+
 use crate::error::Refusal;
+use crate::kept::{beside, kept};
 use crate::levels::{Chain, Start};
 use crate::nodes;
 use crate::nodes::{binary, comparison, leaf, link, made};
@@ -40,7 +43,7 @@ impl<F: Fn(Global, &mut Tokens<'_>, u32, Start) -> Result<Node, Refusal>> Gramma
         ensures { Reads (spec.parens self.now.room (spec.read self.now.inner) tokens.old) result tokens.new }
     {
         let x = self.deeper(tokens, Start::Whole)?;
-        tokens.close()?;
+        let x = kept(x, tokens.close())?;
         made(self.room, x.tree, 1, x.depth)
     }
 
@@ -50,7 +53,7 @@ impl<F: Fn(Global, &mut Tokens<'_>, u32, Start) -> Result<Node, Refusal>> Gramma
         ensures { Reads (spec.argument self.now.room (spec.read self.now.inner) called tokens.old) result tokens.new }
     {
         let x = self.deeper(tokens, Start::Whole)?;
-        tokens.close()?;
+        let x = kept(x, tokens.close())?;
         nodes::call(self.alloc, self.room, called, x)
     }
 
@@ -163,8 +166,8 @@ impl<F: Fn(Global, &mut Tokens<'_>, u32, Start) -> Result<Node, Refusal>> Gramma
                 return Ok(left);
             };
             tokens.skip();
-            let right = self.un(tokens)?;
-            left = binary(self.alloc, self.room, op, left, right)?;
+            let (before, right) = beside(left, self.un(tokens))?;
+            left = binary(self.alloc, self.room, op, before, right)?;
         }
         Err(Refusal::NotInGrammar)
     }
@@ -180,8 +183,8 @@ impl<F: Fn(Global, &mut Tokens<'_>, u32, Start) -> Result<Node, Refusal>> Gramma
                 return Ok(left);
             };
             tokens.skip();
-            let right = self.prod(tokens)?;
-            left = binary(self.alloc, self.room, op, left, right)?;
+            let (before, right) = beside(left, self.prod(tokens))?;
+            left = binary(self.alloc, self.room, op, before, right)?;
         }
         Err(Refusal::NotInGrammar)
     }
@@ -202,28 +205,6 @@ impl<F: Fn(Global, &mut Tokens<'_>, u32, Start) -> Result<Node, Refusal>> Gramma
             }
         }
         Err(Refusal::NotInGrammar)
-    }
-
-    #[tactic(auto, unfolding(sql_grammar::specs::Reading::among))]
-    fn among(&self, tokens: &mut Tokens<'_>, negated: bool, left: Node) -> Result<Node, Refusal>
-        requires { Nests self.now.inner (F.pre self.now.deep) (F.post self.now.deep) }
-        ensures { Reads (spec.among self.now.room (spec.read self.now.inner) negated left tokens.old) result tokens.new }
-    {
-        tokens.opening()?;
-        let (found, depth) = self.list(tokens)?;
-        tokens.close()?;
-        nodes::one_of(self.alloc, self.room, left, found, depth, negated)
-    }
-
-    #[tactic(auto, unfolding(sql_grammar::specs::Reading::between))]
-    fn between(&self, tokens: &mut Tokens<'_>, negated: bool, left: Node) -> Result<Node, Refusal>
-        requires { Nests self.now.inner (F.pre self.now.deep) (F.post self.now.deep) }
-        ensures { Reads (spec.between self.now.room (spec.read self.now.inner) negated left tokens.old) result tokens.new }
-    {
-        let low = self.sum(tokens)?;
-        tokens.and_word()?;
-        let high = self.sum(tokens)?;
-        nodes::between(self.alloc, self.room, negated, left, low, high)
     }
 
     #[tactic(auto, unfolding(sql_grammar::specs::Reading::not_range))]
@@ -284,7 +265,7 @@ impl<F: Fn(Global, &mut Tokens<'_>, u32, Start) -> Result<Node, Refusal>> Gramma
             return Ok(left);
         };
         tokens.skip();
-        let right = self.rng(tokens)?;
+        let (left, right) = beside(left, self.rng(tokens))?;
         binary(self.alloc, self.room, op, left, right)
     }
 
@@ -301,8 +282,8 @@ impl<F: Fn(Global, &mut Tokens<'_>, u32, Start) -> Result<Node, Refusal>> Gramma
     fn null_test(&self, tokens: &mut Tokens<'_>, left: Node) -> Result<Node, Refusal>
         ensures { Reads (spec.null_test self.now.room (spec.read self.now.inner) left tokens.old) result tokens.new }
     {
-        let negated = tokens.not_word()?;
-        tokens.null_word()?;
+        let (left, negated) = beside(left, tokens.not_word())?;
+        let left = kept(left, tokens.null_word())?;
         nodes::null_test(self.alloc, self.room, left, negated)
     }
 
@@ -348,8 +329,8 @@ impl<F: Fn(Global, &mut Tokens<'_>, u32, Start) -> Result<Node, Refusal>> Gramma
                 return Ok(left);
             };
             tokens.skip();
-            let right = self.not(tokens)?;
-            left = binary(self.alloc, self.room, op, left, right)?;
+            let (before, right) = beside(left, self.not(tokens))?;
+            left = binary(self.alloc, self.room, op, before, right)?;
         }
         Err(Refusal::NotInGrammar)
     }
@@ -365,8 +346,8 @@ impl<F: Fn(Global, &mut Tokens<'_>, u32, Start) -> Result<Node, Refusal>> Gramma
                 return Ok(left);
             };
             tokens.skip();
-            let right = self.and(tokens)?;
-            left = binary(self.alloc, self.room, op, left, right)?;
+            let (before, right) = beside(left, self.and(tokens))?;
+            left = binary(self.alloc, self.room, op, before, right)?;
         }
         Err(Refusal::NotInGrammar)
     }

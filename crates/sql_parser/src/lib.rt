@@ -11,10 +11,12 @@ ghost use Rattle.sql_parser.specs.Reads.{Gives, EndsWith};
 
 mod change;
 mod create;
+mod defaults;
 mod error;
 mod expr;
 mod expression;
 mod grammar;
+mod kept;
 mod levels;
 mod message;
 mod nodes;
@@ -22,6 +24,7 @@ mod parts;
 mod select;
 mod setting;
 mod table;
+mod takes;
 mod tokens;
 mod transaction;
 

@@ -138,12 +138,25 @@ fn pair(alloc: Global, op: Op, a: Expr, b: Expr) -> Result<Boxed<Expr>, Memory>
     )
 }
 
+fn at_least(alloc: Global, a: &Expr, low: Expr) -> Result<Boxed<Expr>, Memory>
+    ensures { IfOk result (λ x. x ≡ Expr.Binary Op.Ge a.now low) }
+{
+    let a = a.copy(alloc)?;
+    pair(alloc, Op::Ge, a, low)
+}
+
+fn at_most(alloc: Global, above: Boxed<Expr>, a: Expr, high: Expr) -> Result<Expr, Memory>
+    ensures { IfOk result (λ x. x ≡ Expr.Binary Op.And above (Expr.Binary Op.Le a high)) }
+{
+    let under = pair(alloc, Op::Le, a, high)?;
+    Ok(Expr::Binary(Op::And, above, under))
+}
+
 fn within(alloc: Global, a: Expr, low: Expr, high: Expr) -> Result<Expr, Memory>
     ensures { IfOk result (λ x. x ≡ within a low high) }
 {
-    let above = pair(alloc, Op::Ge, a.copy(alloc)?, low)?;
-    let under = pair(alloc, Op::Le, a, high)?;
-    Ok(Expr::Binary(Op::And, above, under))
+    let above = at_least(alloc, &a, low)?;
+    at_most(alloc, above, a, high)
 }
 
 fn negation(alloc: Global, negated: bool, a: Expr) -> Result<Expr, Memory>

@@ -242,11 +242,9 @@ fn source(
 fn direction(tokens: &mut Tokens<'_>) -> Result<bool, Refusal>
     ensures { Reads (reading st.direction tokens.old) result tokens.new }
 {
-    if tokens.at_reserved(Word::Asc) {
-        tokens.reserved(Word::Asc)?;
+    if tokens.takes_reserved(Word::Asc) {
         Ok(false)
-    } else if tokens.at_reserved(Word::Desc) {
-        tokens.reserved(Word::Desc)?;
+    } else if tokens.takes_reserved(Word::Desc) {
         Ok(true)
     } else {
         Ok(false)

@@ -82,16 +82,13 @@ fn negative(alloc: Global, number: i64) -> Result<Text, Memory>
 fn value_word(alloc: Global, tokens: &mut Tokens<'_>) -> Result<Text, Refusal>
     ensures { Reads (reading st.value_word tokens.old) result tokens.new }
 {
-    if tokens.at_key(Keyword::True) {
-        tokens.key(Keyword::True)?;
+    if tokens.takes_key(Keyword::True) {
         return Ok(text_of(alloc, "true")?);
     }
-    if tokens.at_key(Keyword::False) {
-        tokens.key(Keyword::False)?;
+    if tokens.takes_key(Keyword::False) {
         return Ok(text_of(alloc, "false")?);
     }
-    if tokens.at_reserved(Word::On) {
-        tokens.reserved(Word::On)?;
+    if tokens.takes_reserved(Word::On) {
         return Ok(text_of(alloc, "on")?);
     }
     tokens.reserved(Word::Default)?;

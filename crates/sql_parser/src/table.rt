@@ -2,6 +2,7 @@
 ghost use Rattle.std.specs.Prelude.{◌≡◌, ◌++◌, None, false, IfOk, OnOk};
 ghost use Rattle.sql_grammar.specs.Statements as st;
 
+use crate::defaults::last_default;
 use cell_base::{Items, Memory, SqlType, Text};
 use sql_grammar::{Constraint, Element};
 use sql_tree::{ColumnDef, CreateTable, Expr};
@@ -21,20 +22,6 @@ fn not_null(mut constraints: &[Constraint]) -> bool
         constraints = rest;
     }
     last
-}
-
-/// The last DEFAULT.
-fn default(alloc: Global, mut constraints: &[Constraint]) -> Result<Option<Expr>, Memory>
-    ensures { IfOk result (λ last. last ≡ st.default None constraints.entry.now) }
-{
-    let mut last = None;
-    while let [first, rest @ ..] = constraints {
-        if let Constraint::Default(constant) = first {
-            last = Some(constant.copy(alloc)?);
-        }
-        constraints = rest;
-    }
-    Ok(last)
 }
 
 /// Whether PRIMARY KEY is among them.
@@ -62,7 +49,7 @@ fn column(
         name: name.copy(alloc)?,
         kind,
         not_null: not_null(constraints),
-        default: default(alloc, constraints)?,
+        default: last_default(alloc, constraints)?,
         key: is_primary(constraints),
     })
 }

@@ -31,16 +31,15 @@ fn work(tokens: &mut Tokens<'_>) -> Result<(), Refusal>
 fn level(tokens: &mut Tokens<'_>) -> Result<(), Refusal>
     ensures { Reads (reading st.level tokens.old) result tokens.new }
 {
-    if tokens.at_word(Word::Serializable) {
-        return tokens.word(Word::Serializable);
+    if tokens.takes_word(Word::Serializable) {
+        return Ok(());
     }
-    if tokens.at_word(Word::Repeatable) {
-        tokens.word(Word::Repeatable)?;
+    if tokens.takes_word(Word::Repeatable) {
         return tokens.word(Word::Read);
     }
     tokens.word(Word::Read)?;
-    if tokens.at_word(Word::Committed) {
-        tokens.word(Word::Committed)
+    if tokens.takes_word(Word::Committed) {
+        Ok(())
     } else {
         tokens.word(Word::Uncommitted)
     }

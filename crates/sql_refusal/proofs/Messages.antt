@@ -27,43 +27,43 @@ use Rattle.sql_refusal.proofs.WideTypes.{message_more, narrow, widen}
 
 -- ---- what is read is no longer than the marks
 
-repeats_short : {A : Type 0} (R : List Mark → List A → Type 0) → ((ts : List Mark) (xs : List A) → R ts xs → length xs ≤ length ts) → {us : List Mark} {ys : List A} → Repeats R us ys → length ys ≤ length us
-repeats_short R each Repeats.none = omega arith
-repeats_short R each (Repeats.more {ts = ts} {us = us} {xs = xs} {ys = ys} o os) =
+repeats_few : {A : Type 0} (R : List Mark → List A → Type 0) → ((ts : List Mark) (xs : List A) → R ts xs → length xs ≤ length ts) → {us : List Mark} {ys : List A} → Repeats R us ys → length ys ≤ length us
+repeats_few R each Repeats.none = omega arith
+repeats_few R each (Repeats.more {ts = ts} {us = us} {xs = xs} {ys = ys} o os) =
     let a = each ts xs o in
-    let b = repeats_short R each os in
+    let b = repeats_few R each os in
     omega (arith, length-append ts us, length-append xs ys)
 
-single_short : {A : Type 0} (a : Syntax A) → steps.empty a ≡ false → (ts : List Mark) (xs : List A) → spells (single a) ts xs → length xs ≤ length ts
-single_short a some ts xs o = let l = long a ts o.of o.spelled some in let e = ap length o.made in omega arith
+single_few : {A : Type 0} (a : Syntax A) → steps.empty a ≡ false → (ts : List Mark) (xs : List A) → spells (single a) ts xs → length xs ≤ length ts
+single_few a some ts xs o = let l = long a ts o.of o.spelled some in let e = ap length o.made in omega arith
 
-after_short : {A : Type 0} (a : Syntax A) → (ts : List Mark) (xs : List A) → spells (sign s.Comma ▹ single a) ts xs → length xs ≤ length ts
-after_short a ts xs o =
+after_few : {A : Type 0} (a : Syntax A) → (ts : List Mark) (xs : List A) → spells (sign s.Comma ▹ single a) ts xs → length xs ≤ length ts
+after_few a ts xs o =
     let l = long (sign s.Comma ▹ single a) ts xs o refl in
     let e = ap length o.made in
     let f = ap length o.spelled.second.made in
     omega arith
 
-listed_short : {A : Type 0} (a : Syntax A) → steps.empty a ≡ false → (ts : List Mark) (xs : List A) → spells (listed a) ts xs → length xs ≤ length ts
-listed_short a some ts xs o =
+listed_few : {A : Type 0} (a : Syntax A) → steps.empty a ≡ false → (ts : List Mark) (xs : List A) → spells (listed a) ts xs → length xs ≤ length ts
+listed_few a some ts xs o =
     let p = o.parts in
-    let h = single_short a some p.front o.xs p.first in
-    let r = repeats_short (spells (sign s.Comma ▹ single a)) (after_short a) p.second in
+    let h = single_few a some p.front o.xs p.first in
+    let r = repeats_few (spells (sign s.Comma ▹ single a)) (after_few a) p.second in
     let e = ap length o.all in
     let f = ap length p.splits in
     omega (arith, length-append o.xs o.ys, length-append p.front p.rest)
 
 pub rows_fit : (n depth : ℕ) (ts : List Mark) (xs : List (List (Option Expr))) → length ts ≤ n → spells (listed (row depth)) ts xs → nat_le (length xs) n ≡ true
 unfolding row
-rows_fit n depth ts xs h o = let l = listed_short (row depth) refl ts xs o in le-leb (length xs) n (omega arith)
+rows_fit n depth ts xs h o = let l = listed_few (row depth) refl ts xs o in le-leb (length xs) n (omega arith)
 
 one_at_most : (x : Option Statement) → length (as_list x) ≤ 1
 one_at_most None = omega arith
 one_at_most (Some x) = omega arith
 
-next_short : (depth rows : ℕ) (ts : List Mark) (xs : List Statement) → spells (next_piece depth rows) ts xs → length xs ≤ length ts
+next_few : (depth rows : ℕ) (ts : List Mark) (xs : List Statement) → spells (next_piece depth rows) ts xs → length xs ≤ length ts
 unfolding next_piece
-next_short depth rows ts xs o =
+next_few depth rows ts xs o =
     let l = long (sign s.Semi ▹ map as_list (piece depth rows)) ts xs o refl in
     let e = ap length o.made in
     let f = ap length o.spelled.second.made in
@@ -75,7 +75,7 @@ statements_fit n depth rows ts xs h o =
     let p = o.parts in
     let m = one_at_most p.first.of in
     let e = ap length p.first.made in
-    let r = repeats_short (spells (next_piece depth rows)) (next_short depth rows) p.second in
+    let r = repeats_few (spells (next_piece depth rows)) (next_few depth rows) p.second in
     let a = ap length o.all in
     let f = ap length p.splits in
     le-leb (length xs) (suc n) (omega (arith, length-append o.xs o.ys, length-append p.front p.rest))

@@ -2,8 +2,8 @@
 #![tactic(auto)]
 
 ghost use Rattle.typing_rules.specs.Typed as spec;
-ghost use Rattle.expr_typing.specs.Gives.{Gives};
-ghost use Rattle.typing_parts.specs.Narrow.{AreNarrow};
+ghost use Rattle.typing_rules.specs.Gives.{Gives};
+ghost use Rattle.typing_parts.specs.Narrow.{AreFewAndNarrow};
 
 use cell_base::{SqlFault, SqlState};
 use change_typing::{typed_delete, typed_insert, typed_update};
@@ -21,7 +21,7 @@ use std::alloc::Global;
 /// [`typed_update`]: change_typing::typed_update
 /// [`typed_delete`]: change_typing::typed_delete
 pub fn typed(alloc: Global, statement: &Statement, tables: &[Table]) -> Result<Typed, SqlFault>
-    requires { AreNarrow tables.now }
+    requires { AreFewAndNarrow tables.now }
     ensures { Gives (spec.typed tables.now statement.now) result }
 {
     match statement {

@@ -6,9 +6,9 @@
 #![tactic(auto)]
 
 #[cfg(test)]
-mod cells;
+mod cases;
 #[cfg(test)]
-mod courses;
+mod cells;
 #[cfg(test)]
 mod play;
 #[cfg(test)]

@@ -34,9 +34,9 @@ pub enum Call {
 /// Calls in order, each in its session.
 pub type Calls = &'static [(u32, Call)];
 
-/// A course of calls over a new store, in which five sessions are open.
+/// A case: calls in order over a new store, in which five sessions are open.
 #[derive(Clone, Copy)]
-pub struct Course {
+pub struct Case {
     /// The levels at which it goes so.
     pub levels: &'static [Level],
     /// Whether the rows 1 with 10 and 2 with 20 are there from the start.
@@ -47,27 +47,27 @@ pub struct Course {
     pub calls: Calls,
 }
 
-/// Plays the courses; the first call that isn't answered as its course says ends it.
-pub fn hold(alloc: Global, courses: &[Course]) -> Result<(), Stop> {
-    for course in courses {
-        hold_one(alloc, course)?;
+/// Plays the cases; the first call that isn't answered as its case says ends it.
+pub fn hold(alloc: Global, cases: &[Case]) -> Result<(), Stop> {
+    for case in cases {
+        hold_one(alloc, case)?;
     }
     Ok(())
 }
 
-/// Plays the course at each of its levels.
-fn hold_one(alloc: Global, course: &Course) -> Result<(), Stop> {
-    for level in course.levels {
-        play(alloc, *level, course)?;
+/// Plays the case at each of its levels.
+fn hold_one(alloc: Global, case: &Case) -> Result<(), Stop> {
+    for level in case.levels {
+        play(alloc, *level, case)?;
     }
     Ok(())
 }
 
-/// The store after the course.
-pub fn play(alloc: Global, level: Level, course: &Course) -> Result<Store, Stop> {
-    let store = stage(alloc, level, course.has_rows)?;
-    let store = play_all(store, course.before)?;
-    play_all(store, course.calls)
+/// The store after the case.
+pub fn play(alloc: Global, level: Level, case: &Case) -> Result<Store, Stop> {
+    let store = stage(alloc, level, case.has_rows)?;
+    let store = play_all(store, case.before)?;
+    play_all(store, case.calls)
 }
 
 /// Makes the calls.

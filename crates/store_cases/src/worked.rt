@@ -1,5 +1,5 @@
-// The courses, each by what it shows.
-use crate::courses::{
+// The cases, each by what it shows.
+use crate::cases::{
     A_PART, AFTER_A_SCAN, CAUSE_SEEN, CAUSE_UNSEEN, COMMITTED_AND_OWN, FIRST_ROW_UPDATED,
     FIRST_ROWS, FIRST_ROWS_LISTED, FREE, INTEGERS, LAST_WRITE, LONE_SESSION, LOST_UPDATE, MISSED,
     NEVER_BACK, NEW_VALUE, NEW_VALUE_ALONE, NEWER_LATER, NO_PART, NO_ROLLED_BACK_ROW, NULLS,

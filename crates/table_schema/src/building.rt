@@ -3,7 +3,7 @@ ghost use Rattle.std.specs.Prelude.{◌≡◌, ◌<◌, ◌^◌, ◌∷◌, [], 
 ghost use Rattle.typing_rules.specs.Expressions.{flag};
 ghost use Rattle.typing_rules.specs.Outcome.{all_of};
 ghost use Rattle.typing_rules.specs.Building as spec;
-ghost use Rattle.expr_typing.specs.Gives.{Gives};
+ghost use Rattle.typing_rules.specs.Gives.{Gives};
 
 use crate::columns::columns_of;
 use crate::keys::key_of;

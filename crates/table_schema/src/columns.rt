@@ -3,7 +3,7 @@ ghost use Rattle.std.specs.Prelude.{◌≡◌, []};
 ghost use Rattle.std.specs.List.{list_any};
 ghost use Rattle.std.specs.Str.{bytes_eq};
 ghost use Rattle.typing_rules.specs.Building as spec;
-ghost use Rattle.expr_typing.specs.Gives.{Gives};
+ghost use Rattle.typing_rules.specs.Gives.{Gives};
 ghost use Rattle.table_schema.specs.Columns.{names};
 
 use cell_base::{Items, SqlFault, SqlState, SqlType, Text, Value};

@@ -1,6 +1,6 @@
 // What no clause says: that the rules of typing are SQL's, by statements typed by hand.
 ghost use Rattle.std.specs.Prelude.{◌≡◌, true};
-ghost use Rattle.typing_parts.specs.Narrow.{AreNarrow};
+ghost use Rattle.typing_parts.specs.Narrow.{AreFewAndNarrow};
 
 use crate::cases::{
     CHANGES, CONDITIONS, DEFINITIONS, INSERTS, LONG, NAMES, OPERATORS, ORDERS, POINTS, QUERIES,
@@ -59,7 +59,7 @@ fn tables_of(alloc: Global) -> Result<Items<Table>, Memory> {
 }
 
 fn are_narrow(tables: &[Table]) -> bool
-    ensures { result ≡ true → AreNarrow tables.now }
+    ensures { result ≡ true → AreFewAndNarrow tables.now }
 {
     for table in tables {
         if table.columns.len() > 32 {

@@ -1,6 +1,6 @@
 // WHERE.
 ghost use Rattle.typing_rules.specs.Changes.{filter_of};
-ghost use Rattle.expr_typing.specs.Gives.{Gives};
+ghost use Rattle.typing_rules.specs.Gives.{Gives};
 ghost use Rattle.expr_typing.specs.Scope.{IsNarrow, sources};
 ghost use Rattle.std.specs.Option.{option_map};
 

@@ -1,7 +1,7 @@
 // Tables and columns by name.
 ghost use Rattle.std.specs.Prelude.{◌≡◌, ◌<◌, ◌^◌, length, IfOk};
 ghost use Rattle.typing_rules.specs.Tables as spec;
-ghost use Rattle.typing_parts.specs.Narrow.{AreNarrow};
+ghost use Rattle.typing_parts.specs.Narrow.{AreFewAndNarrow};
 ghost use Rattle.typing_parts.specs.Numbered.{numbered_or, target_or};
 
 use cell_base::{SqlState, Text};
@@ -25,7 +25,7 @@ pub struct ColumnAt<'a> {
 pub fn table_named<'a>(tables: &'a [Table], name: &Text) -> Result<TableAt<'a>, SqlState>
     requires { length tables.now < 2 ^ 32 }
     ensures found { numbered_or result ≡ spec.table_named tables.now name.now }
-    ensures narrow { AreNarrow tables.now → IfOk result (λ t. length t.table.now.columns < 2 ^ 32) }
+    ensures narrow { AreFewAndNarrow tables.now → IfOk result (λ t. length t.table.now.columns < 2 ^ 32) }
 {
     for (i, table) in tables.iter().enumerate() {
         if table.name.as_str() == name.as_str() {

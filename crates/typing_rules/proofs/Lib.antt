@@ -1,3 +1,4 @@
 pub mod Sound
 pub mod Columns
 pub mod Numbers
+pub mod Lists

@@ -2,6 +2,7 @@ pub mod Kinds
 pub mod WellTyped
 pub mod Assignment
 pub mod Outcome
+pub mod Gives
 pub mod Operators
 pub mod Literals
 pub mod Names

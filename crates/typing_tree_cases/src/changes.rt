@@ -12,7 +12,7 @@ const TABLES: &[&str] = &[
 
 /// What a change comes to.
 #[derive(Clone, Copy)]
-enum Want {
+enum Expected {
     /// An INSERT of this one row; none stands for null.
     Row(Option<i64>, Option<i64>, Option<i64>),
     /// An UPDATE of b to 9 at key 3, which reads a and b for the CHECK.
@@ -22,60 +22,62 @@ enum Want {
     Refused(SqlState),
 }
 
-const CHANGES: &[(&str, Want)] = &[
+const CHANGES: &[(&str, Expected)] = &[
     (
         "INSERT INTO t (b, k) VALUES (8, 7)",
-        Want::Row(Some(7), Some(5), Some(8)),
+        Expected::Row(Some(7), Some(5), Some(8)),
     ),
     (
         "INSERT INTO t VALUES (1, 2)",
-        Want::Row(Some(1), Some(2), None),
+        Expected::Row(Some(1), Some(2), None),
     ),
     (
         "INSERT INTO t VALUES (1, DEFAULT, 3)",
-        Want::Row(Some(1), Some(5), Some(3)),
+        Expected::Row(Some(1), Some(5), Some(3)),
     ),
     (
         "INSERT INTO t (k, k) VALUES (1, 2)",
-        Want::Refused(SqlState::S42701),
+        Expected::Refused(SqlState::S42701),
     ),
     (
         "INSERT INTO t (k, a) VALUES (1)",
-        Want::Refused(SqlState::S42601),
+        Expected::Refused(SqlState::S42601),
     ),
     (
         "INSERT INTO t VALUES (1, 2, 3, 4)",
-        Want::Refused(SqlState::S42601),
+        Expected::Refused(SqlState::S42601),
     ),
     (
         "INSERT INTO t VALUES (2147483648)",
-        Want::Refused(SqlState::S22003),
+        Expected::Refused(SqlState::S22003),
     ),
-    ("UPDATE t SET b = 9 WHERE k = 3", Want::Updated),
+    ("UPDATE t SET b = 9 WHERE k = 3", Expected::Updated),
     (
         "UPDATE t SET b = 9, b = 9 WHERE k = 3",
-        Want::Refused(SqlState::S42601),
+        Expected::Refused(SqlState::S42601),
     ),
     (
         "UPDATE t SET a = 9, k = 9 WHERE k = 3",
-        Want::Refused(SqlState::S0A000),
+        Expected::Refused(SqlState::S0A000),
     ),
-    ("DELETE FROM t WHERE a = 4", Want::Deleted),
+    ("DELETE FROM t WHERE a = 4", Expected::Deleted),
 ];
 
 // ---- answers
 
-fn is_row(row: &[TypedExpr], want: [Option<i64>; 3]) -> bool {
+fn is_row(row: &[TypedExpr], expected: [Option<i64>; 3]) -> bool {
     match row {
-        [k, a, b] => is_constant(k, want[0]) && is_constant(a, want[1]) && is_constant(b, want[2]),
+        [k, a, b] => is_constant(k, expected[0])
+            && is_constant(a, expected[1])
+            && is_constant(b, expected[2]),
         _ => false,
     }
 }
 
 /// Whether it is an INSERT into the first table of the one row that is wanted.
-fn is_inserted(typed: &TypedInsert, want: Want) -> bool {
-    match (typed.rows.as_slice(), want) {
-        ([row], Want::Row(k, a, b)) => typed.table == 0 && is_row(row.as_slice(), [k, a, b]),
+fn is_inserted(typed: &TypedInsert, expected: Expected) -> bool {
+    match (typed.rows.as_slice(), expected) {
+        ([row], Expected::Row(k, a, b)) => typed.table == 0 && is_row(row.as_slice(), [k, a, b]),
         _ => false,
     }
 }
@@ -102,65 +104,65 @@ fn is_delete(typed: &TypedChange) -> bool {
         && typed.mentioned.as_slice() == [1].as_slice()
 }
 
-fn is_changed(typed: &TypedChange, want: Want) -> bool {
-    match want {
-        Want::Updated => is_update(typed),
-        Want::Deleted => is_delete(typed),
+fn is_changed(typed: &TypedChange, expected: Expected) -> bool {
+    match expected {
+        Expected::Updated => is_update(typed),
+        Expected::Deleted => is_delete(typed),
         _ => false,
     }
 }
 
-fn is_refused(code: Option<SqlState>, want: Want) -> bool {
-    match want {
-        Want::Refused(wanted) => code == Some(wanted),
+fn is_refused(code: Option<SqlState>, expected: Expected) -> bool {
+    match expected {
+        Expected::Refused(wanted) => code == Some(wanted),
         _ => false,
     }
 }
 
 // ---- the calls
 
-fn inserts(alloc: Global, insert: &Insert, tables: &[Table], want: Want) -> bool {
+fn inserts(alloc: Global, insert: &Insert, tables: &[Table], expected: Expected) -> bool {
     if !are_narrow(tables) {
         return false;
     }
     match typed_insert(alloc, insert, tables) {
-        Ok(typed) => is_inserted(&typed, want),
-        Err(fault) => is_refused(code_of(fault), want),
+        Ok(typed) => is_inserted(&typed, expected),
+        Err(fault) => is_refused(code_of(fault), expected),
     }
 }
 
-fn updates(alloc: Global, update: &Update, tables: &[Table], want: Want) -> bool {
+fn updates(alloc: Global, update: &Update, tables: &[Table], expected: Expected) -> bool {
     if !are_narrow(tables) {
         return false;
     }
     match typed_update(alloc, update, tables) {
-        Ok(typed) => is_changed(&typed, want),
-        Err(fault) => is_refused(code_of(fault), want),
+        Ok(typed) => is_changed(&typed, expected),
+        Err(fault) => is_refused(code_of(fault), expected),
     }
 }
 
-fn deletes(alloc: Global, delete: &Delete, tables: &[Table], want: Want) -> bool {
+fn deletes(alloc: Global, delete: &Delete, tables: &[Table], expected: Expected) -> bool {
     if !are_narrow(tables) {
         return false;
     }
     match typed_delete(alloc, delete, tables) {
-        Ok(typed) => is_changed(&typed, want),
-        Err(fault) => is_refused(code_of(fault), want),
+        Ok(typed) => is_changed(&typed, expected),
+        Err(fault) => is_refused(code_of(fault), expected),
     }
 }
 
-fn changes_one(alloc: Global, found: &[Statement], tables: &[Table], want: Want) -> bool {
+fn changes_one(alloc: Global, found: &[Statement], tables: &[Table], expected: Expected) -> bool {
     match found {
-        [Statement::Insert(insert)] => inserts(alloc, insert, tables, want),
-        [Statement::Update(update)] => updates(alloc, update, tables, want),
-        [Statement::Delete(delete)] => deletes(alloc, delete, tables, want),
+        [Statement::Insert(insert)] => inserts(alloc, insert, tables, expected),
+        [Statement::Update(update)] => updates(alloc, update, tables, expected),
+        [Statement::Delete(delete)] => deletes(alloc, delete, tables, expected),
         _ => false,
     }
 }
 
-fn changes_text(alloc: Global, spelled: &str, tables: &[Table], want: Want) -> bool {
+fn changes_text(alloc: Global, spelled: &str, tables: &[Table], expected: Expected) -> bool {
     match read(alloc, spelled) {
-        Some(found) => changes_one(alloc, found.as_slice(), tables, want),
+        Some(found) => changes_one(alloc, found.as_slice(), tables, expected),
         None => false,
     }
 }
@@ -168,8 +170,8 @@ fn changes_text(alloc: Global, spelled: &str, tables: &[Table], want: Want) -> b
 #[test]
 fn types_changes(rt: HostRuntime) -> Result<(), Fail> {
     let tables = tables_of(rt.alloc(), TABLES)?;
-    for (spelled, want) in CHANGES {
-        let holds = changes_text(rt.alloc(), spelled, tables.as_slice(), *want);
+    for (spelled, expected) in CHANGES {
+        let holds = changes_text(rt.alloc(), spelled, tables.as_slice(), *expected);
         assert!(rt; holds, "at {spelled}");
     }
     Ok(())

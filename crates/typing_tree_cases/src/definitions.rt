@@ -8,7 +8,7 @@ use table_schema::{Catalogue, build};
 
 /// What a CREATE TABLE comes to.
 #[derive(Clone, Copy)]
-enum Want {
+enum Expected {
     Built,
     /// A table of two columns with one CHECK, whose key is the first column. That is never null, and the other may be, and is true
     /// by default.
@@ -16,64 +16,64 @@ enum Want {
     Refused(SqlState),
 }
 
-const DEFINITIONS: &[(&str, Want)] = &[
+const DEFINITIONS: &[(&str, Expected)] = &[
     (
         "CREATE TABLE s (k bigint PRIMARY KEY, k text)",
-        Want::Refused(SqlState::S42701),
+        Expected::Refused(SqlState::S42701),
     ),
     (
         "CREATE TABLE s (k bigint PRIMARY KEY, v varchar(65537))",
-        Want::Refused(SqlState::S54000),
+        Expected::Refused(SqlState::S54000),
     ),
     (
         "CREATE TABLE s (k bigint PRIMARY KEY, v varchar(65536))",
-        Want::Built,
+        Expected::Built,
     ),
     (
         "CREATE TABLE s (k bigint PRIMARY KEY, v integer DEFAULT 'x')",
-        Want::Refused(SqlState::S22P02),
+        Expected::Refused(SqlState::S22P02),
     ),
     (
         "CREATE TABLE s (k bigint PRIMARY KEY, v integer DEFAULT 2147483648)",
-        Want::Refused(SqlState::S22003),
+        Expected::Refused(SqlState::S22003),
     ),
     (
         "CREATE TABLE s (k bigint PRIMARY KEY, v text DEFAULT true)",
-        Want::Refused(SqlState::S42804),
+        Expected::Refused(SqlState::S42804),
     ),
     // keys
     (
         "CREATE TABLE s (k bigint, v boolean)",
-        Want::Refused(SqlState::S0A000),
+        Expected::Refused(SqlState::S0A000),
     ),
     (
         "CREATE TABLE s (k bigint, v boolean, PRIMARY KEY (k))",
-        Want::Built,
+        Expected::Built,
     ),
     (
         "CREATE TABLE s (k bigint, v boolean, PRIMARY KEY (q))",
-        Want::Refused(SqlState::S42703),
+        Expected::Refused(SqlState::S42703),
     ),
     (
         "CREATE TABLE s (k bigint, v boolean, PRIMARY KEY (v))",
-        Want::Refused(SqlState::S0A000),
+        Expected::Refused(SqlState::S0A000),
     ),
     (
         "CREATE TABLE s (k bigint PRIMARY KEY, v bigint, PRIMARY KEY (k))",
-        Want::Refused(SqlState::S0A000),
+        Expected::Refused(SqlState::S0A000),
     ),
     // CHECKs
     (
         "CREATE TABLE s (k varchar(3) PRIMARY KEY, b boolean DEFAULT true, CHECK (k <> 'no'))",
-        Want::Sample,
+        Expected::Sample,
     ),
     (
         "CREATE TABLE s (k varchar(3) PRIMARY KEY, b boolean DEFAULT true, CHECK (q <> 'no'))",
-        Want::Refused(SqlState::S42703),
+        Expected::Refused(SqlState::S42703),
     ),
     (
         "CREATE TABLE s (k varchar(3) PRIMARY KEY, b boolean DEFAULT true, CHECK (k + 'no'))",
-        Want::Refused(SqlState::S42883),
+        Expected::Refused(SqlState::S42883),
     ),
 ];
 
@@ -90,46 +90,46 @@ fn is_sample(table: &Table) -> bool {
     }
 }
 
-fn is_wanted(table: &Table, want: Want) -> bool {
-    match want {
-        Want::Built => true,
-        Want::Sample => is_sample(table),
-        Want::Refused(_) => false,
+fn is_wanted(table: &Table, expected: Expected) -> bool {
+    match expected {
+        Expected::Built => true,
+        Expected::Sample => is_sample(table),
+        Expected::Refused(_) => false,
     }
 }
 
-fn is_refused(code: Option<SqlState>, want: Want) -> bool {
-    match want {
-        Want::Refused(wanted) => code == Some(wanted),
+fn is_refused(code: Option<SqlState>, expected: Expected) -> bool {
+    match expected {
+        Expected::Refused(wanted) => code == Some(wanted),
         _ => false,
     }
 }
 
-fn builds(alloc: Global, create: &CreateTable, want: Want) -> bool {
+fn builds(alloc: Global, create: &CreateTable, expected: Expected) -> bool {
     match build(alloc, create) {
-        Ok(table) => is_wanted(&table, want),
-        Err(fault) => is_refused(code_of(fault), want),
+        Ok(table) => is_wanted(&table, expected),
+        Err(fault) => is_refused(code_of(fault), expected),
     }
 }
 
-fn builds_one(alloc: Global, found: &[Statement], want: Want) -> bool {
+fn builds_one(alloc: Global, found: &[Statement], expected: Expected) -> bool {
     match found {
-        [Statement::Create(create)] => builds(alloc, create, want),
+        [Statement::Create(create)] => builds(alloc, create, expected),
         _ => false,
     }
 }
 
-fn builds_text(alloc: Global, spelled: &str, want: Want) -> bool {
+fn builds_text(alloc: Global, spelled: &str, expected: Expected) -> bool {
     match read(alloc, spelled) {
-        Some(found) => builds_one(alloc, found.as_slice(), want),
+        Some(found) => builds_one(alloc, found.as_slice(), expected),
         None => false,
     }
 }
 
 #[test]
 fn builds_tables(rt: HostRuntime) {
-    for (spelled, want) in DEFINITIONS {
-        let holds = builds_text(rt.alloc(), spelled, *want);
+    for (spelled, expected) in DEFINITIONS {
+        let holds = builds_text(rt.alloc(), spelled, *expected);
         assert!(rt; holds, "at {spelled}");
     }
 }
@@ -176,9 +176,9 @@ fn finds_tables(rt: HostRuntime) -> Result<(), Fail> {
     for name in ["a", "a", "b"] {
         define_named(rt.alloc(), &mut catalogue, name)?;
     }
-    for (name, want) in [("b", Some(1)), ("q", None)] {
+    for (name, expected) in [("b", Some(1)), ("q", None)] {
         let found = number_of(rt.alloc(), &catalogue, name)?;
-        assert_eq!(rt; found, want, "at {name}");
+        assert_eq!(rt; found, expected, "at {name}");
     }
     Ok(())
 }

@@ -75,67 +75,67 @@ fn types_a_condition(rt: HostRuntime) -> Result<(), Fail> {
 
 /// What a constant comes to.
 #[derive(Clone, Copy)]
-enum Want {
+enum Expected {
     Number(i64),
     Text(&'static str),
     Refused(SqlState),
 }
 
 /// The item of each, as a value of the type.
-const CONSTANTS: &[(&str, SqlType, Want)] = &[
-    ("SELECT 7", SqlType::Integer, Want::Number(7)),
-    ("SELECT 'abc  '", SqlType::Varchar(3), Want::Text("abc")),
+const CONSTANTS: &[(&str, SqlType, Expected)] = &[
+    ("SELECT 7", SqlType::Integer, Expected::Number(7)),
+    ("SELECT 'abc  '", SqlType::Varchar(3), Expected::Text("abc")),
     (
         "SELECT 2147483648",
         SqlType::Integer,
-        Want::Refused(SqlState::S22003),
+        Expected::Refused(SqlState::S22003),
     ),
 ];
 
-fn is_value(value: &Value, want: Want) -> bool {
-    match (value, want) {
-        (Value::Int(number), Want::Number(wanted)) => *number == wanted,
-        (Value::Text(text), Want::Text(wanted)) => text.as_str() == wanted,
+fn is_value(value: &Value, expected: Expected) -> bool {
+    match (value, expected) {
+        (Value::Int(number), Expected::Number(wanted)) => *number == wanted,
+        (Value::Text(text), Expected::Text(wanted)) => text.as_str() == wanted,
         _ => false,
     }
 }
 
-fn is_refused(code: Option<SqlState>, want: Want) -> bool {
-    match want {
-        Want::Refused(wanted) => code == Some(wanted),
+fn is_refused(code: Option<SqlState>, expected: Expected) -> bool {
+    match expected {
+        Expected::Refused(wanted) => code == Some(wanted),
         _ => false,
     }
 }
 
 /// Whether a constant comes to what is wanted as a value of this type.
-fn is_constant_of(alloc: Global, expr: &Expr, kind: SqlType, want: Want) -> bool {
+fn is_constant_of(alloc: Global, expr: &Expr, kind: SqlType, expected: Expected) -> bool {
     match typed_constant(alloc, expr, kind) {
-        Ok(value) => is_value(&value, want),
-        Err(fault) => is_refused(code_of(fault), want),
+        Ok(value) => is_value(&value, expected),
+        Err(fault) => is_refused(code_of(fault), expected),
     }
 }
 
-fn types_one(alloc: Global, found: &[Statement], kind: SqlType, want: Want) -> bool {
+fn types_one(alloc: Global, found: &[Statement], kind: SqlType, expected: Expected) -> bool {
     match found {
         [Statement::Select(select)] => match select.items.as_slice() {
-            [Item::Expr(expr, None)] => is_constant_of(alloc, expr, kind, want),
+            [Item::Expr(expr, None)] => is_constant_of(alloc, expr, kind, expected),
             _ => false,
         },
         _ => false,
     }
 }
 
-fn types_text(alloc: Global, spelled: &str, kind: SqlType, want: Want) -> bool {
+fn types_text(alloc: Global, spelled: &str, kind: SqlType, expected: Expected) -> bool {
     match read(alloc, spelled) {
-        Some(found) => types_one(alloc, found.as_slice(), kind, want),
+        Some(found) => types_one(alloc, found.as_slice(), kind, expected),
         None => false,
     }
 }
 
 #[test]
 fn types_constants(rt: HostRuntime) {
-    for (spelled, kind, want) in CONSTANTS {
-        let holds = types_text(rt.alloc(), spelled, *kind, *want);
+    for (spelled, kind, expected) in CONSTANTS {
+        let holds = types_text(rt.alloc(), spelled, *kind, *expected);
         assert!(rt; holds, "at {spelled}");
     }
 }

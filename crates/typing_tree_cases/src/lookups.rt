@@ -60,7 +60,7 @@ fn finds_tables_and_columns(rt: HostRuntime) -> Result<(), Fail> {
 
 /// What a condition comes to.
 #[derive(Clone, Copy)]
-enum Want {
+enum Expected {
     /// There is none.
     Nothing,
     /// There is one.
@@ -70,18 +70,24 @@ enum Want {
     Refused(SqlState),
 }
 
-const CONDITIONS: &[(&str, Want)] = &[
-    ("DELETE FROM t", Want::Nothing),
-    ("DELETE FROM t WHERE true", Want::Something),
-    ("DELETE FROM t WHERE 1", Want::Refused(SqlState::S42804)),
-    ("DELETE FROM t WHERE t.n = 7 AND -5 = t.k", Want::Points),
+const CONDITIONS: &[(&str, Expected)] = &[
+    ("DELETE FROM t", Expected::Nothing),
+    ("DELETE FROM t WHERE true", Expected::Something),
+    ("DELETE FROM t WHERE 1", Expected::Refused(SqlState::S42804)),
+    ("DELETE FROM t WHERE t.n = 7 AND -5 = t.k", Expected::Points),
 ];
 
 /// Whether this is the number at which the condition asks for a column of an entry; none where it asks for none.
-fn is_point(alloc: Global, expr: &TypedExpr, entry: u32, column: u32, want: Option<i64>) -> bool {
+fn is_point(
+    alloc: Global,
+    expr: &TypedExpr,
+    entry: u32,
+    column: u32,
+    expected: Option<i64>,
+) -> bool {
     match point_of(alloc, Some(expr), entry, column) {
-        Ok(Some(Key::Int(key))) => want == Some(key),
-        Ok(None) => want.is_none(),
+        Ok(Some(Key::Int(key))) => expected == Some(key),
+        Ok(None) => expected.is_none(),
         _ => false,
     }
 }
@@ -94,13 +100,13 @@ fn has_points(alloc: Global, expr: &TypedExpr) -> bool {
 }
 
 /// Whether the columns, but for the key, of a table of three that the condition mentions of t are the ones wanted.
-fn mentions(alloc: Global, expr: &TypedExpr, key: u32, want: &[u32]) -> bool {
+fn mentions(alloc: Global, expr: &TypedExpr, key: u32, expected: &[u32]) -> bool {
     let Ok(mut marks) = Marks::new(alloc, 3) else {
         return false;
     };
     marks.add(expr, 1);
     match marks.columns(alloc, key) {
-        Ok(columns) => columns.as_slice() == want && marks.has(1),
+        Ok(columns) => columns.as_slice() == expected && marks.has(1),
         Err(_) => false,
     }
 }
@@ -110,24 +116,24 @@ fn mentions_both(alloc: Global, expr: &TypedExpr) -> bool {
     mentions(alloc, expr, 2, &[0, 1]) && mentions(alloc, expr, 0, &[1])
 }
 
-fn is_wanted(alloc: Global, expr: Option<&TypedExpr>, want: Want) -> bool {
-    match (expr, want) {
-        (None, Want::Nothing) => true,
-        (Some(_), Want::Something) => true,
-        (Some(expr), Want::Points) => has_points(alloc, expr) && mentions_both(alloc, expr),
+fn is_wanted(alloc: Global, expr: Option<&TypedExpr>, expected: Expected) -> bool {
+    match (expr, expected) {
+        (None, Expected::Nothing) => true,
+        (Some(_), Expected::Something) => true,
+        (Some(expr), Expected::Points) => has_points(alloc, expr) && mentions_both(alloc, expr),
         _ => false,
     }
 }
 
-fn is_refused(code: Option<SqlState>, want: Want) -> bool {
-    match want {
-        Want::Refused(wanted) => code == Some(wanted),
+fn is_refused(code: Option<SqlState>, expected: Expected) -> bool {
+    match expected {
+        Expected::Refused(wanted) => code == Some(wanted),
         _ => false,
     }
 }
 
 /// Whether WHERE over a row of s and one of t comes to what is wanted.
-fn filters(alloc: Global, filter: Option<&Expr>, s: &Table, t: &Table, want: Want) -> bool {
+fn filters(alloc: Global, filter: Option<&Expr>, s: &Table, t: &Table, expected: Expected) -> bool {
     if s.columns.len() > 32 || t.columns.len() > 32 {
         return false;
     }
@@ -142,28 +148,28 @@ fn filters(alloc: Global, filter: Option<&Expr>, s: &Table, t: &Table, want: Wan
         },
     ];
     match typed_filter(alloc, filter, &scope) {
-        Ok(typed) => is_wanted(alloc, typed.as_ref(), want),
-        Err(fault) => is_refused(code_of(fault), want),
+        Ok(typed) => is_wanted(alloc, typed.as_ref(), expected),
+        Err(fault) => is_refused(code_of(fault), expected),
     }
 }
 
-fn filters_of(alloc: Global, delete: &Delete, tables: &[Table], want: Want) -> bool {
+fn filters_of(alloc: Global, delete: &Delete, tables: &[Table], expected: Expected) -> bool {
     match tables {
-        [s, t] => filters(alloc, delete.filter.as_ref(), s, t, want),
+        [s, t] => filters(alloc, delete.filter.as_ref(), s, t, expected),
         _ => false,
     }
 }
 
-fn filters_one(alloc: Global, found: &[Statement], tables: &[Table], want: Want) -> bool {
+fn filters_one(alloc: Global, found: &[Statement], tables: &[Table], expected: Expected) -> bool {
     match found {
-        [Statement::Delete(delete)] => filters_of(alloc, delete, tables, want),
+        [Statement::Delete(delete)] => filters_of(alloc, delete, tables, expected),
         _ => false,
     }
 }
 
-fn filters_text(alloc: Global, spelled: &str, tables: &[Table], want: Want) -> bool {
+fn filters_text(alloc: Global, spelled: &str, tables: &[Table], expected: Expected) -> bool {
     match read(alloc, spelled) {
-        Some(found) => filters_one(alloc, found.as_slice(), tables, want),
+        Some(found) => filters_one(alloc, found.as_slice(), tables, expected),
         None => false,
     }
 }
@@ -171,8 +177,8 @@ fn filters_text(alloc: Global, spelled: &str, tables: &[Table], want: Want) -> b
 #[test]
 fn types_where(rt: HostRuntime) -> Result<(), Fail> {
     let tables = tables_of(rt.alloc(), TABLES)?;
-    for (spelled, want) in CONDITIONS {
-        let holds = filters_text(rt.alloc(), spelled, tables.as_slice(), *want);
+    for (spelled, expected) in CONDITIONS {
+        let holds = filters_text(rt.alloc(), spelled, tables.as_slice(), *expected);
         assert!(rt; holds, "at {spelled}");
     }
     Ok(())

@@ -2,7 +2,7 @@
 //
 // No function holds a tree while it makes another one: a text goes in, and a tree is only lent to what looks at it.
 ghost use Rattle.std.specs.Prelude.{◌≡◌, true};
-ghost use Rattle.typing_parts.specs.Narrow.{AreNarrow};
+ghost use Rattle.typing_parts.specs.Narrow.{AreFewAndNarrow};
 
 use cell_base::{Items, Key, Memory, SqlFault, SqlState, Text, Value};
 use sql_statements::statements;
@@ -59,7 +59,7 @@ pub fn tables_of(alloc: Global, texts: &[&str]) -> Result<Items<Table>, Memory> 
 
 /// Whether statements over the tables may be typed: there are at most 64, each with at most 32 columns.
 pub fn are_narrow(tables: &[Table]) -> bool
-    ensures { result ≡ true → AreNarrow tables.now }
+    ensures { result ≡ true → AreFewAndNarrow tables.now }
 {
     for table in tables {
         if table.columns.len() > 32 {
@@ -87,17 +87,17 @@ pub fn is_column(expr: &TypedExpr, entry: u32, column: u32) -> bool {
 }
 
 /// Whether it is this number, or null where no number is given.
-pub fn is_constant(expr: &TypedExpr, want: Option<i64>) -> bool {
-    match (&expr.node, want) {
-        (TypedNode::Constant(Value::Int(number)), Some(want)) => *number == want,
+pub fn is_constant(expr: &TypedExpr, expected: Option<i64>) -> bool {
+    match (&expr.node, expected) {
+        (TypedNode::Constant(Value::Int(number)), Some(expected)) => *number == expected,
         (TypedNode::Constant(Value::Null), None) => true,
         _ => false,
     }
 }
 
-pub fn is_key(key: &Option<Key>, want: i64) -> bool {
+pub fn is_key(key: &Option<Key>, expected: i64) -> bool {
     match key {
-        Some(Key::Int(number)) => *number == want,
+        Some(Key::Int(number)) => *number == expected,
         _ => false,
     }
 }

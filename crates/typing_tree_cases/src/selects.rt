@@ -13,40 +13,40 @@ const TABLES: &[&str] = &[
 
 /// What a SELECT comes to.
 #[derive(Clone, Copy)]
-enum Want {
+enum Expected {
     Joined,
     ScannedTwice,
     Aggregate,
     Refused(SqlState),
 }
 
-const SELECTS: &[(&str, Want)] = &[
+const SELECTS: &[(&str, Expected)] = &[
     (
         "SELECT *, t.v AS w FROM t JOIN u ON t.k = u.k WHERE t.k = 7 ORDER BY 1 DESC, w LIMIT 5 OFFSET 2",
-        Want::Joined,
+        Expected::Joined,
     ),
     (
         "SELECT 1 FROM t AS a, t AS b WHERE a.k = 7",
-        Want::ScannedTwice,
+        Expected::ScannedTwice,
     ),
     (
         "SELECT count(*), sum(n) FROM t WHERE k = 7",
-        Want::Aggregate,
+        Expected::Aggregate,
     ),
     (
         "SELECT count(*), sum(n), v FROM t WHERE k = 7",
-        Want::Refused(SqlState::S42803),
+        Expected::Refused(SqlState::S42803),
     ),
     (
         "SELECT nosuch FROM t WHERE k = 7",
-        Want::Refused(SqlState::S42703),
+        Expected::Refused(SqlState::S42703),
     ),
 ];
 
 // ---- answers
 
-fn are(numbers: &Items<u32>, want: &[u32]) -> bool {
-    numbers.as_slice() == want
+fn are(numbers: &Items<u32>, expected: &[u32]) -> bool {
+    numbers.as_slice() == expected
 }
 
 fn are_joined_columns(typed: &TypedSelect) -> bool {
@@ -124,44 +124,44 @@ fn is_aggregate(typed: &TypedSelect) -> bool {
         && typed.offset == 0
 }
 
-fn is_wanted(typed: &TypedSelect, want: Want) -> bool {
-    match want {
-        Want::Joined => is_joined(typed),
-        Want::ScannedTwice => reads_no_key(typed),
-        Want::Aggregate => is_aggregate(typed),
-        Want::Refused(_) => false,
+fn is_wanted(typed: &TypedSelect, expected: Expected) -> bool {
+    match expected {
+        Expected::Joined => is_joined(typed),
+        Expected::ScannedTwice => reads_no_key(typed),
+        Expected::Aggregate => is_aggregate(typed),
+        Expected::Refused(_) => false,
     }
 }
 
-fn is_refused(fault: SqlFault, want: Want) -> bool {
-    match want {
-        Want::Refused(code) => fault == SqlFault::State(code),
+fn is_refused(fault: SqlFault, expected: Expected) -> bool {
+    match expected {
+        Expected::Refused(code) => fault == SqlFault::State(code),
         _ => false,
     }
 }
 
 // ---- the call
 
-fn types(alloc: Global, select: &Select, tables: &[Table], want: Want) -> bool {
+fn types(alloc: Global, select: &Select, tables: &[Table], expected: Expected) -> bool {
     if !are_narrow(tables) {
         return false;
     }
     match typed_select(alloc, select, tables) {
-        Ok(typed) => is_wanted(&typed, want),
-        Err(fault) => is_refused(fault, want),
+        Ok(typed) => is_wanted(&typed, expected),
+        Err(fault) => is_refused(fault, expected),
     }
 }
 
-fn types_one(alloc: Global, found: &[Statement], tables: &[Table], want: Want) -> bool {
+fn types_one(alloc: Global, found: &[Statement], tables: &[Table], expected: Expected) -> bool {
     match found {
-        [Statement::Select(select)] => types(alloc, select, tables, want),
+        [Statement::Select(select)] => types(alloc, select, tables, expected),
         _ => false,
     }
 }
 
-fn types_text(alloc: Global, spelled: &str, tables: &[Table], want: Want) -> bool {
+fn types_text(alloc: Global, spelled: &str, tables: &[Table], expected: Expected) -> bool {
     match read(alloc, spelled) {
-        Some(found) => types_one(alloc, found.as_slice(), tables, want),
+        Some(found) => types_one(alloc, found.as_slice(), tables, expected),
         None => false,
     }
 }
@@ -169,8 +169,8 @@ fn types_text(alloc: Global, spelled: &str, tables: &[Table], want: Want) -> boo
 #[test]
 fn types_selects(rt: HostRuntime) -> Result<(), Fail> {
     let tables = tables_of(rt.alloc(), TABLES)?;
-    for (spelled, want) in SELECTS {
-        let holds = types_text(rt.alloc(), spelled, tables.as_slice(), *want);
+    for (spelled, expected) in SELECTS {
+        let holds = types_text(rt.alloc(), spelled, tables.as_slice(), *expected);
         assert!(rt; holds, "at {spelled}");
     }
     Ok(())

@@ -17,7 +17,7 @@ pub fn offered(store: &Kept, session: u32, cell: &Cell) -> Result<Vec<u32>, Memo
     requires pending { HasPending store.now.history.events session }
     ensures exact { IfOk result (λ offer. IsOffer store.now.history.events session cell.now offer.items) }
     ensures some { IfOk result (λ offer. 0 < length offer.items) }
-    ensures short { IfOk result (λ offer. length offer.items ≤ 65536) }
+    ensures few { IfOk result (λ offer. length offer.items ≤ 65536) }
 {
     let _begun = store.history.history().begun();
     store.rows.offer(store.alloc, &store.history, session, cell)
@@ -26,7 +26,7 @@ pub fn offered(store: &Kept, session: u32, cell: &Cell) -> Result<Vec<u32>, Memo
 /// The number that the word picks of an offer.
 fn picked(choices: &[u32], word: u32) -> u32
     requires some { 0 < length choices.now }
-    requires short { length choices.now ≤ 65536 }
+    requires few { length choices.now ≤ 65536 }
     ensures { slice_get choices.now (word % length choices.now) ≡ Some result }
 {
     choices[(word % choices.len() as u32) as usize]

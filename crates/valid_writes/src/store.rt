@@ -79,7 +79,7 @@ impl Store {
         requires { HasPending self.now.events session }
         ensures exact { IfOk result (λ offer. IsOffer self.now.events session cell.now offer.items) }
         ensures some { IfOk result (λ offer. 0 < length offer.items) }
-        ensures short { IfOk result (λ offer. length offer.items ≤ 65536) }
+        ensures few { IfOk result (λ offer. length offer.items ≤ 65536) }
     {
         offered(&self.kept, session, cell)
     }

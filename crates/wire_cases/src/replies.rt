@@ -1,6 +1,6 @@
 // What the server sends, by the bytes of worked sessions and of the protocol's description.
 ghost use Rattle.std.specs.Prelude.{◌<◌, length, IsTrue};
-ghost use Rattle.pg_framing.specs.Replies.{IsShortType, value_bytes};
+ghost use Rattle.pg_framing.specs.Replies.{FitsModifier, value_bytes};
 ghost use Rattle.cell_base.specs.Texts.{HasNoZero};
 
 use cell_base::{Memory, SqlState, SqlType, Text, Value};
@@ -67,7 +67,7 @@ fn welcome(alloc: Global) -> Result<Vec<u8>, Memory> {
 
 // Whether the column `v` of this type is described by these bytes after its name.
 fn is_described_so(alloc: Global, kind: SqlType, tail: &[u8]) -> Result<bool, Memory>
-    requires { IsShortType kind }
+    requires { FitsModifier kind }
 {
     let name = match Text::from_bytes(alloc, b"v") {
         Ok(name) => name,
@@ -117,9 +117,9 @@ fn columns_are_described(alloc: Global) -> Result<bool, Memory> {
     )
 }
 
-// Whether a value has a short text.
+// Whether a value has a small text.
 #[tactic(auto, unfolding(pg_framing::specs::Spelling::four_bytes, pg_framing::specs::Replies::value_bytes))]
-fn is_short(value: &Value) -> bool
+fn is_small(value: &Value) -> bool
     ensures { IsTrue result → length (value_bytes value.now) < 200 }
 {
     let mut buffer = Buffer::new();
@@ -131,9 +131,9 @@ fn is_short(value: &Value) -> bool
     }
 }
 
-// Whether a row of this short value has these bytes after its type byte.
+// Whether a row of this small value has these bytes after its type byte.
 fn is_row_so(alloc: Global, value: Value, tail: &[u8]) -> Result<bool, Memory> {
-    if !is_short(&value) {
+    if !is_small(&value) {
         return Ok(false);
     }
     let mut out = Vec::new(alloc);

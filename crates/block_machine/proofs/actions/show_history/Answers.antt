@@ -3,7 +3,7 @@ use Rattle.block_machine.specs.Replies.{show_reply}
 use Rattle.block_machine.specs.Settings.{history_name}
 use Rattle.block_machine.specs.Statements.{succeeds}
 use Rattle.block_machine.proofs.Taking.{show_advances}
-use Rattle.block_machine.proofs.Wanting.{ok_at}
+use Rattle.block_machine.proofs.OutOfMemory.{ok_at}
 use Rattle.block_machine.proofs.actions.show_history.Goals as goal
 
 pub returns-clause-goes : goal.returns-clause-goes

@@ -1,4 +1,4 @@
-use Rattle.block_machine.proofs.Wanting.{leads_short}
+use Rattle.block_machine.proofs.OutOfMemory.{leads_short}
 use Rattle.block_machine.proofs.step.short.Goals as goal
 
 pub returns-clause-goes : goal.returns-clause-goes

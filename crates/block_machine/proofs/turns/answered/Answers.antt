@@ -3,7 +3,7 @@ use Rattle.block_machine.specs.declared.stage.MessageStage.{MessageStage}
 use Rattle.block_machine.specs.Knowledge.{knowledge_in}
 use Rattle.block_machine.specs.Stages.{Advances, owed_at}
 use Rattle.block_machine.proofs.Advancing.{begin_owed}
-use Rattle.block_machine.proofs.Wanting.{not_running}
+use Rattle.block_machine.proofs.OutOfMemory.{not_running}
 use Rattle.block_machine.proofs.turns.answered.Goals as goal
 
 pub returns-in-Beginning-clause-goes : goal.returns-in-Beginning-clause-goes

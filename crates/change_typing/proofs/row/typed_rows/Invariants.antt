@@ -1,6 +1,6 @@
 -- The rows so far, and what is left.
 use Rattle.std.proofs.Common.{◌≡◌, map, drop}
-use Rattle.expr_typing.proofs.Lists.{with_rest}
+use Rattle.typing_rules.proofs.Lists.{with_rest}
 use Rattle.typing_rules.specs.Outcome.{all_of}
 use Rattle.change_typing.specs.Rows.{row_over}
 use Rattle.change_typing.specs.Targets.{targets}

@@ -2,7 +2,7 @@ use Rattle.std.proofs.Common.{◌≡◌, map}
 use Rattle.std.specs.Vec.Iter.{into_iter_items}
 use Rattle.typing_rules.specs.Outcome.{all_of}
 use Rattle.typing_rules.specs.Expressions.{member}
-use Rattle.expr_typing.proofs.Lists.{with_rest}
+use Rattle.typing_rules.proofs.Lists.{with_rest}
 use Rattle.expr_typing.proofs.combine.members_of.Given as goal
 
 abbrev pub invariant-loop-form : goal.invariant-loop-form

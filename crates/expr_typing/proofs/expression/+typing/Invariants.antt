@@ -1,7 +1,7 @@
 use Rattle.std.proofs.Common.{◌≡◌, drop}
 use Rattle.typing_rules.specs.Expressions.{typing, typings}
 use Rattle.expr_typing.specs.Scope.{sources}
-use Rattle.expr_typing.proofs.Lists.{with_rest}
+use Rattle.typing_rules.proofs.Lists.{with_rest}
 use Rattle.expr_typing.proofs.expression.+typing.Given as goal
 
 abbrev pub invariant-forms-loop-expr : goal.invariant-forms-loop-expr

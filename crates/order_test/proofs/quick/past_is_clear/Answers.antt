@@ -1,9 +1,15 @@
-use Rattle.std.proofs.Common.{length, sym, subst}
+use Rattle.std.proofs.Common.{ℕ, ◌<◌, length, sym, subst, List}
+use Rattle.std.specs.List.{slice_index}
+use Rattle.cell_base.specs.declared.key.Key.{Key}
+use Rattle.cell_writers.specs.declared.writers.CellWriters.{CellWriters}
+use Rattle.order_test.specs.declared.firsts.TableFirsts.{TableFirsts}
+use Rattle.order_test.specs.Firsts.{AreRisingInAll, PastIsListed}
 use Rattle.history_core.specs.declared.event.Event.{Event}
-use Rattle.order_test.specs.Listed.{HasNoRival}
+use Rattle.order_test.specs.Listed.{HasNoRival, HasNoLate, listed_at}
 use Rattle.order_test.specs.Sights.{IsReadAt}
 use Rattle.order_test.proofs.SearchLemmas.{reader_number}
-use Rattle.order_test.proofs.QuickLemmas.{past_clear}
+use Rattle.order_test.proofs.QuickLemmas.{past_clear, scan_clear}
+use Rattle.order_test.proofs.FirstLemmas.{all_rising}
 use Rattle.order_test.proofs.quick.past_is_clear.Goals as goal
 
 pub past_of-requires-clause-number : goal.past_of-requires-clause-number
@@ -12,7 +18,28 @@ past_of-requires-clause-number c = (reader_number c.args.events.now c.args.place
 pub returns-in-Read : goal.returns-in-Read
 returns-in-Read c = λ h.
     subst (λ (e : Event). HasNoRival c.args.events.now c.args.order.now c.args.place e c.args.reader) (sym c.in-Read.is)
-    (past_clear c.args.events.now c.args.order.now c.args.txns.now c.args.places.now c.requires.scene c.requires.sessions c.args.lists.now c.requires.lists c.requires.within
+    (past_clear c.args.events.now c.args.order.now c.args.txns.now c.args.places.now c.requires.scene c.requires.sessions c.args.lists.now.writers.items c.requires.lists c.requires.within
     _ c.in-Read.cell c.in-Read.source _ _ _ c.args.place c.args.reader
     (subst (λ (e : Event). IsReadAt c.args.events.now c.args.place e c.args.reader) c.in-Read.is c.requires.read)
-    (length c.args.pasts.now.last.items) c.past_of.result.now c.past_of.ensures (c.past_has_none.ensures h))
+    (length c.args.pasts.now.last.items) c.past_of.result.now c.past_of.ensures
+    (subst (λ (ls : List CellWriters). (session : ℕ) → session < length ls →
+    HasNoLate c.args.places.now.at.items (listed_at ls session c.in-Read.cell) (slice_index c.past_of.result.now.tops.items session) c.in-Read.source)
+    c.deref.ensures.value (c.past_has_none.ensures h)))
+
+pub past_is_listed-requires : goal.past_is_listed-requires
+past_is_listed-requires c =
+    subst (λ (fs : List TableFirsts). AreRisingInAll fs) (sym c.deref-in-Scan.ensures.value)
+    (all_rising c.args.lists.now.writers.items (length c.args.txns.now) c.args.lists.now.firsts.items c.requires.firsts)
+
+pub returns-in-Scan : goal.returns-in-Scan
+returns-in-Scan c = λ h.
+    subst (λ (e : Event). HasNoRival c.args.events.now c.args.order.now c.args.place e c.args.reader) (sym c.in-Scan.is)
+    (scan_clear c.args.events.now c.args.order.now c.args.txns.now c.args.places.now c.requires.scene c.requires.sessions c.args.lists.now.writers.items c.requires.lists c.requires.within
+    c.args.lists.now.firsts.items c.requires.firsts _ c.in-Scan.table c.in-Scan.keys c.args.place c.args.reader
+    (subst (λ (e : Event). IsReadAt c.args.events.now c.args.place e c.args.reader) c.in-Scan.is c.requires.read)
+    (length c.args.pasts.now.last.items) c.past_of-in-Scan.result.now c.past_of-in-Scan.ensures
+    (subst (λ (fs : List TableFirsts). PastIsListed fs c.past_of-in-Scan.result.now.tops.items c.in-Scan.table c.in-Scan.keys) c.deref-in-Scan.ensures.value
+    (subst (λ (ks : List Key). PastIsListed c.deref-in-Scan.result.now c.past_of-in-Scan.result.now.tops.items c.in-Scan.table ks) c.as_slice.ensures (c.past_is_listed.ensures h))))
+
+pub past_of-requires-in-Scan-clause-number : goal.past_of-requires-in-Scan-clause-number
+past_of-requires-in-Scan-clause-number c = (reader_number c.args.events.now c.args.place c.args.event.now c.args.reader c.requires.read).1

@@ -10,4 +10,4 @@ append_value-requires c =
     let at : c.loop-value.value-index < length c.args.values.now = omega arith in
     let within = length-flat_map-take value_bytes c.args.values.now c.loop-value.value-index c.value-item.result at in
     let same = ap (λ (value : Value). length (value_bytes value)) c.value-item.is in
-    omega (arith, within, same, c.requires.short, length-append (two_bytes (length c.args.values.now)) (flat_map value_bytes c.args.values.now))
+    omega (arith, within, same, c.requires.fits, length-append (two_bytes (length c.args.values.now)) (flat_map value_bytes c.args.values.now))

@@ -1,16 +1,9 @@
-use Rattle.std.proofs.Common.{◌≡◌, ℕ, List, [], ◌∙◌, subst}
-use Rattle.std.proofs.lemmas.List.{get_or_default}
-use Rattle.bit_rows.specs.Members.{IsUnion}
-use Rattle.reach_rows.specs.Rows.{row_at}
 use Rattle.reach_rows.proofs.Carrying.{up_to_known, up_to_gained}
 use Rattle.reach_rows.proofs.carry.add_up_to.Goals as goal
 
 pub returns-then-not-has : goal.returns-then-not-has
 returns-then-not-has c =
-    let row : c.index-rows-number.result ≡ row_at c.args.rows.now c.args.number =
-    c.index-rows-number.is ∙ get_or_default c.args.rows.now c.args.number c.index-rows-number.result [] c.requires.number in
-    up_to_gained c.args.rows.now c.args.row.now c.or_into.new.self c.set.new.self c.args.number
-    (subst (λ (r : List ℕ). IsUnion c.args.row.now r c.or_into.new.self) row c.or_into.ensures) c.set.ensures
+    up_to_gained c.args.rows.now c.args.row.now c.add_to.new.row c.set.new.self c.args.number c.add_to.ensures c.set.ensures
 
 pub returns-else-not-has : goal.returns-else-not-has
 returns-else-not-has c =

@@ -2,7 +2,7 @@ use Rattle.std.proofs.Common.{◌≡◌, map, take, drop}
 use Rattle.typing_rules.specs.Outcome.{all_of}
 use Rattle.expr_eval.specs.Lent.{seen}
 use Rattle.row_totals.specs.Calls.{added_to}
-use Rattle.row_totals.proofs.Rest.{with_rest}
+use Rattle.typing_rules.proofs.Lists.{with_rest}
 use Rattle.row_totals.proofs.calls.add_row.Given as goal
 
 abbrev pub invariant-loop-call : goal.invariant-loop-call

@@ -3,7 +3,7 @@ use Rattle.std.specs.Vec.Iter.{into_iter_items}
 use Rattle.typing_rules.specs.Outcome.{all_of}
 use Rattle.row_totals.specs.declared.calls.Call.{Call}
 use Rattle.row_totals.specs.Tallies as tallies
-use Rattle.row_totals.proofs.Rest.{with_rest}
+use Rattle.typing_rules.proofs.Lists.{with_rest}
 use Rattle.row_totals.proofs.calls.totals.Given as goal
 
 abbrev pub invariant-loop-call : goal.invariant-loop-call

@@ -1,7 +1,7 @@
 -- The values so far, and what is left.
 use Rattle.std.proofs.Common.{◌≡◌, drop}
 use Rattle.row_meaning.specs.Changes as changes
-use Rattle.row_meaning.proofs.Lists.{with_rest}
+use Rattle.typing_rules.proofs.Lists.{with_rest}
 use Rattle.row_writes.specs.Places.{assigning}
 use Rattle.row_writes.proofs.assigned.assignments.Given as goal
 

@@ -2,7 +2,7 @@
 use Rattle.std.proofs.Common.{◌≡◌, map, drop}
 use Rattle.typing_rules.specs.Outcome.{all_of}
 use Rattle.row_meaning.specs.Insertion as spec
-use Rattle.row_meaning.proofs.Lists.{with_rest}
+use Rattle.typing_rules.proofs.Lists.{with_rest}
 use Rattle.row_writes.proofs.insertion.keyed_rows.Given as goal
 
 abbrev pub invariant-loop-row : goal.invariant-loop-row

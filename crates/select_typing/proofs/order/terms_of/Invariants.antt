@@ -1,6 +1,6 @@
 -- The terms so far, and what is left.
 use Rattle.std.proofs.Common.{◌≡◌, drop, map}
-use Rattle.expr_typing.proofs.Lists.{with_rest}
+use Rattle.typing_rules.proofs.Lists.{with_rest}
 use Rattle.expr_typing.specs.Scope.{sources}
 use Rattle.typing_rules.specs.Outcome.{all_of}
 use Rattle.typing_rules.specs.Select.{term_of}

@@ -4,8 +4,8 @@ use Rattle.session_core.specs.Replies.{startup_reply}
 use Rattle.session_core.proofs.Texts.{no_zero_by_test}
 use Rattle.session_core.proofs.replies.startup.Goals as goal
 
-pub append_parameter_status-requires-6-clause-name : goal.append_parameter_status-requires-6-clause-name
-append_parameter_status-requires-6-clause-name c = no_zero_by_test (codes "standard_conforming_strings") refl
+pub append_parameter-requires-6-clause-name : goal.append_parameter-requires-6-clause-name
+append_parameter-requires-6-clause-name c = no_zero_by_test (codes "standard_conforming_strings") refl
 
 pub returns : goal.returns
 unfolding startup_reply
@@ -13,12 +13,12 @@ returns c =
     rw (
       c.in_ok-append_ready_for_query.ensures.ok,
       c.in_ok-append_backend_key_data.ensures.ok,
-      c.in_ok-append_parameter_status-6.ensures.ok,
-      c.in_ok-append_parameter_status-5.ensures.ok,
-      c.in_ok-append_parameter_status-4.ensures.ok,
-      c.in_ok-append_parameter_status-3.ensures.ok,
-      c.in_ok-append_parameter_status-2.ensures.ok,
-      c.in_ok-append_parameter_status.ensures.ok,
+      c.in_ok-append_parameter-6.ensures.ok,
+      c.in_ok-append_parameter-5.ensures.ok,
+      c.in_ok-append_parameter-4.ensures.ok,
+      c.in_ok-append_parameter-3.ensures.ok,
+      c.in_ok-append_parameter-2.ensures.ok,
+      c.in_ok-append_parameter.ensures.ok,
       c.in_ok-append_authentication_ok.ensures.ok,
       c.new-reply.ensures.items,
     ) (simp append_assoc)

@@ -1,5 +1,5 @@
 use Rattle.std.proofs.Common.{◌≡◌, [], ◌∷◌, map, drop}
-use Rattle.expr_typing.proofs.Lists.{with_rest}
+use Rattle.typing_rules.proofs.Lists.{with_rest}
 use Rattle.typing_rules.specs.Expressions.{flag}
 use Rattle.typing_rules.specs.Outcome.{all_of}
 use Rattle.table_schema.proofs.building.conditions.Given as goal

@@ -5,8 +5,8 @@ use Rattle.valid_writes.proofs.Legality.{offer_few}
 use Rattle.valid_writes.proofs.Told.{if_ok}
 use Rattle.valid_writes.proofs.choosing.offered.Goals as goal
 
-pub returns-clause-short : goal.returns-clause-short
-returns-clause-short c =
+pub returns-clause-few : goal.returns-clause-few
+returns-clause-few c =
     let small = c.begun-begun.ensures.small in
     let number = c.begun-begun.ensures.number in
     let few : begun c.args.store.now.history.events ≤ 65535 =

@@ -7,25 +7,25 @@ use Rattle.reach_rows.proofs.reach.Reach.add_ancestors.Goals as goal
 
 pub add_ancestors-requires-clause-down : goal.add_ancestors-requires-clause-down
 add_ancestors-requires-clause-down c =
-    let rows : List (List ℕ) = c.self.inside.rows.items in
+    let rows : List (List ℕ) = c.self.inside.rows in
     let are : AreRowsOf c.args.self.now.pairs rows =
     subst (λ (edges : List Edge). AreRowsOf edges rows) (pairs_of_view rows c.args.self.now c.self.view_is) (closed_rows_of rows c.self.invariant) in
     let down : IsDown rows c.args.row.now = λ a b pair member. c.requires.down a b ((are a b).0 pair) member in
-    rw c.deref.ensures.value down
+    down
 
 pub returns-clause-gains : goal.returns-clause-gains
 returns-clause-gains c =
-    let rows : List (List ℕ) = c.self.inside.rows.items in
+    let rows : List (List ℕ) = c.self.inside.rows in
     let are : AreRowsOf c.args.self.now.pairs rows =
     subst (λ (edges : List Edge). AreRowsOf edges rows) (pairs_of_view rows c.args.self.now c.self.view_is) (closed_rows_of rows c.self.invariant) in
-    let gains : GainsOne (HasPair rows) c.args.number c.args.row.now c.add_ancestors.new.row = rw c.deref.ensures.value at c.add_ancestors.ensures in
+    let gains : GainsOne (HasPair rows) c.args.number c.args.row.now c.add_ancestors.new.row = c.add_ancestors.ensures in
     past_over c.args.self.now.pairs rows c.args.number c.args.row.now c.add_ancestors.new.row are gains
 
 pub returns-clause-down : goal.returns-clause-down
 returns-clause-down c =
-    let rows : List (List ℕ) = c.self.inside.rows.items in
+    let rows : List (List ℕ) = c.self.inside.rows in
     let are : AreRowsOf c.args.self.now.pairs rows =
     subst (λ (edges : List Edge). AreRowsOf edges rows) (pairs_of_view rows c.args.self.now c.self.view_is) (closed_rows_of rows c.self.invariant) in
-    let gains : GainsOne (HasPair rows) c.args.number c.args.row.now c.add_ancestors.new.row = rw c.deref.ensures.value at c.add_ancestors.ensures in
+    let gains : GainsOne (HasPair rows) c.args.number c.args.row.now c.add_ancestors.new.row = c.add_ancestors.ensures in
     down_over c.args.self.now.pairs c.args.number c.args.row.now c.add_ancestors.new.row c.requires.down
     (past_over c.args.self.now.pairs rows c.args.number c.args.row.now c.add_ancestors.new.row are gains)

@@ -1,9 +1,8 @@
-use Rattle.std.proofs.Common.{◌≡◌, ℕ, List, [], length, ◌∙◌, sym, arith}
-use Rattle.std.specs.Vec.{with_items}
-use Rattle.std.proofs.lemmas.List.{with_items_is, get_or_default}
-use Rattle.reach_rows.specs.Rows.{IsDown, IsUpTo, GainsAll, Spreads, row_at}
+use Rattle.std.proofs.Common.{◌≡◌, ◌<◌, ℕ, List, length, subst, sym, arith}
+use Rattle.std.specs.List.{All}
 use Rattle.reach_rows.proofs.Closing.{size_of}
 use Rattle.reach_rows.proofs.OneStar.{star_known}
+use Rattle.reach_rows.proofs.Carrying.{gathered_below}
 use Rattle.reach_rows.proofs.Adding.{IsStarAdded, added_star, last_after, down_of_row}
 use Rattle.reach_rows.proofs.reach.Reach.add_star.Goals as goal
 
@@ -11,60 +10,63 @@ pub returns-then-all_before-clause-closure : goal.returns-then-all_before-clause
 returns-then-all_before-clause-closure c =
     star_known c.args.self.now.pairs c.args.members.now c.args.target (c.all_before.ensures.0 c.if-all_before.true)
 
-pub gather-requires-clause-down : goal.gather-requires-clause-down
-gather-requires-clause-down c =
-    let rows : List (List ℕ) = c.self.inside.rows.items in
-    let size : length rows ≡ c.args.self.now.size = size_of rows c.args.self.now c.self.view_is in
+pub copy_to-requires : goal.copy_to-requires
+copy_to-requires c =
+    let size : length c.self.inside.rows ≡ c.args.self.now.size = size_of c.self.inside.rows c.args.self.now c.self.view_is in
     let small = c.requires.target in
-    let row : c.copy_from.new.self ≡ row_at rows c.args.target =
-    c.copy_from.ensures ∙ c.index.ensures ∙ get_or_default rows c.args.target c.index.result.now [] (omega arith) in
-    let down : IsDown rows c.copy_from.new.self = down_of_row rows c.copy_from.new.self c.args.target c.self.invariant row in
-    rw c.deref.ensures.value down
+    omega arith
+
+pub gather-requires-clause-members : goal.gather-requires-clause-members
+gather-requires-clause-members c =
+    subst (λ (k : ℕ). All (λ m. m < k) c.args.members.now) (sym (size_of c.self.inside.rows c.args.self.now c.self.view_is)) c.requires.members
+
+pub gather-requires-clause-down : goal.gather-requires-clause-down
+gather-requires-clause-down c = down_of_row c.self.inside.rows c.copy_to.new.row c.args.target c.self.invariant c.copy_to.ensures
+
+pub spread-requires-clause-target : goal.spread-requires-clause-target
+spread-requires-clause-target c =
+    let size : length c.self.inside.rows ≡ c.args.self.now.size = size_of c.self.inside.rows c.args.self.now c.self.view_is in
+    let small = c.requires.target in
+    omega arith
+
+pub spread-requires-clause-gained : goal.spread-requires-clause-gained
+spread-requires-clause-gained c =
+    gathered_below c.self.inside.rows c.args.members.now c.args.target c.copy_to.new.row c.gather.new.row c.self.invariant
+    (subst (λ (k : ℕ). All (λ m. m < k) c.args.members.now) (sym (size_of c.self.inside.rows c.args.self.now c.self.view_is)) c.requires.members)
+    c.copy_to.ensures c.gather.ensures
 
 pub invariant_of-self : goal.invariant_of-self
 invariant_of-self c =
-    let rows : List (List ℕ) = c.self.inside.rows.items in
+    let rows : List (List ℕ) = c.self.inside.rows in
     let new : List (List ℕ) = c.spread.new.rows in
-    let spreads : Spreads c.args.target c.gather.new.row rows new =
-    rw c.deref_mut.ensures.value at c.spread.ensures in
-    let final : List (List ℕ) = (with_items c.self.inside.rows new).items in
-    let items : final ≡ new = with_items_is c.self.inside.rows new (spreads.size ∙ sym c.self.inside.rows.ok.0) in
-    let gains : GainsAll (IsUpTo rows) c.args.members.now c.copy_from.new.self c.gather.new.row =
-    rw c.deref.ensures.value at c.gather.ensures in
-    let step : IsStarAdded c.args.self.now final c.args.members.now c.args.target =
-    added_star rows new final c.args.self.now c.args.members.now c.args.target c.index.result.now c.copy_from.new.self c.gather.new.row
-    items c.self.view_is c.self.invariant c.requires.target c.requires.members c.requires.acyclic c.index.ensures
-    c.copy_from.ensures gains spreads in
+    let step : IsStarAdded c.args.self.now new c.args.members.now c.args.target =
+    added_star rows new c.args.self.now c.args.members.now c.args.target c.copy_to.new.row c.gather.new.row c.self.view_is
+    c.self.invariant c.requires.target c.requires.members c.requires.acyclic c.copy_to.ensures c.gather.ensures c.spread.ensures in
     step.closed
+
+pub returns-clause-size : goal.returns-clause-size
+returns-clause-size c =
+    let rows : List (List ℕ) = c.self.inside.rows in
+    let new : List (List ℕ) = c.spread.new.rows in
+    let step : IsStarAdded c.args.self.now new c.args.members.now c.args.target =
+    added_star rows new c.args.self.now c.args.members.now c.args.target c.copy_to.new.row c.gather.new.row c.self.view_is
+    c.self.invariant c.requires.target c.requires.members c.requires.acyclic c.copy_to.ensures c.gather.ensures c.spread.ensures in
+    step.size
 
 pub returns-clause-closure : goal.returns-clause-closure
 returns-clause-closure c =
-    let rows : List (List ℕ) = c.self.inside.rows.items in
+    let rows : List (List ℕ) = c.self.inside.rows in
     let new : List (List ℕ) = c.spread.new.rows in
-    let spreads : Spreads c.args.target c.gather.new.row rows new =
-    rw c.deref_mut.ensures.value at c.spread.ensures in
-    let final : List (List ℕ) = (with_items c.self.inside.rows new).items in
-    let items : final ≡ new = with_items_is c.self.inside.rows new (spreads.size ∙ sym c.self.inside.rows.ok.0) in
-    let gains : GainsAll (IsUpTo rows) c.args.members.now c.copy_from.new.self c.gather.new.row =
-    rw c.deref.ensures.value at c.gather.ensures in
-    let step : IsStarAdded c.args.self.now final c.args.members.now c.args.target =
-    added_star rows new final c.args.self.now c.args.members.now c.args.target c.index.result.now c.copy_from.new.self c.gather.new.row
-    items c.self.view_is c.self.invariant c.requires.target c.requires.members c.requires.acyclic c.index.ensures
-    c.copy_from.ensures gains spreads in
+    let step : IsStarAdded c.args.self.now new c.args.members.now c.args.target =
+    added_star rows new c.args.self.now c.args.members.now c.args.target c.copy_to.new.row c.gather.new.row c.self.view_is
+    c.self.invariant c.requires.target c.requires.members c.requires.acyclic c.copy_to.ensures c.gather.ensures c.spread.ensures in
     step.closure
 
 pub returns-clause-last : goal.returns-clause-last
 returns-clause-last c =
-    let rows : List (List ℕ) = c.self.inside.rows.items in
+    let rows : List (List ℕ) = c.self.inside.rows in
     let new : List (List ℕ) = c.spread.new.rows in
-    let spreads : Spreads c.args.target c.gather.new.row rows new =
-    rw c.deref_mut.ensures.value at c.spread.ensures in
-    let final : List (List ℕ) = (with_items c.self.inside.rows new).items in
-    let items : final ≡ new = with_items_is c.self.inside.rows new (spreads.size ∙ sym c.self.inside.rows.ok.0) in
-    let gains : GainsAll (IsUpTo rows) c.args.members.now c.copy_from.new.self c.gather.new.row =
-    rw c.deref.ensures.value at c.gather.ensures in
-    let step : IsStarAdded c.args.self.now final c.args.members.now c.args.target =
-    added_star rows new final c.args.self.now c.args.members.now c.args.target c.index.result.now c.copy_from.new.self c.gather.new.row
-    items c.self.view_is c.self.invariant c.requires.target c.requires.members c.requires.acyclic c.index.ensures
-    c.copy_from.ensures gains spreads in
-    last_after c.args.self.now final c.args.members.now c.args.target step
+    let step : IsStarAdded c.args.self.now new c.args.members.now c.args.target =
+    added_star rows new c.args.self.now c.args.members.now c.args.target c.copy_to.new.row c.gather.new.row c.self.view_is
+    c.self.invariant c.requires.target c.requires.members c.requires.acyclic c.copy_to.ensures c.gather.ensures c.spread.ensures in
+    last_after c.args.self.now new c.args.members.now c.args.target step

@@ -9,11 +9,11 @@ use Rattle.reach_rows.proofs.reach.Reach.union_of.Goals as goal
 
 pub returns : goal.returns
 returns c =
-    let rows : List (List ℕ) = c.self.inside.rows.items in
+    let rows : List (List ℕ) = c.self.inside.rows in
     let are : AreRowsOf c.args.self.now.pairs rows =
     subst (λ (edges : List Edge). AreRowsOf edges rows) (pairs_of_view rows c.args.self.now c.self.view_is) (closed_rows_of rows c.self.invariant) in
     let gains : GainsAll (HasPair rows) c.args.members.now c.in_ok-row.row c.gather_ancestors.new.row =
-    rw c.deref.ensures.value at c.gather_ancestors.ensures in
+    c.gather_ancestors.ensures in
     let is = gains_from_empty (HasPair rows) c.args.members.now c.in_ok-row.row c.gather_ancestors.new.row c.in_ok-row.ensures gains in
     λ n. (
       λ member. any_mapped (λ m. HasPair rows n m) (λ m. Reaches c.args.self.now.pairs n m) (λ m. (are n m).0) c.args.members.now

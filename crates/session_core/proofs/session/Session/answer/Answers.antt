@@ -21,9 +21,9 @@ returns-clause-grown c =
             (served_answered (knowledge_of c.args.self.now.runner) c.args.answer (knowledge_of c.answered-step.new.runner)
             c.answered-step.ensures.known)
             c.answered-step.ensures.some;
-        short = flag-answered c.args.self.now.short c.either-self.result c.either.result c.is_want-wants.result
+        short = flag-answered c.args.self.now.short c.either-self.result c.either.result c.lacks_memory-lacks.result
             c.answered-step.result.out_of_memory es c.args.answer e sent s.short c.either-self.ensures
-            (c.either.ensures ∙ ap (λ (b : Bool). c.is_want-wants.result || b) c.is_some.ensures) c.is_want-wants.ensures;
+            (c.either.ensures ∙ ap (λ (b : Bool). c.lacks_memory-lacks.result || b) c.is_some.ensures) c.lacks_memory-lacks.ensures;
         number = number-answered c.args.self.now.number c.number_after-number.result c.answered-step.result.out_of_memory es c.args.answer e sent
             s.number c.number_after-number.ensures;
       },

@@ -1,12 +1,12 @@
-use Rattle.std.proofs.Common.{nat_eq, ℕ, ap, subst, refl}
+use Rattle.std.proofs.Common.{ℕ, ap, sym, ◌∙◌, subst, refl}
 use Rattle.block_machine.specs.declared.block.Owed.{Owed}
 use Rattle.block_machine.specs.Script.{stop}
 use Rattle.session_core.specs.declared.stage.SessionStage.{SessionStage}
-use Rattle.session_core.specs.Told.{ending}
+use Rattle.session_core.specs.Told.{ending, stop_end}
 use Rattle.session_core.specs.Stands.{StandsFor, end_of}
 use Rattle.session_core.specs.Steps.{LeadsTo}
 use Rattle.session_core.proofs.Somes.{plain_some}
-use Rattle.session_core.proofs.Grows.{StandsFor-stopped, stopped_right}
+use Rattle.session_core.proofs.Grows.{StandsFor-stopped}
 use Rattle.session_core.proofs.Flags.{flag-kept, number-stopped}
 use Rattle.session_core.proofs.session.Session.stop.Goals as goal
 
@@ -21,8 +21,7 @@ returns-clause-grown c =
           (subst (λ (o : Owed). LeadsTo c.leave-self.result (ending o (end_of c.finish_of-finish.result))) c.owed_by.ensures
           c.leave-self.ensures.leads)
           (plain_some c.leave-self.result c.args.self.now.runner c.args.self.now.startup.items c.leave-self.ensures.constant)
-          (stopped_right c.args.self.now.frames.rest c.args.cause (end_of c.finish_of-finish.result) (nat_eq c.rest.result 0)
-          (ap (λ (n : ℕ). nat_eq n 0) c.rest.ensures) c.finish_of-finish.ensures.nothing c.finish_of-finish.ensures.something);
+          (sym (c.finish_of-finish.ensures.end ∙ ap (λ (n : ℕ). stop_end c.args.cause n) c.rest.ensures));
       short = flag-kept c.args.self.now.short es (stop c.args.cause) s.short refl;
       number = number-stopped c.args.self.now.number es (stop c.args.cause) refl s.number;
     }

@@ -30,9 +30,9 @@ returns-clause-grown g c =
             c.write_cell-answer.ensures.known))
             (subst (λ (x : SessionStage). HasReply x c.write_cell-answer.new.runner c.args.self.now.startup.items) (sym c.requires.running)
             (c.write_cell-answer.ensures.some c.args.self.now.startup.items));
-        short = flag-answered c.args.self.now.short c.either-self.result c.either.result c.is_want-wants.result
+        short = flag-answered c.args.self.now.short c.either-self.result c.either.result c.lacks_memory-lacks.result
             c.write_cell-answer.result.out_of_memory es c.write_cell-answer.result.answer e sent s.short c.either-self.ensures
-            (c.either.ensures ∙ ap (λ (b : Bool). c.is_want-wants.result || b) c.is_some.ensures) c.is_want-wants.ensures;
+            (c.either.ensures ∙ ap (λ (b : Bool). c.lacks_memory-lacks.result || b) c.is_some.ensures) c.lacks_memory-lacks.ensures;
         number = number-answered c.args.self.now.number c.args.self.now.number c.write_cell-answer.result.out_of_memory es c.write_cell-answer.result.answer e sent
             s.number (write_number c.args.self.now.number _ cell value c.write_cell-answer.result.answer _ made);
       },

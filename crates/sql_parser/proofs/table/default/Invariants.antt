@@ -1,9 +1,0 @@
-use Rattle.std.proofs.Common.{◌≡◌, length, None}
-use Rattle.sql_grammar.specs.Statements.{default}
-use Rattle.sql_parser.proofs.table.default.Given as goal
-
-abbrev pub invariant-loop-constraints : goal.invariant-loop-constraints
-invariant-loop-constraints l = default l.last l.constraints ≡ default None l.initial.constraints
-
-abbrev pub decreases-loop-constraints : goal.decreases-loop-constraints
-decreases-loop-constraints l = length l.constraints
