@@ -65,10 +65,8 @@ fn define(alloc: Global, book: &mut SeatBook, text: &[u8]) -> Result<(), BookFau
     ensures { OnOk result (IsIdle book.new.state) }
 {
     let table = table_of(alloc, text)?;
-    match book.define(&table) {
-        Ok(_) => Ok(()),
-        Err(fault) => Err(fault),
-    }
+    book.define(&table)?;
+    Ok(())
 }
 
 /// Plays one transaction.

@@ -66,10 +66,8 @@ fn open(seat: &mut SeatBook) -> Result<(), BookFault>
     ensures ok { OnOk result (DefinesMore seat.old [] seat.new) }
     ensures room { (limit : Limit) → ¬ (result ≡ Err (BookFault.Full limit)) }
 {
-    match seat.open() {
-        Ok(_) => Ok(()),
-        Err(fault) => Err(fault),
-    }
+    seat.open()?;
+    Ok(())
 }
 
 /// Defines the next table.
@@ -79,10 +77,8 @@ fn define(seat: &mut SeatBook, table: &Table) -> Result<(), BookFault>
     ensures ok { OnOk result (DefinesMore seat.old (table.now ∷ []) seat.new) }
     ensures full { (limit : Limit) → result ≡ Err (BookFault.Full limit) → 1048576 ≤ initial_load seat.old.seen.initial + length seat.old.seen.tables + 1 }
 {
-    match seat.define(table) {
-        Ok(_) => Ok(()),
-        Err(fault) => Err(fault),
-    }
+    seat.define(table)?;
+    Ok(())
 }
 
 /// Closes the first session.

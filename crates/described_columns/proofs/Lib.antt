@@ -1,5 +1,4 @@
 pub mod Expressions
-pub mod Marks
 pub mod Statements
 pub mod Plain
 pub mod Columns

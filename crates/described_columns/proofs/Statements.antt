@@ -11,10 +11,10 @@ use Rattle.sql_grammar.specs.Statements.{as_list}
 use Rattle.sql_grammar.specs.Syntax.{Syntax, expression, map}
 use Rattle.sql_grammar.specs.Words.{marks}
 use Rattle.typing_rules.specs.Select.{name_or}
+use Rattle.sound_table.proofs.Names.{marks_plain}
 use Rattle.sound_table.proofs.Yields.{Yields, Any, whatever, a_name, both, made, given, passed, one_of, repeated, second, in_list}
 use Rattle.described_columns.specs.Described.{NamesPlainly, HasPlainNames}
 use Rattle.described_columns.proofs.Expressions.{HasPlainName, expression_named}
-use Rattle.described_columns.proofs.Marks.{marks_plain}
 
 -- ---- SELECT
 

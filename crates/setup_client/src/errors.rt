@@ -8,8 +8,7 @@ use byteorder::{BigEndian, ByteOrder};
 use cell_base::{Items, Memory};
 use std::alloc::Global;
 use std::error::Error;
-use std::fmt;
-use std::str;
+use std::{fmt, str};
 
 /// The error of a statement.
 #[derive(Debug, Drop)]

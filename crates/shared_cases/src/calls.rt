@@ -29,10 +29,8 @@ pub fn define<R: Wait>(book: &mut SharedBook<'_, R>, table: &Table) -> Result<()
     ensures idle { OnOk result (IsIdle book.new.state) }
     ensures pass { SamePass book.old.pass book.new.pass }
 {
-    match book.define(table) {
-        Ok(_) => Ok(()),
-        Err(fault) => Err(fault),
-    }
+    book.define(table)?;
+    Ok(())
 }
 
 /// Looks at the tables, of which there has to be one.
@@ -41,16 +39,11 @@ pub fn look<R: Wait>(book: &mut SharedBook<'_, R>) -> Result<(), BookFault>
     ensures ready { OnOk result (IsReady (past_of book.new)) }
     ensures pass { SamePass book.old.pass book.new.pass }
 {
-    match book.look(0) {
-        Ok(tables) => {
-            if tables.len() == 0 {
-                Err(BookFault::Memory)
-            } else {
-                Ok(())
-            }
-        }
-        Err(fault) => Err(fault),
+    let tables = book.look(0)?;
+    if tables.len() == 0 {
+        return Err(BookFault::Memory);
     }
+    Ok(())
 }
 
 /// Begins a transaction at Read Committed.
@@ -59,10 +52,8 @@ pub fn begin<R: Wait>(book: &mut SharedBook<'_, R>) -> Result<(), BookFault>
     ensures fresh { OnOk result (IsFresh (past_of book.new)) }
     ensures pass { SamePass book.old.pass book.new.pass }
 {
-    match book.begin(Level::Rc) {
-        Ok(_) => Ok(()),
-        Err(fault) => Err(fault),
-    }
+    book.begin(Level::Rc)?;
+    Ok(())
 }
 
 /// Reads a cell before the first write.

@@ -3,9 +3,9 @@ use Rattle.std.specs.Prelude.{◌≡◌, ◌+◌, ◌*◌, ℕ, List, [], ◌∷
 use Rattle.rand_chacha.specs.ChaCha.{ChaCha}
 use Rattle.choice_stream.specs.Seeds.{stream_front}
 use Rattle.session_hall.specs.declared.client.Client.{Client}
-use Rattle.setup_client.specs.Client.{query_message}
+use Rattle.setup_client.specs.Client.{query_message, terminate}
 use Rattle.sim_clients.specs.declared.query.Query.{Query}
-use Rattle.sim_clients.specs.Streams.{startup, terminate, create_table, messages, DrawsQueries, AreFirst}
+use Rattle.sim_clients.specs.Streams.{startup, create_table, messages, DrawsQueries, AreFirst}
 
 -- a client that makes the table
 pub record IsMaker (client : Client) : Type 0 where

@@ -11,10 +11,6 @@ use Rattle.sim_clients.specs.Queries.{text_of, query_of}
 abbrev pub startup : List ℕ
 startup = to_be_bytes w32 18 ++ (to_be_bytes w32 196608 ++ (codes "user" ++ 0 ∷ (codes "sim" ++ 0 ∷ 0 ∷ [])))
 
--- the Terminate message
-abbrev pub terminate : List ℕ
-terminate = codes "X" ++ to_be_bytes w32 4
-
 abbrev pub create_table : List ℕ
 create_table = codes "CREATE TABLE t (k bigint PRIMARY KEY, v bigint)"
 

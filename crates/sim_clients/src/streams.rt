@@ -2,8 +2,8 @@
 ghost use Rattle.std.specs.Prelude.{◌≡◌, ◌≤◌, ◌+◌, ◌++◌, length, OnOk};
 ghost use Rattle.std.specs.Int.{w32, to_be_bytes};
 ghost use Rattle.sim_clients.specs.Queries.{text_of};
-ghost use Rattle.setup_client.specs.Client.{query_message};
-ghost use Rattle.sim_clients.specs.Streams.{startup, terminate, create_table};
+ghost use Rattle.setup_client.specs.Client.{query_message, terminate};
+ghost use Rattle.sim_clients.specs.Streams.{startup, create_table};
 
 use crate::query::{Query, put, put_query};
 use byteorder::{BigEndian, ByteOrder};

@@ -7,7 +7,7 @@ use Rattle.std.proofs.lemmas.Bool.{ne_eqb}
 use Rattle.cell_base.specs.declared.level.Level.{Level}
 use Rattle.rand_chacha.specs.ChaCha.{ChaCha}
 use Rattle.choice_stream.specs.Seeds.{Draws, stream_front}
-use Rattle.sim_clients.specs.Streams.{startup, terminate, create_table, messages}
+use Rattle.sim_clients.specs.Streams.{startup, create_table, messages}
 use Rattle.sim_clients.specs.Clients.{AreClients, AreAskers}
 use Rattle.session_hall.specs.declared.client.Client.{Client}
 use Rattle.history_core.specs.Chronicle.{Chronicle}
@@ -16,7 +16,7 @@ use Rattle.session_hall.specs.declared.client.Stepped.{Stepped}
 use Rattle.session_hall.specs.declared.client.Stepped.TheVariants.{Called, Ended}
 use Rattle.session_hall.specs.declared.hall.Hall.{Hall}
 use Rattle.session_hall.specs.Halls.{StandsFor, IsStep, clients_of}
-use Rattle.setup_client.specs.Client.{query_message}
+use Rattle.setup_client.specs.Client.{query_message, terminate}
 use Rattle.sim_command.specs.Runs.{Moment, Pick, Moves, Runs}
 use Rattle.sim_command.specs.Simulations.{going_after, DrawsTo, AreDrawn, AreDrawnFirst, GoesOn, GoesToEnd, IsSchedule, IsFront, numbers_from}
 use Rattle.sim_command.specs.Playing.{StandsAt, Plays, Goes, IsStepOf, IsPicked, AreNone}

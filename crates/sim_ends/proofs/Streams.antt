@@ -12,8 +12,8 @@ use Rattle.sim_clients.specs.declared.query.Query.{Query}
 use Rattle.sim_clients.specs.declared.query.Action.{Action}
 use Rattle.sim_clients.specs.declared.query.Action.TheVariants.{Insert, Increment, Select, Delete}
 use Rattle.sim_clients.specs.Queries.{text_for, text_of, action_for}
-use Rattle.setup_client.specs.Client.{query_message}
-use Rattle.sim_clients.specs.Streams.{startup, terminate, create_table, messages, DrawsQuery, DrawsQueries}
+use Rattle.setup_client.specs.Client.{query_message, terminate}
+use Rattle.sim_clients.specs.Streams.{startup, create_table, messages, DrawsQuery, DrawsQueries}
 use Rattle.sim_clients.specs.Clients.{IsMaker, AreAskers, AreClients}
 
 -- ---- words

@@ -131,7 +131,7 @@ mark_plain (t.Str text) h = tt
 mark_plain (t.Param n) h = tt
 mark_plain (t.Sign sign) h = tt
 
-marks_plain : (tokens : List Token) → IsPlain tokens → ArePlain (marks tokens)
+pub marks_plain : (tokens : List Token) → IsPlain tokens → ArePlain (marks tokens)
 marks_plain tokens h m at =
     let each : All (λ (token : Token). IsPlainMark (mark token.kind)) tokens =
     λ k d within. mark_plain _ (h (get_or tokens k d) (Contains-get_or tokens k d within)) in
