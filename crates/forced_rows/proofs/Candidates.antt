@@ -1,12 +1,12 @@
 -- Which reads are permitted, by the rows.
 use Rattle.std.proofs.Common.{◌≡◌, ℕ, List, [], ◌∷◌, ◌++◌, ◌↔◌, Bool, not, arith, refl, sym, ◌∙◌, subst, inl, inr}
-use Rattle.std.specs.Prelude.{IsTrue}
+use Rattle.std.specs.Prelude.{IsTrue, Any}
 use Rattle.std.specs.List.{Contains}
 use Rattle.std.proofs.lemmas.Bool.{cases_eq, false≢true, not-true, not_from_false, false_from_ne_true}
 use Rattle.std.proofs.lemmas.List.Elements.{Contains-append_right}
 use Rattle.bit_rows.proofs.Marks.{contains_cons}
 use Rattle.graph_base.specs.declared.Edge.{Edge}
-use Rattle.graph_base.specs.Walk.{HasCycle, IsInRange}
+use Rattle.graph_base.specs.Walk.{HasCycle, IsInRange, Reaches}
 use Rattle.graph_base.specs.Closure.{HasEdge}
 use Rattle.reach_rows.specs.Rows.{edge_of}
 use Rattle.reach_rows.specs.Stars.{star_of}
