@@ -1,12 +1,12 @@
 -- Which reads are permitted, by the rows.
 use Rattle.std.proofs.Common.{◌≡◌, ℕ, List, [], ◌∷◌, ◌++◌, ◌↔◌, Bool, not, arith, refl, sym, ◌∙◌, subst, inl, inr}
-use Rattle.std.specs.Prelude.{IsTrue}
+use Rattle.std.specs.Prelude.{IsTrue, Any}
 use Rattle.std.specs.List.{Contains}
 use Rattle.std.proofs.lemmas.Bool.{cases_eq, false≢true, not-true, not_from_false, false_from_ne_true}
 use Rattle.std.proofs.lemmas.List.Elements.{Contains-append_right}
 use Rattle.bit_rows.proofs.Marks.{contains_cons}
 use Rattle.graph_base.specs.declared.Edge.{Edge}
-use Rattle.graph_base.specs.Walk.{HasCycle, IsInRange}
+use Rattle.graph_base.specs.Walk.{HasCycle, IsInRange, Reaches}
 use Rattle.graph_base.specs.Closure.{HasEdge}
 use Rattle.reach_rows.specs.Rows.{edge_of}
 use Rattle.reach_rows.specs.Stars.{star_of}
@@ -23,7 +23,7 @@ use Rattle.forced_rows.specs.declared.rows.ForcedRows.{ForcedRows}
 use Rattle.forced_rows.specs.declared.reader.Reader.{Reader}
 use Rattle.forced_rows.specs.declared.sight.Sight.TheVariants.{SoFar}
 use Rattle.forced_rows.specs.Rows.{AreRowsOf}
-use Rattle.forced_rows.specs.Sights.{IsReader, AreRivals, AreOvertaken}
+use Rattle.forced_rows.specs.Sights.{IsReader, AreRivals}
 use Rattle.forced_rows.proofs.Keeping.{nothing}
 
 -- the kept pairs have the closure of the forced ones
@@ -101,18 +101,17 @@ plain_demands events reader cell source seen others are is old = record {
   ];
 }
 
--- then one bit tells
+-- then it is decided by whether the source is before one of the writers that the reader sees
 pub plain_decided :
-    (events : List Event) (reader : Reader) (cell : Cell) (source : ℕ) (pairs : List Edge) (row : List ℕ) (has : Bool) → IsSound events → IsReader events reader →
-    Writes events source cell → HaveForcedClosure events pairs → (HasCycle pairs → ⊥) → AreOvertaken events pairs reader cell row →
+    (events : List Event) (reader : Reader) (cell : Cell) (source : ℕ) (pairs : List Edge) (seen : List ℕ) (has : Bool) → IsSound events → IsReader events reader →
+    Writes events source cell → HaveForcedClosure events pairs → (HasCycle pairs → ⊥) → AreRivals SoFar events reader cell 0 seen →
     ((n : ℕ) → SeesWith reader.level events reader.number source n → Sees reader.level events reader.number n) →
-    IsTrue has ↔ Contains row source → IsTrue (not has) ↔ IsPermitted events reader.session cell source
-plain_decided events reader cell source pairs row has sound is writes have acyclic overtaken old tells =
-    let others = without source overtaken.seen in
-    let cycle = candidate_cycle pairs overtaken.seen others.0 source acyclic (λ m member. inl ((others.1 m).0 member)) (λ m member apart. (others.1 m).1 (member, apart)) in
-    let before = overtaken.before source in
+    IsTrue has ↔ Any (λ writer. Reaches pairs source writer) seen → IsTrue (not has) ↔ IsPermitted events reader.session cell source
+plain_decided events reader cell source pairs seen has sound is writes have acyclic are old tells =
+    let others = without source seen in
+    let cycle = candidate_cycle pairs seen others.0 source acyclic (λ m member. inl ((others.1 m).0 member)) (λ m member apart. (others.1 m).1 (member, apart)) in
     decided events reader cell source pairs (star_of others.0 source) has sound is writes have
-    (plain_demands events reader cell source overtaken.seen others.0 overtaken.are others.1 old) (
-      λ on. cycle.1 (before.0 (tells.0 on)),
-      λ closes. tells.1 (before.1 (cycle.0 closes)),
+    (plain_demands events reader cell source seen others.0 are others.1 old) (
+      λ on. cycle.1 (tells.0 on),
+      λ closes. tells.1 (cycle.0 closes),
     )

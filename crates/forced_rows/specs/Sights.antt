@@ -1,5 +1,5 @@
 -- What a pending transaction sees, and which writers of a cell that makes.
-use Rattle.std.specs.Prelude.{◌≡◌, ◌≢◌, ◌<◌, ◌≤◌, ◌⊎◌, ◌↔◌, ℕ, Some, List, Any, Contains, slice_get}
+use Rattle.std.specs.Prelude.{◌≡◌, ◌≢◌, ◌<◌, ◌≤◌, ◌⊎◌, ◌↔◌, ℕ, Some, IfSome, Option, List, Any, Contains, slice_get}
 use Rattle.std.specs.List.Sorted.{IsStrictlyIncreasing}
 use Rattle.graph_base.specs.declared.Edge.{Edge}
 use Rattle.graph_base.specs.Walk.{Reaches}
@@ -14,6 +14,7 @@ use Rattle.history_core.specs.Legal.{IsPermitted}
 use Rattle.saturation.specs.Views.{IsRival}
 use Rattle.further_reads.specs.Further.{Sees, SeesWith, IsNewlySeen}
 use Rattle.forced_rows.specs.declared.reader.Reader.{Reader}
+use Rattle.forced_rows.specs.declared.offering.Overtaken.{Overtaken}
 use Rattle.forced_rows.specs.declared.sight.Sight.{Sight}
 use Rattle.forced_rows.specs.declared.sight.Sight.TheVariants.{SoFar, With, Newly}
 
@@ -62,11 +63,14 @@ pub record IsSeenLate (events : List Event) (reader : Reader) (source : ℕ) (se
   pub rival : IsRival events seen n
   pub new : IsNewlySeen reader.level events reader.number source n
 
--- the row has what is before the writers of the cell that the reader sees
-pub record AreOvertaken (events : List Event) (pairs : List Edge) (reader : Reader) (cell : Cell) (row : List ℕ) : Type 0 where
-  pub seen : List ℕ
-  pub are : AreRivals SoFar events reader cell 0 seen
-  pub before : (n : ℕ) → Contains row n ↔ Any (λ writer. Reaches pairs n writer) seen
+-- the row, where there is one, has what is before one of these writers
+abbrev pub AreBeforeSome : List Edge → List ℕ → Option (List ℕ) → Type 0
+AreBeforeSome pairs writers before = IfSome before (λ row. (n : ℕ) → Contains row n ↔ Any (λ writer. Reaches pairs n writer) writers)
+
+-- the writers of the cell that the reader sees, and what is before them
+pub record AreOvertaken (events : List Event) (pairs : List Edge) (reader : Reader) (cell : Cell) (overtaken : Overtaken) : Type 0 where
+  pub are : AreRivals SoFar events reader cell 0 overtaken.seen.items
+  pub before : AreBeforeSome pairs overtaken.seen.items overtaken.before
 
 -- it is the initial transaction, or one of so many of the writers from the first on
 abbrev pub IsAmong : List ℕ → ℕ → ℕ → Type 0

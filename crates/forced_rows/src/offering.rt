@@ -1,11 +1,12 @@
 // Which writes a read may see.
-ghost use Rattle.std.specs.Prelude.{◌<◌, ◌≤◌, ◌↔◌, ℕ, List, IsTrue, IfOk};
+ghost use Rattle.std.specs.Prelude.{◌<◌, ◌≤◌, ◌↔◌, ℕ, List, All, Any, IsTrue, IfOk};
+ghost use Rattle.graph_base.specs.Walk.{Reaches};
 ghost use Rattle.history_core.specs.Events.{begun};
 ghost use Rattle.history_core.specs.Relations.{HasWritten, Writes};
 ghost use Rattle.history_core.specs.Legal.{IsPermitted, IsOffer};
 ghost use Rattle.indexed_history.specs.Writers.{ListsWriters};
 ghost use Rattle.forced_rows.specs.Rows.{AreRowsOf};
-ghost use Rattle.forced_rows.specs.Sights.{IsReader, AreOvertaken, IsOfferAmong};
+ghost use Rattle.forced_rows.specs.Sights.{IsReader, AreBeforeSome, AreOvertaken, IsOfferAmong};
 
 use crate::ForcedRows;
 use crate::reader::Reader;
@@ -15,22 +16,61 @@ use cell_base::{Cell, Memory};
 use indexed_history::IndexedHistory;
 use std::alloc::Global;
 
+/// How many writers are asked one by one what is before them.
+const FEW: usize = 8;
+
+/// The writers of a cell that a reader sees, and where they are more than a few, all that is before one of them as one row.
+#[derive(Debug, Drop)]
+pub struct Overtaken {
+    pub seen: Vec<u32>,
+    pub before: Option<Row>,
+}
+
 impl ForcedRows {
-    /// What is before the writers of the cell that the reader sees.
+    /// All that is before one of the numbers, where these are more than a few.
+    fn union_of_many(&self, numbers: &[u32]) -> Result<Option<Row>, Memory>
+        requires { All (λ m. m < self.now.reach.size) numbers.now }
+        ensures { IfOk result (AreBeforeSome self.now.reach.pairs numbers.now) }
+    {
+        if numbers.len() <= FEW {
+            return Ok(None);
+        }
+        let row = self.reach.union_of(numbers)?;
+        Ok(Some(row))
+    }
+
+    /// Whether a number is before one of the writers.
+    fn is_overtaken(&self, overtaken: &Overtaken, number: u32) -> bool
+        requires number { number < self.now.reach.size }
+        requires seen { All (λ m. m < self.now.reach.size) overtaken.now.seen.items }
+        requires before { AreBeforeSome self.now.reach.pairs overtaken.now.seen.items overtaken.now.before }
+        ensures { IsTrue result ↔ Any (λ m. Reaches self.now.reach.pairs number m) overtaken.now.seen.items }
+    {
+        let _size = self.reach.size();
+        match &overtaken.before {
+            Some(row) => row.has(number),
+            None => overtaken
+                .seen
+                .iter()
+                .any(|writer| self.reach.reaches(number, *writer)),
+        }
+    }
+
+    /// The writers of the cell that the reader sees, with what is before them.
     fn overtaken(
         &self,
         alloc: Global,
         history: &IndexedHistory,
         reader: Reader,
         cell: &Cell,
-    ) -> Result<Row, Memory>
+    ) -> Result<Overtaken, Memory>
         requires kept { AreRowsOf history.now.events self.now }
         requires reader { IsReader history.now.events reader }
         ensures { IfOk result (AreOvertaken history.now.events self.now.reach.pairs reader cell.now) }
     {
         let seen = self.rivals(alloc, history, reader, cell, Sight::SoFar, 0)?;
-        let row = self.reach.union_of(&seen)?;
-        Ok(row)
+        let before = self.union_of_many(&seen)?;
+        Ok(Overtaken { seen, before })
     }
 
     /// Whether the stars of a further read from the source close no cycle.
@@ -54,14 +94,15 @@ impl ForcedRows {
         Ok(!close)
     }
 
-    /// Whether the reader may read the cell from the source next. Where that brings no news, one bit tells.
+    /// Whether the reader may read the cell from the source next. Where that brings no news, a bit tells for each of a few
+    /// writers, and one bit for all of many.
     fn permits(
         &self,
         alloc: Global,
         history: &IndexedHistory,
         reader: Reader,
         cell: &Cell,
-        overtaken: &Row,
+        overtaken: &Overtaken,
         source: u32,
     ) -> Result<bool, Memory>
         requires kept { AreRowsOf history.now.events self.now }
@@ -76,7 +117,7 @@ impl ForcedRows {
             let permitted = self.closes_none(alloc, history, reader, cell, source)?;
             return Ok(permitted);
         }
-        Ok(!overtaken.has(source))
+        Ok(!self.is_overtaken(overtaken, source))
     }
 
     /// The same for a transaction that wrote the cell, and may have been rolled back.
@@ -86,7 +127,7 @@ impl ForcedRows {
         history: &IndexedHistory,
         reader: Reader,
         cell: &Cell,
-        overtaken: &Row,
+        overtaken: &Overtaken,
         source: u32,
     ) -> Result<bool, Memory>
         requires kept { AreRowsOf history.now.events self.now }
@@ -111,7 +152,7 @@ impl ForcedRows {
         history: &IndexedHistory,
         reader: Reader,
         cell: &Cell,
-        overtaken: &Row,
+        overtaken: &Overtaken,
     ) -> Result<Vec<u32>, Memory>
         requires kept { AreRowsOf history.now.events self.now }
         requires reader { IsReader history.now.events reader }
@@ -133,7 +174,7 @@ impl ForcedRows {
         history: &IndexedHistory,
         reader: Reader,
         cell: &Cell,
-        overtaken: &Row,
+        overtaken: &Overtaken,
         writers: &[u32],
     ) -> Result<Vec<u32>, Memory>
         requires kept { AreRowsOf history.now.events self.now }

@@ -88,7 +88,7 @@ impl ForcedRows {
         ensures err { OnErr result (AreRowsOf history.now.events self.new) }
     {
         add_seats(self.alloc, &mut self.seats, session)?;
-        forget_sources(self.alloc, &mut self.seats, session)?;
+        forget_sources(&mut self.seats, session);
         grow_both(&mut self.reach, &mut self.past)
     }
 

@@ -1,5 +1,5 @@
 // What is kept of each session.
-ghost use Rattle.std.specs.Prelude.{◌≡◌, ◌<◌, ◌↔◌, ℕ, [], length, Contains, OnOk, OnErr, IsTrue};
+ghost use Rattle.std.specs.Prelude.{◌≡◌, ◌<◌, ◌↔◌, ℕ, [], length, Contains, OnOk, IsTrue};
 ghost use Rattle.bit_rows.specs.declared.TheConstants.{ROW_BITS};
 ghost use Rattle.forced_rows.specs.Seats.{seat_at, KeepsSeats, ChangesSeat, ForgetsSources, TakesLast, GainsSource};
 
@@ -49,15 +49,12 @@ pub fn add_seats(alloc: Global, seats: &mut Vec<Seat>, session: u32) -> Result<(
     Ok(())
 }
 
-/// Empties the sources of the session's seat. Out of memory, nothing changes.
-pub fn forget_sources(alloc: Global, seats: &mut Vec<Seat>, session: u32) -> Result<(), Memory>
+/// Empties the sources of the session's seat.
+pub fn forget_sources(seats: &mut Vec<Seat>, session: u32)
     requires { session < length seats.old.items }
-    ensures ok { OnOk result (ChangesSeat seats.old.items seats.new.items session ForgetsSources) }
-    ensures err { OnErr result (seats.new.items ≡ seats.old.items) }
+    ensures { ChangesSeat seats.old.items seats.new.items session ForgetsSources }
 {
-    let none = Row::new(alloc)?;
-    seats[session as usize].sources = none;
-    Ok(())
+    seats[session as usize].sources.clear();
 }
 
 /// The session has begun the transaction.

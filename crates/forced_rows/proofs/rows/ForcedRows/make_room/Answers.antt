@@ -7,7 +7,7 @@ returns-clause-ok c =
     on_ok_weaker c.grow_both.result
     (λ grows. room_made c.args.history.now.events c.args.session c.args.self.now
     record { alloc = c.args.self.now.alloc; reach = c.grow_both.new.reach; past = c.grow_both.new.past; seats = c.forget_sources.new.seats }
-    c.add_seats.new.seats.items c.requires.idle c.requires.kept c.add_seats.ensures.kept c.in_ok-add_seats.ensures.ok c.in_ok-forget_sources.ensures.ok grows)
+    c.add_seats.new.seats.items c.requires.idle c.requires.kept c.add_seats.ensures.kept c.in_ok-add_seats.ensures.ok c.forget_sources.ensures grows)
     c.grow_both.ensures.ok
 
 pub returns-clause-err : goal.returns-clause-err
@@ -17,5 +17,5 @@ returns-clause-err c =
     record { alloc = c.args.self.now.alloc; reach = c.grow_both.new.reach; past = c.grow_both.new.past; seats = c.forget_sources.new.seats }
     c.requires.kept same.0 same.1
     (seats_ready c.args.history.now.events c.args.session c.args.self.now.seats.items c.add_seats.new.seats.items c.forget_sources.new.seats.items
-    c.requires.idle c.requires.kept.stand.seats c.add_seats.ensures.kept c.in_ok-forget_sources.ensures.ok))
+    c.requires.idle c.requires.kept.stand.seats c.add_seats.ensures.kept c.forget_sources.ensures))
     c.grow_both.ensures.err
