@@ -1,7 +1,10 @@
 // Inputs that are cut short, and reads and writes that fail.
-use crate::sessions::{CLIENT, Ended, Events, serve_client};
+use crate::sessions::{CLIENT, Ended, Events, input, serve_client};
 use session_core::End;
 use std::test::Fail;
+
+// How many bytes the client sends.
+const LENGTH: usize = 27;
 
 // What becomes of a client whose first so many bytes alone come.
 fn expected(length: usize) -> Ended {
@@ -22,10 +25,10 @@ fn expected(length: usize) -> Ended {
 
 #[test]
 fn ends_where_its_input_ends(rt: HostRuntime) -> Result<(), Fail> {
-    assert_eq!(rt; CLIENT.len(), 27);
+    assert_eq!(rt; input(rt.alloc(), CLIENT)?.len(), LENGTH);
     for length in 0..28 {
         assert_eq!(rt;
-            serve_client(rt.alloc(), &CLIENT[..length], &[], &[])?,
+            serve_client(rt.alloc(), length, &[], &[])?,
             expected(length)
         );
     }
@@ -46,8 +49,8 @@ fn ends_where_a_read_fails(rt: HostRuntime) -> Result<(), Fail> {
         events: Events::RolledBack,
         sent: 208,
     };
-    assert_eq!(rt; serve_client(rt.alloc(), CLIENT, &[1], &[])?, first);
-    assert_eq!(rt; serve_client(rt.alloc(), CLIENT, &[2], &[])?, second);
+    assert_eq!(rt; serve_client(rt.alloc(), LENGTH, &[1], &[])?, first);
+    assert_eq!(rt; serve_client(rt.alloc(), LENGTH, &[2], &[])?, second);
     Ok(())
 }
 
@@ -60,15 +63,15 @@ fn ends_where_a_write_fails(rt: HostRuntime) -> Result<(), Fail> {
         sent,
     };
     assert_eq!(rt;
-        serve_client(rt.alloc(), CLIENT, &[], &[1])?,
+        serve_client(rt.alloc(), LENGTH, &[], &[1])?,
         broken(Events::Idle, 0)
     );
     assert_eq!(rt;
-        serve_client(rt.alloc(), CLIENT, &[], &[2])?,
+        serve_client(rt.alloc(), LENGTH, &[], &[2])?,
         broken(Events::RolledBack, 191)
     );
     assert_eq!(rt;
-        serve_client(rt.alloc(), CLIENT, &[], &[3])?,
+        serve_client(rt.alloc(), LENGTH, &[], &[3])?,
         broken(Events::RolledBack, 202)
     );
     Ok(())

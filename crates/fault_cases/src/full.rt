@@ -2,7 +2,7 @@
 ghost use Rattle.std.specs.Prelude.{◌≡◌};
 ghost use Rattle.history_core.specs.Book.{no_session};
 
-use crate::sessions::{CLIENT, link, new_book};
+use crate::sessions::{CLIENT, input, link, new_book};
 use cell_base::{Items, Level, SqlState};
 use choice_stream::ListWords;
 use history_core::Book;
@@ -31,7 +31,7 @@ fn refuses_a_session_beyond_the_last(rt: HostRuntime) -> Result<(), Fail> {
     let alloc = rt.alloc();
     let mut book = new_book(alloc)?;
     assert_eq!(rt; opened(&mut book, 4096), 4096);
-    let mut link = link(alloc, CLIENT, &[], &[])?;
+    let mut link = link(alloc, input(alloc, CLIENT)?, &[], &[])?;
     let mut words = ListWords::new(Items::new(alloc));
     let served = serve_link(alloc, Level::Rc, &mut book, &mut link, &mut words);
     assert_eq!(rt; served.session, None);

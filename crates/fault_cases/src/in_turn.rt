@@ -1,7 +1,7 @@
 // Each read and each write of a session failing in turn.
 ghost use Rattle.std.specs.Prelude.{◌<◌};
 
-use crate::sessions::{link_in_pieces, new_book};
+use crate::sessions::{input, link_in_pieces, new_book};
 use cell_base::{Items, Level};
 use choice_stream::ListWords;
 use history_core::Event;
@@ -10,8 +10,15 @@ use std::alloc::Global;
 use std::test::Fail;
 
 // A startup, a table, a row, and a block with an update: 16, 53, 34, 11, 36 and 12 bytes, and 5 of Terminate.
-const CLIENT: &[u8] =
-    b"\0\0\0\x10\0\x03\0\0user\0a\0\0Q\0\0\0\x34CREATE TABLE t (k bigint PRIMARY KEY, v bigint)\0Q\0\0\0\x21INSERT INTO t VALUES (1, 10)\0Q\0\0\0\x0aBEGIN\0Q\0\0\0\x23UPDATE t SET v = 5 WHERE k = 1\0Q\0\0\0\x0bCOMMIT\0X\0\0\0\x04";
+const CLIENT: &str = r"
+> StartupMessage user=a
+> Query CREATE TABLE t (k bigint PRIMARY KEY, v bigint)
+> Query INSERT INTO t VALUES (1, 10)
+> Query BEGIN
+> Query UPDATE t SET v = 5 WHERE k = 1
+> Query COMMIT
+> Terminate
+";
 
 // The read of the INSERT is offered the initial transaction alone, that of the UPDATE also the INSERT's.
 const WORDS: &[u32] = &[0, 1];
@@ -87,7 +94,7 @@ fn count_ended(events: &[Event]) -> usize {
 fn served(alloc: Global, piece: u32, reads: &[u64], writes: &[u64]) -> Result<Left, Fail>
     requires { 0 < piece }
 {
-    let mut link = link_in_pieces(alloc, CLIENT, piece, reads, writes)?;
+    let mut link = link_in_pieces(alloc, input(alloc, CLIENT)?, piece, reads, writes)?;
     let mut book = new_book(alloc)?;
     let mut words = ListWords::new(Items::from_slice(alloc, WORDS)?);
     let served = serve_link(alloc, Level::Rc, &mut book, &mut link, &mut words);
@@ -130,7 +137,7 @@ fn ends_where_each_write_fails(rt: HostRuntime) -> Result<(), Fail> {
 #[test]
 fn ends_where_each_read_fails(rt: HostRuntime) -> Result<(), Fail> {
     let alloc = rt.alloc();
-    assert_eq!(rt; CLIENT.len(), 167);
+    assert_eq!(rt; input(alloc, CLIENT)?.len(), 167);
     let mut number = 1u64;
     for reads in 0..17 {
         assert_eq!(rt;

@@ -7,13 +7,25 @@ use choice_stream::ListWords;
 use history_core::{Event, InitialState};
 use link_traits::{MemLink, MemPlan};
 use session_core::{End, Served, serve_link};
+use session_text::request_bytes;
 use std::alloc::Global;
 use std::test::Fail;
 use valid_writes::{SeatBook, Store};
 
 /// A startup of the user `a`, of 16 bytes, and the query `BEGIN`, of 11 bytes. The startup is answered by 191 bytes, the query by its tag,
 /// of 11 bytes, and by ReadyForQuery, of 6.
-pub const CLIENT: &[u8] = b"\0\0\0\x10\0\x03\0\0user\0a\0\0Q\0\0\0\x0aBEGIN\0";
+pub const CLIENT: &str = r"
+> StartupMessage user=a
+> Query BEGIN
+";
+
+/// What the client of a text sends. A line that can't be read fails its test as a lack of memory does.
+pub fn input(alloc: Global, client: &str) -> Result<Vec<u8>, Memory> {
+    match request_bytes(alloc, client) {
+        Ok(bytes) => Ok(bytes),
+        Err(_) => Err(Memory),
+    }
+}
 
 /// What became of a session and of its history.
 #[derive(Clone, Copy, Debug, PartialEq, Eq)]
@@ -50,14 +62,19 @@ fn plan(alloc: Global, piece: u32, fails: &[u64]) -> Result<MemPlan, Memory>
 }
 
 /// A link whose first read gives this whole input and whose writes take all that they are given, but for the calls that fail.
-pub fn link(alloc: Global, input: &[u8], reads: &[u64], writes: &[u64]) -> Result<MemLink, Memory> {
+pub fn link(
+    alloc: Global,
+    input: Vec<u8>,
+    reads: &[u64],
+    writes: &[u64],
+) -> Result<MemLink, Memory> {
     link_in_pieces(alloc, input, 10_000, reads, writes)
 }
 
 /// The same, whose reads give so many bytes at most.
 pub fn link_in_pieces(
     alloc: Global,
-    input: &[u8],
+    input: Vec<u8>,
     piece: u32,
     reads: &[u64],
     writes: &[u64],
@@ -66,7 +83,7 @@ pub fn link_in_pieces(
 {
     MemLink::new(
         alloc,
-        Vec::from_slice(alloc, input)?,
+        input,
         plan(alloc, piece, reads)?,
         plan(alloc, 10_000, writes)?,
     )
@@ -97,14 +114,21 @@ fn events_of(events: &[Event]) -> Events {
     }
 }
 
-/// Serves the client of this input over a new history.
+// The first so many bytes of the client.
+fn front(alloc: Global, length: usize) -> Result<Vec<u8>, Memory> {
+    let mut bytes = input(alloc, CLIENT)?;
+    bytes.truncate(length);
+    Ok(bytes)
+}
+
+/// Serves the first so many bytes of the client over a new history.
 pub fn serve_client(
     alloc: Global,
-    input: &[u8],
+    length: usize,
     reads: &[u64],
     writes: &[u64],
 ) -> Result<Ended, Fail> {
-    let mut link = link(alloc, input, reads, writes)?;
+    let mut link = link(alloc, front(alloc, length)?, reads, writes)?;
     let mut book = new_book(alloc)?;
     let mut words = ListWords::new(Items::new(alloc));
     let Served {

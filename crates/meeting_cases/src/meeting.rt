@@ -14,6 +14,7 @@ use doors::MemDoor;
 use history_core::InitialState;
 use link_traits::{MemLink, MemPlan};
 use session_core::serve_link;
+use session_text::{Unread, reply_bytes, request_bytes};
 use shared_book::{Shared, SharedBook};
 use std::alloc::Global;
 use std::sync::Wait;
@@ -22,20 +23,52 @@ use std::test::Fail;
 use std::thread::Threads;
 use valid_writes::{SeatBook, Store};
 
-// A startup, a table, its row, and the end.
-const MAKES: &[u8] =
-    b"\0\0\0\x10\0\x03\0\0user\0a\0\0Q\0\0\0\x34CREATE TABLE t (k bigint PRIMARY KEY, v bigint)\0Q\0\0\0\x21INSERT INTO t VALUES (1, 10)\0X\0\0\0\x04";
+// Session 1 makes a table and its row.
+const MAKES: &str = r"
+> StartupMessage user=a
+> Query CREATE TABLE t (k bigint PRIMARY KEY, v bigint)
+> Query INSERT INTO t VALUES (1, 10)
+> Terminate
+";
 
-// A startup, a read of the row, and the end.
-const READS: &[u8] =
-    b"\0\0\0\x10\0\x03\0\0user\0a\0\0Q\0\0\0\x20SELECT v FROM t WHERE k = 1\0X\0\0\0\x04";
+// A reader whose session is number 2, and number 3.
+const SECOND: &str = r"
+> StartupMessage user=a
++ started as session 2
+> Query SELECT v FROM t WHERE k = 1
+< RowDescription v bigint
+< DataRow 10
+< CommandComplete SELECT 1
+< ReadyForQuery I
+> Terminate
+";
 
-// What is sent to a reader whose session is number 2, and number 3.
-const SECOND: &[u8] =
-    b"R\0\0\0\x08\0\0\0\0S\0\0\0\x18server_version\014.0\0S\0\0\0\x19server_encoding\0UTF8\0S\0\0\0\x19client_encoding\0UTF8\0S\0\0\0\x17DateStyle\0ISO, MDY\0S\0\0\0\x19integer_datetimes\0on\0S\0\0\0#standard_conforming_strings\0on\0K\0\0\0\x0c\0\0\0\x02\0\0\0\0Z\0\0\0\x05IT\0\0\0\x1a\0\x01v\0\0\0\0\0\0\0\0\0\0\x14\0\x08\xff\xff\xff\xff\0\0D\0\0\0\x0c\0\x01\0\0\0\x0210C\0\0\0\x0dSELECT 1\0Z\0\0\0\x05I";
+const THIRD: &str = r"
+> StartupMessage user=a
++ started as session 3
+> Query SELECT v FROM t WHERE k = 1
+< RowDescription v bigint
+< DataRow 10
+< CommandComplete SELECT 1
+< ReadyForQuery I
+> Terminate
+";
 
-const THIRD: &[u8] =
-    b"R\0\0\0\x08\0\0\0\0S\0\0\0\x18server_version\014.0\0S\0\0\0\x19server_encoding\0UTF8\0S\0\0\0\x19client_encoding\0UTF8\0S\0\0\0\x17DateStyle\0ISO, MDY\0S\0\0\0\x19integer_datetimes\0on\0S\0\0\0#standard_conforming_strings\0on\0K\0\0\0\x0c\0\0\0\x03\0\0\0\0Z\0\0\0\x05IT\0\0\0\x1a\0\x01v\0\0\0\0\0\0\0\0\0\0\x14\0\x08\xff\xff\xff\xff\0\0D\0\0\0\x0c\0\x01\0\0\0\x0210C\0\0\0\x0dSELECT 1\0Z\0\0\0\x05I";
+// What a reader sends, and what it is sent where its session is number 2, and number 3.
+#[derive(Drop)]
+struct Reader {
+    client: Vec<u8>,
+    second: Vec<u8>,
+    third: Vec<u8>,
+}
+
+fn reader(alloc: Global) -> Result<Reader, Unread> {
+    Ok(Reader {
+        client: request_bytes(alloc, SECOND)?,
+        second: reply_bytes(alloc, SECOND)?,
+        third: reply_bytes(alloc, THIRD)?,
+    })
+}
 
 // A side that does all that it is asked to.
 fn plan(alloc: Global) -> MemPlan
@@ -58,12 +91,12 @@ fn link(alloc: Global, client: &[u8]) -> Result<MemLink, Memory> {
     )
 }
 
-// A door of one link, whose session reads the row.
-fn door(alloc: Global) -> Result<MemDoor, Memory>
+// A door of one link, which has this client.
+fn door(alloc: Global, client: &[u8]) -> Result<MemDoor, Memory>
     ensures { IfOk result (λ door. IsUnused (mem_passage door)) }
 {
     let mut links = Vec::with_capacity(alloc, 1)?;
-    links.push(link(alloc, READS)?)?;
+    links.push(link(alloc, client)?)?;
     MemDoor::new(alloc, links, Vec::new(alloc))
 }
 
@@ -74,18 +107,19 @@ fn new_book(alloc: Global) -> Result<SeatBook, Memory>
     Ok(Store::new(alloc, Level::Cc, InitialState::empty(alloc))?.seat(None))
 }
 
-// A store whose session 1 has made the table and its row, and closed.
-fn prepared(alloc: Global) -> Result<Store, Memory> {
+// A store whose session 1 was this client's.
+fn prepared(alloc: Global, client: &[u8]) -> Result<Store, Memory> {
     let mut book = new_book(alloc)?;
-    let mut link = link(alloc, MAKES)?;
+    let mut link = link(alloc, client)?;
     let mut words = ListWords::new(Items::new(alloc));
     serve_link(alloc, Level::Cc, &mut book, &mut link, &mut words);
     Ok(book.into_store())
 }
 
-// A worker that accepts one link, whose session reads the row.
+// A worker that accepts one link, which has this client.
 fn worker<'a, R: Wait>(
     alloc: Global,
+    client: &[u8],
     book: SharedBook<'a, R>,
     words: MeetingWords<'a>,
 ) -> Result<Worker<SharedBook<'a, R>, MemDoor, MeetingWords<'a>>, Memory>
@@ -95,7 +129,7 @@ fn worker<'a, R: Wait>(
 {
     Ok(Worker {
         book,
-        door: door(alloc)?,
+        door: door(alloc, client)?,
         words,
         accept: 1,
         served: Vec::with_capacity(alloc, 1)?,
@@ -107,44 +141,56 @@ fn worker<'a, R: Wait>(
 // sends.
 type Came = (bool, u32);
 
-fn came_of<B, W>(worker: &Worker<B, MemDoor, W>, met: bool) -> Came {
+fn came_of<B, W>(worker: &Worker<B, MemDoor, W>, reader: &Reader, met: bool) -> Came {
     let session = match worker.door.back() {
-        [link] if link.written() == SECOND => 2,
-        [link] if link.written() == THIRD => 3,
+        [link] if link.written() == reader.second.as_slice() => 2,
+        [link] if link.written() == reader.third.as_slice() => 3,
         _ => 0,
     };
     (met, session)
 }
 
-// What comes of two workers over one history.
+// What comes of two workers over one history, by which a reader each comes in.
 fn meet<R: Threads + Wait + Eprint + Sync>(
     rt: &R,
     alloc: Global,
     store: Store,
+    reader: &Reader,
 ) -> Result<(Came, Came), Memory> {
     let Ok((shared, mut pass)) = Shared::new(alloc, store) else {
         return Err(Memory);
     };
     let other = shared.split(&mut pass);
     let (first, second) = (AtomicBool::new(false), AtomicBool::new(false));
-    let one = worker(alloc, shared.book(rt, pass), meeting_words(&first, &second))?;
+    let one = worker(
+        alloc,
+        &reader.client,
+        shared.book(rt, pass),
+        meeting_words(&first, &second),
+    )?;
     let two = worker(
         alloc,
+        &reader.client,
         shared.book(rt, other),
         meeting_words(&second, &first),
     )?;
     let mut workers = [one, two];
     serve_doors(rt, alloc, Level::Cc, Progress::Silent, &mut workers);
     let [one, two] = &workers;
-    Ok((came_of(one, one.words.met), came_of(two, two.words.met)))
+    Ok((
+        came_of(one, reader, one.words.met),
+        came_of(two, reader, two.words.met),
+    ))
 }
 
 #[test]
 fn serves_two_sessions_at_the_same_time(rt: HostRuntime) -> Result<(), Fail> {
     let alloc = rt.alloc();
-    assert_eq!(rt; SECOND.len(), 251);
-    assert_eq!(rt; THIRD.len(), 251);
-    let came = meet(&rt, alloc, prepared(alloc)?)?;
+    let reader = reader(alloc)?;
+    assert_eq!(rt; reader.second.len(), 251);
+    assert_eq!(rt; reader.third.len(), 251);
+    let store = prepared(alloc, &request_bytes(alloc, MAKES)?)?;
+    let came = meet(&rt, alloc, store, &reader)?;
     assert!(rt; came == ((true, 2), (true, 3)) || came == ((true, 3), (true, 2)));
     Ok(())
 }

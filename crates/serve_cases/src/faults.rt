@@ -1,21 +1,29 @@
 // A server some of whose links, doors or files fail.
-use crate::parts::{Entry, Visit};
+use crate::parts::{Entry, Replies, Visit};
 use crate::running::{ONE_WORKER, Start, serves};
 use std::test::Fail;
 
-// A client that begins a block.
-const BEGINS: &[u8] = b"\0\0\0\x10\0\x03\0\0user\0a\0\0Q\0\0\0\x0aBEGIN\0";
+// A client begins a block. The write of the answer fails.
+const BROKEN: &str = r"
+> StartupMessage user=a
++ started
+> Query BEGIN
+";
+
+// Another one does, and is sent the answer.
+const BEGUN: &str = r"
+> StartupMessage user=a
++ started as session 2
+> Query BEGIN
+< CommandComplete BEGIN
+< ReadyForQuery T
+";
 
 // A client that says nothing more.
-const QUICK: &[u8] = b"\0\0\0\x10\0\x03\0\0user\0a\0\0X\0\0\0\x04";
-
-// The answer to the first client's startup, in session 1.
-const STARTED: &[u8] =
-    b"R\0\0\0\x08\0\0\0\0S\0\0\0\x18server_version\014.0\0S\0\0\0\x19server_encoding\0UTF8\0S\0\0\0\x19client_encoding\0UTF8\0S\0\0\0\x17DateStyle\0ISO, MDY\0S\0\0\0\x19integer_datetimes\0on\0S\0\0\0#standard_conforming_strings\0on\0K\0\0\0\x0c\0\0\0\x01\0\0\0\0Z\0\0\0\x05I";
-
-// What the second client is sent, in session 2.
-const BEGUN: &[u8] =
-    b"R\0\0\0\x08\0\0\0\0S\0\0\0\x18server_version\014.0\0S\0\0\0\x19server_encoding\0UTF8\0S\0\0\0\x19client_encoding\0UTF8\0S\0\0\0\x17DateStyle\0ISO, MDY\0S\0\0\0\x19integer_datetimes\0on\0S\0\0\0#standard_conforming_strings\0on\0K\0\0\0\x0c\0\0\0\x02\0\0\0\0Z\0\0\0\x05IC\0\0\0\x0aBEGIN\0Z\0\0\0\x05T";
+const QUICK: &str = r"
+> StartupMessage user=a
+> Terminate
+";
 
 // Open, Begin, Rollback and Close of each.
 const BLOCKS: &[u8] = b"served 2 sessions 2 transactions 8 events\n";
@@ -30,14 +38,14 @@ fn serves_on_where_a_write_of_one_link_fails(rt: HostRuntime) -> Result<(), Fail
     let alloc = rt.alloc();
     let visits = [
         Visit {
-            client: BEGINS,
+            session: BROKEN,
             failing: &[2],
-            sent: Some(STARTED),
+            replies: Replies::AsWritten,
         },
         Visit {
-            client: BEGINS,
+            session: BEGUN,
             failing: &[],
-            sent: Some(BEGUN),
+            replies: Replies::AsWritten,
         },
     ];
     let doors = [Entry {
@@ -57,9 +65,9 @@ const TWO_WORKERS: Start<'static> = Start {
 
 // A link whose session starts and ends. Which number it has depends on the workers.
 const VISIT: Visit<'static> = Visit {
-    client: QUICK,
+    session: QUICK,
     failing: &[],
-    sent: None,
+    replies: Replies::Untold,
 };
 
 // A door of these links, whose accepts of these numbers fail.

@@ -2,6 +2,7 @@
 use crate::running::{ONE_WORKER, Start, run};
 use cell_base::{Level, Memory};
 use doors::TcpNetwork;
+use session_text::{reply_bytes, request_bytes};
 use std::alloc::Global;
 use std::io;
 use std::io::{Read, Write};
@@ -10,13 +11,21 @@ use std::sync::Wait;
 use std::test::Fail;
 use std::thread::{Threads, join};
 
-// A client that makes a table, puts a row in, and reads it.
-const CLIENT: &[u8] =
-    b"\0\0\0\x10\0\x03\0\0user\0a\0\0Q\0\0\0\x34CREATE TABLE t (k bigint PRIMARY KEY, v bigint)\0Q\0\0\0\x21INSERT INTO t VALUES (1, 10)\0Q\0\0\0\x20SELECT v FROM t WHERE k = 1\0X\0\0\0\x04";
-
-// What it is sent: at Causal Consistency it finds its row, whatever the words are.
-const SENT: &[u8] =
-    b"R\0\0\0\x08\0\0\0\0S\0\0\0\x18server_version\014.0\0S\0\0\0\x19server_encoding\0UTF8\0S\0\0\0\x19client_encoding\0UTF8\0S\0\0\0\x17DateStyle\0ISO, MDY\0S\0\0\0\x19integer_datetimes\0on\0S\0\0\0#standard_conforming_strings\0on\0K\0\0\0\x0c\0\0\0\x01\0\0\0\0Z\0\0\0\x05IC\0\0\0\x11CREATE TABLE\0Z\0\0\0\x05IC\0\0\0\x0fINSERT 0 1\0Z\0\0\0\x05IT\0\0\0\x1a\0\x01v\0\0\0\0\0\0\0\0\0\0\x14\0\x08\xff\xff\xff\xff\0\0D\0\0\0\x0c\0\x01\0\0\0\x0210C\0\0\0\x0dSELECT 1\0Z\0\0\0\x05I";
+// A client makes a table, puts a row in, and reads it. At Causal Consistency it finds its row, whatever the words are.
+const SESSION: &str = r"
+> StartupMessage user=a
++ started
++ table t
+> Query INSERT INTO t VALUES (1, 10)
+< CommandComplete INSERT 0 1
+< ReadyForQuery I
+> Query SELECT v FROM t WHERE k = 1
+< RowDescription v bigint
+< DataRow 10
+< CommandComplete SELECT 1
+< ReadyForQuery I
+> Terminate
+";
 
 // Open and Define; Look, Begin, Read, two Writes and Commit; Look, Begin, two Reads and Commit; Close.
 const LINE: &[u8] = b"served 1 sessions 2 transactions 14 events\n";
@@ -44,30 +53,48 @@ fn connect<R: Net<Listener = TcpListener, Stream = TcpStream>>(
     None
 }
 
-// What the client is sent.
+// What a client of these bytes is sent.
 fn ask<R: Net<Listener = TcpListener, Stream = TcpStream>>(
     rt: &R,
     alloc: Global,
     address: SocketAddr,
+    client: &[u8],
 ) -> io::Result<Vec<u8>> {
     let mut sent = Vec::new(alloc);
     if let Some(mut stream) = connect(rt, address) {
-        stream.write_all(CLIENT)?;
+        stream.write_all(client)?;
         stream.read_to_end(&mut sent)?;
     }
     Ok(sent)
 }
 
-// Whether the client is sent what it has to be.
+// Whether a client of these bytes is sent the others.
+fn is_sent<R: Net<Listener = TcpListener, Stream = TcpStream>>(
+    rt: &R,
+    alloc: Global,
+    address: SocketAddr,
+    client: &[u8],
+    expected: &[u8],
+) -> bool {
+    match ask(rt, alloc, address, client) {
+        Ok(sent) => sent.as_slice() == expected,
+        Err(_) => false,
+    }
+}
+
+// Whether the session's client is sent what it has to be.
 fn asks<R: Net<Listener = TcpListener, Stream = TcpStream>>(
     rt: &R,
     alloc: Global,
     address: SocketAddr,
 ) -> bool {
-    match ask(rt, alloc, address) {
-        Ok(sent) => sent.as_slice() == SENT,
-        Err(_) => false,
-    }
+    let Ok(client) = request_bytes(alloc, SESSION) else {
+        return false;
+    };
+    let Ok(expected) = reply_bytes(alloc, SESSION) else {
+        return false;
+    };
+    is_sent(rt, alloc, address, &client, &expected)
 }
 
 // Whether a server at the address of this text ends well, and prints its line.

@@ -6,17 +6,26 @@ ghost use Rattle.doors.specs.MemDoors.{mem_passage};
 use cell_base::{Items, Memory};
 use doors::{MemDoor, MemNetwork};
 use link_traits::{MemLink, MemPlan};
+use session_text::{Unread, reply_bytes, request_bytes};
 use std::alloc::Global;
+
+/// What is told of the bytes that a client is sent.
+#[derive(Clone, Copy)]
+pub enum Replies {
+    /// They are those of its text.
+    AsWritten,
+    /// Nothing, since they depend on which worker comes first.
+    Untold,
+}
 
 /// A link that comes in by a door.
 #[derive(Clone, Copy)]
 pub struct Visit<'a> {
-    /// What its client sends.
-    pub client: &'a [u8],
+    /// The text of its session.
+    pub session: &'a str,
     /// The numbers, from 1 on, of the writes to it that fail.
     pub failing: &'a [u64],
-    /// What its client is sent, or nothing where that depends on which worker comes first.
-    pub sent: Option<&'a [u8]>,
+    pub replies: Replies,
 }
 
 /// What comes in by a door, one link after another.
@@ -39,11 +48,19 @@ pub fn plan(alloc: Global, piece: u32, failing: &[u64]) -> Result<MemPlan, Memor
     })
 }
 
+// A text's bytes. A line that can't be read fails its test as a lack of memory does.
+fn encoded(bytes: Result<Vec<u8>, Unread>) -> Result<Vec<u8>, Memory> {
+    match bytes {
+        Ok(bytes) => Ok(bytes),
+        Err(_) => Err(Memory),
+    }
+}
+
 // The link, whose reads give 64 bytes at most, and whose writes take all.
 fn link(alloc: Global, visit: &Visit<'_>) -> Result<MemLink, Memory> {
     MemLink::new(
         alloc,
-        Vec::from_slice(alloc, visit.client)?,
+        encoded(request_bytes(alloc, visit.session))?,
         plan(alloc, 64, &[])?,
         plan(alloc, 10_000, visit.failing)?,
     )
@@ -82,37 +99,52 @@ pub fn network(alloc: Global, entries: &[Entry<'_>]) -> Result<MemNetwork, Memor
 }
 
 // Whether the link was sent what is told of it.
-fn was_sent(link: &MemLink, visit: &Visit<'_>) -> bool {
-    match visit.sent {
-        Some(sent) => link.written() == sent,
-        None => true,
+fn was_sent(alloc: Global, link: &MemLink, visit: &Visit<'_>) -> Result<bool, Memory> {
+    match visit.replies {
+        Replies::AsWritten => {
+            let sent = encoded(reply_bytes(alloc, visit.session))?;
+            Ok(link.written() == sent.as_slice())
+        }
+        Replies::Untold => Ok(true),
     }
 }
 
 // Whether each link of a door came back, and none where accepting failed, and each was sent what is told of it.
-fn were_sent(door: &MemDoor, entry: &Entry<'_>) -> bool {
+fn were_sent(alloc: Global, door: &MemDoor, entry: &Entry<'_>) -> Result<bool, Memory> {
     let came = if entry.failing.is_empty() {
         entry.visits.len()
     } else {
         0
     };
     let back = door.back();
-    back.len() == came
-        && back
-            .iter()
-            .zip(entry.visits)
-            .all(|(link, visit)| was_sent(link, visit))
+    if back.len() != came {
+        return Ok(false);
+    }
+    for (link, visit) in back.iter().zip(entry.visits) {
+        if !was_sent(alloc, link, visit)? {
+            return Ok(false);
+        }
+    }
+    Ok(true)
 }
 
 /// Whether each door came back once, with its links, and each of these was sent what is told of it.
-pub fn came_back(network: &MemNetwork, entries: &[Entry<'_>]) -> bool {
+pub fn came_back(
+    alloc: Global,
+    network: &MemNetwork,
+    entries: &[Entry<'_>],
+) -> Result<bool, Memory> {
     let [doors] = network.back() else {
-        return false;
+        return Ok(false);
     };
     let doors = doors.as_slice();
-    doors.len() == entries.len()
-        && doors
-            .iter()
-            .zip(entries)
-            .all(|(door, entry)| were_sent(door, entry))
+    if doors.len() != entries.len() {
+        return Ok(false);
+    }
+    for (door, entry) in doors.iter().zip(entries) {
+        if !were_sent(alloc, door, entry)? {
+            return Ok(false);
+        }
+    }
+    Ok(true)
 }

@@ -135,7 +135,11 @@ pub fn serves<R: Threads + Wait + Eprint + Sync>(
     let mut network = network(alloc, entries)?;
     let ended = run(rt, alloc, &mut network, start)?;
     let is_told = ended.code == code && ended.printed.as_slice() == line;
-    Ok(is_told && came_back(&network, entries))
+    if is_told {
+        came_back(alloc, &network, entries)
+    } else {
+        Ok(false)
+    }
 }
 
 /// Whether a server that could open these doors ends with this status, prints nothing, and opens none.

@@ -1,5 +1,5 @@
 // A server with a setup: its clients find the rows that it left, or no door is opened.
-use crate::parts::{Entry, Visit};
+use crate::parts::{Entry, Replies, Visit};
 use crate::running::{ONE_WORKER, Start, opens_no_door, serves};
 use cell_base::Level;
 use std::test::Fail;
@@ -12,15 +12,28 @@ const FIXTURE: &[u8] =
 const FAILS: &[u8] =
     b"CREATE TABLE s (k bigint PRIMARY KEY); INSERT INTO s VALUES (7); INSERT INTO s VALUES (7);";
 
-// A client that reads the row.
-const READS: &[u8] = b"\0\0\0\x10\0\x03\0\0user\0a\0\0Q\0\0\0\x14SELECT v FROM s\0X\0\0\0\x04";
+// Two clients that read the row.
+const FIRST: &str = r"
+> StartupMessage user=a
++ started as session 2
+> Query SELECT v FROM s
+< RowDescription v bigint
+< DataRow 8
+< CommandComplete SELECT 1
+< ReadyForQuery I
+> Terminate
+";
 
-// What the first client is sent, and the second.
-const FIRST: &[u8] =
-    b"R\0\0\0\x08\0\0\0\0S\0\0\0\x18server_version\014.0\0S\0\0\0\x19server_encoding\0UTF8\0S\0\0\0\x19client_encoding\0UTF8\0S\0\0\0\x17DateStyle\0ISO, MDY\0S\0\0\0\x19integer_datetimes\0on\0S\0\0\0#standard_conforming_strings\0on\0K\0\0\0\x0c\0\0\0\x02\0\0\0\0Z\0\0\0\x05IT\0\0\0\x1a\0\x01v\0\0\0\0\0\0\0\0\0\0\x14\0\x08\xff\xff\xff\xff\0\0D\0\0\0\x0b\0\x01\0\0\0\x018C\0\0\0\rSELECT 1\0Z\0\0\0\x05I";
-
-const SECOND: &[u8] =
-    b"R\0\0\0\x08\0\0\0\0S\0\0\0\x18server_version\014.0\0S\0\0\0\x19server_encoding\0UTF8\0S\0\0\0\x19client_encoding\0UTF8\0S\0\0\0\x17DateStyle\0ISO, MDY\0S\0\0\0\x19integer_datetimes\0on\0S\0\0\0#standard_conforming_strings\0on\0K\0\0\0\x0c\0\0\0\x03\0\0\0\0Z\0\0\0\x05IT\0\0\0\x1a\0\x01v\0\0\0\0\0\0\0\0\0\0\x14\0\x08\xff\xff\xff\xff\0\0D\0\0\0\x0b\0\x01\0\0\0\x018C\0\0\0\rSELECT 1\0Z\0\0\0\x05I";
+const SECOND: &str = r"
+> StartupMessage user=a
++ started as session 3
+> Query SELECT v FROM s
+< RowDescription v bigint
+< DataRow 8
+< CommandComplete SELECT 1
+< ReadyForQuery I
+> Terminate
+";
 
 // Session 1 opens, defines the table and closes; each client opens, looks, begins, scans, reads the presence and the field, commits and closes.
 const LINE: &[u8] = b"served 3 sessions 2 transactions 19 events\n";
@@ -28,14 +41,14 @@ const LINE: &[u8] = b"served 3 sessions 2 transactions 19 events\n";
 // The links of the one door: two clients that read the row.
 const VISITS: &[Visit<'static>] = &[
     Visit {
-        client: READS,
+        session: FIRST,
         failing: &[],
-        sent: Some(FIRST),
+        replies: Replies::AsWritten,
     },
     Visit {
-        client: READS,
+        session: SECOND,
         failing: &[],
-        sent: Some(SECOND),
+        replies: Replies::AsWritten,
     },
 ];
 

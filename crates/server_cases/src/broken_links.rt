@@ -1,44 +1,63 @@
 // `pipe` over links whose input is cut short, or whose reads or writes fail: its status, and what was sent.
-use crate::hosts::{Client, run};
-use cell_base::Memory;
+use crate::hosts::{Client, Done, run};
+use session_text::{reply_bytes, request_bytes};
 use std::alloc::Global;
 use std::sync::Wait;
 use std::test::Fail;
 use std::thread::Threads;
 
-// A startup of the user `a`, of 16 bytes, and the query `BEGIN`, of 11 bytes.
-const CLIENT: &[u8] = b"\0\0\0\x10\0\x03\0\0user\0a\0\0Q\0\0\0\x0aBEGIN\0";
+// The client sends 16 and 11 bytes. It is sent 191, by one write, and then the tag, of 11, and ReadyForQuery, of 6, by one write each.
+const BLOCK: &str = r"
+# a block that begins
+> StartupMessage user=a
++ started
+> Query BEGIN
+< CommandComplete BEGIN
+< ReadyForQuery T
+";
 
-// What is sent where nothing fails: the answer to the startup, of 191 bytes, the tag, of 11, and ReadyForQuery, of 6. Each takes one write.
-const WHOLE: &[u8] =
-    b"R\0\0\0\x08\0\0\0\0S\0\0\0\x18server_version\014.0\0S\0\0\0\x19server_encoding\0UTF8\0S\0\0\0\x19client_encoding\0UTF8\0S\0\0\0\x17DateStyle\0ISO, MDY\0S\0\0\0\x19integer_datetimes\0on\0S\0\0\0#standard_conforming_strings\0on\0K\0\0\0\x0c\0\0\0\x01\0\0\0\0Z\0\0\0\x05IC\0\0\0\x0aBEGIN\0Z\0\0\0\x05T";
+// How many bytes the client sends.
+const LENGTH: usize = 27;
 
-// How many bytes were sent, where they are what the whole begins with.
-fn front_of_whole(sent: &Option<Vec<u8>>) -> Option<usize> {
+// How many bytes these are, where they are what the whole begins with.
+fn front_of(whole: &[u8], sent: &Option<Vec<u8>>) -> Option<usize> {
     let bytes = sent.as_ref()?;
-    if WHOLE.starts_with(bytes.as_slice()) {
+    if whole.starts_with(bytes.as_slice()) {
         Some(bytes.len())
     } else {
         None
     }
 }
 
-// The status of `pipe rc 0`, and with how many bytes of the whole what was sent ends; or nothing where other bytes were sent.
-fn piped<'a, R: Threads + Wait + Eprint + Sync>(
+// What `pipe rc 0` came to, where the client's first so many bytes come, and the reads and writes of these numbers fail.
+fn served<'a, R: Threads + Wait + Eprint + Sync>(
     rt: &R,
     alloc: Global,
-    bytes: &'a [u8],
+    length: usize,
     reads: &'a [u64],
     writes: &'a [u64],
-) -> Result<(u8, Option<usize>), Memory> {
+) -> Result<Done, Fail> {
+    let bytes = request_bytes(alloc, BLOCK)?;
     let client = Client {
-        bytes,
+        bytes: bytes.get(..length).unwrap_or(&[]),
         piece: 10_000,
         reads,
         writes,
     };
-    let done = run(rt, alloc, &[b"pipe", b"rc", b"0"], &client)?;
-    Ok((done.code, front_of_whole(&done.sent)))
+    Ok(run(rt, alloc, &[b"pipe", b"rc", b"0"], &client)?)
+}
+
+// The same as a status, and with how many bytes of the whole what was sent ends; or nothing where other bytes were sent.
+fn piped<'a, R: Threads + Wait + Eprint + Sync>(
+    rt: &R,
+    alloc: Global,
+    length: usize,
+    reads: &'a [u64],
+    writes: &'a [u64],
+) -> Result<(u8, Option<usize>), Fail> {
+    let done = served(rt, alloc, length, reads, writes)?;
+    let whole = reply_bytes(alloc, BLOCK)?;
+    Ok((done.code, front_of(&whole, &done.sent)))
 }
 
 // What comes of the first so many bytes of the client.
@@ -55,13 +74,10 @@ fn expected(length: usize) -> (u8, Option<usize>) {
 #[test]
 fn tells_where_the_input_ended(rt: HostRuntime) -> Result<(), Fail> {
     let alloc = rt.alloc();
-    assert_eq!(rt; CLIENT.len(), 27);
-    assert_eq!(rt; WHOLE.len(), 208);
+    assert_eq!(rt; request_bytes(alloc, BLOCK)?.len(), LENGTH);
+    assert_eq!(rt; reply_bytes(alloc, BLOCK)?.len(), 208);
     for length in 0..28 {
-        assert_eq!(rt;
-            piped(&rt, alloc, &CLIENT[..length], &[], &[])?,
-            expected(length)
-        );
+        assert_eq!(rt; piped(&rt, alloc, length, &[], &[])?, expected(length));
     }
     Ok(())
 }
@@ -69,10 +85,10 @@ fn tells_where_the_input_ended(rt: HostRuntime) -> Result<(), Fail> {
 #[test]
 fn tells_what_failed(rt: HostRuntime) -> Result<(), Fail> {
     let alloc = rt.alloc();
-    assert_eq!(rt; piped(&rt, alloc, CLIENT, &[1], &[])?, (3, Some(0)));
-    assert_eq!(rt; piped(&rt, alloc, CLIENT, &[2], &[])?, (3, Some(208)));
-    assert_eq!(rt; piped(&rt, alloc, CLIENT, &[], &[1])?, (4, Some(0)));
-    assert_eq!(rt; piped(&rt, alloc, CLIENT, &[], &[2])?, (4, Some(191)));
-    assert_eq!(rt; piped(&rt, alloc, CLIENT, &[], &[3])?, (4, Some(202)));
+    assert_eq!(rt; piped(&rt, alloc, LENGTH, &[1], &[])?, (3, Some(0)));
+    assert_eq!(rt; piped(&rt, alloc, LENGTH, &[2], &[])?, (3, Some(208)));
+    assert_eq!(rt; piped(&rt, alloc, LENGTH, &[], &[1])?, (4, Some(0)));
+    assert_eq!(rt; piped(&rt, alloc, LENGTH, &[], &[2])?, (4, Some(191)));
+    assert_eq!(rt; piped(&rt, alloc, LENGTH, &[], &[3])?, (4, Some(202)));
     Ok(())
 }

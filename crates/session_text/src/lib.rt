@@ -14,6 +14,8 @@
 //! | `* begin 1 rc` | an event of the history |
 //! | `= session 1: Terminated` | the number of the session that was opened, or `no session`, and its end |
 //!
+//! A test that needs one session's bytes alone takes them of its text by `request_bytes` and `reply_bytes`.
+//!
 //! The messages have the names of PostgreSQL's protocol chapter. A text goes to the end of its line; in it `\0` is a zero byte and `\x5c`
 //! the byte of that hexadecimal number.
 //!
@@ -63,6 +65,6 @@ pub use many_queries::query_sessions;
 pub use messages::message_sessions;
 pub use one_row::row_sessions;
 pub use refusals::refusal_sessions;
-pub use session::{Session, read_sessions};
+pub use session::{Session, read_sessions, reply_bytes, request_bytes};
 pub use statements::statement_sessions;
 pub use unread::Unread;

@@ -90,9 +90,24 @@ fn push_plain_line(alloc: Global, session: &mut Session, line: &str) -> Result<(
     }
 }
 
-fn push_setup(alloc: Global, session: &mut Session, name: &str) -> Result<(), Unread> {
+// A set-up whose lines name no other one.
+fn push_plain_setup(alloc: Global, session: &mut Session, name: &str) -> Result<(), Unread> {
     for line in setup(name)?.lines() {
         push_plain_line(alloc, session, line)?;
+    }
+    Ok(())
+}
+
+fn push_setup_line(alloc: Global, session: &mut Session, line: &str) -> Result<(), Unread> {
+    match line.strip_prefix("+ ") {
+        Some(name) => push_plain_setup(alloc, session, name),
+        None => push_plain_line(alloc, session, line),
+    }
+}
+
+fn push_setup(alloc: Global, session: &mut Session, name: &str) -> Result<(), Unread> {
+    for line in setup(name)?.lines() {
+        push_setup_line(alloc, session, line)?;
     }
     Ok(())
 }
@@ -124,4 +139,25 @@ pub fn read_sessions(alloc: Global, text: &str) -> Result<Vec<Session>, Unread> 
         sessions.push(read_session(alloc, paragraph)?)?;
     }
     Ok(sessions)
+}
+
+// The session of a text each line of which can be read.
+fn read_whole_session(alloc: Global, text: &str) -> Result<Session, Unread> {
+    let mut session = new_session(alloc);
+    for line in text.lines() {
+        push_line(alloc, &mut session, line)?;
+    }
+    Ok(session)
+}
+
+/// The bytes that the client of one session's text sends. Fails at a line that can't be read, and where memory runs out.
+pub fn request_bytes(alloc: Global, text: &str) -> Result<Vec<u8>, Unread> {
+    let session = read_whole_session(alloc, text)?;
+    Ok(session.input)
+}
+
+/// The bytes that the client of one session's text is sent. Fails as `request_bytes` does.
+pub fn reply_bytes(alloc: Global, text: &str) -> Result<Vec<u8>, Unread> {
+    let session = read_whole_session(alloc, text)?;
+    Ok(session.sent)
 }

@@ -1,9 +1,8 @@
-// What many sessions have in common, each named by its first line.
+// What many sessions have in common, each named by its first line. A set-up may name another one, which names none.
 use crate::unread::Unread;
 
 const SETUPS: &str = r"
-# started
-* open 1
+# greeted
 < AuthenticationOk
 < ParameterStatus server_version 14.0
 < ParameterStatus server_encoding UTF8
@@ -11,7 +10,23 @@ const SETUPS: &str = r"
 < ParameterStatus DateStyle ISO, MDY
 < ParameterStatus integer_datetimes on
 < ParameterStatus standard_conforming_strings on
+
+# started
+* open 1
++ greeted
 < BackendKeyData 1 0
+< ReadyForQuery I
+
+# started as session 2
+* open 2
++ greeted
+< BackendKeyData 2 0
+< ReadyForQuery I
+
+# started as session 3
+* open 3
++ greeted
+< BackendKeyData 3 0
 < ReadyForQuery I
 
 # table t

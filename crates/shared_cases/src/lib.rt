@@ -9,6 +9,4 @@ mod calls;
 #[cfg(test)]
 mod lines;
 #[cfg(test)]
-mod table;
-#[cfg(test)]
 mod tests;

@@ -8,7 +8,6 @@ ghost use Rattle.shared_cases.specs.SessionStates.{IsReady, IsFresh, IsBusy, Sam
 
 use crate::calls::{begin, close, commit, define, look, open, read, write};
 use crate::lines::{are_lines, is_whole};
-use crate::table::{field, presence, table};
 use cell_base::{Level, Value};
 use history_core::{Book, BookFault, InitialState};
 use shared_book::{Pass, Shared, SharedBook};
@@ -16,6 +15,7 @@ use sql_tree::Table;
 use std::alloc::Global;
 use std::sync::Wait;
 use std::thread::{Threads, join};
+use table_samples::{field, presence, table};
 use valid_writes::Store;
 
 /// Session 1 opens (1), defines the table (2) and looks (3).

@@ -10,5 +10,3 @@ mod calls;
 mod lines;
 #[cfg(test)]
 mod seats;
-#[cfg(test)]
-mod table;

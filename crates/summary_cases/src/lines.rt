@@ -1,11 +1,11 @@
 // The lines of two histories.
 use crate::calls::{begin, commit, read, roll_back, write};
 use crate::seats::{busy_seat, first_seat, idle_seat, new_seat};
-use crate::table::{field, presence};
 use cell_base::{Level, Value};
 use history_core::{BookFault, InitialState};
 use history_summary::summary;
 use std::alloc::Global;
+use table_samples::{field, presence};
 use valid_writes::Store;
 
 /// Nothing has happened, and the seed is the greatest one.

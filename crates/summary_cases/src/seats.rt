@@ -7,9 +7,9 @@ ghost use Rattle.history_core.specs.Legal.{IsOpen};
 ghost use Rattle.history_core.specs.Book.{HasTable, no_session};
 ghost use Rattle.summary_cases.specs.SessionStates.{IsReady, IsBusy};
 
-use crate::table::table;
 use history_core::{Book, BookFault, Event};
 use std::alloc::Global;
+use table_samples::table;
 use valid_writes::{SeatBook, Store};
 
 /// A seat of a new session, the first one, which defines the table.

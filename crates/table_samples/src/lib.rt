@@ -1,4 +1,6 @@
-// The table of the tests, and the cells of its row.
+//! No tests, but a library of those of histories: a table of two columns, and the cells of its first row.
+#![tactic(auto)]
+
 ghost use Rattle.std.specs.Prelude.{◌≡◌, IfOk};
 ghost use Rattle.sound_table.specs.Sound.{IsSound};
 ghost use Rattle.history_core.specs.Events.{table_of};
