@@ -10,7 +10,7 @@
 mod answers;
 mod calling;
 mod calls;
-mod drive;
+mod driving;
 mod messages;
 mod phase;
 mod prepared;
@@ -25,7 +25,7 @@ mod want;
 
 pub use block_machine::{Answer, Call, End, Stop};
 pub use calling::{make_call, sessions_sit_while_others_go_on};
-pub use drive::drive;
+pub use driving::drive;
 pub use serve::serve_link;
 pub use served::Served;
 pub use session::Session;

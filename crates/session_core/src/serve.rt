@@ -17,7 +17,7 @@ ghost use Rattle.session_core.specs.Sessions.{Stands, wanted};
 ghost use Rattle.session_core.specs.Serve.{Scene, scene_of, Account, Serves, most_at_once};
 ghost use Rattle.session_core.specs.Running.{Sits, Ran};
 
-use crate::drive::drive;
+use crate::driving::drive;
 use crate::served::Served;
 use crate::session::Session;
 use crate::want::Want;

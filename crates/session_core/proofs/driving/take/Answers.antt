@@ -1,7 +1,7 @@
 use Rattle.block_machine.specs.Runners.{knowledge_of}
 use Rattle.session_core.proofs.Knowing.{served_kept, tables_kept}
 use Rattle.session_core.proofs.Serving.{Ran-taken, sits_same}
-use Rattle.session_core.proofs.drive.take.Goals as goal
+use Rattle.session_core.proofs.driving.take.Goals as goal
 
 pub returns-clause-ran : goal.returns-clause-ran
 returns-clause-ran g c = λ level before seen many ran.

@@ -1,5 +1,5 @@
 use Rattle.std.proofs.Common.{arith}
-use Rattle.session_core.proofs.drive.run_message.Goals as goal
+use Rattle.session_core.proofs.driving.run_message.Goals as goal
 
 pub loop-preserved : goal.loop-preserved
 loop-preserved g c = record {

@@ -1,26 +1,26 @@
 use Rattle.std.proofs.Common.{ℕ, ◌+◌, ◌≤◌}
 use Rattle.cell_base.specs.declared.level.Level.{Level}
 use Rattle.history_core.specs.Chronicle.{IsLegalChronicle}
-use Rattle.link_traits.specs.Traffic.{sight_of}
+use Rattle.link_traits.specs.Traffic.{Sight}
 use Rattle.session_core.specs.Sessions.{work_of}
-use Rattle.session_core.specs.Stands.{IsLast, message_at, message_work}
+use Rattle.session_core.specs.Stands.{IsLast, message_at, message_work, statement_at, left_at}
 use Rattle.session_core.specs.Serve.{Scene, scene_of}
 use Rattle.session_core.specs.Running.{Ran, Sits}
-use Rattle.session_core.proofs.drive.run_message.Given as goal
+use Rattle.session_core.proofs.driving.run_on.Given as goal
 
 abbrev pub invariant-loop : goal.invariant-loop
 invariant-loop g l = record {
-  ran : (level : Level) (before : Scene _) (many : ℕ) →
-      Ran g.W.Words.gives level before l.initial.session (scene_of (g.B.Book.past l.initial.book) l.initial.words
-      (sight_of g.L.Sides.traffic g.L.Sides.read_faults g.L.Sides.write_faults l.initial.link)) many →
-      Ran g.W.Words.gives level before l.session (scene_of (g.B.Book.past l.book) l.words
-      (sight_of g.L.Sides.traffic g.L.Sides.read_faults g.L.Sides.write_faults l.link)) many;
+  ran : (level : Level) (before : Scene _) (seen : Sight) (many : ℕ) →
+      Ran g.W.Words.gives level before l.initial.session (scene_of (g.B.Book.past l.initial.book) l.initial.words seen) many →
+      Ran g.W.Words.gives level before l.session (scene_of (g.B.Book.past l.book) l.words seen) many;
   sits : Sits l.session (g.B.Book.past l.book);
   work : work_of l.session + message_at l.initial.session.stage ≤ work_of l.initial.session + message_at l.session.stage;
+  message : message_work l.session.stage l.session.runner + statement_at l.initial.session.stage l.initial.session.runner ≤
+      message_work l.initial.session.stage l.initial.session.runner + statement_at l.session.stage l.session.runner;
   last : IsLast l.initial.session.stage → IsLast l.session.stage;
   legal : IsLegalChronicle (g.B.Book.past l.initial.book).seen → IsLegalChronicle (g.B.Book.past l.book).seen;
   stays : g.B.Book.stays l.initial.book l.book;
 }
 
 abbrev pub decreases-loop : goal.decreases-loop
-decreases-loop g l = message_work l.session.stage l.session.runner
+decreases-loop g l = left_at l.session.stage l.session.runner

@@ -1,5 +1,5 @@
 use Rattle.link_traits.specs.Traffic.{sight_of}
-use Rattle.session_core.proofs.drive.step_message.Goals as goal
+use Rattle.session_core.proofs.driving.step_message.Goals as goal
 
 pub returns-clause-ran : goal.returns-clause-ran
 returns-clause-ran g c = λ level before many ran.

@@ -6,7 +6,7 @@ use Rattle.session_core.specs.Sessions.{work_of}
 use Rattle.session_core.specs.Stands.{IsLast}
 use Rattle.session_core.specs.Serve.{Scene, scene_of}
 use Rattle.session_core.specs.Running.{Ran, Sits}
-use Rattle.session_core.proofs.drive.drive.Given as goal
+use Rattle.session_core.proofs.driving.drive.Given as goal
 
 abbrev pub invariant-loop : goal.invariant-loop
 invariant-loop g l = record {

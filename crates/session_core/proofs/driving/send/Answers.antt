@@ -5,7 +5,7 @@ use Rattle.session_core.specs.Stands.{reply_of, served_of}
 use Rattle.session_core.proofs.Knowing.{served_kept}
 use Rattle.session_core.proofs.Carrying.{Both-part}
 use Rattle.session_core.proofs.Serving.{Ran-sent, Ran-unsent}
-use Rattle.session_core.proofs.drive.send.Goals as goal
+use Rattle.session_core.proofs.driving.send.Goals as goal
 
 pub returns-then-send_whole-clause-ran : goal.returns-then-send_whole-clause-ran
 returns-then-send_whole-clause-ran g c = λ level before many ran.

@@ -1,4 +1,4 @@
-use Rattle.session_core.proofs.drive.drive.Goals as goal
+use Rattle.session_core.proofs.driving.drive.Goals as goal
 
 pub loop-preserved : goal.loop-preserved
 loop-preserved g c = record {

@@ -1,4 +1,4 @@
-use Rattle.session_core.proofs.drive.turn.Goals as goal
+use Rattle.session_core.proofs.driving.turn.Goals as goal
 
 pub returns-clause-ran : goal.returns-clause-ran
 returns-clause-ran g c = λ level before many ran.

@@ -1,6 +1,6 @@
 use Rattle.std.proofs.Common.{refl, arith}
 use Rattle.session_core.proofs.Serving.{Ran-called, one_at_most}
-use Rattle.session_core.proofs.drive.step_on.Goals as goal
+use Rattle.session_core.proofs.driving.step_on.Goals as goal
 
 pub returns-in-Cells-clause-ran : goal.returns-in-Cells-clause-ran
 returns-in-Cells-clause-ran g c = λ level before seen many ran.

@@ -1,6 +1,6 @@
 use Rattle.link_traits.specs.Traffic.{sight_of}
 use Rattle.session_core.proofs.Serving.{Ran-called}
-use Rattle.session_core.proofs.drive.serve_want.Goals as goal
+use Rattle.session_core.proofs.driving.serve_want.Goals as goal
 
 pub returns-in-Define-clause-ran : goal.returns-in-Define-clause-ran
 returns-in-Define-clause-ran g c = λ level before many ran.
