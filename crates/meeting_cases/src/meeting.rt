@@ -62,7 +62,7 @@ struct Reader {
     third: Vec<u8>,
 }
 
-fn reader(alloc: Global) -> Result<Reader, Unread> {
+fn written_reader(alloc: Global) -> Result<Reader, Unread> {
     Ok(Reader {
         client: request_bytes(alloc, SECOND)?,
         second: reply_bytes(alloc, SECOND)?,
@@ -186,7 +186,7 @@ fn meet<R: Threads + Wait + Eprint + Sync>(
 #[test]
 fn serves_two_sessions_at_the_same_time(rt: HostRuntime) -> Result<(), Fail> {
     let alloc = rt.alloc();
-    let reader = reader(alloc)?;
+    let reader = written_reader(alloc)?;
     assert_eq!(rt; reader.second.len(), 251);
     assert_eq!(rt; reader.third.len(), 251);
     let store = prepared(alloc, &request_bytes(alloc, MAKES)?)?;
