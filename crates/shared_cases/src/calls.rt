@@ -39,11 +39,16 @@ pub fn look<R: Wait>(book: &mut SharedBook<'_, R>) -> Result<(), BookFault>
     ensures ready { OnOk result (IsReady (past_of book.new)) }
     ensures pass { SamePass book.old.pass book.new.pass }
 {
-    let tables = book.look(0)?;
-    if tables.len() == 0 {
-        return Err(BookFault::Memory);
+    match book.look(0) {
+        Ok(tables) => {
+            if tables.len() == 0 {
+                Err(BookFault::Memory)
+            } else {
+                Ok(())
+            }
+        }
+        Err(fault) => Err(fault),
     }
-    Ok(())
 }
 
 /// Begins a transaction at Read Committed.
@@ -52,8 +57,10 @@ pub fn begin<R: Wait>(book: &mut SharedBook<'_, R>) -> Result<(), BookFault>
     ensures fresh { OnOk result (IsFresh (past_of book.new)) }
     ensures pass { SamePass book.old.pass book.new.pass }
 {
-    book.begin(Level::Rc)?;
-    Ok(())
+    match book.begin(Level::Rc) {
+        Ok(_) => Ok(()),
+        Err(fault) => Err(fault),
+    }
 }
 
 /// Reads a cell before the first write.
