@@ -29,8 +29,10 @@ pub fn define<R: Wait>(book: &mut SharedBook<'_, R>, table: &Table) -> Result<()
     ensures idle { OnOk result (IsIdle book.new.state) }
     ensures pass { SamePass book.old.pass book.new.pass }
 {
-    book.define(table)?;
-    Ok(())
+    match book.define(table) {
+        Ok(_) => Ok(()),
+        Err(fault) => Err(fault),
+    }
 }
 
 /// Looks at the tables, of which there has to be one.

@@ -25,8 +25,10 @@ fn set_up<R: Wait>(book: &mut SharedBook<'_, R>, table: &Table) -> Result<(), Bo
     ensures ready { OnOk result (IsReady (past_of book.new)) }
     ensures pass { SamePass book.old.pass book.new.pass }
 {
-    open(book)?;
-    define_and_look(book, table)
+    match open(book) {
+        Ok(_) => define_and_look(book, table),
+        Err(fault) => Err(fault),
+    }
 }
 
 fn define_and_look<R: Wait>(book: &mut SharedBook<'_, R>, table: &Table) -> Result<(), BookFault>
@@ -77,8 +79,10 @@ fn read_on<R: Wait>(book: &mut SharedBook<'_, R>, word: u32) -> Result<bool, Boo
     ensures fresh { OnOk result (IsFresh (past_of book.new)) }
     ensures pass { SamePass book.old.pass book.new.pass }
 {
-    let value = read(book, &presence(), word)?;
-    Ok(value.is_same(&Value::Flag(true)))
+    match read(book, &presence(), word) {
+        Ok(value) => Ok(value.is_same(&Value::Flag(true))),
+        Err(fault) => Err(fault),
+    }
 }
 
 /// Session 1 writes the row (6 to 8). Session 2 begins and finds none (9, 10: 0). Session 1 commits (11). Now session 2 is offered both, and
