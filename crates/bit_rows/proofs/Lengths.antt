@@ -5,7 +5,7 @@ use Rattle.std.proofs.lemmas.Bool.{cases_lt}
 use Rattle.std.proofs.lemmas.List.{get_or_past, get_or_append_left, get_or-append_right, get_or-drop, take_all}
 use Rattle.bit_rows.specs.Words.{AreJoined, AreSame, JoinsFrom}
 
-zero_words : (n k : ℕ) → get_or {A = ℕ} (replicate {A = ℕ} n 0) k 0 ≡ 0
+pub zero_words : (n k : ℕ) → get_or {A = ℕ} (replicate {A = ℕ} n 0) k 0 ≡ 0
 zero_words zero k = refl
 zero_words (suc n) zero = refl
 zero_words (suc n) (suc k) = zero_words n k

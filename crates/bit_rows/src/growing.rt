@@ -1,9 +1,12 @@
 //! The words of a row as they lengthen, within the room that is there.
 
-ghost use Rattle.std.specs.Prelude.{◌≡◌, ◌<◌, ◌≤◌, ◌+◌, ◌*◌, ◌/◌, ◌%◌, ◌++◌, length, max, vec_len, vec_capacity};
+ghost use Rattle.std.specs.Prelude.{◌≡◌, ◌<◌, ◌≤◌, ◌+◌, ◌*◌, ◌/◌, ◌%◌, ◌++◌, ℕ, length, max, vec_len, vec_capacity};
+ghost use Rattle.bit_rows.specs.Members.{IsUnion, members};
+ghost use Rattle.bit_rows.specs.Runs.{IsInRun, numbers_of};
 ghost use Rattle.bit_rows.specs.Words.{AreJoined, AreSame};
 
-use crate::{BLOCK, lanes};
+use crate::run::Run;
+use crate::{BLOCK, WORDS, lanes, marking};
 
 /// Lengthens the words by zeros to the end of a word's block, where the word isn't there.
 pub(crate) fn reach(words: &mut Vec<u64>, word: usize)
@@ -49,4 +52,21 @@ pub(crate) fn join(words: &mut Vec<u64>, others: &[u64])
     let common = words.len().min(others.len());
     lanes::join(words, others);
     append(words, &others[common..]);
+}
+
+/// Adds the numbers of a run to the members of the words.
+pub(crate) fn fill(words: &mut Vec<u64>, run: Run)
+    requires blocks { vec_len words.old % BLOCK ≡ 0 }
+    requires room { WORDS ≤ vec_capacity words.old }
+    requires within { (n : ℕ) → IsInRun run.first run.end n → n < 64 * WORDS }
+    ensures blocks { vec_len words.new % BLOCK ≡ 0 }
+    ensures len { vec_len words.new ≤ max (vec_len words.old) WORDS }
+    ensures capacity { vec_capacity words.old ≤ vec_capacity words.new }
+    ensures union { IsUnion (members words.old.items) (numbers_of run.first run.end) (members words.new.items) }
+{
+    if run.is_empty() {
+        return;
+    }
+    reach(words, (run.end - 1) as usize / 64);
+    marking::fill(words, run);
 }

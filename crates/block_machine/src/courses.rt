@@ -143,10 +143,8 @@ fn go_on(
     ensures some { IfOk result (λ stage. HasReply stage built.new.items) }
 {
     let mut plan = plan.into_box();
-    match plan.answer(answer) {
-        Ok(()) => settle(alloc, Kept::from_box(plan), description, pending, built),
-        Err(Memory) => Err(Memory),
-    }
+    plan.answer(answer)?;
+    settle(alloc, Kept::from_box(plan), description, pending, built)
 }
 
 // The answer to a demand, or why it was refused.

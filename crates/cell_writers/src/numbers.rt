@@ -1,5 +1,5 @@
 // Numbers that ascend.
-ghost use Rattle.std.specs.Prelude.{◌≡◌, ◌≤◌, ◌∷◌, [], ℕ, Contains, IfOk, OnOk, OnErr, IfSome, IfNone};
+ghost use Rattle.std.specs.Prelude.{◌≡◌, ◌≤◌, ◌<◌, ◌∷◌, [], ℕ, Contains, IsTrue, IfOk, OnOk, OnErr, IfSome, IfNone, length, get_or};
 ghost use Rattle.std.specs.List.Sorted.{IsStrictlyIncreasing};
 ghost use Rattle.indexed_history.specs.Index.{GainsNumber};
 ghost use Rattle.cell_writers.specs.Writers.{IsLastUpTo, IsFirstAbove};
@@ -46,13 +46,39 @@ impl Numbers {
         ensures ok { OnOk result (GainsNumber self.old number self.new) }
         ensures err { OnErr result (self.new ≡ self.old) }
     {
-        match self.numbers.as_slice().binary_search(&number) {
-            Ok(_) => Ok(()),
-            Err(at) => {
+        match free_place(self.numbers.as_slice(), number) {
+            Some(at) => {
                 self.numbers.insert(at, number)?;
                 Ok(())
             }
+            None => Ok(()),
         }
+    }
+}
+
+/// Whether the number is above all of these.
+fn is_above_all(numbers: &[u32], number: u32) -> bool
+    requires { IsStrictlyIncreasing numbers.now }
+    ensures { IsTrue result → (k : ℕ) → k < length numbers.now → get_or numbers.now k 0 < number }
+{
+    if numbers.is_empty() {
+        return true;
+    }
+    numbers[numbers.len() - 1] < number
+}
+
+/// Where the number has its place, where it isn't there yet. Most numbers are put in after all others, which takes no search.
+fn free_place(numbers: &[u32], number: u32) -> Option<usize>
+    requires { IsStrictlyIncreasing numbers.now }
+    ensures some { IfSome result (IsFirstAbove numbers.now number) }
+    ensures none { IfNone result (Contains numbers.now number) }
+{
+    if is_above_all(numbers, number) {
+        return Some(numbers.len());
+    }
+    match numbers.binary_search(&number) {
+        Ok(_) => None,
+        Err(at) => Some(at),
     }
 }
 

@@ -5,7 +5,7 @@ use Rattle.history_log.specs.declared.trace.Trace.{Trace}
 use Rattle.history_log.specs.declared.version.Version.{Version}
 use Rattle.history_log.specs.Spelling.{initial_line, event_line, order_line, end_line, lines, whole_lines}
 use Rattle.history_log.specs.Log.{IsLog}
-use Rattle.history_log.specs.Faults.{IsShort}
+use Rattle.history_log.specs.Faults.{HasFewBytes}
 
 each_has_a_byte : (texts : List (List ℕ)) → length texts ≤ length (whole_lines texts)
 each_has_a_byte [] = omega arith
@@ -17,7 +17,7 @@ event_lines v t =
     let after = order_line t.order ∷ end_line ∷ [] in
     omega (arith, length-map t.events (event_line v), length-append events after, length-append (map initial_line t.initial) (events ++ after))
 
-pub few_events : (v : Version) (t : Trace) (bytes : List ℕ) → IsLog v t bytes → IsShort bytes → length t.events < 4294967296
-few_events v t bytes log short =
+pub few_events : (v : Version) (t : Trace) (bytes : List ℕ) → IsLog v t bytes → HasFewBytes bytes → length t.events < 4294967296
+few_events v t bytes log few =
     let same : length bytes ≡ length (whole_lines (lines v t)) = ap length log.text in
-    omega (arith, short, same, each_has_a_byte (lines v t), event_lines v t)
+    omega (arith, few, same, each_has_a_byte (lines v t), event_lines v t)

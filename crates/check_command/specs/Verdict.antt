@@ -4,14 +4,14 @@ use Rattle.history_log.specs.declared.log_fault.LogFault.{LogFault}
 use Rattle.history_log.specs.declared.trace.Trace.{Trace}
 use Rattle.history_log.specs.declared.version.Version.{Version}
 use Rattle.history_log.specs.Log.{IsLog}
-use Rattle.history_log.specs.Faults.{IsShort, HasFault}
+use Rattle.history_log.specs.Faults.{HasFewBytes, HasFault}
 use Rattle.history_check.specs.declared.breach.Breach.{Breach}
 use Rattle.history_check.specs.Orders.{IsRightTrace, IsFirstBreach}
 use Rattle.check_command.specs.Lines.{breach_words, fault_words, line_of}
 
 -- the bytes are the log of a history that has no breach
 pub record IsRightLog (bytes : List ℕ) : Type 0 where
-  pub short : IsShort bytes
+  pub few : HasFewBytes bytes
   pub version : Version
   pub trace : Trace
   pub log : IsLog version trace bytes
@@ -19,7 +19,7 @@ pub record IsRightLog (bytes : List ℕ) : Type 0 where
 
 -- the bytes are the log of a history that has this breach first
 pub record IsBreachedLog (bytes : List ℕ) (breach : Breach) : Type 0 where
-  pub short : IsShort bytes
+  pub few : HasFewBytes bytes
   pub version : Version
   pub trace : Trace
   pub log : IsLog version trace bytes

@@ -2,7 +2,7 @@
 ghost use Rattle.std.specs.Prelude.{◌≡◌, ◌<◌, IfOk, length};
 ghost use Rattle.history_log.specs.declared.version.Version.{Version};
 ghost use Rattle.history_log.specs.Log.{IsLog};
-ghost use Rattle.history_log.specs.Faults.{IsShort};
+ghost use Rattle.history_log.specs.Faults.{HasFewBytes};
 ghost use Rattle.check_command.specs.Verdict.{IsVerdict};
 
 use crate::lines::{breach_line, fault_line, ok_line};
@@ -41,7 +41,7 @@ pub fn verdict_of(alloc: Global, bytes: &[u8]) -> Result<Verdict, Memory>
 
 /// The verdict on a history that was read from the bytes.
 fn judged(alloc: Global, bytes: &[u8], trace: &Trace) -> Result<Verdict, Memory>
-    requires short { IsShort bytes.now }
+    requires few { HasFewBytes bytes.now }
     requires log { (version : Version) × IsLog version trace.now bytes.now }
     ensures { IfOk result (λ verdict. IsVerdict bytes.now verdict.line.items verdict.status.code) }
 {

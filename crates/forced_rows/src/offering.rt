@@ -13,6 +13,7 @@ use crate::reader::Reader;
 use crate::sight::{Sight, is_committed};
 use bit_rows::Row;
 use cell_base::{Cell, Memory};
+use history_core::History;
 use indexed_history::IndexedHistory;
 use std::alloc::Global;
 
@@ -56,19 +57,21 @@ impl ForcedRows {
         }
     }
 
-    /// The writers of the cell that the reader sees, with what is before them.
+    /// Those of the writers of the cell that the reader sees, with what is before them.
     fn overtaken(
         &self,
         alloc: Global,
-        history: &IndexedHistory,
+        history: &History,
         reader: Reader,
         cell: &Cell,
+        writers: &[u32],
     ) -> Result<Overtaken, Memory>
         requires kept { AreRowsOf history.now.events self.now }
         requires reader { IsReader history.now.events reader }
+        requires writers { ListsWriters history.now.events cell.now writers.now }
         ensures { IfOk result (AreOvertaken history.now.events self.now.reach.pairs reader cell.now) }
     {
-        let seen = self.rivals(alloc, history, reader, cell, Sight::SoFar, 0)?;
+        let seen = self.rivals_among(alloc, history, reader, cell, Sight::SoFar, 0, writers)?;
         let before = self.union_of_many(&seen)?;
         Ok(Overtaken { seen, before })
     }
@@ -89,7 +92,8 @@ impl ForcedRows {
     {
         let _events = history.history().events();
         let _size = self.reach.size();
-        let read = self.stars_for(alloc, history, reader, cell, source)?;
+        let writers = history.writers(cell);
+        let read = self.stars_for(alloc, history, reader, cell, source, writers)?;
         let close = self.reach.stars_close_cycle(&read.stars)?;
         Ok(!close)
     }
@@ -200,13 +204,14 @@ impl ForcedRows {
         history: &IndexedHistory,
         reader: Reader,
         cell: &Cell,
+        writers: &[u32],
     ) -> Result<Vec<u32>, Memory>
         requires kept { AreRowsOf history.now.events self.now }
         requires reader { IsReader history.now.events reader }
+        requires writers { ListsWriters history.now.events cell.now writers.now }
         ensures { IfOk result (λ offer. IsOffer history.now.events reader.session cell.now offer.items) }
     {
-        let overtaken = self.overtaken(alloc, history, reader, cell)?;
-        let writers = history.writers(cell);
+        let overtaken = self.overtaken(alloc, history.history(), reader, cell, writers)?;
         let offer = self.permitted(alloc, history, reader, cell, &overtaken, writers)?;
         Ok(offer)
     }

@@ -5,6 +5,7 @@ ghost use Rattle.history_core.specs.Events.{begun};
 ghost use Rattle.history_core.specs.Transactions.{HasPending};
 ghost use Rattle.history_core.specs.Relations.{Writes};
 ghost use Rattle.history_core.specs.Legal.{IsLegal, IsOffer, IsOpen};
+ghost use Rattle.indexed_history.specs.Writers.{ListsWriters};
 ghost use Rattle.graph_base.specs.Closure.{SameClosure};
 ghost use Rattle.bit_rows.specs.declared.TheConstants.{ROW_BITS};
 ghost use Rattle.reach_rows.specs.Ancestry.{IsLast};
@@ -114,26 +115,30 @@ impl ForcedRows {
         set_last(&mut self.seats, session, number);
     }
 
-    /// The writes that the pending transaction of the session may read next, ascending. An error is out of memory.
+    /// The writes of a cell that the pending transaction of the session may read next, ascending, of the cell's writers. An error is out of
+    /// memory.
     pub fn offer(
         &self,
         alloc: Global,
         history: &IndexedHistory,
         session: u32,
         cell: &Cell,
+        writers: &[u32],
     ) -> Result<Vec<u32>, Memory>
         requires kept { AreRowsOf history.now.events self.now }
         requires legal { IsLegal history.now.initial history.now.events }
         requires pending { HasPending history.now.events session }
+        requires writers { ListsWriters history.now.events cell.now writers.now }
         ensures exact { IfOk result (λ offer. IsOffer history.now.events session cell.now offer.items) }
         ensures some { IfOk result (λ offer. 0 < length offer.items) }
     {
         let reader = reader_of(history.history(), session);
-        let offer = self.offer_for(alloc, history, reader, cell)?;
+        let offer = self.offer_for(alloc, history, reader, cell, writers)?;
         Ok(offer)
     }
 
-    /// The pairs that a further read of the pending transaction demands, as stars. An error is out of memory.
+    /// The pairs that a further read of a cell, of which these are the writers, demands of the pending transaction, as stars. An error is out of
+    /// memory.
     pub fn stars_of_read(
         &self,
         alloc: Global,
@@ -141,14 +146,16 @@ impl ForcedRows {
         session: u32,
         cell: &Cell,
         source: u32,
+        writers: &[u32],
     ) -> Result<ReadStars, Memory>
         requires kept { AreRowsOf history.now.events self.now }
         requires pending { HasPending history.now.events session }
         requires writes { Writes history.now.events source cell.now }
+        requires writers { ListsWriters history.now.events cell.now writers.now }
         ensures { IfOk result (AreStarsOf history.now.events session cell.now source) }
     {
         let reader = reader_of(history.history(), session);
-        let stars = self.stars_for(alloc, history, reader, cell, source)?;
+        let stars = self.stars_for(alloc, history, reader, cell, source, writers)?;
         Ok(stars)
     }
 

@@ -3,6 +3,7 @@ ghost use Rattle.std.specs.Prelude.{◌≡◌, ◌≢◌, ◌<◌, ◌≤◌, �
 ghost use Rattle.history_core.specs.Events.{begun};
 ghost use Rattle.history_core.specs.Transactions.{IsCommitted};
 ghost use Rattle.history_core.specs.Relations.{IsSessionOrdered, Precedes};
+ghost use Rattle.indexed_history.specs.Writers.{ListsWriters};
 ghost use Rattle.further_reads.specs.Further.{Sees, SeesWith};
 ghost use Rattle.forced_rows.specs.Rows.{AreRowsOf};
 ghost use Rattle.forced_rows.specs.Sights.{IsReader, Brings, IsInSight, IsOfBegun, AreBegun, Counts, AreCounted, AreRivals};
@@ -176,6 +177,27 @@ impl ForcedRows {
         Ok(numbers)
     }
 
+    /// Those of the writers of the cell, but the initial transaction and one more, that are in the reader's sight.
+    pub(crate) fn rivals_among(
+        &self,
+        alloc: Global,
+        history: &History,
+        reader: Reader,
+        cell: &Cell,
+        sight: Sight,
+        except: u32,
+        writers: &[u32],
+    ) -> Result<Vec<u32>, Memory>
+        requires kept { AreRowsOf history.now.events self.now }
+        requires reader { IsReader history.now.events reader }
+        requires sources { IsOfBegun (begun history.now.events) sight }
+        requires writers { ListsWriters history.now.events cell.now writers.now }
+        ensures { IfOk result (λ numbers. AreRivals sight history.now.events reader cell.now except numbers.items) }
+    {
+        let numbers = self.counted(alloc, history, reader, sight, except, writers)?;
+        Ok(numbers)
+    }
+
     /// The writers of the cell, but the initial transaction and one more, that are in the reader's sight.
     pub(crate) fn rivals(
         &self,
@@ -192,7 +214,8 @@ impl ForcedRows {
         ensures { IfOk result (λ numbers. AreRivals sight history.now.events reader cell.now except numbers.items) }
     {
         let writers = history.writers(cell);
-        let numbers = self.counted(alloc, history.history(), reader, sight, except, writers)?;
+        let own = history.history();
+        let numbers = self.rivals_among(alloc, own, reader, cell, sight, except, writers)?;
         Ok(numbers)
     }
 }

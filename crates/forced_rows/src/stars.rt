@@ -2,6 +2,7 @@
 ghost use Rattle.std.specs.Prelude.{◌≡◌, ◌≤◌, ◌↔◌, ℕ, Contains, IfOk, OnOk};
 ghost use Rattle.history_core.specs.Events.{begun};
 ghost use Rattle.history_core.specs.Relations.{Writes};
+ghost use Rattle.indexed_history.specs.Writers.{ListsWriters};
 ghost use Rattle.saturation.specs.Views.{source_of};
 ghost use Rattle.forced_rows.specs.Rows.{AreRowsOf};
 ghost use Rattle.forced_rows.specs.Sights.{IsReader, IsSeenLate};
@@ -154,14 +155,18 @@ impl ForcedRows {
         reader: Reader,
         cell: &Cell,
         source: u32,
+        writers: &[u32],
     ) -> Result<ReadStars, Memory>
         requires kept { AreRowsOf history.now.events self.now }
         requires reader { IsReader history.now.events reader }
         requires writes { Writes history.now.events source cell.now }
+        requires writers { ListsWriters history.now.events cell.now writers.now }
         ensures { IfOk result (λ stars. AreStarsFor reader.level history.now.events reader.number cell.now source stars.stars.items) }
     {
-        let _events = history.history().events();
-        let members = self.rivals(alloc, history, reader, cell, Sight::With(source), source)?;
+        let own = history.history();
+        let _events = own.events();
+        let sight = Sight::With(source);
+        let members = self.rivals_among(alloc, own, reader, cell, sight, source, writers)?;
         let mut stars = Vec::new(alloc);
         add_star(&mut stars, members, source)?;
         self.add_later(alloc, history, reader, source, &mut stars)?;

@@ -1,6 +1,6 @@
 pub mod Rights
 pub mod Settled
-pub mod SeatLemmas
+pub mod SessionNoteLemmas
 pub mod RecordLemmas
 pub mod NameLemmas
 pub mod CountLemmas

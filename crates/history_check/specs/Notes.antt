@@ -16,31 +16,31 @@ use Rattle.history_check.specs.TableKeys.{keys_at}
 use Rattle.cell_writers.specs.declared.writers.CellWriters.{CellWriters}
 use Rattle.cell_writers.specs.Writers.{numbers_at, AreAscending}
 use Rattle.order_test.specs.Settled.{IsSettled}
-use Rattle.history_check.specs.declared.seat.Seat.{Seat}
+use Rattle.history_check.specs.declared.session_note.SessionNote.{SessionNote}
 use Rattle.history_check.specs.declared.notes.Notes.{Notes}
 
--- the seat says whether the session is open, and what is pending in it
-abbrev pub IsSeatOf : List Event → ℕ → Seat → Type 0
-IsSeatOf events session seat = IsSessionOf events session (record { is_open = seat.is_open; pending = seat.pending })
+-- the note says whether the session is open, and what is pending in it
+abbrev pub IsSessionNoteOf : List Event → ℕ → SessionNote → Type 0
+IsSessionNoteOf events session session_note = IsSessionOf events session (record { is_open = session_note.is_open; pending = session_note.pending })
 
--- session s has the s-th seat
-pub record StandsForSeats (events : List Event) (seats : List Seat) : Type 0 where
-  pub count : length seats ≡ opened events
-  pub each : (i : ℕ) (seat : Seat) → slice_get seats i ≡ Some seat → IsSeatOf events (i + 1) seat
+-- session s has the s-th note
+pub record StandsForSessionNotes (events : List Event) (session_notes : List SessionNote) : Type 0 where
+  pub count : length session_notes ≡ opened events
+  pub each : (i : ℕ) (session_note : SessionNote) → slice_get session_notes i ≡ Some session_note → IsSessionNoteOf events (i + 1) session_note
 
--- one seat is changed, as the relation says
-pub record ChangesSeat (old : List Seat) (session : ℕ) (Changes : Seat → Seat → Type 0) (new : List Seat) : Type 0 where
+-- one note is changed, as the relation says
+pub record ChangesSessionNote (old : List SessionNote) (session : ℕ) (Changes : SessionNote → SessionNote → Type 0) (new : List SessionNote) : Type 0 where
   pub place : ℕ
   pub number : place + 1 ≡ session
   pub changes : ChangesOne old new place Changes
 
 -- the session has this pending
-abbrev pub TakesPending : List Seat → ℕ → Option ℕ → List Seat → Type 0
-TakesPending old session pending new = ChangesSeat old session (λ before after. after ≡ record before { pending = pending }) new
+abbrev pub TakesPending : List SessionNote → ℕ → Option ℕ → List SessionNote → Type 0
+TakesPending old session pending new = ChangesSessionNote old session (λ before after. after ≡ record before { pending = pending }) new
 
 -- the session is closed
-abbrev pub IsClosed : List Seat → ℕ → List Seat → Type 0
-IsClosed old session new = ChangesSeat old session (λ before after. after ≡ record before { is_open = false }) new
+abbrev pub IsClosed : List SessionNote → ℕ → List SessionNote → Type 0
+IsClosed old session new = ChangesSessionNote old session (λ before after. after ≡ record before { is_open = false }) new
 
 -- each event is one of an opened session
 abbrev pub AreOfSessions : List Event → Type 0
@@ -71,7 +71,7 @@ AreWrittenKeys events keys = (table : ℕ) (key : Key) (number : ℕ) → HasWri
 pub record AreNotes (events : List Event) (notes : Notes) : Type 0 where
   pub settled : IsSettled events
   pub sessions : AreOfSessions events
-  pub seats : StandsForSeats events notes.seats.items
+  pub session_notes : StandsForSessionNotes events notes.session_notes.items
   pub txns : StandsForTxns events notes.txns.items
   pub writers : AreWriters events notes.writers
   pub keys : AreWrittenKeys events notes.keys

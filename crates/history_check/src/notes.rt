@@ -6,18 +6,18 @@ ghost use Rattle.history_core.specs.Legal.{IsOpen};
 ghost use Rattle.history_core.specs.Records.{IsRecordOf};
 ghost use Rattle.history_check.specs.Notes.{AreNotes};
 
-use crate::seat::Seat;
+use crate::session_note::SessionNote;
 use crate::table_keys::{TableKeys, new_keys};
 use cell_writers::{CellWriters, new_writers};
 use history_core::{Event, Txn};
 use std::alloc::Global;
 
-/// A seat for each session, a record of each transaction, for each cell those that have committed and write it, for each table the keys whose
-/// presence was written, and the number of tables. Session s has the seat at s - 1, transaction k the record at k - 1.
+/// A note of each session, a record of each transaction, for each cell those that have committed and write it, for each table the keys whose
+/// presence was written, and the number of tables. Session s has the note at s - 1, transaction k the record at k - 1.
 #[derive(Debug, Drop)]
 pub struct Notes {
     pub alloc: Global,
-    pub seats: Vec<Seat>,
+    pub session_notes: Vec<SessionNote>,
     pub txns: Vec<Txn>,
     pub writers: CellWriters,
     pub keys: TableKeys,
@@ -30,7 +30,7 @@ pub fn no_notes(alloc: Global) -> Notes
 {
     Notes {
         alloc,
-        seats: Vec::new(alloc),
+        session_notes: Vec::new(alloc),
         txns: Vec::new(alloc),
         writers: new_writers(alloc),
         keys: new_keys(alloc),
@@ -46,10 +46,10 @@ pub fn is_open(notes: &Notes, before: &[Event], session: u32) -> bool
     if session == 0 {
         return false;
     }
-    if session as usize > notes.seats.len() {
+    if session as usize > notes.session_notes.len() {
         return false;
     }
-    notes.seats[session as usize - 1].is_open
+    notes.session_notes[session as usize - 1].is_open
 }
 
 /// What is pending in the session.
@@ -60,10 +60,10 @@ pub fn pending_in(notes: &Notes, before: &[Event], session: u32) -> Option<u32>
     if session == 0 {
         return None;
     }
-    if session as usize > notes.seats.len() {
+    if session as usize > notes.session_notes.len() {
         return None;
     }
-    notes.seats[session as usize - 1].pending
+    notes.session_notes[session as usize - 1].pending
 }
 
 /// The record of a transaction.
@@ -91,5 +91,5 @@ pub fn count_opened(notes: &Notes, before: &[Event]) -> u32
     requires few { length before.now < 4294967296 }
     ensures { result ≡ opened before.now }
 {
-    notes.seats.len() as u32
+    notes.session_notes.len() as u32
 }

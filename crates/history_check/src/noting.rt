@@ -8,7 +8,7 @@ ghost use Rattle.history_check.specs.Notes.{AreNotes, AreWriters, IsRunningOwner
 
 use crate::notes::{Notes, count_begun, pending_in};
 use crate::records::note_record;
-use crate::seats::note_seat;
+use crate::session_notes::note_session;
 use crate::writers::{note_writers, note_written};
 use cell_base::Memory;
 use history_core::Event;
@@ -23,7 +23,7 @@ pub fn note(notes: &mut Notes, before: &[Event], event: &Event) -> Result<(), Me
 {
     let owner = pending_in(notes, before, session_of(event));
     let started = count_begun(notes, before);
-    note_seat(&mut notes.seats, before, event, started)?;
+    note_session(&mut notes.session_notes, before, event, started)?;
     note_txn(notes, before, event, owner)?;
     note_written(&mut notes.keys, before, event)?;
     notes.tables += definitions(event);
@@ -45,7 +45,7 @@ fn note_txn(
     requires few { length before.now < 4294967295 }
     ensures txns { OnOk result (StandsForTxns (before.now ++ event.now ∷ []) notes.new.txns.items) }
     ensures writers { OnOk result (AreWriters (before.now ++ event.now ∷ []) notes.new.writers) }
-    ensures seats { notes.new.seats ≡ notes.old.seats }
+    ensures session_notes { notes.new.session_notes ≡ notes.old.session_notes }
     ensures keys { notes.new.keys ≡ notes.old.keys }
     ensures tables { notes.new.tables ≡ notes.old.tables }
 {

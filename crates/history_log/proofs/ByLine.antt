@@ -22,7 +22,7 @@ use Rattle.history_log.specs.Spelling.{head_line, event_line, initial_line, line
 use Rattle.history_log.specs.Log.{CanSay, IsLog, IsNotWide, HasNoWide, AreEventsIn, IsInitialCell}
 use Rattle.history_log.specs.Reading.{FitsValue, FitsEvent, IsEventIn}
 use Rattle.history_log.specs.Draft.{IsRight, IsInitialSoFar, said, ending}
-use Rattle.history_log.specs.Faults.{CanGoOn, IsBadLine, IsCutShort, IsShort, HasFault, HasLineFault}
+use Rattle.history_log.specs.Faults.{CanGoOn, IsBadLine, IsCutShort, HasFewBytes, HasFault, HasLineFault}
 use Rattle.history_log.proofs.Cuts.{cut_first, cut_last, joined_cut}
 use Rattle.history_log.proofs.Going.{cells_so_far}
 use Rattle.history_log.proofs.GoesOn.{goes_on, not_whole, initial_in}
@@ -159,7 +159,7 @@ bad_head bytes text after e lacks fails =
       heads : {a b : List ℕ} {xs ys : List (List ℕ)} → a ∷ xs ≡ b ∷ ys → a ≡ b
       heads e = cc
 
-pub whole_fault : (bytes : List ℕ) (parts : List (List ℕ)) (fault : LogFault) → IsShort bytes → cut_at 10 bytes ≡ parts → HasLineFault parts fault → HasFault bytes fault
+pub whole_fault : (bytes : List ℕ) (parts : List (List ℕ)) (fault : LogFault) → HasFewBytes bytes → cut_at 10 bytes ≡ parts → HasLineFault parts fault → HasFault bytes fault
 whole_fault bytes parts faults.TooLong short e has = absurd has
 whole_fault bytes parts faults.Version short e has = absurd has
 whole_fault bytes parts (faults.Line n) short e has = (short, has.0, subst (λ (z : List (List ℕ)). IsBadLine z n) (sym e) has.1)

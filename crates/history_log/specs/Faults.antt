@@ -39,8 +39,8 @@ pub record IsCutShort (parts : List (List ℕ)) : Type 0 where
   pub begins : CanGoOn whole
   pub no_log : (v : Version) (t : Trace) → CanSay v t → IsCutInto parts (lines v t) [] → ⊥
 
-abbrev pub IsShort : List ℕ → Type 0
-IsShort bytes = length bytes ≤ 268435456
+abbrev pub HasFewBytes : List ℕ → Type 0
+HasFewBytes bytes = length bytes ≤ 268435456
 
 -- the same faults of the parts, but for the length and the head
 abbrev pub HasLineFault : List (List ℕ) → LogFault → Type 0
@@ -52,7 +52,7 @@ HasLineFault parts faults.Memory = ⊥
 
 abbrev pub HasFault : List ℕ → LogFault → Type 0
 HasFault bytes faults.TooLong = 268435456 < length bytes
-HasFault bytes faults.Version = IsShort bytes × IsBadLine (cut_at 10 bytes) 1
-HasFault bytes (faults.Line n) = IsShort bytes × (2 ≤ n) × IsBadLine (cut_at 10 bytes) n
-HasFault bytes faults.Cut = IsShort bytes × IsCutShort (cut_at 10 bytes)
+HasFault bytes faults.Version = HasFewBytes bytes × IsBadLine (cut_at 10 bytes) 1
+HasFault bytes (faults.Line n) = HasFewBytes bytes × (2 ≤ n) × IsBadLine (cut_at 10 bytes) n
+HasFault bytes faults.Cut = HasFewBytes bytes × IsCutShort (cut_at 10 bytes)
 HasFault bytes faults.Memory = ⊥

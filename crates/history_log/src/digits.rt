@@ -29,7 +29,7 @@ fn with_digit(number: u32, byte: u8) -> Option<u32>
 }
 
 /// The number that a word of up to nine digits is. `None` says nothing of the word.
-pub fn short_number(word: &[u8]) -> Option<u32>
+pub fn few_digits(word: &[u8]) -> Option<u32>
     ensures { IfSome result (λ n. IsNumber n word.now) }
 {
     if word.is_empty() {

@@ -78,7 +78,7 @@ fn read_lines(alloc: Global, draft: &mut Draft, text: &[u8]) -> Result<(), LogFa
     requires right { IsRight draft.old }
     requires place { draft.old.place ≡ Place.Body }
     requires first { length (said draft.old) ≡ 1 }
-    requires short { length text.now < 268435456 }
+    requires few { length text.now < 268435456 }
     ensures right { OnOk result (IsRight draft.new) }
     ensures done { OnOk result (draft.new.place ≡ Place.Done) }
     ensures said { OnOk result (IsCutInto (said draft.old ++ cut_at 10 text.now) (said draft.new) []) }

@@ -2,7 +2,7 @@
 ghost use Rattle.std.specs.Prelude.{◌≡◌, ◌≢◌, ◌∷◌, ℕ, List, MatchOption};
 ghost use Rattle.history_log.specs.Reading.{IsNumber, IsInteger, IsHex, IsText, IsKey, IsNamedValue, IsValue, IsLevel, Finds, Reads};
 
-use crate::digits::short_number;
+use crate::digits::few_digits;
 use crate::misread::Misread;
 use cell_base::{Items, Key, Level, Text, TextFault, Value};
 use itoa::Buffer;
@@ -13,7 +13,7 @@ use std::str;
 pub fn number_of(word: &[u8]) -> Option<u32>
     ensures { Finds IsNumber result word.now }
 {
-    match short_number(word) {
+    match few_digits(word) {
         Some(n) => Some(n),
         None => long_number(word),
     }
@@ -40,7 +40,7 @@ fn long_number(word: &[u8]) -> Option<u32>
 pub fn integer_of(word: &[u8]) -> Option<i64>
     ensures { Finds IsInteger result word.now }
 {
-    match short_number(word) {
+    match few_digits(word) {
         Some(n) => Some(n as i64),
         None => long_integer(word),
     }

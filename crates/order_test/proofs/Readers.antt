@@ -1,7 +1,7 @@
 -- How the readers and the last transactions of sessions go on standing for the events.
-use Rattle.std.proofs.Common.{◌≡◌, ℕ, ◌+◌, ◌<◌, ◌≤◌, List, [], ◌∷◌, ◌++◌, Some, false, length, get_or, set, max, arith, ap, sym, ◌∙◌, subst, inl, inr, ◌⊎◌, ◌↔◌}
+use Rattle.std.proofs.Common.{◌≡◌, ℕ, ◌+◌, ◌<◌, ◌≤◌, List, [], ◌∷◌, ◌++◌, Some, false, length, get_or, set, max, arith, refl, ap, sym, ◌∙◌, subst, inl, inr, ◌⊎◌, ◌↔◌}
 use Rattle.std.specs.List.{slice_get}
-use Rattle.std.proofs.lemmas.List.{length_push, get_or_append_left, get_or_push}
+use Rattle.std.proofs.lemmas.List.{length_push, length-set, get_or_append_left, get_or_push}
 use Rattle.std.proofs.lemmas.Bool.{cases_eq, cases_lt}
 use Rattle.txn_buffer.proofs.Lists.{slice_get_push_cases}
 use Rattle.cell_base.specs.declared.level.Level.{Level}
@@ -38,36 +38,43 @@ within_step events old new n e at wider here before k f under is =
 
 -- ---- the greater of two at each place
 
-abbrev pub AreGreaterBelow : List ℕ → List ℕ → List ℕ → ℕ → Type 0
-AreGreaterBelow first second tops n =
-    (at number : ℕ) → at < n → (number ≤ get_or tops at 0) ↔ ((number ≤ get_or first at 0) ⊎ (number ≤ get_or second at 0))
+-- the numbers below n are raised to the others, those from n on are as they were
+pub record AreRaised (before others tops : List ℕ) (n : ℕ) : Type 0 where
+  pub count : length tops ≡ length before
+  pub done : (at : ℕ) → at < n → get_or tops at 0 ≡ max (get_or before at 0) (get_or others at 0)
+  pub left : (at : ℕ) → n ≤ at → get_or tops at 0 ≡ get_or before at 0
 
-greater_one : (a b number : ℕ) → (number ≤ max a b) ↔ ((number ≤ a) ⊎ (number ≤ b))
-greater_one a b number = (
+pub raised_none : (before others : List ℕ) → AreRaised before others before 0
+raised_none before others = record { count = refl; done = λ at under. absurd (omega arith); left = λ at over. refl }
+
+pub raised_step :
+    (before others tops : List ℕ) (n top : ℕ) → n < length tops → top ≡ max (get_or tops n 0) (get_or others n 0) → AreRaised before others tops n →
+    AreRaised before others (set tops n top) (n + 1)
+raised_step before others tops n top within is old = record {
+  count = length-set tops n top ∙ old.count;
+  done = λ at under. elim (at_set tops n top at within) [
+    | inl here ↦
+        let new = here.1 in
+        let was = old.left n (omega arith) in
+        let a : get_or before at 0 ≡ get_or before n 0 = ap (λ (i : ℕ). get_or before i 0) here.0 in
+        let b : get_or others at 0 ≡ get_or others n 0 = ap (λ (i : ℕ). get_or others i 0) here.0 in omega arith
+    | inr other ↦
+        let apart = other.0 in
+        let same = other.1 in
+        let under_n : at < n = elim (cases_eq at n) [ inl one ↦ absurd (apart one) | inr two ↦ omega arith ] in
+        let was = old.done at under_n in omega arith
+  ];
+  left = λ at over. elim (at_set tops n top at within) [
+    | inl here ↦ let one = here.0 in absurd (omega arith)
+    | inr other ↦ let same = other.1 in let was = old.left at (omega arith) in omega arith
+  ];
+}
+
+pub greater_one : (a b top number : ℕ) → top ≡ max a b → (number ≤ top) ↔ ((number ≤ a) ⊎ (number ≤ b))
+greater_one a b top number is = (
   λ le. elim (cases_lt a number) [ inl above ↦ inr (omega arith) | inr within ↦ inl within ],
   λ either. elim either [ inl left ↦ omega arith | inr right ↦ omega arith ],
 )
-
-pub greater_push :
-    (first second tops : List ℕ) (n top : ℕ) → length tops ≡ n → top ≡ max (get_or first n 0) (get_or second n 0) → AreGreaterBelow first second tops n →
-    AreGreaterBelow first second (tops ++ top ∷ []) (n + 1)
-greater_push first second tops n top long is before at number under =
-    elim (cases_eq at n) [
-      | inr other ↦
-          let same : get_or (tops ++ top ∷ []) at 0 ≡ get_or tops at 0 = get_or_append_left tops (top ∷ []) 0 at (omega arith) in
-          let h = before at number (omega arith) in (
-            λ le. h.0 (omega arith),
-            λ either. let k = h.1 either in omega arith,
-          )
-      | inl here ↦
-          let new : get_or (tops ++ top ∷ []) at 0 ≡ top = get_or_push tops top 0 at (omega arith) in
-          let h = greater_one (get_or first n 0) (get_or second n 0) number in
-          let a : get_or first at 0 ≡ get_or first n 0 = ap (λ (i : ℕ). get_or first i 0) here in
-          let b : get_or second at 0 ≡ get_or second n 0 = ap (λ (i : ℕ). get_or second i 0) here in (
-            λ le. elim (h.0 (omega arith)) [ inl left ↦ inl (omega arith) | inr right ↦ inr (omega arith) ],
-            λ either. let k = h.1 (elim either [ inl left ↦ inl (omega arith) | inr right ↦ inr (omega arith) ]) in omega arith,
-          )
-    ]
 
 -- ---- the transactions beside the reads
 

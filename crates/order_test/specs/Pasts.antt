@@ -19,6 +19,7 @@ pub record IsPastOf (events : List Event) (width number : ℕ) (past : Past) : T
   pub count : length past.tops.items ≡ width
   pub within : past.session < width
   pub bounded : (session : ℕ) → slice_index past.tops.items session ≤ begun events
+  pub latest : (session : ℕ) → slice_index past.tops.items session ≤ past.latest
   pub started : 0 < number → (place : ℕ) × IsStart events number past.session place
   pub exact : (session writer place : ℕ) → IsStart events writer session place →
       (writer ≤ slice_index past.tops.items session) ↔ PrecedesCausally events writer number
@@ -53,6 +54,7 @@ pub record ArePasts (events : List Event) (pasts : Pasts) : Type 0 where
 pub record TakesIn (number : ℕ) (source old new : Past) : Type 0 where
   pub session : new.session ≡ old.session
   pub count : length new.tops.items ≡ length old.tops.items
+  pub latest : (old.latest ≤ new.latest) × (source.latest ≤ new.latest) × (number ≤ new.latest)
   pub exact : (session writer : ℕ) → session < length old.tops.items →
       (writer ≤ slice_index new.tops.items session)
       ↔ ((writer ≤ slice_index old.tops.items session)
@@ -72,3 +74,4 @@ pub record AddsAfter (last session : ℕ) (old new : List Past) : Type 0 where
   pub adds : new ≡ old ++ past ∷ []
   pub session_is : past.session ≡ session
   pub tops : past.tops.items ≡ slice_set before.tops.items session last
+  pub latest : (before.latest ≤ past.latest) × (last ≤ past.latest)

@@ -1,5 +1,5 @@
 // The causal past of each transaction. It is closed under session order, so of each session it has the transactions up to some one.
-ghost use Rattle.std.specs.Prelude.{◌≡◌, ◌≤◌, ◌<◌, ◌+◌, ◌↔◌, ◌⊎◌, ◌∷◌, ◌++◌, [], ℕ, Some, IfOk, OnOk, length, slice_get, slice_set, slice_index, take};
+ghost use Rattle.std.specs.Prelude.{◌≡◌, ◌≢◌, ◌≤◌, ◌<◌, ◌+◌, ◌↔◌, ◌⊎◌, ◌∷◌, ◌++◌, [], ℕ, Some, IfOk, OnOk, length, slice_get, slice_set, slice_index, take};
 ghost use Rattle.history_core.specs.Events.{begun, session_in};
 ghost use Rattle.further_reads.specs.Begun.{IsLastBegun};
 ghost use Rattle.order_test.specs.declared.pasts.Past.{Past as PastOf};
@@ -9,6 +9,7 @@ ghost use Rattle.order_test.specs.Pasts.{AreWithin, AreRows, AreLast, AreReaders
 use cell_base::Memory;
 use history_core::Event;
 use std::alloc::Global;
+use std::mem;
 
 /// The causal past of a transaction.
 #[derive(Debug, Drop)]
@@ -17,6 +18,8 @@ pub struct Past {
     pub session: u32,
     /// For each session the last of its transactions that precedes the transaction causally, 0 where none does.
     pub tops: Vec<u32>,
+    /// A number that none of these is above.
+    pub latest: u32,
 }
 
 /// What the events so far come to.
@@ -72,7 +75,11 @@ fn no_pasts(alloc: Global, width: usize) -> Result<Pasts, Memory>
     let tops = vec![in alloc; 0; width]?;
     let last = vec![in alloc; 0; width]?;
     let mut rows = Vec::new(alloc);
-    rows.push(Past { session: 0, tops })?;
+    rows.push(Past {
+        session: 0,
+        tops,
+        latest: 0,
+    })?;
     Ok(Pasts {
         alloc,
         rows,
@@ -81,18 +88,16 @@ fn no_pasts(alloc: Global, width: usize) -> Result<Pasts, Memory>
     })
 }
 
-/// The greater of two numbers at each place.
-fn greater_of(alloc: Global, first: &[u32], second: &[u32]) -> Result<Vec<u32>, Memory>
-    requires { length second.now ≡ length first.now }
-    ensures count { IfOk result (λ tops. length tops.items ≡ length first.now) }
-    ensures exact { IfOk result (λ tops. (at number : ℕ) → at < length first.now →
-        (number ≤ slice_index tops.items at) ↔ ((number ≤ slice_index first.now at) ⊎ (number ≤ slice_index second.now at))) }
+/// Raises each of the numbers to the other one at its place, where it is below.
+fn raise_all(tops: &mut Vec<u32>, others: &[u32])
+    requires { length others.now ≡ length tops.old.items }
+    ensures count { length tops.new.items ≡ length tops.old.items }
+    ensures exact { (at number : ℕ) → at < length tops.old.items →
+        (number ≤ slice_index tops.new.items at) ↔ ((number ≤ slice_index tops.old.items at) ⊎ (number ≤ slice_index others.now at)) }
 {
-    let mut tops = Vec::with_capacity(alloc, first.len())?;
-    for at in 0..first.len() {
-        tops.push(first[at].max(second[at]))?;
+    for at in 0..others.len() {
+        tops[at] = tops[at].max(others[at]);
     }
-    Ok(tops)
 }
 
 /// Raises one of the numbers to this one, where it is below.
@@ -107,18 +112,33 @@ fn raise(tops: &mut Vec<u32>, place: u32, number: u32)
     }
 }
 
-/// The past of a transaction that reads from the source, which has this number.
-fn taken_in(alloc: Global, own: &Past, source: &Past, number: u32) -> Result<Past, Memory>
-    requires count { length source.now.tops.items ≡ length own.now.tops.items }
-    requires within { source.now.session < length own.now.tops.items }
-    ensures { IfOk result (TakesIn number source.now own.now) }
+/// Takes into the past of a transaction the source that it reads from, which has this number, and the past of the source.
+fn take_in(own: &mut Past, source: &Past, number: u32)
+    requires count { length source.now.tops.items ≡ length own.old.tops.items }
+    requires within { source.now.session < length own.old.tops.items }
+    ensures { TakesIn number source.now own.old own.new }
 {
-    let mut tops = greater_of(alloc, &own.tops, &source.tops)?;
-    raise(&mut tops, source.session, number);
-    Ok(Past {
-        session: own.session,
-        tops,
-    })
+    raise_all(&mut own.tops, &source.tops);
+    raise(&mut own.tops, source.session, number);
+    own.latest = own.latest.max(source.latest).max(number);
+}
+
+/// Puts the past in the place of another, which it answers.
+fn replace_past(rows: &mut Vec<Past>, at: usize, past: Past) -> Past
+    requires { at < length rows.old.items }
+    ensures was { slice_get rows.old.items at ≡ Some result }
+    ensures now { rows.new.items ≡ slice_set rows.old.items at past }
+{
+    mem::replace(&mut rows[at], past)
+}
+
+/// No past, which stands where a past was taken out.
+fn empty_past(alloc: Global) -> Past {
+    Past {
+        session: 0,
+        tops: Vec::new(alloc),
+        latest: 0,
+    }
 }
 
 /// A copy of the numbers.
@@ -134,28 +154,30 @@ fn begin_row(alloc: Global, rows: &mut Vec<Past>, last: u32, session: u32) -> Re
     requires within { (past : PastOf) → slice_get rows.old.items last ≡ Some past → session < length past.tops.items }
     ensures { OnOk result (AddsAfter last session rows.old.items rows.new.items) }
 {
-    let mut tops = copy_of(alloc, &rows[last as usize].tops)?;
+    let before = &rows[last as usize];
+    let latest = before.latest.max(last);
+    let mut tops = copy_of(alloc, &before.tops)?;
     tops[session as usize] = last;
-    rows.push(Past { session, tops })?;
+    rows.push(Past {
+        session,
+        tops,
+        latest,
+    })?;
     Ok(())
 }
 
 /// Adds to the past of the reader the source and its past.
-fn read_row(alloc: Global, rows: &mut Vec<Past>, reader: u32, source: u32) -> Result<(), Memory>
+fn read_row(alloc: Global, rows: &mut Vec<Past>, reader: u32, source: u32)
     requires reader { reader < length rows.old.items }
     requires source { source < length rows.old.items }
+    requires apart { source ≢ reader }
     requires one { (own from : PastOf) → slice_get rows.old.items reader ≡ Some own → slice_get rows.old.items source ≡ Some from → length from.tops.items ≡ length own.tops.items }
     requires within { (from : PastOf) → slice_get rows.old.items source ≡ Some from → from.session < length from.tops.items }
-    ensures { OnOk result (TakesFrom reader source rows.old.items rows.new.items) }
+    ensures { TakesFrom reader source rows.old.items rows.new.items }
 {
-    let past = taken_in(
-        alloc,
-        &rows[reader as usize],
-        &rows[source as usize],
-        source,
-    )?;
-    rows[reader as usize] = past;
-    Ok(())
+    let mut own = replace_past(rows, reader as usize, empty_past(alloc));
+    take_in(&mut own, &rows[source as usize], source);
+    let _empty = replace_past(rows, reader as usize, own);
 }
 
 /// Notes of the event what it changes in the pasts. `last` is the last transaction of its session.
@@ -175,7 +197,10 @@ fn note_row(
 {
     match event {
         Event::Begin { session, .. } => begin_row(alloc, rows, last, *session),
-        Event::Read { source, .. } => read_row(alloc, rows, last, *source),
+        Event::Read { source, .. } => {
+            read_row(alloc, rows, last, *source);
+            Ok(())
+        }
         Event::Open { .. } => Ok(()),
         Event::Close { .. } => Ok(()),
         Event::Define { .. } => Ok(()),

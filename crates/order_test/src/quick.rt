@@ -74,17 +74,6 @@ fn past_has_none(
     true
 }
 
-/// A number that no transaction in the past is above.
-fn latest_in(past: &Past) -> u32
-    ensures { (session : ℕ) → slice_index past.now.tops.items session ≤ result }
-{
-    let mut latest = 0;
-    for session in 0..past.tops.len() {
-        latest = latest.max(past.tops[session]);
-    }
-    latest
-}
-
 /// Whether none of the committed writers of the cell up to the last number in the reader's causal past stands after the source.
 pub fn is_reached(
     events: &[Event],
@@ -105,7 +94,7 @@ pub fn is_reached(
 {
     match event {
         Event::Read { cell, source, .. } => {
-            let limit = latest_in(past_of(pasts, events, reader));
+            let limit = past_of(pasts, events, reader).latest;
             cell_is_clear(places, reaches, cell, limit, *source)
         }
         _ => false,

@@ -6,7 +6,7 @@ use Rattle.history_log.specs.declared.trace.Trace.{Trace}
 use Rattle.history_log.specs.declared.version.Version.{Version}
 use Rattle.history_log.specs.Cut.{cut_at}
 use Rattle.history_log.specs.Log.{IsLog}
-use Rattle.history_log.specs.Faults.{CanGoOn, IsBadLine, IsCutShort, IsShort, HasFault}
+use Rattle.history_log.specs.Faults.{CanGoOn, IsBadLine, IsCutShort, HasFewBytes, HasFault}
 use Rattle.history_log.proofs.ByLine.{snoc_same}
 use Rattle.history_log.proofs.OneHistory.{same_log, fault_only}
 use Rattle.history_check.specs.declared.breach.Breach.{Breach}
@@ -78,8 +78,8 @@ one_fault bytes faults.Cut faults.Cut h k = refl
 one_fault bytes faults.Cut faults.Memory h k = absurd k
 one_fault bytes faults.Memory b h k = absurd h
 
-no_fault : (bytes : List ℕ) (fault : LogFault) (v : Version) (t : Trace) → HasFault bytes fault → IsLog v t bytes → IsShort bytes → ⊥
-no_fault bytes fault v t has log short = subst (HasFault bytes) (fault_only bytes fault (λ _. has) v t log short) has
+no_fault : (bytes : List ℕ) (fault : LogFault) (v : Version) (t : Trace) → HasFault bytes fault → IsLog v t bytes → HasFewBytes bytes → ⊥
+no_fault bytes fault v t has log few = subst (HasFault bytes) (fault_only bytes fault (λ _. has) v t log few) has
 
 -- ---- one verdict
 
@@ -96,16 +96,16 @@ one_breach bytes a b first other =
 pub one_verdict : OneVerdict
 one_verdict bytes line other code other_code (inl a) (inl b) = (a.1 ∙ sym b.1, a.0 ∙ sym b.0)
 one_verdict bytes line other code other_code (inl a) (inr (inl b)) = absurd (not_both bytes b.1.0 a.2 b.1.2)
-one_verdict bytes line other code other_code (inl a) (inr (inr b)) = absurd (no_fault bytes b.1.0 a.2.version a.2.trace b.1.2 a.2.log a.2.short)
+one_verdict bytes line other code other_code (inl a) (inr (inr b)) = absurd (no_fault bytes b.1.0 a.2.version a.2.trace b.1.2 a.2.log a.2.few)
 one_verdict bytes line other code other_code (inr (inl a)) (inl b) = absurd (not_both bytes a.1.0 b.2 a.1.2)
 one_verdict bytes line other code other_code (inr (inl a)) (inr (inl b)) =
     let same : line_of (breach_words a.1.0) ≡ line_of (breach_words b.1.0) = ap (λ (x : Breach). line_of (breach_words x)) (one_breach bytes a.1.0 b.1.0 a.1.2 b.1.2) in
     (a.1.1 ∙ same ∙ sym b.1.1, a.0 ∙ sym b.0)
 one_verdict bytes line other code other_code (inr (inl a)) (inr (inr b)) =
-    absurd (no_fault bytes b.1.0 a.1.2.version a.1.2.trace b.1.2 a.1.2.log a.1.2.short)
-one_verdict bytes line other code other_code (inr (inr a)) (inl b) = absurd (no_fault bytes a.1.0 b.2.version b.2.trace a.1.2 b.2.log b.2.short)
+    absurd (no_fault bytes b.1.0 a.1.2.version a.1.2.trace b.1.2 a.1.2.log a.1.2.few)
+one_verdict bytes line other code other_code (inr (inr a)) (inl b) = absurd (no_fault bytes a.1.0 b.2.version b.2.trace a.1.2 b.2.log b.2.few)
 one_verdict bytes line other code other_code (inr (inr a)) (inr (inl b)) =
-    absurd (no_fault bytes a.1.0 b.1.2.version b.1.2.trace a.1.2 b.1.2.log b.1.2.short)
+    absurd (no_fault bytes a.1.0 b.1.2.version b.1.2.trace a.1.2 b.1.2.log b.1.2.few)
 one_verdict bytes line other code other_code (inr (inr a)) (inr (inr b)) =
     let same : line_of (fault_words a.1.0) ≡ line_of (fault_words b.1.0) = ap (λ (x : LogFault). line_of (fault_words x)) (one_fault bytes a.1.0 b.1.0 a.1.2 b.1.2) in
     (a.1.1 ∙ same ∙ sym b.1.1, a.0 ∙ sym b.0)
@@ -129,6 +129,6 @@ longer bytes more faults.Cut long has = absurd (omega (arith, long, has.0))
 longer bytes more faults.Memory long has = absurd has
 
 pub longer_verdict : (bytes more line : List ℕ) (code : ℕ) → 268435456 < length bytes → IsVerdict bytes line code → IsVerdict (bytes ++ more) line code
-longer_verdict bytes more line code long (inl a) = absurd (omega (arith, long, a.2.short))
-longer_verdict bytes more line code long (inr (inl b)) = absurd (omega (arith, long, b.1.2.short))
+longer_verdict bytes more line code long (inl a) = absurd (omega (arith, long, a.2.few))
+longer_verdict bytes more line code long (inr (inl b)) = absurd (omega (arith, long, b.1.2.few))
 longer_verdict bytes more line code long (inr (inr c)) = inr (inr (c.0, (c.1.0, c.1.1, longer bytes more c.1.0 long c.1.2)))

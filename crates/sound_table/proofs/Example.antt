@@ -17,7 +17,7 @@ use Rattle.sql_grammar.specs.Limited.{IsPlain, IsPlainKind, max_depth, max_rows,
 use Rattle.sql_grammar.specs.Statements.{name, alias, filter, item, tab, join, next_tabs, next_joins, more_from, from, source, direction, term, order, limit, select, cell, row, columns, insert, assignment, update, delete, work, level, mode, next_mode, modes, beginning, begin, commit, rollback, suffix, dotted, value_word, setting_value, setting_values, assigned, transaction_modes, characteristics, session_setting, set, show, constant_word, constant, check, label, constraint_body, next_constraint, constraints, size, sized, type_name, column, key_list, table_constraint, element, create, control, statement, piece, next_piece, message}
 use Rattle.sql_grammar.specs.Steps.{reading, repeat_from}
 use Rattle.sql_grammar.specs.Reading as reader
-use Rattle.sql_grammar.specs.Words.{class, marks}
+use Rattle.sql_grammar.specs.Words.{letters, rows as word_rows, marks}
 use Rattle.sql_grammar.proofs.Messages.{message_sound}
 use Rattle.typing_rules.specs.Building.{built, column_of, key_of, checks_of}
 use Rattle.sound_table.specs.Sound.{IsSound}
@@ -50,7 +50,7 @@ unfolding built column_of key_of checks_of
 is_built = refl
 
 is_read : reading (message max_depth max_rows max_statements) (marks tokens) ≡ Some (Create create_t ∷ [], [])
-unfolding class name alias filter item tab join next_tabs next_joins more_from from source direction term order limit select cell row columns insert assignment update delete work level mode next_mode modes beginning begin commit rollback suffix dotted value_word setting_value setting_values assigned transaction_modes characteristics session_setting set show constant_word constant check label constraint_body next_constraint constraints size sized type_name column key_list table_constraint element create control statement piece next_piece message repeat_from reader.name word sign
+unfolding letters word_rows name alias filter item tab join next_tabs next_joins more_from from source direction term order limit select cell row columns insert assignment update delete work level mode next_mode modes beginning begin commit rollback suffix dotted value_word setting_value setting_values assigned transaction_modes characteristics session_setting set show constant_word constant check label constraint_body next_constraint constraints size sized type_name column key_list table_constraint element create control statement piece next_piece message repeat_from reader.name word sign
 is_read = refl
 
 -- ---- plain

@@ -1,3 +1,4 @@
+mod Letters
 pub mod Taken
 pub mod Sound
 pub mod Follow

@@ -1,5 +1,5 @@
 -- The words of the grammar, and the marks of tokens.
-use Rattle.std.specs.Prelude.{ℕ, if◌then◌else◌, List, [], ◌∷◌, map}
+use Rattle.std.specs.Prelude.{ℕ, if◌then◌else◌, List, [], ◌∷◌, map, flat_map}
 use Rattle.std.specs.Str.{bytes_eq}
 use Rattle.sql_tree.specs.declared.token.Token.{Token}
 use Rattle.sql_tree.specs.declared.token.TokenKind.{TokenKind}
@@ -16,8 +16,15 @@ abbrev pub lookup : List (List ℕ × Class) → List ℕ → Class
 lookup [] word = c.Plain Other
 lookup (row ∷ rows) word = if bytes_eq row.0 word then row.1 else lookup rows word
 
-unfoldable pub class : List ℕ → Class
-class = lookup (map (λ row. (row.0.now, row.1)) WORDS)
+-- for each letter from a to z the rows of its words
+unfoldable pub letters : List (List (List ℕ × Class))
+letters = map (λ words. map (λ row. (row.0.now, row.1)) words.now) WORDS
+
+unfoldable pub rows : List (List ℕ × Class)
+rows = flat_map (λ words. words) letters
+
+abbrev pub class : List ℕ → Class
+class = lookup rows
 
 abbrev pub mark_of : List ℕ → Class → Mark
 mark_of word (c.Key k) = Key k

@@ -1,26 +1,15 @@
 -- Where the cells of one hash stand. A place is given as one more, and 0 stands for none.
 use Rattle.std.specs.Prelude.{◌≡◌, ◌≢◌, ◌≤◌, ◌<◌, ℕ, suc, Some, List, length, slice_get, slice_index, nat_eq, unwrap_or, fold}
-use Rattle.std.specs.Hash as fed
 use Rattle.std.specs.Hash.FoldHasher as folding
 use Rattle.std.specs.HashMap.{HashMap, get}
 use Rattle.std.specs.declared.hash.FoldHasher.{FoldHasher}
 use Rattle.std.specs.declared.hash.BuildHasherDefault.{BuildHasherDefault}
 use Rattle.cell_base.specs.declared.cell.Cell.{Cell}
-use Rattle.cell_base.specs.declared.cell.Cell.TheVariants.{Presence, Field}
-use Rattle.cell_base.specs.declared.key.Key.{Key}
-use Rattle.cell_base.specs.declared.key.Key.TheVariants as keys
+use Rattle.cell_base.specs.Hashes.{hashed_cell}
 use Rattle.cell_base.specs.declared.value.Value.{Value}
 
-abbrev pub feed_u32 : FoldHasher → ℕ → FoldHasher
-feed_u32 state number = fold folding.write state (fed.u32 number)
-
-abbrev pub hash_key : FoldHasher → Key → FoldHasher
-hash_key state (keys.Int number) = fold folding.write state (fed.i64 number)
-hash_key state (keys.Text bytes) = folding.write state bytes
-
 abbrev pub hash_of : Cell → ℕ
-hash_of (Presence table key) = folding.finish (hash_key (feed_u32 folding.initial table) key)
-hash_of (Field table key column) = folding.finish (feed_u32 (hash_key (feed_u32 folding.initial table) key) column)
+hash_of cell = folding.finish (fold folding.write folding.initial (hashed_cell cell))
 
 abbrev pub Places : Type 0
 Places = HashMap ℕ ℕ (BuildHasherDefault FoldHasher)

@@ -86,6 +86,9 @@ impl TxnBuffer {
         ensures there { IfSome result (λ value. Contains self.now.writes (cell.now, value.now)) }
         ensures absent { IfNone result (IsAbsent self.now.writes cell.now) }
     {
+        if self.entries.is_empty() {
+            return None;
+        }
         match find(&self.entries, &self.index, cell, hash(cell)) {
             Some(at) => Some(&self.entries[at].1),
             None => None,

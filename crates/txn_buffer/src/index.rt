@@ -1,12 +1,12 @@
 // Where the cells of one hash stand, so that a cell is found without a walk over all of them.
 ghost use Rattle.std.specs.Prelude.{◌≡◌, ◌≤◌, ◌<◌, ◌+◌, ◌∷◌, ◌++◌, [], ℕ, length, vec_capacity, slice_index, OnOk};
 ghost use Rattle.std.specs.HashMap.{spare};
-ghost use Rattle.txn_buffer.specs.Index.{last_of, hash_of, hash_key, GainsLast};
+ghost use Rattle.txn_buffer.specs.Index.{last_of, hash_of, GainsLast};
 
-use cell_base::{Cell, Key, Memory};
+use cell_base::{Cell, Memory};
 use std::alloc::Global;
 use std::collections::HashMap;
-use std::hash::{FoldHasher, Hasher};
+use std::hash::{FoldHasher, Hash, Hasher};
 
 /// The places of the cells of each hash, each place given as one more, and 0 where there is none.
 #[derive(Debug, Drop)]
@@ -92,31 +92,11 @@ fn insert_in_room(last: &mut HashMap<u64, usize>, hash: u64, place: usize)
     }
 }
 
-/// The hash of a cell: its numbers and the bytes of its key, fed to std's hasher.
+/// The hash of a cell, by std's hasher.
 pub(crate) fn hash(cell: &Cell) -> u64
     ensures { result ≡ hash_of cell.now }
 {
     let mut state = FoldHasher::default();
-    match cell {
-        Cell::Presence(table, key) => {
-            state.write_u32(*table);
-            feed_key(&mut state, key);
-        }
-        Cell::Field(table, key, column) => {
-            state.write_u32(*table);
-            feed_key(&mut state, key);
-            state.write_u32(*column);
-        }
-    }
+    cell.hash(&mut state);
     state.finish()
-}
-
-/// Feeds a key to the hasher.
-fn feed_key(state: &mut FoldHasher, key: &Key)
-    ensures { state.new ≡ hash_key state.old key.now }
-{
-    match key {
-        Key::Int(number) => state.write_i64(*number),
-        Key::Text(text) => state.write(text.bytes()),
-    }
 }

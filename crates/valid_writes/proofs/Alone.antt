@@ -1,5 +1,5 @@
 -- Each call of a book owns all events that come.
-use Rattle.std.proofs.Common.{◌≡◌, ℕ, List, [], ◌∷◌, ◌++◌, Option, Ok, Err, Result, ap, sym, ◌∙◌}
+use Rattle.std.proofs.Common.{◌≡◌, ℕ, List, [], ◌∷◌, ◌++◌, Ok, Err, Result, ap, sym, ◌∙◌}
 use Rattle.std.specs.Prelude.{IfOk, OnOk, OnErr}
 use Rattle.std.proofs.lemmas.List.{append-nil}
 use Rattle.sql_tree.specs.declared.table.Table.{Table}
@@ -10,7 +10,7 @@ use Rattle.history_core.specs.declared.fault.DefineAnswer.TheVariants.{Defined, 
 use Rattle.history_core.specs.Chronicle.{Chronicle}
 use Rattle.valid_writes.specs.declared.desk.Stage.{Stage}
 use Rattle.valid_writes.specs.declared.desk.Desk.{Desk}
-use Rattle.valid_writes.specs.Desk.{own_since, past_of, IsDesk, GoesTo, Stays, DefinesTo, AnswersTo}
+use Rattle.valid_writes.specs.Desk.{own_since, past_of, IsDesk, GoesTo, Stays, AnswersTo}
 use Rattle.valid_writes.specs.Owning.{OwnsAllThatComes}
 use Rattle.valid_writes.proofs.Told.{own_since_same, own_goes}
 

@@ -1,5 +1,6 @@
 -- What keeps a history legal.
 use Rattle.std.proofs.Common.{◌-◌, get_or, inl, inr, ◌≡◌, ℕ, ◌+◌, ◌<◌, ◌≤◌, List, [], ◌∷◌, ◌++◌, Option, Some, None, Ok, Err, Result, true, false, zero, suc, length, map, arith, refl, ap, sym, ◌∙◌, subst, ◌↔◌}
+use Rattle.std.specs.Prelude.{IsErrAnd}
 use Rattle.std.specs.List.{slice_get, Contains, Any}
 use Rattle.std.specs.List.Sorted.{IsStrictlyIncreasing}
 use Rattle.std.proofs.lemmas.Bool.{cases_lt}
@@ -40,6 +41,12 @@ pub fits_from_ok :
     (initial : List (Cell × Value)) (events : List Event) (e : Event) (r : Result (Unit {0}) BookFault) (u : Unit {0}) → r ≡ Ok u →
     ((limit : Limit) → (r ≡ Err (Full limit)) ↔ (full_for initial events e ≡ Some limit)) → full_for initial events e ≡ None
 fits_from_ok initial events e r u ok full = option_none (full_for initial events e) (λ limit h. let err : r ≡ Err (Full limit) = (full limit).1 h in cc)
+
+-- a fault that was handed on is that of the call
+pub fault_is : {A B : Type 0} (r : Result A BookFault) (given : Result B BookFault) (fault : BookFault) (limit : Limit) → r ≡ Err fault →
+    IsErrAnd given (λ e. e ≡ fault) → given ≡ Err (Full limit) → r ≡ Err (Full limit)
+fault_is r (Ok x) fault limit is gives same = absurd gives
+fault_is r (Err e) fault limit is gives same = let here : e ≡ Full limit = cc in is ∙ ap (λ (f : BookFault). Err f) (sym gives ∙ here)
 
 -- the end of a transaction or of a session always fits
 pub fits_end : (initial : List (Cell × Value)) (events : List Event) (e : Event) → is_any_end e ≡ true → full_for initial events e ≡ None

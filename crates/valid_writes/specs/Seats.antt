@@ -1,5 +1,5 @@
 -- Where a session stands in a history.
-use Rattle.std.specs.Prelude.{◌≡◌, ℕ, List}
+use Rattle.std.specs.Prelude.{◌≡◌, List}
 use Rattle.history_core.specs.declared.event.Event.{Event}
 use Rattle.history_core.specs.Transactions.{HasPending}
 use Rattle.history_core.specs.Legal.{IsOpen}

@@ -24,13 +24,9 @@ pub fn append_open(store: &mut Kept) -> Result<u32, BookFault>
     ensures err { OnErr result (Leaves store.old store.new) }
 {
     let session = store.sessions + 1;
-    match store.history.push(Event::Open { session }) {
-        Ok(()) => {
-            store.sessions = session;
-            Ok(session)
-        }
-        Err(fault) => Err(fault),
-    }
+    store.history.push(Event::Open { session })?;
+    store.sessions = session;
+    Ok(session)
 }
 
 /// Appends an event that changes neither transactions nor sessions. On an error nothing changes.
@@ -43,10 +39,8 @@ pub fn append(store: &mut Kept, event: Event) -> Result<(), BookFault>
     ensures full { (limit : Limit) → result ≡ Err (BookFault.Full limit) → full_for store.new.history.initial store.new.history.events event ≡ Some limit }
     ensures err { OnErr result (Leaves store.old store.new) }
 {
-    match store.history.push(event) {
-        Ok(()) => Ok(()),
-        Err(fault) => Err(fault),
-    }
+    store.history.push(event)?;
+    Ok(())
 }
 
 /// Appends a begin, for which the rows have room.
@@ -85,10 +79,8 @@ pub fn append_begin(store: &mut Kept, session: u32, level: Level) -> Result<(), 
     if store.history.history().begun() >= 65_535 {
         return Err(BookFault::Full(Limit::Transactions));
     }
-    match store.rows.make_room(&store.history, session) {
-        Ok(()) => begin_in_room(store, session, level),
-        Err(_) => Err(BookFault::Memory),
-    }
+    store.rows.make_room(&store.history, session)?;
+    begin_in_room(store, session, level)
 }
 
 /// Appends a read of the session's pending transaction, which has these stars. On an error nothing changes.
@@ -119,13 +111,9 @@ pub fn append_read(
         word,
         value,
     };
-    match store.history.push(event) {
-        Ok(()) => {
-            store.rows.read(&store.history, session, source, stars);
-            Ok(())
-        }
-        Err(fault) => Err(fault),
-    }
+    store.history.push(event)?;
+    store.rows.read(&store.history, session, source, stars);
+    Ok(())
 }
 
 /// Appends a write of the session's pending transaction. On an error nothing changes.
@@ -142,10 +130,8 @@ pub fn append_write(
     ensures full { (limit : Limit) → result ≡ Err (BookFault.Full limit) → full_for store.new.history.initial store.new.history.events (Event.Write session cell value) ≡ Some limit }
     ensures err { OnErr result (Leaves store.old store.new) }
 {
-    match store.history.push_write(session, cell, value) {
-        Ok(()) => Ok(()),
-        Err(fault) => Err(fault),
-    }
+    store.history.push_write(session, cell, value)?;
+    Ok(())
 }
 
 /// Appends the definition of a table whose name isn't taken. On an error nothing changes.
@@ -158,10 +144,8 @@ pub fn append_define(store: &mut Kept, session: u32, table: Table) -> Result<(),
     ensures full { (limit : Limit) → result ≡ Err (BookFault.Full limit) → full_for store.new.history.initial store.new.history.events (Event.Define session table.name) ≡ Some limit }
     ensures err { OnErr result (Leaves store.old store.new) }
 {
-    match store.history.push_define(session, table) {
-        Ok(()) => Ok(()),
-        Err(fault) => Err(fault),
-    }
+    store.history.push_define(session, table)?;
+    Ok(())
 }
 
 /// Appends a Commit, a Rollback or a Close. Takes no memory and always succeeds.

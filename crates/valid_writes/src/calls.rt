@@ -24,14 +24,10 @@ pub fn open_session(desk: &mut Desk) -> Result<u32, BookFault>
     ensures full { (limit : Limit) → result ≡ Err (BookFault.Full limit) → full_for desk.new.store.history.initial desk.new.store.history.events (Event.Open 0) ≡ Some limit }
     ensures err { OnErr result (Stays desk.old desk.new) }
 {
-    match append_open(&mut desk.store) {
-        Ok(session) => {
-            desk.session = session;
-            desk.stage = Stage::InSession;
-            Ok(session)
-        }
-        Err(fault) => Err(fault),
-    }
+    let session = append_open(&mut desk.store)?;
+    desk.session = session;
+    desk.stage = Stage::InSession;
+    Ok(session)
 }
 
 /// Ends the session.
@@ -56,13 +52,9 @@ pub fn begin_transaction(desk: &mut Desk, level: Level) -> Result<u32, BookFault
     ensures full { (limit : Limit) → result ≡ Err (BookFault.Full limit) → full_for desk.new.store.history.initial desk.new.store.history.events (Event.Begin 0 level) ≡ Some limit }
     ensures err { OnErr result (Stays desk.old desk.new) }
 {
-    match append_begin(&mut desk.store, desk.session, level) {
-        Ok(()) => {
-            desk.stage = Stage::Pending;
-            Ok(desk.store.history.history().begun())
-        }
-        Err(fault) => Err(fault),
-    }
+    append_begin(&mut desk.store, desk.session, level)?;
+    desk.stage = Stage::Pending;
+    Ok(desk.store.history.history().begun())
 }
 
 /// Writes a cell.
@@ -116,8 +108,6 @@ pub fn show_number(desk: &mut Desk) -> Result<u32, BookFault>
 {
     let number = desk.store.history.history().next_number();
     let session = desk.session;
-    match append(&mut desk.store, Event::Show { session, number }) {
-        Ok(()) => Ok(number),
-        Err(fault) => Err(fault),
-    }
+    append(&mut desk.store, Event::Show { session, number })?;
+    Ok(number)
 }

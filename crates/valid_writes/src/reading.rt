@@ -9,7 +9,7 @@ ghost use Rattle.valid_writes.specs.declared.desk.Stage.TheVariants as stages;
 ghost use Rattle.valid_writes.specs.Desk.{IsDesk, ReadsTo, Stays};
 
 use crate::append::append_read;
-use crate::choosing::{choose, stars_of};
+use crate::choosing::choose_with_stars;
 use crate::desk::Desk;
 use crate::kept::load;
 use crate::own::last_write;
@@ -65,12 +65,10 @@ pub fn read_cell(desk: &mut Desk, cell: &Cell, word: u32) -> Result<Value, BookF
     if load(&desk.store) >= 1_048_576 {
         return Err(BookFault::Full(Limit::Load));
     }
-    let Ok(choice) = choose(&desk.store, desk.session, cell, word) else {
+    let Ok(chosen) = choose_with_stars(&desk.store, desk.session, cell, word) else {
         return Err(BookFault::Memory);
     };
-    let Ok(stars) = stars_of(&desk.store, desk.session, cell, choice) else {
-        return Err(BookFault::Memory);
-    };
+    let choice = chosen.choice;
     let Ok(value) = value_of(
         desk.store.alloc,
         desk.store.history.history(),
@@ -86,7 +84,15 @@ pub fn read_cell(desk: &mut Desk, cell: &Cell, word: u32) -> Result<Value, BookF
         return Err(BookFault::Memory);
     };
     let session = desk.session;
-    match append_read(&mut desk.store, session, read, choice, word, value, &stars) {
+    match append_read(
+        &mut desk.store,
+        session,
+        read,
+        choice,
+        word,
+        value,
+        &chosen.stars,
+    ) {
         Ok(()) => Ok(told),
         Err(fault) => Err(fault),
     }

@@ -81,7 +81,8 @@ impl Store {
         ensures some { IfOk result (λ offer. 0 < length offer.items) }
         ensures few { IfOk result (λ offer. length offer.items ≤ 65536) }
     {
-        offered(&self.kept, session, cell)
+        let writers = self.kept.history.writers(cell);
+        offered(&self.kept, session, cell, writers)
     }
 
     /// The rows of the forced pairs, one number for each transaction and 0 for the initial one: which transaction each commit order has before

@@ -51,10 +51,8 @@ fn append_look(desk: &mut Desk) -> Result<u32, BookFault>
         session,
         tables: count,
     };
-    match append(&mut desk.store, event) {
-        Ok(()) => Ok(count),
-        Err(fault) => Err(fault),
-    }
+    append(&mut desk.store, event)?;
+    Ok(count)
 }
 
 /// Looks at the tables, and answers those from the known number on.

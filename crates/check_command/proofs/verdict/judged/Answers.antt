@@ -3,5 +3,5 @@ use Rattle.check_command.proofs.verdict.judged.Goals as goal
 
 pub check-requires : goal.check-requires
 check-requires c = record {
-  few = few_events c.requires.log.0 c.args.trace.now c.args.bytes.now c.requires.log.1 c.requires.short;
+  few = few_events c.requires.log.0 c.args.trace.now c.args.bytes.now c.requires.log.1 c.requires.few;
 }

@@ -1,7 +1,7 @@
 use Rattle.std.proofs.Common.{arith}
 use Rattle.std.proofs.lemmas.Bool.{false≢true}
 use Rattle.history_check.proofs.Rights.{open_bounds}
-use Rattle.history_check.proofs.SeatLemmas.{not_open_beyond, seat_read}
+use Rattle.history_check.proofs.SessionNoteLemmas.{not_open_beyond, session_note_read}
 use Rattle.history_check.proofs.notes.is_open.Goals as goal
 
 pub returns-then-session-eq0 : goal.returns-then-session-eq0
@@ -13,10 +13,10 @@ returns-then-session-eq0 c = (
 pub returns-then-session-len : goal.returns-then-session-len
 returns-then-session-len c = (
   λ h. absurd (false≢true h),
-  λ is. absurd (not_open_beyond c.args.before.now c.args.notes.now.seats.items c.args.session c.requires.sessions c.requires.seats (omega arith) is),
+  λ is. absurd (not_open_beyond c.args.before.now c.args.notes.now.session_notes.items c.args.session c.requires.sessions c.requires.session_notes (omega arith) is),
 )
 
 pub returns : goal.returns
 returns c =
-    let r = seat_read c.args.before.now c.args.notes.now.seats.items c.requires.seats _ c.args.session c.index.result.now (omega arith) (omega arith) c.index.ensures in
+    let r = session_note_read c.args.before.now c.args.notes.now.session_notes.items c.requires.session_notes _ c.args.session c.index.result.now (omega arith) (omega arith) c.index.ensures in
     r.open_is

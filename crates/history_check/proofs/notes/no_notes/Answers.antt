@@ -7,7 +7,7 @@ pub returns : goal.returns
 returns c = record {
   settled = search rules;
   sessions = search rules;
-  seats = search rules;
+  session_notes = search rules;
   txns = search rules;
   writers = writers_none c.new_writers.result c.new_writers.ensures;
   keys = written_none c.new_keys.result;

@@ -1,6 +1,6 @@
 use Rattle.std.proofs.Common.{◌≡◌, Some, None, arith}
 use Rattle.history_check.proofs.Rights.{pending_bounds}
-use Rattle.history_check.proofs.SeatLemmas.{not_pending_beyond, seat_read}
+use Rattle.history_check.proofs.SessionNoteLemmas.{not_pending_beyond, session_note_read}
 use Rattle.history_check.proofs.notes.pending_in.Goals as goal
 
 pub returns-then-session-eq0 : goal.returns-then-session-eq0
@@ -12,10 +12,10 @@ returns-then-session-eq0 c = λ txn. (
 pub returns-then-session-len : goal.returns-then-session-len
 returns-then-session-len c = λ txn. (
   λ h. let both : None ≡ Some txn = h in cc,
-  λ is. absurd (not_pending_beyond c.args.before.now c.args.notes.now.seats.items txn c.args.session c.requires.sessions c.requires.seats (omega arith) is),
+  λ is. absurd (not_pending_beyond c.args.before.now c.args.notes.now.session_notes.items txn c.args.session c.requires.sessions c.requires.session_notes (omega arith) is),
 )
 
 pub returns : goal.returns
 returns c =
-    let r = seat_read c.args.before.now c.args.notes.now.seats.items c.requires.seats _ c.args.session c.index.result.now (omega arith) (omega arith) c.index.ensures in
+    let r = session_note_read c.args.before.now c.args.notes.now.session_notes.items c.requires.session_notes _ c.args.session c.index.result.now (omega arith) (omega arith) c.index.ensures in
     r.pending

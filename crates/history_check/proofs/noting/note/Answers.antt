@@ -28,7 +28,7 @@ returns c =
     record {
       settled = settled_push c.args.before.now c.args.event.now c.requires.notes.settled c.requires.shape c.requires.source;
       sessions = sessions_push c.args.before.now c.args.event.now (next_session c.args.before.now c.args.event.now c.requires.notes.sessions c.requires.shape) c.requires.notes.sessions;
-      seats = rw c.note_txn.ensures.seats c.in_ok-note_seat.ensures;
+      session_notes = rw c.note_txn.ensures.session_notes c.in_ok-note_session.ensures;
       txns = c.in_ok-note_txn.ensures.txns;
       writers = c.in_ok-note_txn.ensures.writers;
       keys = c.in_ok-note_written.ensures;

@@ -22,16 +22,21 @@ returns-in-Begin c =
     c.args.rows.now.items c.begin_row.new.rows.items (rw c.in-Begin.is at c.requires.last) (rw c.in-Begin.is at c.requires.within) c.requires.rows adds))
     c.begin_row.ensures
 
+pub read_row-requires-clause-apart : goal.read_row-requires-clause-apart
+read_row-requires-clause-apart c =
+    let sound = sound_from c.args.before.now c.requires.comes.settled in
+    let source = rw c.in-Read.is at c.requires.comes.source in
+    let pending = reader_now c.args.before.now sound (Read c.in-Read.session c.in-Read.cell c.in-Read.source c.in-Read.count c.in-Read.word c.in-Read.value) c.args.last (rw c.in-Read.is at c.requires.comes.reader) (rw c.in-Read.is at c.requires.last) (tt {0}) in
+    source_apart c.args.before.now c.args.last c.in-Read.session c.in-Read.source pending source
+
 pub returns-in-Read : goal.returns-in-Read
 returns-in-Read c =
     let sound = sound_from c.args.before.now c.requires.comes.settled in
     let source = rw c.in-Read.is at c.requires.comes.source in
     let pending = reader_now c.args.before.now sound (Read c.in-Read.session c.in-Read.cell c.in-Read.source c.in-Read.count c.in-Read.word c.in-Read.value) c.args.last (rw c.in-Read.is at c.requires.comes.reader) (rw c.in-Read.is at c.requires.last) (tt {0}) in
-    on_ok_weaker c.read_row.result
-    (λ takes. rw c.in-Read.is (read_rows c.args.before.now sound c.in-Read.session c.args.last c.in-Read.cell c.in-Read.source c.in-Read.count c.in-Read.word c.in-Read.value pending
+    rw c.in-Read.is (read_rows c.args.before.now sound c.in-Read.session c.args.last c.in-Read.cell c.in-Read.source c.in-Read.count c.in-Read.word c.in-Read.value pending
     (source_apart c.args.before.now c.args.last c.in-Read.session c.in-Read.source pending source)
-    (source_bounded c.args.before.now c.in-Read.source source) c.args.width c.args.rows.now.items c.read_row.new.rows.items c.requires.rows takes))
-    c.read_row.ensures
+    (source_bounded c.args.before.now c.in-Read.source source) c.args.width c.args.rows.now.items c.read_row.new.rows.items c.requires.rows c.read_row.ensures)
 
 pub returns-in-Open : goal.returns-in-Open
 returns-in-Open c = rw c.in-Open.is (other_rows c.args.before.now _ c.args.width c.args.rows.now.items tt c.requires.rows)

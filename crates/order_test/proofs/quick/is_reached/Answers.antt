@@ -24,4 +24,4 @@ returns-in-Read c = λ h.
     (reached_clear c.args.events.now c.args.order.now c.args.txns.now c.args.places.now c.requires.scene c.args.reaches.now c.requires.reaches
     _ c.in-Read.cell c.in-Read.source _ _ _ c.args.place c.args.reader
     (subst (λ (e : Event). IsReadAt c.args.events.now c.args.place e c.args.reader) c.in-Read.is c.requires.read)
-    (length c.args.pasts.now.last.items) c.past_of.result.now c.past_of.ensures c.latest_in-limit.result c.latest_in-limit.ensures (c.cell_is_clear.ensures h))
+    (length c.args.pasts.now.last.items) c.past_of.result.now c.past_of.ensures c.past_of.result.now.latest c.past_of.ensures.latest (c.cell_is_clear.ensures h))

@@ -2,7 +2,7 @@ use Rattle.std.proofs.Common.{refl}
 use Rattle.valid_writes.proofs.Standing.{desk_plain, quiet_show}
 use Rattle.valid_writes.proofs.calls.show_number.Goals as goal
 
-pub returns-in-Ok-clause-kept : goal.returns-in-Ok-clause-kept
-returns-in-Ok-clause-kept c =
+pub returns-clause-kept : goal.returns-clause-kept
+returns-clause-kept c =
     desk_plain c.args.desk.now (record { store = c.append.new.store; given = c.args.desk.now.given; from = c.args.desk.now.from; session = c.args.desk.now.session; stage = c.args.desk.now.stage }) _ (quiet_show c.args.desk.now.session _).plain c.requires.kept c.append.ensures.kept
-    (record { history = c.in-Ok.ensures.ok; given = refl; from = refl; session = refl; stands = refl })
+    (record { history = c.in_ok-append.ensures.ok; given = refl; from = refl; session = refl; stands = refl })

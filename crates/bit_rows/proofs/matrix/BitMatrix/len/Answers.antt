@@ -1,7 +1,5 @@
-use Rattle.std.proofs.Common.{◌∙◌, ap, length, sym}
-use Rattle.bit_rows.proofs.Lines.{length_rows}
+use Rattle.bit_rows.proofs.Shown.{count_is}
 use Rattle.bit_rows.proofs.matrix.BitMatrix.len.Goals as goal
 
 pub returns-clause-size : goal.returns-clause-size
-returns-clause-size c =
-    c.len.ensures ∙ c.self.inside.lines.ok.0 ∙ sym (length_rows c.self.inside.lines.items) ∙ ap length c.self.view_is
+returns-clause-size c = count_is c.self.inside.lines c.self.inside.rows c.args.self.now c.self.view_is c.self.invariant.1

@@ -1,8 +1,0 @@
-// What is noted of a session.
-
-/// Whether a session is open, and the number of its pending transaction.
-#[derive(Clone, Copy, Debug)]
-pub struct Seat {
-    pub is_open: bool,
-    pub pending: Option<u32>,
-}

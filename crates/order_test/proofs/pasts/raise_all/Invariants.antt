@@ -1,0 +1,5 @@
+use Rattle.order_test.proofs.Readers.{AreRaised}
+use Rattle.order_test.proofs.pasts.raise_all.Given as goal
+
+abbrev pub invariant-loop-at : goal.invariant-loop-at
+invariant-loop-at l = AreRaised l.fn.tops.items l.others l.tops.items l.at
