@@ -177,6 +177,18 @@ no_members words gone = nil_without_members (members words) (λ n member.
     let nothing : mark_of [] n ≡ 0 = mark_past [] n (omega arith) in
     absurd (omega arith))
 
+-- words that are zeros from one on have no member from its first bit on
+pub below_end :
+    (words : List ℕ) (count n : ℕ) → ((k : ℕ) → count ≤ k → get_or words k 0 ≡ 0) → Contains (members words) n → n < 64 * count
+below_end words count n zeros member = elim (cases_lt (n / 64) count) [
+  | inl small ↦ omega arith
+  | inr past ↦
+      let one : mark_of words n ≡ 1 = mark_from_member words n member in
+      let none : mark_of words n ≡ mark_of [] n = ap (λ (w : ℕ). bit_at w (n % 64)) (zeros (n / 64) past) in
+      let nothing : mark_of [] n ≡ 0 = mark_past [] n (omega arith) in
+      absurd (omega arith)
+]
+
 pub cleared :
     (pool words : List ℕ) (place room : ℕ) → place + room ≤ length pool →
     words ≡ replicate {A = ℕ} (length (segment pool place (place + room - place))) 0 → length words ≡ length (segment pool place (place + room - place)) →

@@ -1,6 +1,6 @@
 use Rattle.std.proofs.Common.{◌∙◌, ℕ, List, ap, subst, sym}
 use Rattle.bit_rows.specs.Members.{IsUnion, members}
-use Rattle.bit_rows.specs.declared.line.Line.TheVariants.{InRun, InWords}
+use Rattle.bit_rows.specs.declared.line.Line.TheVariants.{InRun}
 use Rattle.bit_rows.proofs.RowLines.{row_is, run_below}
 use Rattle.bit_rows.proofs.lines.Lines.add_to.Goals as goal
 
@@ -16,5 +16,5 @@ pub returns-in-InWords : goal.returns-in-InWords
 returns-in-InWords c =
     subst (λ (r : List ℕ). IsUnion c.args.row.now r c.or_words.new.self)
     (ap members c.words.ensures.words
-    ∙ sym (row_is c.args.self.now c.args.number (InWords c.in-InWords.segment) (sym c.line.ensures ∙ c.in-InWords.is)))
+    ∙ sym (row_is c.args.self.now c.args.number _ (sym c.line.ensures ∙ c.in-InWords.is)))
     c.or_words.ensures

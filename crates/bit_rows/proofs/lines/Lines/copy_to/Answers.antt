@@ -1,6 +1,6 @@
 use Rattle.std.proofs.Common.{◌∙◌, ap, sym}
 use Rattle.bit_rows.specs.Members.{members}
-use Rattle.bit_rows.specs.declared.line.Line.TheVariants.{InRun, InWords}
+use Rattle.bit_rows.specs.declared.line.Line.TheVariants.{InRun}
 use Rattle.bit_rows.proofs.RowLines.{row_is, run_below}
 use Rattle.bit_rows.proofs.lines.Lines.copy_to.Goals as goal
 
@@ -14,4 +14,4 @@ returns-in-InRun c =
 pub returns-in-InWords : goal.returns-in-InWords
 returns-in-InWords c =
     c.copy_words.ensures ∙ ap members c.words.ensures.words
-    ∙ sym (row_is c.args.self.now c.args.number (InWords c.in-InWords.segment) (sym c.line.ensures ∙ c.in-InWords.is))
+    ∙ sym (row_is c.args.self.now c.args.number _ (sym c.line.ensures ∙ c.in-InWords.is))
