@@ -1,7 +1,7 @@
 //! The lines of a matrix: runs of numbers take no words, and the words of all others stand in one
 //! pool.
 
-ghost use Rattle.std.specs.Prelude.{◌≡◌, ◌<◌, ◌≤◌, ◌+◌, ◌*◌, ◌%◌, ◌++◌, ◌∷◌, ◌↔◌, [], ℕ, All, Contains, IsTrue, OnOk, OnErr, length, slice_index_or, vec_capacity};
+ghost use Rattle.std.specs.Prelude.{◌≡◌, ◌<◌, ◌≤◌, ◌+◌, ◌*◌, ◌%◌, ◌++◌, ◌∷◌, ◌↔◌, ◌⊎◌, [], ℕ, All, Contains, IsTrue, OnOk, OnErr, length, slice_index_or, vec_capacity};
 ghost use Rattle.bit_rows.specs.declared.line.Line.TheVariants.{InRun, InWords};
 ghost use Rattle.bit_rows.specs.Members.{IsUnion, members};
 ghost use Rattle.bit_rows.specs.Runs.{IsInRun, numbers_of};
@@ -30,6 +30,16 @@ fn wider(room: usize) -> usize
     ensures larger { room < WORDS → room < result }
 {
     (2 * room + BLOCK).min(WORDS)
+}
+
+/// As many words, in whole blocks, as have room for the numbers below an end, and at most the room.
+fn words_below(end: u32, room: usize) -> usize
+    requires { room % BLOCK ≡ 0 }
+    ensures blocks { result % BLOCK ≡ 0 }
+    ensures within { result ≤ room }
+    ensures enough { (room ≤ result) ⊎ (end ≤ 64 * result) }
+{
+    ((end as usize / (64 * BLOCK) + 1) * BLOCK).min(room)
 }
 
 /// Sets of numbers.
@@ -84,16 +94,28 @@ impl Lines {
         segment as usize * self.room
     }
 
-    /// The words of a segment.
-    fn words(&self, segment: u32) -> &[u64]
+    /// The first words of a segment.
+    fn first_words(&self, segment: u32, count: usize) -> &[u64]
         requires holds { HoldTogether self.now }
         requires there { segment < self.now.segments }
-        ensures words { result.now ≡ words_at self.now.pool.items (segment * self.now.room) self.now.room }
+        requires count { count ≤ self.now.room }
+        ensures words { result.now ≡ words_at self.now.pool.items (segment * self.now.room) count }
+        ensures size { length result.now ≡ count }
+    {
+        let place = self.place(segment);
+        &self.pool[place..place + count]
+    }
+
+    /// The words of a line that has a segment, up to the block of the line's end: those after it are
+    /// zeros.
+    fn words(&self, number: usize, segment: u32, end: u32) -> &[u64]
+        requires holds { HoldTogether self.now }
+        requires words { line_at self.now.lines.items number ≡ InWords segment end }
+        ensures members { members result.now ≡ row_at (rows_of self.now) number }
         ensures blocks { length result.now % BLOCK ≡ 0 }
         ensures size { length result.now ≤ WORDS }
     {
-        let place = self.place(segment);
-        &self.pool[place..place + self.room]
+        self.first_words(segment, words_below(end, self.room))
     }
 
     /// Whether the number is a member of a line that has a segment. Reads no word for one from the
@@ -129,7 +151,7 @@ impl Lines {
     {
         match self.line(number) {
             Line::InRun(run) => row.or_run(run),
-            Line::InWords { segment, .. } => row.or_words(self.words(segment)),
+            Line::InWords { segment, end } => row.or_words(self.words(number, segment, end)),
         }
     }
 
@@ -141,7 +163,7 @@ impl Lines {
     {
         match self.line(number) {
             Line::InRun(run) => row.copy_run(run),
-            Line::InWords { segment, .. } => row.copy_words(self.words(segment)),
+            Line::InWords { segment, end } => row.copy_words(self.words(number, segment, end)),
         }
     }
 
