@@ -177,6 +177,18 @@ no_members words gone = nil_without_members (members words) (λ n member.
     let nothing : mark_of [] n ≡ 0 = mark_past [] n (omega arith) in
     absurd (omega arith))
 
+-- words that are zeros from one on have no member from its first bit on
+pub below_end :
+    (words : List ℕ) (count n : ℕ) → ((k : ℕ) → count ≤ k → get_or words k 0 ≡ 0) → Contains (members words) n → n < 64 * count
+below_end words count n zeros member = elim (cases_lt (n / 64) count) [
+  | inl small ↦ omega arith
+  | inr past ↦
+      let one : mark_of words n ≡ 1 = mark_from_member words n member in
+      let none : mark_of words n ≡ mark_of [] n = ap (λ (w : ℕ). bit_at w (n % 64)) (zeros (n / 64) past) in
+      let nothing : mark_of [] n ≡ 0 = mark_past [] n (omega arith) in
+      absurd (omega arith)
+]
+
 pub cleared :
     (pool words : List ℕ) (place room : ℕ) → place + room ≤ length pool →
     words ≡ replicate {A = ℕ} (length (segment pool place (place + room - place))) 0 → length words ≡ length (segment pool place (place + room - place)) →
@@ -299,3 +311,30 @@ pub not_in :
 not_in pool place room bit past =
     let cut : length (segment pool place room) ≡ min room (length (drop place pool)) = length-take room (drop place pool) in
     past_mark (segment pool place room) bit (omega arith)
+
+-- the first words of a segment have all of its members, where they have room for those below their end
+pub cut_members :
+    (pool : List ℕ) (place room count end : ℕ) → count ≤ room → (room ≤ count) ⊎ (end ≤ 64 * count) →
+    ((n : ℕ) → Contains (members (segment pool place room)) n → n < end) →
+    members (segment pool place count) ≡ members (segment pool place room)
+cut_members pool place room count end within enough below =
+    let cut : List ℕ = segment pool place count in
+    let whole : List ℕ = segment pool place room in
+    let same : (n : ℕ) → n / 64 < count → mark_of cut n ≡ mark_of whole n =
+    λ n here. ap (λ (w : ℕ). bit_at w (n % 64))
+    (word_in pool place count (n / 64) here ∙ sym (word_in pool place room (n / 64) (omega arith))) in
+    let inside : (n : ℕ) → Contains (members whole) n → n / 64 < count =
+    λ n member. elim (cases_lt (n / 64) count) [
+      | inl here ↦ here
+      | inr past ↦ absurd (elim enough [
+        | inl all ↦ not_in pool place room n (omega arith) member
+        | inr most ↦ let small : n < end = below n member in omega arith
+      ])
+    ] in
+    rising_same (members cut) (members whole) (members_rise cut) (members_rise whole) (λ n. (
+      λ member. elim (cases_lt (n / 64) count) [
+        | inl here ↦ member_from_mark whole n (sym (same n here) ∙ mark_from_member cut n member)
+        | inr past ↦ absurd (not_in pool place count n past member)
+      ],
+      λ member. member_from_mark cut n (same n (inside n member) ∙ mark_from_member whole n member),
+    ))

@@ -37,12 +37,12 @@ no_numbers_none = refl
 
 -- the row of a line whose segment isn't the one that has changed
 kept_row :
-    (line : Line) (s room : ℕ) (old new : List ℕ) → ((t : ℕ) → line ≡ InWords t → t ≡ s → ⊥) → ChangesSegment (s * room) room old new →
+    (line : Line) (s room : ℕ) (old new : List ℕ) → ((t e : ℕ) → line ≡ InWords t e → t ≡ s → ⊥) → ChangesSegment (s * room) room old new →
     row_of new room line ≡ row_of old room line
 kept_row (InRun run) s room old new apart changes = refl
-kept_row (InWords t) s room old new apart changes =
+kept_row (InWords t e) s room old new apart changes =
     ap members (segment_kept old new (s * room) room (t * room) changes (elim (cases_eq t s) [
-      | inl same ↦ absurd (apart t refl same)
+      | inl same ↦ absurd (apart t e refl same)
       | inr other ↦ elim (cases_lt t s) [
         | inl low ↦ inr (step_within t s room low)
         | inr high ↦ inl (step_within s t room (omega arith))
@@ -71,10 +71,10 @@ joins_line pool room target gained lines line within union =
 -- ---- a segment that has changed
 
 pub joins_words :
-    (old new : List ℕ) (room target s words segments capacity : ℕ) (gained : List ℕ) (lines : List Line) →
-    AreLines lines words segments room capacity → line_at lines target ≡ InWords s → JoinsSegment (s * room) room gained old new →
+    (old new : List ℕ) (room target s e segments capacity : ℕ) (gained : List ℕ) (lines : List Line) →
+    AreLines lines old segments room capacity → line_at lines target ≡ InWords s e → JoinsSegment (s * room) room gained old new →
     JoinsAt target gained (rows_in old room lines) (rows_in new room lines)
-joins_words old new room target s words segments capacity gained lines are is joins =
+joins_words old new room target s e segments capacity gained lines are is joins =
     let before : row_at (rows_in old room lines) target ≡ members (segment old (s * room) room) =
     row_line old room lines target ∙ ap (row_of old room) is in
     let after : row_at (rows_in new room lines) target ≡ members (segment new (s * room) room) =
@@ -87,63 +87,115 @@ joins_words old new room target s words segments capacity gained lines are is jo
       others = λ k other.
           row_line new room lines k
           ∙ kept_row (line_at lines k) s room old new
-          (λ t has same. other (are.apart k target s (has ∙ ap InWords same) is)) joins.changed
+          (λ t d has same. other (are.apart k target s d e (has ∙ ap (λ (n : ℕ). InWords n d) same) is)) joins.changed
           ∙ sym (row_line old room lines k);
     }
 
 pub empties_words :
-    (old new : List ℕ) (room target s words segments capacity : ℕ) (lines : List Line) →
-    AreLines lines words segments room capacity → line_at lines target ≡ InWords s → ClearsSegment (s * room) room old new →
+    (old new : List ℕ) (room target s e segments capacity : ℕ) (lines : List Line) →
+    AreLines lines old segments room capacity → line_at lines target ≡ InWords s e → ClearsSegment (s * room) room old new →
     EmptiesAt target (rows_in old room lines) (rows_in new room lines)
-empties_words old new room target s words segments capacity lines are is clears = record {
+empties_words old new room target s e segments capacity lines are is clears = record {
   size = length_rows new room lines ∙ sym (length_rows old room lines);
   none = row_line new room lines target ∙ ap (row_of new room) is ∙ clears.none;
   others = λ k other.
       row_line new room lines k
       ∙ kept_row (line_at lines k) s room old new
-      (λ t has same. other (are.apart k target s (has ∙ ap InWords same) is)) clears.changed
+      (λ t d has same. other (are.apart k target s d e (has ∙ ap (λ (n : ℕ). InWords n d) same) is)) clears.changed
       ∙ sym (row_line old room lines k);
 }
 
--- words of as many
-pub lines_resized :
-    (lines : List Line) (words new segments room capacity : ℕ) → new ≡ words → AreLines lines words segments room capacity →
-    AreLines lines new segments room capacity
-lines_resized lines words new segments room capacity same are =
-    subst (λ (n : ℕ). AreLines lines n segments room capacity) (sym same) are
+-- the number of a line's segment, and its end
+number_of : Line → ℕ
+number_of (InRun run) = 0
+number_of (InWords s e) = s
 
--- the pool of lines, of which one segment has gained members
+last_of : Line → ℕ
+last_of (InRun run) = 0
+last_of (InWords s e) = e
+
+pub same_number : (s t d e : ℕ) → InWords s d ≡ InWords t e → s ≡ t
+unfolding number_of
+same_number s t d e same = ap number_of same
+
+pub same_end : (s t d e : ℕ) → InWords s d ≡ InWords t e → d ≡ e
+unfolding last_of
+same_end s t d e same = ap last_of same
+
+-- a member of a line of words is below its end
+pub ended_row :
+    (lines : List Line) (pool : List ℕ) (segments room capacity k s e n : ℕ) → AreLines lines pool segments room capacity →
+    line_at lines k ≡ InWords s e → Contains (row_at (rows_in pool room lines) k) n → n < e
+ended_row lines pool segments room capacity k s e n are is member =
+    are.ended k s e n is (subst (λ (r : List ℕ). Contains r n) (row_line pool room lines k ∙ ap (row_of pool room) is) member)
+
+-- the words of one line alone have changed, and its members are below its end
+pub lines_changed :
+    (lines : List Line) (old new : List ℕ) (segments room capacity target s e : ℕ) → AreLines lines old segments room capacity →
+    line_at lines target ≡ InWords s e → ChangesSegment (s * room) room old new →
+    ((n : ℕ) → Contains (members (segment new (s * room) room)) n → n < e) → AreLines lines new segments room capacity
+lines_changed lines old new segments room capacity target s e are is changes below = record {
+  some = are.some;
+  blocks = are.blocks;
+  size = are.size;
+  few = are.few;
+  long = changes.size ∙ are.long;
+  taken = are.taken;
+  spare = are.spare;
+  placed = are.placed;
+  apart = are.apart;
+  below = are.below;
+  ended = λ k t d n at_k member. elim (cases_eq k target) [
+    | inl same ↦
+        let words : InWords t d ≡ InWords s e = sym at_k ∙ ap (line_at lines) same ∙ is in
+        let number : t ≡ s = same_number t s d e words in
+        let last : d ≡ e = same_end t s d e words in
+        let small : n < e = below n (subst (λ (u : ℕ). Contains (members (segment new (u * room) room)) n) number member) in
+        omega arith
+    | inr other ↦
+        are.ended k t d n at_k
+        (subst (λ (r : List ℕ). Contains r n)
+        (kept_row (InWords t d) s room old new
+        (λ u c has same. other (are.apart k target s d e (at_k ∙ ap (λ (m : ℕ). InWords m d) (same_number t u d c has ∙ same)) is)) changes)
+        member)
+  ];
+}
+
+-- the pool of lines, of which one segment has gained members below its line's end
 pub pool_joined :
-    (target s : ℕ) (gained words : List ℕ) (lines : Lines) → HoldTogether lines → line_at lines.lines.items target ≡ InWords s →
-    JoinsSegment (s * lines.room) lines.room gained lines.pool.items words →
+    (target s e : ℕ) (gained words : List ℕ) (lines : Lines) → HoldTogether lines → line_at lines.lines.items target ≡ InWords s e →
+    ((n : ℕ) → Contains gained n → n < e) → JoinsSegment (s * lines.room) lines.room gained lines.pool.items words →
     JoinsLine target gained lines (record lines { pool = with_items lines.pool words })
-pool_joined target s gained words lines holds is joins =
-    let size : length words ≡ length lines.pool.items = joins.changed.size in
-    let items : (with_items lines.pool words).items ≡ words = with_items_is lines.pool words (size ∙ sym lines.pool.ok.0) in
+pool_joined target s e gained words lines holds is below joins =
+    let items : (with_items lines.pool words).items ≡ words = with_items_is lines.pool words (joins.changed.size ∙ sym lines.pool.ok.0) in
     record {
       holds =
-          lines_resized lines.lines.items (length lines.pool.items) (length (with_items lines.pool words).items) lines.segments lines.room
-          (vec_capacity lines.pool) (ap length items ∙ size) holds;
+          subst (λ (ws : List ℕ). AreLines lines.lines.items ws lines.segments lines.room (vec_capacity lines.pool)) (sym items)
+          (lines_changed lines.lines.items lines.pool.items words lines.segments lines.room (vec_capacity lines.pool) target s e holds is
+          joins.changed
+          (λ n member. elim ((joins.joined n).0 member) [ inl was ↦ holds.ended target s e n is was | inr more ↦ below n more ]));
       rows =
           subst (λ (ws : List ℕ). JoinsAt target gained (rows_of lines) (rows_in ws lines.room lines.lines.items)) (sym items)
-          (joins_words lines.pool.items words lines.room target s (length lines.pool.items) lines.segments (vec_capacity lines.pool) gained
+          (joins_words lines.pool.items words lines.room target s e lines.segments (vec_capacity lines.pool) gained
           lines.lines.items holds is joins);
     }
 
 pub pool_cleared :
-    (target s : ℕ) (words : List ℕ) (lines : Lines) → HoldTogether lines → line_at lines.lines.items target ≡ InWords s →
+    (target s e : ℕ) (words : List ℕ) (lines : Lines) → HoldTogether lines → line_at lines.lines.items target ≡ InWords s e →
     ClearsSegment (s * lines.room) lines.room lines.pool.items words →
     EmptiesLine target lines (record lines { pool = with_items lines.pool words })
-pool_cleared target s words lines holds is clears =
-    let size : length words ≡ length lines.pool.items = clears.changed.size in
-    let items : (with_items lines.pool words).items ≡ words = with_items_is lines.pool words (size ∙ sym lines.pool.ok.0) in
+pool_cleared target s e words lines holds is clears =
+    let items : (with_items lines.pool words).items ≡ words = with_items_is lines.pool words (clears.changed.size ∙ sym lines.pool.ok.0) in
     record {
       holds =
-          lines_resized lines.lines.items (length lines.pool.items) (length (with_items lines.pool words).items) lines.segments lines.room
-          (vec_capacity lines.pool) (ap length items ∙ size) holds;
+          subst (λ (ws : List ℕ). AreLines lines.lines.items ws lines.segments lines.room (vec_capacity lines.pool)) (sym items)
+          (lines_changed lines.lines.items lines.pool.items words lines.segments lines.room (vec_capacity lines.pool) target s e holds is
+          clears.changed
+          (λ n member.
+          let none = subst (λ (r : List ℕ). Contains r n) clears.none member in let small = none.1 in absurd (omega arith)));
       rows =
           subst (λ (ws : List ℕ). EmptiesAt target (rows_of lines) (rows_in ws lines.room lines.lines.items)) (sym items)
-          (empties_words lines.pool.items words lines.room target s (length lines.pool.items) lines.segments (vec_capacity lines.pool)
+          (empties_words lines.pool.items words lines.room target s e lines.segments (vec_capacity lines.pool)
           lines.lines.items holds is clears);
     }
 
@@ -216,23 +268,23 @@ run_union pool room (InRun own) run both joins n = (
     | inr more ↦ (in_numbers both.first both.end n).1 ((joins n).1 (inr ((in_numbers run.first run.end n).0 more)))
   ],
 )
-run_union pool room (InWords s) run both joins n = absurd joins
+run_union pool room (InWords s e) run both joins n = absurd joins
 
 -- a line whose share of the segments stays none
 pub line_set :
-    (lines : List Line) (words segments room capacity target : ℕ) (run : Run) → target < length lines →
-    AreLines lines words segments room capacity → share_of (line_at lines target) ≡ 0 →
-    ((n : ℕ) → IsInRun run.first run.end n → n < 64 * room) → AreLines (set lines target (InRun run)) words segments room capacity
-line_set lines words segments room capacity target run within are free below =
+    (lines : List Line) (pool : List ℕ) (segments room capacity target : ℕ) (run : Run) → target < length lines →
+    AreLines lines pool segments room capacity → share_of (line_at lines target) ≡ 0 →
+    ((n : ℕ) → IsInRun run.first run.end n → n < 64 * room) → AreLines (set lines target (InRun run)) pool segments room capacity
+line_set lines pool segments room capacity target run within are free below =
     let long : length (set lines target (InRun run)) ≡ length lines = length-set lines target (InRun run) in
     let few = are.few in
     let sum : sum_by share_of (set lines target (InRun run)) + share_of (line_at lines target) ≡ sum_by share_of lines + 0 =
     sum_by-set share_of lines target (InRun run) empty_line within in
     let taken = are.taken in
     let now : line_at (set lines target (InRun run)) target ≡ InRun run = get_or-set_same lines target (InRun run) empty_line within in
-    let was : (k s : ℕ) → line_at (set lines target (InRun run)) k ≡ InWords s → line_at lines k ≡ InWords s =
-    λ k s is. elim (cases_eq k target) [
-      | inl same ↦ absurd (let clash : InRun run ≡ InWords s = sym (ap (line_at (set lines target (InRun run))) same ∙ now) ∙ is in let shares : 0 ≡ 1 = ap share_of clash in omega arith)
+    let was : (k s e : ℕ) → line_at (set lines target (InRun run)) k ≡ InWords s e → line_at lines k ≡ InWords s e =
+    λ k s e is. elim (cases_eq k target) [
+      | inl same ↦ absurd (let clash : InRun run ≡ InWords s e = sym (ap (line_at (set lines target (InRun run))) same ∙ now) ∙ is in let shares : 0 ≡ 1 = ap share_of clash in omega arith)
       | inr other ↦ sym (get_or-set_other lines target k (InRun run) empty_line other) ∙ is
     ] in
     record {
@@ -243,8 +295,8 @@ line_set lines words segments room capacity target run within are free below =
       long = are.long;
       taken = omega arith;
       spare = subst (λ (n : ℕ). n * room ≤ capacity) (sym long) are.spare;
-      placed = λ k s is. are.placed k s (was k s is);
-      apart = λ j k s at_j at_k. are.apart j k s (was j s at_j) (was k s at_k);
+      placed = λ k s e is. are.placed k s e (was k s e is);
+      apart = λ j k s d e at_j at_k. are.apart j k s d e (was j s d at_j) (was k s e at_k);
       below = λ k other n is inside. elim (cases_eq k target) [
         | inl same ↦
             let whole : InRun run ≡ InRun other = sym (ap (line_at (set lines target (InRun run))) same ∙ now) ∙ is in
@@ -255,41 +307,100 @@ line_set lines words segments room capacity target run within are free below =
             below n (omega arith, omega arith)
         | inr apart_from ↦ are.below k other n (sym (get_or-set_other lines target k (InRun run) empty_line apart_from) ∙ is) inside
       ];
+      ended = λ k s e n is member. are.ended k s e n (was k s e is) member;
     }
   where
     first_of : Line → ℕ
     first_of (InRun r) = r.first
-    first_of (InWords s) = 0
+    first_of (InWords s e) = 0
 
     end_of : Line → ℕ
     end_of (InRun r) = r.end
-    end_of (InWords s) = 0
+    end_of (InWords s e) = 0
 
 joined_share : (line : Line) (f e a b : ℕ) → IsJoinedRun line f e a b → share_of line ≡ 0
 joined_share (InRun own) f e a b joins = refl
-joined_share (InWords s) f e a b joins = absurd joins
+joined_share (InWords s d) f e a b joins = absurd joins
 
 joined_below :
-    (lines : List Line) (words segments room capacity target : ℕ) (line : Line) (run both : Run) → AreLines lines words segments room capacity →
+    (lines : List Line) (pool : List ℕ) (segments room capacity target : ℕ) (line : Line) (run both : Run) →
+    AreLines lines pool segments room capacity →
     line_at lines target ≡ line → IsJoinedRun line run.first run.end both.first both.end →
     ((n : ℕ) → IsInRun run.first run.end n → n < 64 * room) → (n : ℕ) → IsInRun both.first both.end n → n < 64 * room
-joined_below lines words segments room capacity target (InRun own) run both are is joins below n inside =
+joined_below lines pool segments room capacity target (InRun own) run both are is joins below n inside =
     elim ((joins n).0 inside) [ inl in_own ↦ are.below target own n is in_own | inr in_run ↦ below n in_run ]
-joined_below lines words segments room capacity target (InWords s) run both are is joins below n inside = absurd joins
+joined_below lines pool segments room capacity target (InWords s e) run both are is joins below n inside = absurd joins
 
 pub run_lengthened :
     (lines : List Line) (pool : List ℕ) (segments room capacity target : ℕ) (run both : Run) → target < length lines →
-    AreLines lines (length pool) segments room capacity → IsJoinedRun (line_at lines target) run.first run.end both.first both.end →
+    AreLines lines pool segments room capacity → IsJoinedRun (line_at lines target) run.first run.end both.first both.end →
     ((n : ℕ) → IsInRun run.first run.end n → n < 64 * room) →
-    AreLines (set lines target (InRun both)) (length pool) segments room capacity
+    AreLines (set lines target (InRun both)) pool segments room capacity
     × JoinsAt target (numbers_of run.first run.end) (rows_in pool room lines) (rows_in pool room (set lines target (InRun both)))
 run_lengthened lines pool segments room capacity target run both within are joins below = (
-  line_set lines (length pool) segments room capacity target both within are
+  line_set lines pool segments room capacity target both within are
       (joined_share (line_at lines target) run.first run.end both.first both.end joins)
-      (joined_below lines (length pool) segments room capacity target (line_at lines target) run both are refl joins below),
+      (joined_below lines pool segments room capacity target (line_at lines target) run both are refl joins below),
   joins_line pool room target (numbers_of run.first run.end) lines (InRun both) within
       (run_union pool room (line_at lines target) run both joins),
 )
+
+-- ---- a line of words whose end is no lower now
+
+pub line_raised :
+    (lines : List Line) (pool : List ℕ) (segments room capacity target s own end : ℕ) → target < length lines →
+    AreLines lines pool segments room capacity → line_at lines target ≡ InWords s own → own ≤ end →
+    AreLines (set lines target (InWords s end)) pool segments room capacity
+    × JoinsAt target [] (rows_in pool room lines) (rows_in pool room (set lines target (InWords s end)))
+line_raised lines pool segments room capacity target s own end within are is higher =
+    let line : Line = InWords s end in
+    let long : length (set lines target line) ≡ length lines = length-set lines target line in
+    let few = are.few in
+    let sum : sum_by share_of (set lines target line) + share_of (line_at lines target) ≡ sum_by share_of lines + 1 =
+    sum_by-set share_of lines target line empty_line within in
+    let share : share_of (line_at lines target) ≡ 1 = ap share_of is in
+    let taken = are.taken in
+    let now : line_at (set lines target line) target ≡ line = get_or-set_same lines target line empty_line within in
+    let was : (k t e : ℕ) → line_at (set lines target line) k ≡ InWords t e → (d : ℕ) × ((line_at lines k ≡ InWords t d) × (d ≤ e)) =
+    λ k t e has. elim (cases_eq k target) [
+      | inl same ↦
+          let words : InWords s end ≡ InWords t e = sym (ap (line_at (set lines target line)) same ∙ now) ∙ has in
+          let number : s ≡ t = same_number s t end e words in
+          let last : end ≡ e = same_end s t end e words in
+          (own, (ap (line_at lines) same ∙ is ∙ ap (λ (n : ℕ). InWords n own) number, omega arith))
+      | inr other ↦ (e, (sym (get_or-set_other lines target k line empty_line other) ∙ has, omega arith))
+    ] in (
+      record {
+        some = are.some;
+        blocks = are.blocks;
+        size = are.size;
+        few = omega arith;
+        long = are.long;
+        taken = omega arith;
+        spare = subst (λ (n : ℕ). n * room ≤ capacity) (sym long) are.spare;
+        placed = λ k t e has. let old = was k t e has in are.placed k t old.0 old.1.0;
+        apart = λ j k t d e at_j at_k.
+            let old_j = was j t d at_j in
+            let old_k = was k t e at_k in
+            are.apart j k t old_j.0 old_k.0 old_j.1.0 old_k.1.0;
+        below = λ k run n has inside. elim (cases_eq k target) [
+          | inl same ↦
+              let clash : line ≡ InRun run = sym (ap (line_at (set lines target line)) same ∙ now) ∙ has in
+              absurd (let shares : 1 ≡ 0 = ap share_of clash in omega arith)
+          | inr other ↦ are.below k run n (sym (get_or-set_other lines target k line empty_line other) ∙ has) inside
+        ];
+        ended = λ k t e n has member.
+            let old = was k t e has in
+            let small : n < old.0 = are.ended k t old.0 n old.1.0 member in
+            let most : old.0 ≤ e = old.1.1 in
+            omega arith;
+      },
+      joins_line pool room target [] lines line within
+          (subst (λ (r : List ℕ). IsUnion r [] (members (segment pool (s * room) room))) (sym (ap (row_of pool room) is)) (λ n. (
+            λ member. inl member,
+            λ either. elim either [ inl member ↦ member | inr none ↦ absurd (let small = none.1 in omega arith) ],
+          ))),
+    )
 
 -- ---- no lines
 
@@ -314,11 +425,11 @@ run_below lines number run holds is n inside =
 
 pub line_cleared :
     (lines : List Line) (pool : List ℕ) (segments room capacity target : ℕ) (own : Run) → target < length lines →
-    AreLines lines (length pool) segments room capacity → line_at lines target ≡ InRun own →
-    AreLines (set lines target empty_line) (length pool) segments room capacity
+    AreLines lines pool segments room capacity → line_at lines target ≡ InRun own →
+    AreLines (set lines target empty_line) pool segments room capacity
     × EmptiesAt target (rows_in pool room lines) (rows_in pool room (set lines target empty_line))
 line_cleared lines pool segments room capacity target own within are is = (
-  line_set lines (length pool) segments room capacity target (record { first = 0; end = 0 }) within are (ap share_of is)
+  line_set lines pool segments room capacity target (record { first = 0; end = 0 }) within are (ap share_of is)
       (λ n inside. let below : n < 0 = inside.1 in absurd (omega arith)),
   record {
     size = length_rows pool room (set lines target empty_line) ∙ length-set lines target empty_line ∙ sym (length_rows pool room lines);
@@ -338,10 +449,10 @@ number_stays target gained old new joins =
     sym (length_rows new.pool.items new.room new.lines.items) ∙ joins.rows.size ∙ length_rows old.pool.items old.room old.lines.items
 
 pub source_words :
-    (target source other : ℕ) (old mid : Lines) → JoinsLine target [] old mid → (source ≡ target → ⊥) →
-    line_at mid.lines.items source ≡ InWords other → members (segment mid.pool.items (other * mid.room) mid.room) ≡ row_at (rows_of old) source
-source_words target source other old mid joins apart is =
-    sym (row_is mid source (InWords other) is) ∙ joins.rows.others source apart
+    (target source other e : ℕ) (old mid : Lines) → JoinsLine target [] old mid → (source ≡ target → ⊥) →
+    line_at mid.lines.items source ≡ InWords other e → members (segment mid.pool.items (other * mid.room) mid.room) ≡ row_at (rows_of old) source
+source_words target source other e old mid joins apart is =
+    sym (row_is mid source (InWords other e) is) ∙ joins.rows.others source apart
 
 -- ---- lines that are joined in two steps
 

@@ -1,5 +1,5 @@
 -- The lines of a matrix: what they show as rows, and what is kept of them.
-use Rattle.std.specs.Prelude.{◌≡◌, ◌<◌, ◌≤◌, ◌*◌, ◌%◌, ℕ, List, length, map, slice_index_or, sum_by, vec_capacity}
+use Rattle.std.specs.Prelude.{◌≡◌, ◌<◌, ◌≤◌, ◌*◌, ◌%◌, ℕ, List, Contains, length, map, slice_index_or, sum_by, vec_capacity}
 use Rattle.bit_rows.specs.declared.TheConstants.{WORDS, BLOCK}
 use Rattle.bit_rows.specs.declared.line.Line.{Line}
 use Rattle.bit_rows.specs.declared.line.Line.TheVariants.{InRun, InWords}
@@ -13,7 +13,7 @@ use Rattle.bit_rows.specs.Matrix.{JoinsAt, EmptiesAt}
 -- the line is a run, and joined with another one it is a run
 abbrev pub IsJoinedRun : Line → ℕ → ℕ → ℕ → ℕ → Type 0
 IsJoinedRun (InRun own) first end joined_first joined_end = JoinsRun own.first own.end first end joined_first joined_end
-IsJoinedRun (InWords s) first end joined_first joined_end = ⊥
+IsJoinedRun (InWords s e) first end joined_first joined_end = ⊥
 
 -- a line without numbers
 abbrev pub empty_line : Line
@@ -26,7 +26,7 @@ line_at lines k = slice_index_or lines k empty_line
 -- the members of a line
 abbrev pub row_of : List ℕ → ℕ → Line → List ℕ
 row_of pool room (InRun run) = numbers_of run.first run.end
-row_of pool room (InWords s) = members (segment pool (s * room) room)
+row_of pool room (InWords s e) = members (segment pool (s * room) room)
 
 -- the rows that lines show
 unfoldable pub rows_in : List ℕ → ℕ → List Line → List (List ℕ)
@@ -35,25 +35,26 @@ rows_in pool room lines = map (row_of pool room) lines
 -- how many segments a line has
 abbrev pub share_of : Line → ℕ
 share_of (InRun run) = 0
-share_of (InWords s) = 1
+share_of (InWords s e) = 1
 
--- each line of words has a segment of its own among so many words, there is room for a segment for
--- each line, and each number of a run or of a line's place is within a segment
-pub record AreLines (lines : List Line) (words segments room capacity : ℕ) : Type 0 where
+-- each line of words has a segment of its own in the pool and no member from its end on, there is room
+-- for a segment for each line, and each number of a run or of a line's place is within a segment
+pub record AreLines (lines : List Line) (pool : List ℕ) (segments room capacity : ℕ) : Type 0 where
   pub some : 0 < room
   pub blocks : room % BLOCK ≡ 0
   pub size : room ≤ WORDS
   pub few : length lines ≤ 64 * room
-  pub long : words ≡ segments * room
+  pub long : length pool ≡ segments * room
   pub taken : sum_by share_of lines ≡ segments
   pub spare : length lines * room ≤ capacity
-  pub placed : (k s : ℕ) → line_at lines k ≡ InWords s → s < segments
-  pub apart : (j k s : ℕ) → line_at lines j ≡ InWords s → line_at lines k ≡ InWords s → j ≡ k
+  pub placed : (k s e : ℕ) → line_at lines k ≡ InWords s e → s < segments
+  pub apart : (j k s d e : ℕ) → line_at lines j ≡ InWords s d → line_at lines k ≡ InWords s e → j ≡ k
   pub below : (k : ℕ) (run : Run) (n : ℕ) → line_at lines k ≡ InRun run → IsInRun run.first run.end n → n < 64 * room
+  pub ended : (k s e n : ℕ) → line_at lines k ≡ InWords s e → Contains (members (segment pool (s * room) room)) n → n < e
 
 -- the lines hold together
 abbrev pub HoldTogether : Lines → Type 0
-HoldTogether lines = AreLines lines.lines.items (length lines.pool.items) lines.segments lines.room (vec_capacity lines.pool)
+HoldTogether lines = AreLines lines.lines.items lines.pool.items lines.segments lines.room (vec_capacity lines.pool)
 
 -- the rows that lines show
 abbrev pub rows_of : Lines → List (List ℕ)

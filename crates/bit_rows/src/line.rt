@@ -10,8 +10,13 @@ use crate::run::Run;
 pub(crate) enum Line {
     /// A run, which takes no words.
     InRun(Run),
-    /// The members of a segment's words: the number of the segment, which no other line has.
-    InWords(u32),
+    /// The members of a segment's words.
+    InWords {
+        /// The number of the segment, which no other line has.
+        segment: u32,
+        /// No number from this one on is a member.
+        end: u32,
+    },
 }
 
 /// The run of a line and of another run, where the line is a run and both are one run.
@@ -20,6 +25,6 @@ pub(crate) fn joined(line: Line, run: Run) -> Option<Run>
 {
     match line {
         Line::InRun(own) => own.joined(run),
-        Line::InWords(_) => None,
+        Line::InWords { .. } => None,
     }
 }

@@ -1,7 +1,7 @@
 //! The lines of a matrix: runs of numbers take no words, and the words of all others stand in one
 //! pool.
 
-ghost use Rattle.std.specs.Prelude.{◌≡◌, ◌<◌, ◌≤◌, ◌+◌, ◌*◌, ◌%◌, ◌++◌, ◌∷◌, ◌↔◌, [], ℕ, All, Contains, IsTrue, OnOk, OnErr, length, slice_index_or, vec_capacity};
+ghost use Rattle.std.specs.Prelude.{◌≡◌, ◌<◌, ◌≤◌, ◌+◌, ◌*◌, ◌%◌, ◌++◌, ◌∷◌, ◌↔◌, ◌⊎◌, [], ℕ, All, Contains, IsTrue, OnOk, OnErr, length, slice_index_or, vec_capacity};
 ghost use Rattle.bit_rows.specs.declared.line.Line.TheVariants.{InRun, InWords};
 ghost use Rattle.bit_rows.specs.Members.{IsUnion, members};
 ghost use Rattle.bit_rows.specs.Runs.{IsInRun, numbers_of};
@@ -12,7 +12,7 @@ ghost use Rattle.bit_rows.specs.Lines.{EmptiesLine, HoldTogether, JoinsLine, lin
 use crate::line::{Line, joined};
 use crate::run::Run;
 use crate::segments::{
-    clear_segment, copy_segments, fill_segment, has, join_segment, join_segments, lengthen,
+    clear_segment, copy_segments, end_of, fill_segment, has, join_segment, join_segments, lengthen,
 };
 use crate::{BLOCK, ROW_BITS, Row, WORDS};
 use std::alloc::{AllocError, Global};
@@ -30,6 +30,16 @@ fn wider(room: usize) -> usize
     ensures larger { room < WORDS → room < result }
 {
     (2 * room + BLOCK).min(WORDS)
+}
+
+/// As many words, in whole blocks, as have room for the numbers below an end, and at most the room.
+fn words_below(end: u32, room: usize) -> usize
+    requires { room % BLOCK ≡ 0 }
+    ensures blocks { result % BLOCK ≡ 0 }
+    ensures within { result ≤ room }
+    ensures enough { (room ≤ result) ⊎ (end ≤ 64 * result) }
+{
+    ((end as usize / (64 * BLOCK) + 1) * BLOCK).min(room)
 }
 
 /// Sets of numbers.
@@ -84,16 +94,41 @@ impl Lines {
         segment as usize * self.room
     }
 
-    /// The words of a segment.
-    fn words(&self, segment: u32) -> &[u64]
+    /// The first words of a segment.
+    fn first_words(&self, segment: u32, count: usize) -> &[u64]
         requires holds { HoldTogether self.now }
         requires there { segment < self.now.segments }
-        ensures words { result.now ≡ words_at self.now.pool.items (segment * self.now.room) self.now.room }
+        requires count { count ≤ self.now.room }
+        ensures words { result.now ≡ words_at self.now.pool.items (segment * self.now.room) count }
+        ensures size { length result.now ≡ count }
+    {
+        let place = self.place(segment);
+        &self.pool[place..place + count]
+    }
+
+    /// The words of a line that has a segment, up to the block of the line's end: those after it are
+    /// zeros.
+    fn words(&self, number: usize, segment: u32, end: u32) -> &[u64]
+        requires holds { HoldTogether self.now }
+        requires words { line_at self.now.lines.items number ≡ InWords segment end }
+        ensures members { members result.now ≡ row_at (rows_of self.now) number }
         ensures blocks { length result.now % BLOCK ≡ 0 }
         ensures size { length result.now ≤ WORDS }
     {
-        let place = self.place(segment);
-        &self.pool[place..place + self.room]
+        self.first_words(segment, words_below(end, self.room))
+    }
+
+    /// Whether the number is a member of a line that has a segment. Reads no word for one from the
+    /// line's end on.
+    fn has_in_words(&self, number: usize, segment: u32, end: u32, bit: u32) -> bool
+        requires holds { HoldTogether self.now }
+        requires words { line_at self.now.lines.items number ≡ InWords segment end }
+        ensures { IsTrue result ↔ Contains (row_at (rows_of self.now) number) bit }
+    {
+        if bit >= end {
+            return false;
+        }
+        has(&self.pool, self.place(segment), self.room, bit)
     }
 
     /// Whether the number is a member of a line.
@@ -104,7 +139,7 @@ impl Lines {
     {
         match self.line(number) {
             Line::InRun(run) => run.has(bit),
-            Line::InWords(segment) => has(&self.pool, self.place(segment), self.room, bit),
+            Line::InWords { segment, end } => self.has_in_words(number, segment, end, bit),
         }
     }
 
@@ -116,7 +151,7 @@ impl Lines {
     {
         match self.line(number) {
             Line::InRun(run) => row.or_run(run),
-            Line::InWords(segment) => row.or_words(self.words(segment)),
+            Line::InWords { segment, end } => row.or_words(self.words(number, segment, end)),
         }
     }
 
@@ -128,17 +163,19 @@ impl Lines {
     {
         match self.line(number) {
             Line::InRun(run) => row.copy_run(run),
-            Line::InWords(segment) => row.copy_words(self.words(segment)),
+            Line::InWords { segment, end } => row.copy_words(self.words(number, segment, end)),
         }
     }
 
-    /// Gives a line that is a run the next segment, and answers its number.
-    fn take_segment(&mut self, target: usize, run: Run) -> u32
+    /// Gives a line that is a run the next segment, and an end that is no lower than the run's.
+    /// Answers the segment's number.
+    fn take_segment(&mut self, target: usize, run: Run, end: u32) -> u32
         requires holds { HoldTogether self.old }
         requires target { target < length self.old.lines.items }
         requires run { line_at self.old.lines.items target ≡ InRun run }
+        requires end { run.end ≤ end }
         ensures joined { JoinsLine target [] self.old self.new }
-        ensures words { line_at self.new.lines.items target ≡ InWords result }
+        ensures words { line_at self.new.lines.items target ≡ InWords result end }
         ensures there { result < self.new.segments }
         ensures others { (k : ℕ) → ¬ k ≡ target → line_at self.new.lines.items k ≡ line_at self.old.lines.items k }
         ensures room { self.new.room ≡ self.old.room }
@@ -146,24 +183,43 @@ impl Lines {
         let segment = self.segments;
         lengthen(&mut self.pool, self.room);
         fill_segment(&mut self.pool, segment as usize * self.room, self.room, run);
-        self.lines[target] = Line::InWords(segment);
+        self.lines[target] = Line::InWords { segment, end };
         self.segments += 1;
         segment
     }
 
-    /// The number of a line's segment. A line that is a run gets one.
-    fn segment_of(&mut self, target: usize) -> u32
+    /// Raises the end of a line that has a segment.
+    fn raise(&mut self, target: usize, segment: u32, own: u32, end: u32)
+        requires holds { HoldTogether self.old }
+        requires target { target < length self.old.lines.items }
+        requires words { line_at self.old.lines.items target ≡ InWords segment own }
+        requires end { own ≤ end }
+        ensures joined { JoinsLine target [] self.old self.new }
+        ensures words { line_at self.new.lines.items target ≡ InWords segment end }
+        ensures others { (k : ℕ) → ¬ k ≡ target → line_at self.new.lines.items k ≡ line_at self.old.lines.items k }
+        ensures room { self.new.room ≡ self.old.room }
+        ensures segments { self.new.segments ≡ self.old.segments }
+    {
+        self.lines[target] = Line::InWords { segment, end };
+    }
+
+    /// The number of a line's segment, where the line is to have members below `end`: its own end is
+    /// no lower then. A line that is a run gets a segment.
+    fn segment_of(&mut self, target: usize, end: u32) -> u32
         requires holds { HoldTogether self.old }
         requires target { target < length self.old.lines.items }
         ensures joined { JoinsLine target [] self.old self.new }
-        ensures words { line_at self.new.lines.items target ≡ InWords result }
+        ensures words { (last : ℕ) × ((line_at self.new.lines.items target ≡ InWords result last) × (end ≤ last)) }
         ensures there { result < self.new.segments }
         ensures others { (k : ℕ) → ¬ k ≡ target → line_at self.new.lines.items k ≡ line_at self.old.lines.items k }
         ensures room { self.new.room ≡ self.old.room }
     {
         match self.line(target) {
-            Line::InRun(run) => self.take_segment(target, run),
-            Line::InWords(segment) => segment,
+            Line::InRun(run) => self.take_segment(target, run, end.max(run.end)),
+            Line::InWords { segment, end: own } => {
+                self.raise(target, segment, own, end.max(own));
+                segment
+            }
         }
     }
 
@@ -174,7 +230,7 @@ impl Lines {
         requires within { (n : ℕ) → IsInRun run.first run.end n → n < 64 * self.old.room }
         ensures { JoinsLine target (numbers_of run.first run.end) self.old self.new }
     {
-        let segment = self.segment_of(target);
+        let segment = self.segment_of(target, run.end);
         let place = self.place(segment);
         fill_segment(&mut self.pool, place, self.room, run);
     }
@@ -197,23 +253,24 @@ impl Lines {
         requires holds { HoldTogether self.old }
         requires target { target < length self.old.lines.items }
         requires blocks { length words.now % BLOCK ≡ 0 }
+        requires size { length words.now ≤ WORDS }
         requires within { All (λ n. n < 64 * self.old.room) (members words.now) }
         ensures { JoinsLine target (members words.now) self.old self.new }
     {
-        let segment = self.segment_of(target);
+        let segment = self.segment_of(target, end_of(words));
         let place = self.place(segment);
         join_segment(&mut self.pool, place, self.room, words);
     }
 
-    /// Adds the members of another line's segment to a line.
-    fn add_segment(&mut self, target: usize, source: usize, other: u32)
+    /// Adds the members of another line's segment, all below its end, to a line.
+    fn add_segment(&mut self, target: usize, source: usize, other: u32, end: u32)
         requires holds { HoldTogether self.old }
         requires target { target < length self.old.lines.items }
         requires apart { ¬ source ≡ target }
-        requires words { line_at self.old.lines.items source ≡ InWords other }
+        requires words { line_at self.old.lines.items source ≡ InWords other end }
         ensures { JoinsLine target (row_at (rows_of self.old) source) self.old self.new }
     {
-        let segment = self.segment_of(target);
+        let segment = self.segment_of(target, end);
         let place = self.place(segment);
         let other_place = self.place(other);
         join_segments(&mut self.pool, place, self.room, other_place);
@@ -229,7 +286,10 @@ impl Lines {
     {
         match self.line(source) {
             Line::InRun(run) => self.add_run(target, run),
-            Line::InWords(other) => self.add_segment(target, source, other),
+            Line::InWords {
+                segment: other,
+                end,
+            } => self.add_segment(target, source, other, end),
         }
     }
 
@@ -253,9 +313,9 @@ impl Lines {
     }
 
     /// Removes all members of a line that has a segment.
-    fn clear_words(&mut self, target: usize, segment: u32)
+    fn clear_words(&mut self, target: usize, segment: u32, end: u32)
         requires holds { HoldTogether self.old }
-        requires words { line_at self.old.lines.items target ≡ InWords segment }
+        requires words { line_at self.old.lines.items target ≡ InWords segment end }
         ensures { EmptiesLine target self.old self.new }
     {
         let place = self.place(segment);
@@ -270,7 +330,7 @@ impl Lines {
     {
         match self.line(target) {
             Line::InRun(_) => self.lines[target] = Line::InRun(Run { first: 0, end: 0 }),
-            Line::InWords(segment) => self.clear_words(target, segment),
+            Line::InWords { segment, end } => self.clear_words(target, segment, end),
         }
     }
 

@@ -9,7 +9,7 @@ ghost use Rattle.bit_rows.specs.Segments.{AreCopied, ClearsSegment, JoinsSegment
 use crate::growing::append;
 use crate::marking::fill;
 use crate::run::Run;
-use crate::{BLOCK, lanes};
+use crate::{BLOCK, WORDS, lanes};
 
 /// Whether the number is a member of the segment.
 pub(crate) fn has(pool: &[u64], place: usize, room: usize, bit: u32) -> bool
@@ -21,6 +21,20 @@ pub(crate) fn has(pool: &[u64], place: usize, room: usize, bit: u32) -> bool
         return false;
     }
     (pool[place + word] >> (bit % 64)) & 1 == 1
+}
+
+/// Above all members of some words: the first bit after the last word that isn't zero.
+pub(crate) fn end_of(words: &[u64]) -> u32
+    requires { length words.now ≤ WORDS }
+    ensures { (n : ℕ) → Contains (members words.now) n → n < result }
+{
+    for done in 0..words.len() {
+        let count = words.len() - done;
+        if words[count - 1] != 0 {
+            return 64 * count as u32;
+        }
+    }
+    0
 }
 
 /// Adds the numbers of a run to a segment.

@@ -1,6 +1,6 @@
-use Rattle.std.proofs.Common.{◌∙◌, ℕ, List, ap, subst, sym}
-use Rattle.bit_rows.specs.Members.{IsUnion, members}
-use Rattle.bit_rows.specs.declared.line.Line.TheVariants.{InRun, InWords}
+use Rattle.std.proofs.Common.{◌∙◌, ℕ, List, subst, sym}
+use Rattle.bit_rows.specs.Members.{IsUnion}
+use Rattle.bit_rows.specs.declared.line.Line.TheVariants.{InRun}
 use Rattle.bit_rows.proofs.RowLines.{row_is, run_below}
 use Rattle.bit_rows.proofs.lines.Lines.add_to.Goals as goal
 
@@ -14,7 +14,4 @@ returns-in-InRun c =
 
 pub returns-in-InWords : goal.returns-in-InWords
 returns-in-InWords c =
-    subst (λ (r : List ℕ). IsUnion c.args.row.now r c.or_words.new.self)
-    (ap members c.words.ensures.words
-    ∙ sym (row_is c.args.self.now c.args.number (InWords c.in-InWords.segment) (sym c.line.ensures ∙ c.in-InWords.is)))
-    c.or_words.ensures
+    subst (λ (r : List ℕ). IsUnion c.args.row.now r c.or_words.new.self) c.words.ensures.members c.or_words.ensures

@@ -9,4 +9,4 @@ returns c =
     let words : List ℕ = c.clear_segment.new.pool in
     let clears : ClearsSegment (c.args.segment * lines.room) lines.room lines.pool.items words =
     rw c.deref_mut.ensures.value at (rw c.place-place.ensures.place at c.clear_segment.ensures) in
-    pool_cleared c.args.target c.args.segment words lines c.requires.holds c.requires.words clears
+    pool_cleared c.args.target c.args.segment c.args.end words lines c.requires.holds c.requires.words clears

@@ -1,6 +1,5 @@
-use Rattle.std.proofs.Common.{◌∙◌, ap, sym}
-use Rattle.bit_rows.specs.Members.{members}
-use Rattle.bit_rows.specs.declared.line.Line.TheVariants.{InRun, InWords}
+use Rattle.std.proofs.Common.{◌∙◌, sym}
+use Rattle.bit_rows.specs.declared.line.Line.TheVariants.{InRun}
 use Rattle.bit_rows.proofs.RowLines.{row_is, run_below}
 use Rattle.bit_rows.proofs.lines.Lines.copy_to.Goals as goal
 
@@ -12,6 +11,4 @@ returns-in-InRun c =
     c.copy_run.ensures ∙ sym (row_is c.args.self.now c.args.number (InRun c.in-InRun.run') (sym c.line.ensures ∙ c.in-InRun.is))
 
 pub returns-in-InWords : goal.returns-in-InWords
-returns-in-InWords c =
-    c.copy_words.ensures ∙ ap members c.words.ensures.words
-    ∙ sym (row_is c.args.self.now c.args.number (InWords c.in-InWords.segment) (sym c.line.ensures ∙ c.in-InWords.is))
+returns-in-InWords c = c.copy_words.ensures ∙ c.words.ensures.members

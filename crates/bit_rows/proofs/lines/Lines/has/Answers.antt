@@ -1,9 +1,7 @@
-use Rattle.std.proofs.Common.{◌↔◌, ◌*◌, ◌∙◌, ℕ, List, subst, sym}
+use Rattle.std.proofs.Common.{◌↔◌, ◌∙◌, ℕ, List, subst, sym}
 use Rattle.std.specs.Prelude.{IsTrue}
 use Rattle.std.specs.List.{Contains}
-use Rattle.bit_rows.specs.Members.{members}
-use Rattle.bit_rows.specs.Segments.{segment}
-use Rattle.bit_rows.specs.declared.line.Line.TheVariants.{InRun, InWords}
+use Rattle.bit_rows.specs.declared.line.Line.TheVariants.{InRun}
 use Rattle.bit_rows.proofs.RowLines.{row_is}
 use Rattle.bit_rows.proofs.Runs.{in_numbers}
 use Rattle.bit_rows.proofs.lines.Lines.has.Goals as goal
@@ -16,12 +14,3 @@ returns-in-InRun c =
     subst (λ (r : List ℕ). IsTrue c.has.result ↔ Contains r c.args.bit)
     (sym (row_is c.args.self.now c.args.number (InRun run) (sym c.line.ensures ∙ c.in-InRun.is)))
     (λ is. numbers.1 (test.0 is), λ member. test.1 (numbers.0 member))
-
-pub returns-in-InWords : goal.returns-in-InWords
-returns-in-InWords c =
-    let lines = c.args.self.now in
-    let s : ℕ = c.in-InWords.segment in
-    let test : IsTrue c.has-in-InWords.result ↔ Contains (members (segment lines.pool.items (s * lines.room) lines.room)) c.args.bit =
-    rw c.deref.ensures.value at (rw c.place.ensures.place at c.has-in-InWords.ensures) in
-    subst (λ (r : List ℕ). IsTrue c.has-in-InWords.result ↔ Contains r c.args.bit)
-    (sym (row_is lines c.args.number (InWords s) (sym c.line.ensures ∙ c.in-InWords.is))) test

@@ -13,9 +13,9 @@ returns-clause-holds c =
     subst (λ (n : ℕ). (n + 1) * mid.room ≤ vec_capacity mid.pool) (sym same) c.in_ok-make_room.ensures.spare in
     let free : length mid.lines.items < 64 * mid.room =
     subst (λ (n : ℕ). n < 64 * mid.room) (sym same) c.in_ok-make_room.ensures.room in
-    subst (λ (ls : List Line). AreLines ls (length mid.pool.items) mid.segments mid.room (vec_capacity mid.pool))
+    subst (λ (ls : List Line). AreLines ls mid.pool.items mid.segments mid.room (vec_capacity mid.pool))
     (sym c.in_ok-push.ensures.items)
-    (lines_pushed mid.lines.items (length mid.pool.items) mid.segments mid.room (vec_capacity mid.pool) c.make_room.ensures.holds spare free)
+    (lines_pushed mid.lines.items mid.pool.items mid.segments mid.room (vec_capacity mid.pool) c.make_room.ensures.holds spare free)
 
 pub returns-clause-ok : goal.returns-clause-ok
 returns-clause-ok c =

@@ -6,6 +6,7 @@ use Rattle.bit_rows.specs.Runs.{numbers_of}
 use Rattle.bit_rows.specs.Segments.{JoinsSegment}
 use Rattle.bit_rows.specs.Matrix.{JoinsAt}
 use Rattle.bit_rows.specs.Lines.{rows_in, rows_of}
+use Rattle.bit_rows.specs.declared.line.Line.{Line}
 use Rattle.bit_rows.specs.declared.line.Line.TheVariants.{InWords}
 use Rattle.bit_rows.proofs.Growth.{room_left, shares_fewer, taken_lines, taken_rows}
 use Rattle.bit_rows.proofs.lines.Lines.take_segment.Goals as goal
@@ -14,7 +15,7 @@ pub lengthen-requires : goal.lengthen-requires
 lengthen-requires c =
     let lines = c.args.self.now in
     let left =
-    room_left lines.lines.items (length lines.pool.items) lines.segments lines.room (vec_capacity lines.pool) c.args.target c.args.run
+    room_left lines.lines.items lines.pool.items lines.segments lines.room (vec_capacity lines.pool) c.args.target c.args.run
     c.requires.holds c.requires.target c.requires.run in
     let size = lines.pool.ok.0 in
     omega arith
@@ -36,17 +37,17 @@ returns-clause-joined c =
     let now = longer.ok.0 in
     let long : length (with_items longer words).items ≡ length lines.pool.items + lines.room =
     ap length items ∙ size ∙ (let sum : length longer.items ≡ length lines.pool.items + lines.room = omega arith in sum) in
+    let pool : List ℕ = (with_items longer words).items in
+    let set_lines : List Line = set lines.lines.items c.args.target (InWords lines.segments c.args.end) in
+    let rows : JoinsAt c.args.target [] (rows_of lines) (rows_in pool lines.room set_lines) =
+    subst (λ (ws : List ℕ). JoinsAt c.args.target [] (rows_of lines) (rows_in ws lines.room set_lines)) (sym items)
+    (taken_rows lines.pool.items longer.items words lines.segments lines.room (vec_capacity lines.pool) c.args.target c.args.end c.args.run
+    lines.lines.items c.requires.target c.requires.holds c.requires.run c.lengthen.ensures.items joins) in
     record {
       holds =
-          taken_lines (length lines.pool.items) (length (with_items longer words).items) lines.segments lines.room (vec_capacity lines.pool)
-          (vec_capacity longer) c.args.target c.args.run lines.lines.items c.requires.target c.requires.holds c.requires.run long
-          c.lengthen.ensures.capacity;
-      rows =
-          subst
-          (λ (ws : List ℕ). JoinsAt c.args.target [] (rows_of lines) (rows_in ws lines.room (set lines.lines.items c.args.target (InWords lines.segments))))
-          (sym items)
-          (taken_rows lines.pool.items longer.items words lines.segments lines.room (vec_capacity lines.pool) c.args.target c.args.run
-          lines.lines.items c.requires.target c.requires.holds c.requires.run c.lengthen.ensures.items joins);
+          taken_lines lines.pool.items pool lines.segments lines.room (vec_capacity lines.pool) (vec_capacity longer) c.args.target c.args.end
+          c.args.run lines.lines.items c.requires.target c.requires.holds c.requires.run long c.lengthen.ensures.capacity c.requires.end rows;
+      rows = rows;
     }
 
 pub overflow_add-self : goal.overflow_add-self

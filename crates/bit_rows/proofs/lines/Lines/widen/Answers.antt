@@ -15,18 +15,6 @@ copy_segments-requires-clause-capacity c =
     let room = c.in_ok-pool.ensures.capacity in
     omega arith
 
-pub returns-clause-holds : goal.returns-clause-holds
-returns-clause-holds c =
-    let lines = c.args.self.now in
-    let wider = c.copy_segments.new.wider in
-    let more = c.wider-more.result in
-    let long : length wider.items ≡ lines.segments * more = sym wider.ok.0 ∙ c.copy_segments.ensures.len in
-    let step : length lines.lines.items * more ≤ c.args.lines * more = times_le (length lines.lines.items) c.args.lines more c.requires.lines in
-    let room = c.in_ok-pool.ensures.capacity in
-    let kept = c.copy_segments.ensures.capacity in
-    lines_widened lines.lines.items (length lines.pool.items) (length wider.items) lines.segments lines.room more (vec_capacity lines.pool)
-    (vec_capacity wider) c.requires.holds c.wider-more.ensures.kept c.wider-more.ensures.blocks c.wider-more.ensures.size long (omega arith)
-
 pub returns-clause-rows : goal.returns-clause-rows
 returns-clause-rows c =
     let lines = c.args.self.now in
@@ -34,3 +22,19 @@ returns-clause-rows c =
     rw c.deref.ensures.value at c.copy_segments.ensures.copied in
     rows_widened lines.pool.items c.copy_segments.new.wider.items lines.lines.items lines.segments lines.room c.wider-more.result
     (vec_capacity lines.pool) c.requires.holds copied
+
+pub returns-clause-holds : goal.returns-clause-holds
+returns-clause-holds c =
+    let lines = c.args.self.now in
+    let wider = c.copy_segments.new.wider in
+    let more = c.wider-more.result in
+    let long : length wider.items ≡ lines.segments * more = sym wider.ok.0 ∙ c.copy_segments.ensures.len in
+    let step : length lines.lines.items * more ≤ c.args.lines * more = times_le (length lines.lines.items) c.args.lines more c.requires.lines in
+    let copied : AreCopied lines.segments lines.room more lines.pool.items wider.items =
+    rw c.deref.ensures.value at c.copy_segments.ensures.copied in
+    let room = c.in_ok-pool.ensures.capacity in
+    let kept = c.copy_segments.ensures.capacity in
+    lines_widened lines.lines.items lines.pool.items wider.items lines.segments lines.room more (vec_capacity lines.pool)
+    (vec_capacity wider) c.requires.holds c.wider-more.ensures.kept c.wider-more.ensures.blocks c.wider-more.ensures.size long (omega arith)
+    (rows_widened lines.pool.items wider.items lines.lines.items lines.segments lines.room more (vec_capacity lines.pool) c.requires.holds
+    copied)
