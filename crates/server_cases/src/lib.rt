@@ -1,4 +1,6 @@
-//! Tests of the program in a host in memory: whole sessions over the standard link, byte by byte, links that fail, and command lines.
+//! Tests of the program in a host in memory: whole sessions over the standard link, byte by byte, links that fail, and lists of choice words; servers
+//! at doors in memory and over the loopback, over one history, which begins empty or with what a setup left, and what fails among them; simulations,
+//! and the clients that they have; the check of a log; and words that are no command.
 //!
 //! The contracts of `monkey_server` say what a session is told and what a command does. No clause says that a call with ample memory succeeds:
 //! these tests compare what is sent and printed with sessions written out as text by hand. The crate has nothing but tests. All of them make
@@ -8,8 +10,24 @@
 #[cfg(test)]
 mod broken_links;
 #[cfg(test)]
-mod command_lines;
+mod commands;
+#[cfg(test)]
+mod entries;
+#[cfg(test)]
+mod faults;
 #[cfg(test)]
 mod hosts;
 #[cfg(test)]
+mod loopback;
+#[cfg(test)]
+mod servers;
+#[cfg(test)]
 mod sessions;
+#[cfg(test)]
+mod setups;
+#[cfg(test)]
+mod sim_clients;
+#[cfg(test)]
+mod two_links;
+#[cfg(test)]
+mod word_lists;
