@@ -111,9 +111,9 @@ fn host(alloc: Global, setting: &Setting<'_>) -> Result<MemHost, Memory>
 }
 
 // The words of a line, between which a slash stands.
-fn words_of(alloc: Global, line: &str) -> Result<Vec<Text>, Memory> {
+fn words_of(alloc: Global, line: &[u8]) -> Result<Vec<Text>, Memory> {
     let mut words = Vec::new(alloc);
-    for word in line.as_bytes().split(|byte| *byte == b'/') {
+    for word in line.split(|byte| *byte == b'/') {
         words.push(text(alloc, word)?)?;
     }
     Ok(words)
@@ -156,7 +156,7 @@ pub fn run_at<R: Threads + Wait + Eprint + Sync, N: Network>(
     rt: &R,
     alloc: Global,
     network: &mut N,
-    line: &str,
+    line: &[u8],
     setting: &Setting<'_>,
 ) -> Result<Done, Memory> {
     let words = words_of(alloc, line)?;
@@ -171,7 +171,7 @@ pub fn run<R: Threads + Wait + Eprint + Sync>(
     setting: &Setting<'_>,
 ) -> Result<Done, Memory> {
     let mut network = MemNetwork::new(alloc, Vec::new(alloc), Vec::new(alloc));
-    run_at(rt, alloc, &mut network, line, setting)
+    run_at(rt, alloc, &mut network, line.as_bytes(), setting)
 }
 
 /// Runs the program without a word.

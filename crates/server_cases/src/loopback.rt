@@ -98,7 +98,7 @@ fn asks<R: Net<Listener = TcpListener, Stream = TcpStream>>(
 }
 
 // Whether a server of this command ends well, and prints its line.
-fn ends_well<R>(rt: &R, alloc: Global, line: &str) -> Result<bool, Memory>
+fn ends_well<R>(rt: &R, alloc: Global, line: &[u8]) -> Result<bool, Memory>
 where
     R: Net<Listener = TcpListener, Stream = TcpStream> + Threads + Wait + Eprint + Sync,
 {
@@ -114,7 +114,7 @@ fn serves_a_client_over_the_loopback(rt: HostRuntime) -> Result<(), Fail> {
     let line = format!(in alloc;
         "serve/--quiet/--level/cc/--seed/7/--listen/{address}/--workers/1/--accept/1"
     )?;
-    let line = line.as_str();
+    let line = line.as_bytes();
     let (ends, asks) = join(
         &rt,
         || ends_well(&rt, alloc, line),

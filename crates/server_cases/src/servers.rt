@@ -65,7 +65,8 @@ fn serves<R: Threads + Wait + Eprint + Sync>(
     server: &Server<'_>,
 ) -> Result<bool, Memory> {
     let mut network = network(alloc, server.entries)?;
-    let done = run_at(rt, alloc, &mut network, server.line, &setting_of(server))?;
+    let line = server.line.as_bytes();
+    let done = run_at(rt, alloc, &mut network, line, &setting_of(server))?;
     if is_told(&done, server) {
         is_left(alloc, &network, server)
     } else {
