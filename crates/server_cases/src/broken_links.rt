@@ -1,5 +1,5 @@
 // `pipe` over links whose input is cut short, or whose reads or writes fail: its status, and what was sent.
-use crate::hosts::{Client, Done, run};
+use crate::hosts::{Client, Done, served};
 use session_text::{reply_bytes, request_bytes};
 use std::alloc::Global;
 use std::sync::Wait;
@@ -30,7 +30,7 @@ fn front_of(whole: &[u8], sent: &Option<Vec<u8>>) -> Option<usize> {
 }
 
 // What `pipe rc 0` came to, where the client's first so many bytes come, and the reads and writes of these numbers fail.
-fn served<'a, R: Threads + Wait + Eprint + Sync>(
+fn cut<'a, R: Threads + Wait + Eprint + Sync>(
     rt: &R,
     alloc: Global,
     length: usize,
@@ -44,7 +44,7 @@ fn served<'a, R: Threads + Wait + Eprint + Sync>(
         reads,
         writes,
     };
-    Ok(run(rt, alloc, &[b"pipe", b"rc", b"0"], &client)?)
+    Ok(served(rt, alloc, "pipe/rc/0", client)?)
 }
 
 // The same as a status, and with how many bytes of the whole what was sent ends; or nothing where other bytes were sent.
@@ -55,7 +55,7 @@ fn piped<'a, R: Threads + Wait + Eprint + Sync>(
     reads: &'a [u64],
     writes: &'a [u64],
 ) -> Result<(u8, Option<usize>), Fail> {
-    let done = served(rt, alloc, length, reads, writes)?;
+    let done = cut(rt, alloc, length, reads, writes)?;
     let whole = reply_bytes(alloc, BLOCK)?;
     Ok((done.code, front_of(&whole, &done.sent)))
 }
@@ -72,23 +72,36 @@ fn expected(length: usize) -> (u8, Option<usize>) {
 }
 
 #[test]
-fn tells_where_the_input_ended(rt: HostRuntime) -> Result<(), Fail> {
+fn has_so_many_bytes(rt: HostRuntime) -> Result<(), Fail> {
     let alloc = rt.alloc();
     assert_eq!(rt; request_bytes(alloc, BLOCK)?.len(), LENGTH);
     assert_eq!(rt; reply_bytes(alloc, BLOCK)?.len(), 208);
+    Ok(())
+}
+
+#[test]
+fn tells_where_the_input_ended(rt: HostRuntime) -> Result<(), Fail> {
+    let alloc = rt.alloc();
     for length in 0..28 {
         assert_eq!(rt; piped(&rt, alloc, length, &[], &[])?, expected(length));
     }
     Ok(())
 }
 
+// The numbers of the reads and of the writes that fail, and what comes of it.
+const FAILURES: [(&[u64], &[u64], (u8, Option<usize>)); 5] = [
+    (&[1], &[], (3, Some(0))),
+    (&[2], &[], (3, Some(208))),
+    (&[], &[1], (4, Some(0))),
+    (&[], &[2], (4, Some(191))),
+    (&[], &[3], (4, Some(202))),
+];
+
 #[test]
 fn tells_what_failed(rt: HostRuntime) -> Result<(), Fail> {
     let alloc = rt.alloc();
-    assert_eq!(rt; piped(&rt, alloc, LENGTH, &[1], &[])?, (3, Some(0)));
-    assert_eq!(rt; piped(&rt, alloc, LENGTH, &[2], &[])?, (3, Some(208)));
-    assert_eq!(rt; piped(&rt, alloc, LENGTH, &[], &[1])?, (4, Some(0)));
-    assert_eq!(rt; piped(&rt, alloc, LENGTH, &[], &[2])?, (4, Some(191)));
-    assert_eq!(rt; piped(&rt, alloc, LENGTH, &[], &[3])?, (4, Some(202)));
+    for (reads, writes, wanted) in FAILURES {
+        assert_eq!(rt; piped(&rt, alloc, LENGTH, reads, writes)?, wanted);
+    }
     Ok(())
 }

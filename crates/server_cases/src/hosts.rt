@@ -4,8 +4,8 @@ ghost use Rattle.link_traits.specs.Host.{objects_out};
 ghost use Rattle.link_traits.specs.Hosts.{mem_hosted};
 
 use cell_base::{Items, Memory, Text};
-use doors::MemNetwork;
-use link_traits::{MemHost, MemLink, MemPlan, MemReturned, MemSink};
+use doors::{MemNetwork, Network};
+use link_traits::{HostFile, MemHost, MemLink, MemPlan, MemReturned, MemSink};
 use monkey_server::monkey_main;
 use std::alloc::Global;
 use std::sync::Wait;
@@ -23,13 +23,33 @@ pub struct Client<'a> {
     pub writes: &'a [u64],
 }
 
-/// A client of whom no read and no write fails.
-pub fn client_of(bytes: &[u8], piece: u32) -> Client<'_> {
-    Client {
-        bytes,
-        piece,
-        reads: &[],
-        writes: &[],
+/// What a host in memory has, and what fails in it.
+#[derive(Clone, Copy)]
+pub struct Setting<'a> {
+    /// The client of its standard link.
+    pub client: Client<'a>,
+    /// The path of its one file, and what stands in it.
+    pub path: &'a str,
+    pub file: &'a str,
+    /// The numbers, from 1 on, of the writes to each file that it makes that fail.
+    pub failing: &'a [u64],
+}
+
+// A client that sends nothing.
+const SILENT: Client<'static> = Client {
+    bytes: b"",
+    piece: 64,
+    reads: &[],
+    writes: &[],
+};
+
+/// A host whose one file has this path and this text, and in which nothing fails.
+pub fn with_file<'a>(path: &'a str, file: &'a str) -> Setting<'a> {
+    Setting {
+        client: SILENT,
+        path,
+        file,
+        failing: &[],
     }
 }
 
@@ -41,8 +61,8 @@ pub struct Done {
     pub sent: Option<Vec<u8>>,
 }
 
-// A side whose calls move at most so many bytes, and at least one. The calls of these numbers, from 1 on, fail.
-fn plan(alloc: Global, piece: u32, fails: &[u64]) -> Result<MemPlan, Memory>
+/// A side whose calls move at most so many bytes, and at least one. The calls of these numbers, from 1 on, fail.
+pub fn plan(alloc: Global, piece: u32, fails: &[u64]) -> Result<MemPlan, Memory>
     ensures { IfOk result (λ plan. 0 < plan.piece) }
 {
     Ok(MemPlan {
@@ -62,17 +82,6 @@ fn link(alloc: Global, client: &Client<'_>) -> Result<MemLink, Memory> {
     )
 }
 
-// A host that has this client's link, and no files. Nothing is out.
-fn host(alloc: Global, client: &Client<'_>) -> Result<MemHost, Memory>
-    ensures { IfOk result (λ host. objects_out (mem_hosted host) ≡ 0) }
-{
-    let link = link(alloc, client)?;
-    let out = MemSink::new(alloc, plan(alloc, 64, &[])?)?;
-    let (opened, made) = (plan(alloc, 64, &[])?, plan(alloc, 64, &[])?);
-    let (files, calls) = (Items::new(alloc), Items::new(alloc));
-    Ok(MemHost::new(alloc, Some(link), files, out, calls, opened, made))
-}
-
 fn text(alloc: Global, bytes: &[u8]) -> Result<Text, Memory> {
     match Text::from_bytes(alloc, bytes) {
         Ok(text) => Ok(text),
@@ -80,12 +89,34 @@ fn text(alloc: Global, bytes: &[u8]) -> Result<Text, Memory> {
     }
 }
 
-fn texts(alloc: Global, words: &[&[u8]]) -> Result<Vec<Text>, Memory> {
-    let mut texts = Vec::with_capacity(alloc, words.len())?;
-    for word in words {
-        texts.push(text(alloc, word)?)?;
+fn files(alloc: Global, path: &str, file: &str) -> Result<Items<HostFile>, Memory> {
+    let mut files = Items::new(alloc);
+    files.push(HostFile {
+        path: text(alloc, path.as_bytes())?,
+        bytes: Items::from_slice(alloc, file.as_bytes())?,
+    })?;
+    Ok(files)
+}
+
+// A host of this setting. Nothing is out.
+fn host(alloc: Global, setting: &Setting<'_>) -> Result<MemHost, Memory>
+    ensures { IfOk result (λ host. objects_out (mem_hosted host) ≡ 0) }
+{
+    let link = link(alloc, &setting.client)?;
+    let files = files(alloc, setting.path, setting.file)?;
+    let out = MemSink::new(alloc, plan(alloc, 64, &[])?)?;
+    let (opened, made) = (plan(alloc, 64, &[])?, plan(alloc, 64, setting.failing)?);
+    let calls = Items::new(alloc);
+    Ok(MemHost::new(alloc, Some(link), files, out, calls, opened, made))
+}
+
+// The words of a line, between which a slash stands.
+fn words_of(alloc: Global, line: &[u8]) -> Result<Vec<Text>, Memory> {
+    let mut words = Vec::new(alloc);
+    for word in line.split(|byte| *byte == b'/') {
+        words.push(text(alloc, word)?)?;
     }
-    Ok(texts)
+    Ok(words)
 }
 
 fn sent(alloc: Global, host: &MemHost) -> Result<Option<Vec<u8>>, Memory> {
@@ -107,33 +138,92 @@ fn done_in(alloc: Global, code: u8, host: &MemHost) -> Result<Done, Memory> {
     }
 }
 
-/// Runs a command whose network has no doors.
-pub fn run<R: Threads + Wait + Eprint + Sync>(
+// Runs the command of these words at any network.
+fn obeyed<R: Threads + Wait + Eprint + Sync, N: Network>(
     rt: &R,
     alloc: Global,
-    words: &[&[u8]],
-    client: &Client<'_>,
+    network: &mut N,
+    words: &[Text],
+    setting: &Setting<'_>,
 ) -> Result<Done, Memory> {
-    let mut host = host(alloc, client)?;
-    let mut network = MemNetwork::new(alloc, Vec::new(alloc), Vec::new(alloc));
-    let words = texts(alloc, words)?;
-    let status = monkey_main(rt, alloc, &mut host, &mut network, words.as_slice());
+    let mut host = host(alloc, setting)?;
+    let status = monkey_main(rt, alloc, &mut host, network, words);
     done_in(alloc, status.code, &host)
 }
 
-/// Whether `pipe LEVEL LIST` ends with this status, prints nothing, and has sent the client these bytes.
-pub fn answers<'a, R: Threads + Wait + Eprint + Sync>(
+/// Runs the command of a line, between whose words a slash stands.
+pub fn run_at<R: Threads + Wait + Eprint + Sync, N: Network>(
     rt: &R,
     alloc: Global,
-    level: &'a [u8],
-    list: &'a [u8],
-    client: &Client<'_>,
+    network: &mut N,
+    line: &[u8],
+    setting: &Setting<'_>,
+) -> Result<Done, Memory> {
+    let words = words_of(alloc, line)?;
+    obeyed(rt, alloc, network, words.as_slice(), setting)
+}
+
+/// The same where the network has no doors.
+pub fn run<R: Threads + Wait + Eprint + Sync>(
+    rt: &R,
+    alloc: Global,
+    line: &str,
+    setting: &Setting<'_>,
+) -> Result<Done, Memory> {
+    let mut network = MemNetwork::new(alloc, Vec::new(alloc), Vec::new(alloc));
+    run_at(rt, alloc, &mut network, line.as_bytes(), setting)
+}
+
+/// Runs the program without a word.
+pub fn run_wordless<R: Threads + Wait + Eprint + Sync>(
+    rt: &R,
+    alloc: Global,
+) -> Result<Done, Memory> {
+    let mut network = MemNetwork::new(alloc, Vec::new(alloc), Vec::new(alloc));
+    obeyed(rt, alloc, &mut network, &[], &with_file("", ""))
+}
+
+/// Runs a command over this client's link.
+pub fn served<R: Threads + Wait + Eprint + Sync>(
+    rt: &R,
+    alloc: Global,
+    line: &str,
+    client: Client<'_>,
+) -> Result<Done, Memory> {
+    let setting = Setting {
+        client,
+        ..with_file("", "")
+    };
+    run(rt, alloc, line, &setting)
+}
+
+// Whether a command ended with this status, printed nothing, and sent the client these bytes.
+fn is_answered(done: &Done, code: u8, sent: &[u8]) -> bool {
+    match &done.sent {
+        Some(bytes) => done.code == code && done.printed.is_empty() && bytes.as_slice() == sent,
+        None => false,
+    }
+}
+
+/// Whether a command over the link of a client, of whom no read and no write fails, ends with this status, prints nothing, and has sent the
+/// client these bytes.
+pub fn answers<R: Threads + Wait + Eprint + Sync>(
+    rt: &R,
+    alloc: Global,
+    line: &str,
+    client: Client<'_>,
     code: u8,
     sent: &[u8],
 ) -> Result<bool, Memory> {
-    let done = run(rt, alloc, &[b"pipe", level, list], client)?;
-    Ok(match &done.sent {
-        Some(bytes) => { done.code == code && done.printed.is_empty() && bytes.as_slice() == sent }
-        None => false,
-    })
+    let done = served(rt, alloc, line, client)?;
+    Ok(is_answered(&done, code, sent))
+}
+
+/// A client of whom no read and no write fails.
+pub fn client_of(bytes: &[u8], piece: u32) -> Client<'_> {
+    Client {
+        bytes,
+        piece,
+        ..SILENT
+    }
 }

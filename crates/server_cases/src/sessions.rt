@@ -11,11 +11,11 @@ use std::sync::Wait;
 use std::test::Fail;
 use std::thread::Threads;
 
-fn level_word(level: Level) -> &'static [u8] {
+fn level_word(level: Level) -> &'static str {
     match level {
-        Level::Rc => b"rc",
-        Level::Ra => b"ra",
-        Level::Cc => b"cc",
+        Level::Rc => "rc",
+        Level::Ra => "ra",
+        Level::Cc => "cc",
     }
 }
 
@@ -46,6 +46,13 @@ fn status_of(end: &str) -> u8 {
     }
 }
 
+// The command that serves the session, with a slash between each two words.
+fn line_of(alloc: Global, session: &Session) -> Result<String, AllocError> {
+    let list = list_of(alloc, &session.words)?;
+    let (level, list) = (level_word(session.level), list.as_str());
+    format!(in alloc; "pipe/{level}/{list}")
+}
+
 // Whether the program serves the session as its text says, for an input that comes in pieces of this length.
 fn serves<R: Threads + Wait + Eprint + Sync>(
     rt: &R,
@@ -53,19 +60,10 @@ fn serves<R: Threads + Wait + Eprint + Sync>(
     session: &Session,
     piece: u32,
 ) -> Result<bool, Fail> {
-    let list = list_of(alloc, &session.words)?;
-    let level = level_word(session.level);
+    let line = line_of(alloc, session)?;
+    let client = client_of(&session.input, piece);
     let status = status_of(session.end.as_str());
-    let held = answers(
-        rt,
-        alloc,
-        level,
-        list.as_str().as_bytes(),
-        &client_of(&session.input, piece),
-        status,
-        &session.sent,
-    )?;
-    Ok(held)
+    Ok(answers(rt, alloc, line.as_str(), client, status, &session.sent)?)
 }
 
 // The name of the first session that isn't served as its text says, or none.
@@ -100,43 +98,42 @@ fn outcome<R: Threads + Wait + Eprint + Sync>(
     Ok(format!(in alloc; "{count} held")?)
 }
 
-#[test]
-fn serves_rows(rt: HostRuntime) -> Result<(), Fail> {
-    let alloc = rt.alloc();
-    assert_eq!(rt; outcome(&rt, alloc, row_sessions())?.as_str(), "8 held");
-    assert_eq!(rt;
-        outcome(&rt, alloc, duplicate_key_sessions())?.as_str(),
-        "3 held"
-    );
-    assert_eq!(rt; outcome(&rt, alloc, delete_sessions())?.as_str(), "5 held");
-    Ok(())
+// The texts by their places in `HELD`.
+fn text_at(place: usize) -> &'static str {
+    match place {
+        0 => row_sessions(),
+        1 => duplicate_key_sessions(),
+        2 => delete_sessions(),
+        3 => message_sessions(),
+        4 => query_sessions(),
+        5 => refusal_sessions(),
+        6 => statement_sessions(),
+        7 => block_sessions(),
+        8 => level_sessions(),
+        _ => lone_sessions(),
+    }
 }
 
-#[test]
-fn serves_messages(rt: HostRuntime) -> Result<(), Fail> {
-    let alloc = rt.alloc();
-    assert_eq!(rt;
-        outcome(&rt, alloc, message_sessions())?.as_str(),
-        "10 held"
-    );
-    assert_eq!(rt; outcome(&rt, alloc, query_sessions())?.as_str(), "1 held");
-    assert_eq!(rt;
-        outcome(&rt, alloc, refusal_sessions())?.as_str(),
-        "15 held"
-    );
-    Ok(())
-}
+// What is told of each text.
+const HELD: [(usize, &str); 10] = [
+    (0, "8 held"),
+    (1, "3 held"),
+    (2, "5 held"),
+    (3, "10 held"),
+    (4, "1 held"),
+    (5, "15 held"),
+    (6, "6 held"),
+    (7, "6 held"),
+    (8, "4 held"),
+    (9, "3 held"),
+];
 
 #[test]
-fn serves_statements(rt: HostRuntime) -> Result<(), Fail> {
+fn serves_sessions(rt: HostRuntime) -> Result<(), Fail> {
     let alloc = rt.alloc();
-    assert_eq!(rt;
-        outcome(&rt, alloc, statement_sessions())?.as_str(),
-        "6 held"
-    );
-    assert_eq!(rt; outcome(&rt, alloc, block_sessions())?.as_str(), "6 held");
-    assert_eq!(rt; outcome(&rt, alloc, level_sessions())?.as_str(), "4 held");
-    assert_eq!(rt; outcome(&rt, alloc, lone_sessions())?.as_str(), "3 held");
+    for (place, wanted) in HELD {
+        assert_eq!(rt; outcome(&rt, alloc, text_at(place))?.as_str(), wanted);
+    }
     Ok(())
 }
 

@@ -1,11 +1,12 @@
 // Links, doors and networks in memory.
-ghost use Rattle.std.specs.Prelude.{◌≡◌, All, IfOk};
+ghost use Rattle.std.specs.Prelude.{All, IfOk};
 ghost use Rattle.doors.specs.Passage.{IsUnused};
 ghost use Rattle.doors.specs.MemDoors.{mem_passage};
 
-use cell_base::{Items, Memory};
+use crate::hosts::plan;
+use cell_base::Memory;
 use doors::{MemDoor, MemNetwork};
-use link_traits::{MemLink, MemPlan};
+use link_traits::MemLink;
 use session_text::{Unread, reply_bytes, request_bytes};
 use std::alloc::Global;
 
@@ -34,18 +35,6 @@ pub struct Entry<'a> {
     pub visits: &'a [Visit<'a>],
     /// The numbers, from 1 on, of the calls of `accept` that fail.
     pub failing: &'a [u64],
-}
-
-/// A side whose calls move at most so many bytes. The calls of these numbers, from 1 on, fail.
-pub fn plan(alloc: Global, piece: u32, failing: &[u64]) -> Result<MemPlan, Memory>
-    ensures { IfOk result (λ plan. plan.piece ≡ piece) }
-{
-    Ok(MemPlan {
-        piece,
-        fails: Items::from_slice(alloc, failing)?,
-        bytes: 10_000,
-        reads: 1_000,
-    })
 }
 
 // A text's bytes. A line that can't be read fails its test as a lack of memory does.

@@ -1,6 +1,6 @@
 // A client in a thread of its own, and a server over a socket of the loopback.
-use crate::running::{ONE_WORKER, Start, run};
-use cell_base::{Level, Memory};
+use crate::hosts::{run_at, with_file};
+use cell_base::Memory;
 use doors::TcpNetwork;
 use session_text::{reply_bytes, request_bytes};
 use std::alloc::Global;
@@ -97,31 +97,27 @@ fn asks<R: Net<Listener = TcpListener, Stream = TcpStream>>(
     is_sent(rt, alloc, address, &client, &expected)
 }
 
-// Whether a server at the address of this text ends well, and prints its line.
-fn ends_well<R>(rt: &R, alloc: Global, listen: &[u8]) -> Result<bool, Memory>
+// Whether a server of this command ends well, and prints its line.
+fn ends_well<R>(rt: &R, alloc: Global, line: &[u8]) -> Result<bool, Memory>
 where
     R: Net<Listener = TcpListener, Stream = TcpStream> + Threads + Wait + Eprint + Sync,
 {
     let mut network = TcpNetwork::new(rt, alloc);
-    let start = Start {
-        level: Level::Cc,
-        listen,
-        accept: 1,
-        ..ONE_WORKER
-    };
-    let ended = run(rt, alloc, &mut network, &start)?;
-    Ok(ended.code == 0 && ended.printed.as_slice() == LINE)
+    let done = run_at(rt, alloc, &mut network, line, &with_file("", ""))?;
+    Ok(done.code == 0 && done.printed.as_slice() == LINE)
 }
 
 #[test]
 fn serves_a_client_over_the_loopback(rt: HostRuntime) -> Result<(), Fail> {
     let alloc = rt.alloc();
     let address = free_address(&rt)?;
-    let listen = format!(in alloc; "{address}")?;
-    let listen = listen.as_bytes();
+    let line = format!(in alloc;
+        "serve/--quiet/--level/cc/--seed/7/--listen/{address}/--workers/1/--accept/1"
+    )?;
+    let line = line.as_bytes();
     let (ends, asks) = join(
         &rt,
-        || ends_well(&rt, alloc, listen),
+        || ends_well(&rt, alloc, line),
         || asks(&rt, alloc, address),
     );
     assert!(rt; ends?);

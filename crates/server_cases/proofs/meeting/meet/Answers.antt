@@ -7,7 +7,7 @@ use Rattle.shared_book.specs.Books.{past_of}
 use Rattle.shared_book.proofs.Sending.{book_send}
 use Rattle.door_workers.specs.Workers.{IsReady, post_of}
 use Rattle.std.specs.Prelude.{◌+◌, ◌≤◌, vec_len, vec_capacity}
-use Rattle.meeting_cases.proofs.meeting.meet.Goals as goal
+use Rattle.server_cases.proofs.meeting.meet.Goals as goal
 
 pub serve_doors-requires-send-B : goal.serve_doors-requires-send-B
 serve_doors-requires-send-B g c κs within = let shared = c.type_bounds.sync-R in search (sendable, declared_send, book_send) depth 20

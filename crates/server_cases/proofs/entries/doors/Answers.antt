@@ -3,7 +3,7 @@ use Rattle.std.proofs.Common.{subst, sym}
 use Rattle.std.proofs.lemmas.List.Elements.{All-push}
 use Rattle.doors.specs.MemDoors.{MemDoorState, mem_passage}
 use Rattle.doors.specs.Passage.{IsUnused}
-use Rattle.serve_cases.proofs.parts.doors.Goals as goal
+use Rattle.server_cases.proofs.entries.doors.Goals as goal
 
 pub loop-entry-preserved : goal.loop-entry-preserved
 loop-entry-preserved c =

@@ -1,4 +1,7 @@
-// Two workers with one link each over one history, whose sessions meet.
+// Two workers with one link each over one history, whose sessions meet: each waits inside its statement until the other one has come as far.
+//
+// A server that runs sessions one after another, in whichever order, never gets there, and neither does one that holds the history over a
+// whole statement. No contract speaks of the order in which threads run.
 ghost use Rattle.std.specs.Prelude.{◌≡◌, ◌+◌, ◌≤◌, IfOk, vec_len, vec_capacity};
 ghost use Rattle.history_core.specs.Book.{no_session};
 ghost use Rattle.doors.specs.Passage.{IsUnused};
@@ -6,7 +9,7 @@ ghost use Rattle.doors.specs.MemDoors.{mem_passage};
 ghost use Rattle.shared_book.specs.Books.{past_of};
 ghost use Rattle.door_workers.specs.Workers.{IsReady, post_of};
 
-use crate::words::{MeetingWords, meeting_words};
+use crate::meeting_words::{MeetingWords, meeting_words};
 use cell_base::{Items, Level, Memory};
 use choice_stream::ListWords;
 use door_workers::{Progress, Worker, serve_doors};
