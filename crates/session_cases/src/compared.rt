@@ -1,5 +1,5 @@
 // What came of a session beside what its text says.
-use crate::serving::{Outcome, outcome};
+use crate::serving::{Outcome, served_new};
 use link_traits::MemLink;
 use session_core::Served;
 use session_text::Session;
@@ -86,6 +86,6 @@ fn compared(
 
 /// What isn't as the session's text says, where its client is served over this link: nothing, where all of it is.
 pub fn difference(alloc: Global, session: &Session, link: &mut MemLink) -> Result<String, Fail> {
-    let came = outcome(alloc, session, link)?;
+    let came = served_new(alloc, session, link)?;
     Ok(compared(alloc, session, &came, link.written())?)
 }

@@ -20,7 +20,7 @@ const CLIENT: &str = r"
 
 // What became of a session that came after others: how many of these could be opened, its number and its end, and how many events there are.
 #[derive(Clone, Copy, Debug, PartialEq, Eq)]
-struct Left {
+struct Remainder {
     opened: u32,
     session: Option<u32>,
     end: End,
@@ -44,12 +44,12 @@ fn opened(book: &mut SeatBook, number: u32) -> u32
 }
 
 // Serves the client after so many other sessions.
-fn left(alloc: Global, client: &Session, number: u32) -> Result<Left, Fail> {
+fn after_others(alloc: Global, client: &Session, number: u32) -> Result<Remainder, Fail> {
     let mut link = failing_link(alloc, &client.input, 10_000, 10_000, &[], &[])?;
     let mut book = new_book(alloc, client.level)?;
     let opened = opened(&mut book, number);
     let served = serve(alloc, client, &mut book, &mut link)?;
-    Ok(Left {
+    Ok(Remainder {
         opened,
         session: served.session,
         end: served.end,
@@ -59,14 +59,14 @@ fn left(alloc: Global, client: &Session, number: u32) -> Result<Left, Fail> {
 
 #[test]
 fn refuses_a_session_beyond_the_last(rt: HostRuntime) -> Result<(), Fail> {
-    let expected = Left {
+    let expected = Remainder {
         opened: 4096,
         session: None,
         end: End::Refused(SqlState::S54000),
         events: 8192,
     };
     for client in &read_sessions(rt.alloc(), CLIENT)? {
-        assert_eq!(rt; left(rt.alloc(), client, 4096)?, expected);
+        assert_eq!(rt; after_others(rt.alloc(), client, 4096)?, expected);
     }
     Ok(())
 }

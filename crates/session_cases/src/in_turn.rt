@@ -2,7 +2,7 @@
 ghost use Rattle.std.specs.Prelude.{◌<◌};
 
 use crate::links::failing_link;
-use crate::serving::{Outcome, outcome};
+use crate::serving::{Outcome, served_new};
 use session_core::End;
 use session_text::{Session, read_sessions};
 use std::alloc::Global;
@@ -120,7 +120,7 @@ fn leaves(
     requires { 0 < piece }
 {
     let mut link = failing_link(alloc, &session.input, piece, 10_000, reads, writes)?;
-    let came = outcome(alloc, session, &mut link)?;
+    let came = served_new(alloc, session, &mut link)?;
     Ok(is_left(session, &came, link.written(), row))
 }
 

@@ -41,7 +41,7 @@ pub fn serve(
 }
 
 /// The same over a new history.
-pub fn outcome(alloc: Global, session: &Session, link: &mut MemLink) -> Result<Outcome, Fail> {
+pub fn served_new(alloc: Global, session: &Session, link: &mut MemLink) -> Result<Outcome, Fail> {
     let mut book = new_book(alloc, session.level)?;
     let served = serve(alloc, session, &mut book, link)?;
     Ok(Outcome {

@@ -1,5 +1,10 @@
-//! No tests, but a library of those of histories: a table of two columns, and the cells of its first row.
+//! No tests, but a library of those of histories: a table of two columns, the cells of its first row, and the seats of a store whose
+//! sessions take turns.
 #![tactic(auto)]
+
+mod seats;
+
+pub use seats::{Misplaced, busy_seat, idle_seat, misplaced_at};
 
 ghost use Rattle.std.specs.Prelude.{◌≡◌, IfOk};
 ghost use Rattle.sound_table.specs.Sound.{IsSound};
