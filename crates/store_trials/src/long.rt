@@ -43,7 +43,10 @@ fn sees_its_own_row_4000_times(rt: HostRuntime) -> Result<(), Fail> {
 /// Causal Consistency, a second session: each of the 4,000 misses the first session's row, so that none stands before or after it.
 #[test]
 fn misses_another_row_4000_times(rt: HostRuntime) -> Result<(), Fail> {
-    assert_eq!(rt; reads_of(rt.alloc(), 2, Level::Cc, (0, 2))?, expected(false));
+    assert_eq!(rt;
+        reads_of(rt.alloc(), 2, Level::Cc, (0, 2))?,
+        expected(false)
+    );
     Ok(())
 }
 

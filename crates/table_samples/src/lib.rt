@@ -4,13 +4,12 @@
 
 mod seats;
 
-pub use seats::{Misplaced, busy_seat, idle_seat, misplaced_at};
-
 ghost use Rattle.std.specs.Prelude.{◌≡◌, IfOk};
 ghost use Rattle.sound_table.specs.Sound.{IsSound};
 ghost use Rattle.history_core.specs.Events.{table_of};
 
 use cell_base::{Cell, Items, Key, Memory, SqlType, Text, Value};
+pub use seats::{Misplaced, busy_seat, idle_seat, misplaced_at};
 use sql_tree::{Column, Table};
 use std::alloc::Global;
 
