@@ -21,23 +21,26 @@ fn plan(alloc: Global, piece: u32, fails: &[u64]) -> Result<MemPlan, Memory>
 pub fn link(alloc: Global, input: &[u8], piece: u32) -> Result<MemLink, Memory>
     requires { 0 < piece }
 {
-    failing_link(alloc, input, piece, &[], &[])
+    failing_link(alloc, input, piece, 64, &[], &[])
 }
 
-/// The same, where the reads and the writes of these numbers fail, each counted from 1 on.
+/// A link whose reads give this input in pieces of the first length, and whose writes take the second at most. The reads and the writes of
+/// these numbers fail, each counted from 1 on.
 pub fn failing_link(
     alloc: Global,
     input: &[u8],
-    piece: u32,
+    given: u32,
+    taken: u32,
     reads: &[u64],
     writes: &[u64],
 ) -> Result<MemLink, Memory>
-    requires { 0 < piece }
+    requires given { 0 < given }
+    requires taken { 0 < taken }
 {
     MemLink::new(
         alloc,
         Vec::from_slice(alloc, input)?,
-        plan(alloc, piece, reads)?,
-        plan(alloc, 64, writes)?,
+        plan(alloc, given, reads)?,
+        plan(alloc, taken, writes)?,
     )
 }

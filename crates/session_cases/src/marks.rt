@@ -1,8 +1,8 @@
 // What had been written before each read: a reply that is held back over a read would show here.
 ghost use Rattle.std.specs.Prelude.{◌<◌};
 
+use crate::compared::difference;
 use crate::links::link;
-use crate::serving::difference;
 use session_text::{Session, read_sessions};
 use std::alloc::Global;
 use std::test::Fail;

@@ -1,8 +1,8 @@
 // The sessions of `session_text`, over links in memory, in pieces of several lengths.
 ghost use Rattle.std.specs.Prelude.{◌<◌};
 
+use crate::compared::difference;
 use crate::links::link;
-use crate::serving::difference;
 use session_text::{
     Session, block_sessions, delete_sessions, duplicate_key_sessions, level_sessions,
     lone_sessions, message_sessions, query_sessions, read_sessions, refusal_sessions, row_sessions,
@@ -35,7 +35,7 @@ fn first_difference(alloc: Global, sessions: &[Session], piece: u32) -> Result<S
 
 // The first of a text's sessions that isn't as the text says, and what differs, for inputs in pieces of several lengths; or how many
 // sessions there are.
-fn outcome(alloc: Global, text: &str) -> Result<String, Fail> {
+fn held(alloc: Global, text: &str) -> Result<String, Fail> {
     let sessions = read_sessions(alloc, text)?;
     for piece in [1, 2, 3, 7, 29, 64, 100] {
         let found = first_difference(alloc, &sessions, piece)?;
@@ -50,55 +50,70 @@ fn outcome(alloc: Global, text: &str) -> Result<String, Fail> {
 #[test]
 fn serves_sessions_of_one_row(rt: HostRuntime) -> Result<(), Fail> {
     let alloc = rt.alloc();
-    assert_eq!(rt; outcome(alloc, row_sessions())?.as_str(), "8 held");
-    assert_eq!(rt;
-        outcome(alloc, duplicate_key_sessions())?.as_str(),
-        "3 held"
-    );
+    assert_eq!(rt; held(alloc, row_sessions())?.as_str(), "8 held");
+    Ok(())
+}
+
+#[test]
+fn refuses_duplicate_keys(rt: HostRuntime) -> Result<(), Fail> {
+    let alloc = rt.alloc();
+    assert_eq!(rt; held(alloc, duplicate_key_sessions())?.as_str(), "3 held");
     Ok(())
 }
 
 #[test]
 fn serves_messages(rt: HostRuntime) -> Result<(), Fail> {
     let alloc = rt.alloc();
-    assert_eq!(rt; outcome(alloc, message_sessions())?.as_str(), "10 held");
-    assert_eq!(rt; outcome(alloc, query_sessions())?.as_str(), "1 held");
+    assert_eq!(rt; held(alloc, message_sessions())?.as_str(), "10 held");
+    Ok(())
+}
+
+#[test]
+fn serves_many_queries(rt: HostRuntime) -> Result<(), Fail> {
+    let alloc = rt.alloc();
+    assert_eq!(rt; held(alloc, query_sessions())?.as_str(), "1 held");
     Ok(())
 }
 
 #[test]
 fn serves_blocks(rt: HostRuntime) -> Result<(), Fail> {
     let alloc = rt.alloc();
-    assert_eq!(rt; outcome(alloc, block_sessions())?.as_str(), "6 held");
+    assert_eq!(rt; held(alloc, block_sessions())?.as_str(), "6 held");
     Ok(())
 }
 
 #[test]
 fn serves_statements(rt: HostRuntime) -> Result<(), Fail> {
     let alloc = rt.alloc();
-    assert_eq!(rt; outcome(alloc, statement_sessions())?.as_str(), "6 held");
+    assert_eq!(rt; held(alloc, statement_sessions())?.as_str(), "6 held");
     Ok(())
 }
 
 #[test]
 fn serves_deletes(rt: HostRuntime) -> Result<(), Fail> {
     let alloc = rt.alloc();
-    assert_eq!(rt; outcome(alloc, delete_sessions())?.as_str(), "5 held");
+    assert_eq!(rt; held(alloc, delete_sessions())?.as_str(), "5 held");
     Ok(())
 }
 
 #[test]
 fn refuses_what_is_not_supported(rt: HostRuntime) -> Result<(), Fail> {
     let alloc = rt.alloc();
-    assert_eq!(rt; outcome(alloc, refusal_sessions())?.as_str(), "15 held");
+    assert_eq!(rt; held(alloc, refusal_sessions())?.as_str(), "15 held");
     Ok(())
 }
 
 #[test]
 fn chooses_levels(rt: HostRuntime) -> Result<(), Fail> {
     let alloc = rt.alloc();
-    assert_eq!(rt; outcome(alloc, level_sessions())?.as_str(), "4 held");
-    assert_eq!(rt; outcome(alloc, lone_sessions())?.as_str(), "3 held");
+    assert_eq!(rt; held(alloc, level_sessions())?.as_str(), "4 held");
+    Ok(())
+}
+
+#[test]
+fn serves_lone_sessions(rt: HostRuntime) -> Result<(), Fail> {
+    let alloc = rt.alloc();
+    assert_eq!(rt; held(alloc, lone_sessions())?.as_str(), "3 held");
     Ok(())
 }
 
@@ -115,14 +130,21 @@ fn difference_in_each(alloc: Global, text: &str, count: usize, bound: u32) -> Re
     Ok(String::new(alloc))
 }
 
-// The refused encryption, of 29 bytes, and the two first sessions of a row, of 141: in pieces of each length up to the whole input.
+// The refused encryption, of 29 bytes, in pieces of each length up to the whole input.
 #[test]
-fn serves_pieces_of_each_length(rt: HostRuntime) -> Result<(), Fail> {
+fn serves_requests_in_pieces_of_each_length(rt: HostRuntime) -> Result<(), Fail> {
     let alloc = rt.alloc();
     assert_eq!(rt;
         difference_in_each(alloc, message_sessions(), 1, 30)?.as_str(),
         ""
     );
+    Ok(())
+}
+
+// The two first sessions of a row, of 141 bytes.
+#[test]
+fn serves_rows_in_pieces_of_each_length(rt: HostRuntime) -> Result<(), Fail> {
+    let alloc = rt.alloc();
     assert_eq!(rt;
         difference_in_each(alloc, row_sessions(), 2, 143)?.as_str(),
         ""

@@ -12,8 +12,6 @@ mod cells;
 #[cfg(test)]
 mod play;
 #[cfg(test)]
-mod seats;
-#[cfg(test)]
 mod start;
 #[cfg(test)]
 mod stop;

@@ -2,12 +2,12 @@
 ghost use Rattle.history_core.specs.Book.{IsInTransaction, HasTable};
 
 use crate::cells::{Spot, are_integers};
-use crate::seats::{busy_seat, has_table, idle_seat, misplaced};
 use crate::start::stage;
 use crate::stop::Stop;
 use cell_base::Level;
 use history_core::{Book, BookFault, Event};
 use std::alloc::Global;
+use table_samples::{busy_seat, idle_seat, misplaced_at};
 use valid_writes::{SeatBook, Store};
 
 /// A call, with what is expected of it. A number that a cell has is read as `Spot::value` says.
@@ -103,9 +103,6 @@ fn go_on(store: Store, session: u32, call: Call) -> Result<Store, Stop> {
         return Err(unlike(&store));
     }
     let mut book = busy_seat(store, session)?;
-    if !has_table(&book) {
-        return Err(misplaced(&book.into_store()));
-    }
     if !act(&mut book, call)? {
         return Err(unlike(&book.into_store()));
     }
@@ -129,7 +126,7 @@ fn is_offered(store: &Store, session: u32, call: Call) -> Result<bool, Stop> {
 fn offers(store: &Store, session: u32, spot: Spot, want: &[u32]) -> Result<bool, Stop> {
     match store.history().pending(session) {
         Some(_) => Ok(store.offer(session, &spot.cell())?.as_slice() == want),
-        None => Err(misplaced(store)),
+        None => Err(Stop::from(misplaced_at(store))),
     }
 }
 

@@ -2,6 +2,7 @@
 use cell_base::Memory;
 use history_core::BookFault;
 use std::alloc::{AllocError, AllocFailed};
+use table_samples::Misplaced;
 use thiserror::Error;
 
 /// Why a run of calls ends early. Numbers are those of the event that would have come next.
@@ -16,6 +17,12 @@ pub enum Stop {
     /// Something else was offered or told than was expected.
     #[error("another answer before event {0}")]
     Unlike(u32),
+}
+
+impl From<Misplaced> for Stop {
+    fn from(misplaced: Misplaced) -> Self {
+        Stop::Misplaced(misplaced.next)
+    }
 }
 
 impl From<Memory> for Stop {

@@ -14,15 +14,11 @@ mod full;
 #[cfg(test)]
 mod long;
 #[cfg(test)]
-mod numbers;
-#[cfg(test)]
 mod orders;
 #[cfg(test)]
 mod plain;
 #[cfg(test)]
 mod random;
-#[cfg(test)]
-mod seats;
 #[cfg(test)]
 mod start;
 #[cfg(test)]

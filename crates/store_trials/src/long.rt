@@ -1,79 +1,111 @@
 // Long histories: thousands of transactions of which each reads, and what precedes what in the end.
 ghost use Rattle.std.specs.Prelude.{OnOk};
-ghost use Rattle.store_trials.specs.SessionStates.{IsReady, IsFresh, IsBusy};
+ghost use Rattle.table_samples.specs.SessionStates.{IsReady, IsFresh, IsBusy};
 
-use crate::seats::ready_seat;
+use crate::calls::{begin_at, store_of};
 use crate::start::stage;
 use crate::stop::Stop;
-use cell_base::{Cell, Key, Level, Value};
-use history_core::{Book, BookFault, Event, History};
+use cell_base::{Level, Value};
+use history_core::{Book, Event, History};
 use std::alloc::Global;
 use std::test::Fail;
+use table_samples::{idle_seat, presence};
 use valid_writes::{SeatBook, Store};
 
 /// How many transactions read.
 const READERS: u32 = 4_000;
 
+/// How many reads are from the source that is expected, of so many offered; how many transactions there are with the initial one; and whether
+/// each commit order has the first before the last reader, and the other way round.
+#[derive(Clone, Copy, Debug, PartialEq, Eq)]
+struct Reads {
+    reads: usize,
+    size: u32,
+    reaches_last: bool,
+    reaches_first: bool,
+}
+
 /// Read Committed, one session: its first transaction writes the presence of row 1, and each of 4,000 more reads it by the word 0, and so
 /// misses it.
 #[test]
 fn misses_its_own_row_4000_times(rt: HostRuntime) -> Result<(), Fail> {
-    let store = read_4000_times(rt.alloc(), 1, Level::Rc)?;
-    assert_eq!(&rt; count_reads(store.history(), 0, 2), 4_000);
-    assert_eq!(&rt; store.reach().size(), 4_002);
-    assert!(&rt; reaches(&store, 1, 4_001));
-    assert!(&rt; !reaches(&store, 4_001, 1));
+    assert_eq!(rt; reads_of(rt.alloc(), 1, Level::Rc, (0, 2))?, expected(true));
     Ok(())
 }
 
 /// Causal Consistency, one session: each of the 4,000 is offered the row alone.
 #[test]
 fn sees_its_own_row_4000_times(rt: HostRuntime) -> Result<(), Fail> {
-    let store = read_4000_times(rt.alloc(), 1, Level::Cc)?;
-    assert_eq!(&rt; count_reads(store.history(), 1, 1), 4_000);
-    assert_eq!(&rt; store.reach().size(), 4_002);
-    assert!(&rt; reaches(&store, 1, 4_001));
-    assert!(&rt; !reaches(&store, 4_001, 1));
+    assert_eq!(rt; reads_of(rt.alloc(), 1, Level::Cc, (1, 1))?, expected(true));
     Ok(())
 }
 
 /// Causal Consistency, a second session: each of the 4,000 misses the first session's row, so that none stands before or after it.
 #[test]
 fn misses_another_row_4000_times(rt: HostRuntime) -> Result<(), Fail> {
-    let store = read_4000_times(rt.alloc(), 2, Level::Cc)?;
-    assert_eq!(&rt; count_reads(store.history(), 0, 2), 4_000);
-    assert_eq!(&rt; store.reach().size(), 4_002);
-    assert!(&rt; !reaches(&store, 1, 4_001));
-    assert!(&rt; !reaches(&store, 4_001, 1));
+    assert_eq!(rt;
+        reads_of(rt.alloc(), 2, Level::Cc, (0, 2))?,
+        expected(false)
+    );
     Ok(())
+}
+
+/// What is to come of 4,000 reads.
+fn expected(reaches_last: bool) -> Reads {
+    Reads {
+        reads: 4_000,
+        size: 4_002,
+        reaches_last,
+        reaches_first: false,
+    }
+}
+
+/// What comes of 4,000 reads in the session, of which those are counted that are from the source, of so many offered.
+fn reads_of(alloc: Global, session: u32, level: Level, counted: (u32, u32)) -> Result<Reads, Stop> {
+    let store = read_4000_times(alloc, session, level)?;
+    Ok(reads_in(&store, counted))
+}
+
+fn reads_in(store: &Store, (source, count): (u32, u32)) -> Reads {
+    Reads {
+        reads: count_reads(store.history(), source, count),
+        size: store.reach().size(),
+        reaches_last: reaches(store, 1, 4_001),
+        reaches_first: reaches(store, 4_001, 1),
+    }
 }
 
 /// A store in which session 1 has written the presence of row 1, and then the session has read it 4,000 times.
 fn read_4000_times(alloc: Global, session: u32, level: Level) -> Result<Store, Stop> {
-    let mut book = ready_seat(stage(alloc, 2)?, 1)?;
-    write_alone(&mut book)?;
-    read_in(book.into_store(), session, level)
+    let store = write_in(stage(alloc, 2)?, 1)?;
+    read_in(store, session, level)
+}
+
+fn write_in(store: Store, session: u32) -> Result<Store, Stop> {
+    let mut book = idle_seat(store, session)?;
+    let came = write_alone(&mut book);
+    store_of(book, came)
 }
 
 fn read_in(store: Store, session: u32, level: Level) -> Result<Store, Stop> {
-    let mut book = ready_seat(store, session)?;
-    read_many(&mut book, level)?;
-    Ok(book.into_store())
+    let mut book = idle_seat(store, session)?;
+    let came = read_many(&mut book, level);
+    store_of(book, came)
 }
 
 /// A transaction that writes the presence of row 1.
-fn write_alone(book: &mut SeatBook) -> Result<(), BookFault>
+fn write_alone(book: &mut SeatBook) -> Result<(), Stop>
     requires { IsReady book.old }
     ensures { OnOk result (IsReady book.new) }
 {
-    begin(book, Level::Rc)?;
+    begin_at(book, Level::Rc)?;
     write(book)?;
     commit(book);
     Ok(())
 }
 
 /// Transactions that read it by the word 0, one after another.
-fn read_many(book: &mut SeatBook, level: Level) -> Result<(), BookFault>
+fn read_many(book: &mut SeatBook, level: Level) -> Result<(), Stop>
     requires { IsReady book.old }
     ensures { OnOk result (IsReady book.new) }
 {
@@ -83,38 +115,34 @@ fn read_many(book: &mut SeatBook, level: Level) -> Result<(), BookFault>
     Ok(())
 }
 
-fn read_alone(book: &mut SeatBook, level: Level) -> Result<(), BookFault>
+fn read_alone(book: &mut SeatBook, level: Level) -> Result<(), Stop>
     requires { IsReady book.old }
     ensures { OnOk result (IsReady book.new) }
 {
-    begin(book, level)?;
+    begin_at(book, level)?;
     read(book)?;
     commit(book);
     Ok(())
 }
 
-fn begin(book: &mut SeatBook, level: Level) -> Result<(), BookFault>
-    requires { IsReady book.old }
-    ensures { OnOk result (IsFresh book.new) }
-{
-    book.begin(level)?;
-    Ok(())
-}
-
-fn read(book: &mut SeatBook) -> Result<(), BookFault>
-    requires { IsFresh book.old }
-    ensures { OnOk result (IsFresh book.new) }
-{
-    book.read(&Cell::Presence(0, Key::Int(1)), 0)?;
-    Ok(())
-}
-
-fn write(book: &mut SeatBook) -> Result<(), BookFault>
+fn read(book: &mut SeatBook) -> Result<(), Stop>
     requires { IsFresh book.old }
     ensures { OnOk result (IsBusy book.new) }
 {
-    book.write(Cell::Presence(0, Key::Int(1)), Value::Flag(true))?;
-    Ok(())
+    match book.read(&presence(), 0) {
+        Ok(_) => Ok(()),
+        Err(fault) => Err(Stop::from(fault)),
+    }
+}
+
+fn write(book: &mut SeatBook) -> Result<(), Stop>
+    requires { IsFresh book.old }
+    ensures { OnOk result (IsBusy book.new) }
+{
+    match book.write(presence(), Value::Flag(true)) {
+        Ok(()) => Ok(()),
+        Err(fault) => Err(Stop::from(fault)),
+    }
 }
 
 fn commit(book: &mut SeatBook)

@@ -14,11 +14,20 @@ pub fn plain_offer(
     spot: Spot,
 ) -> Result<Vec<u32>, Stop> {
     let mut plain = plain_of(alloc, events)?;
+    offer_of(alloc, &mut plain, events.len(), session, spot)
+}
+
+/// The same after so many events, of which the transactions, writes and reads are these.
+fn offer_of(
+    alloc: Global,
+    plain: &mut Plain,
+    place: usize,
+    session: u32,
+    spot: Spot,
+) -> Result<Vec<u32>, Stop> {
     let mut offer = Vec::new(alloc);
     for source in 0..SIZE {
-        if plain.is_writer(source, spot)
-            && may_read(alloc, &mut plain, events.len(), session, spot, source)?
-        {
+        if plain.is_writer(source, spot) && may_read(alloc, plain, place, session, spot, source)? {
             offer.push(source)?;
         }
     }
@@ -54,17 +63,21 @@ fn some_order_meets(alloc: Global, plain: &Plain) -> Result<bool, Stop> {
 
 /// The order of that number, of the 720 of six transactions after the initial one. Those that haven't begun stand in no pair.
 fn order_of(alloc: Global, number: u32) -> Result<Vec<u32>, Stop> {
-    let mut left = vec![in alloc; 1, 2, 3, 4, 5, 6]?;
-    let mut order = vec![in alloc; 0]?;
+    let mut order = vec![in alloc; 0, 1, 2, 3, 4, 5, 6]?;
     let mut rest = number;
-    for count in (1..SIZE).rev() {
-        let place = (rest % count) as usize;
+    for count in 1..SIZE {
+        swap(&mut order, count, 1 + rest % count);
         rest /= count;
-        if place < left.len() {
-            order.push(left.swap_remove(place))?;
-        }
     }
     Ok(order)
+}
+
+/// Swaps the transactions at two places.
+fn swap(order: &mut [u32], first: u32, second: u32) {
+    let (first, second) = (first as usize, second as usize);
+    if first < order.len() && second < order.len() {
+        order.swap(first, second);
+    }
 }
 
 /// Whether the first stands before the second.
@@ -80,15 +93,31 @@ fn stands_before(order: &[u32], first: u32, second: u32) -> bool {
 /// Session order, who reads from whom, and for each read each other writer of its cell that it sees, before its source.
 fn demanded(alloc: Global, plain: &Plain) -> Result<Vec<(u32, u32)>, Stop> {
     let mut pairs = preceding(alloc, plain)?;
+    add_demanded(alloc, plain, &mut pairs)?;
+    Ok(pairs)
+}
+
+/// Adds for each read each other writer of its cell that it sees, before its source.
+fn add_demanded(alloc: Global, plain: &Plain, pairs: &mut Vec<(u32, u32)>) -> Result<(), Stop> {
     let causal = causal(alloc, plain)?;
     for read in &plain.reads {
-        for writer in 0..SIZE {
-            if is_demanded(plain, &causal, *read, writer) {
-                pairs.push((writer, read.source))?;
-            }
+        add_seen(plain, &causal, *read, pairs)?;
+    }
+    Ok(())
+}
+
+fn add_seen(
+    plain: &Plain,
+    causal: &[(u32, u32)],
+    read: Given,
+    pairs: &mut Vec<(u32, u32)>,
+) -> Result<(), Stop> {
+    for writer in 0..SIZE {
+        if is_demanded(plain, causal, read, writer) {
+            pairs.push((writer, read.source))?;
         }
     }
-    Ok(pairs)
+    Ok(())
 }
 
 /// The pairs of which the first precedes the second.
@@ -107,13 +136,19 @@ fn preceding(alloc: Global, plain: &Plain) -> Result<Vec<(u32, u32)>, Stop> {
 /// The pairs of which a chain of preceding transactions leads from the first to the second.
 fn causal(alloc: Global, plain: &Plain) -> Result<Vec<(u32, u32)>, Stop> {
     let steps = preceding(alloc, plain)?;
-    let mut pairs = preceding(alloc, plain)?;
+    let mut pairs = Vec::from_slice(alloc, &steps)?;
+    add_chains(&mut pairs, &steps)?;
+    Ok(pairs)
+}
+
+/// Adds the pairs of chains, of which there are no more than 49.
+fn add_chains(pairs: &mut Vec<(u32, u32)>, steps: &[(u32, u32)]) -> Result<(), Stop> {
     for place in 0..49 {
         if let Some((first, middle)) = pairs.get(place).copied() {
-            go_further(&mut pairs, &steps, first, middle)?;
+            go_further(pairs, steps, first, middle)?;
         }
     }
-    Ok(pairs)
+    Ok(())
 }
 
 /// Adds the pairs of the first and each that the middle precedes.

@@ -44,11 +44,7 @@ pub fn plain_of(alloc: Global, events: &[Event]) -> Result<Plain, Stop> {
         writes: Vec::new(alloc),
         reads: Vec::new(alloc),
     };
-    plain.begin(0, Level::Cc)?;
-    plain.commit(0);
-    for (place, event) in events.iter().enumerate() {
-        plain.note(place, event)?;
-    }
+    plain.note_all(events)?;
     Ok(plain)
 }
 
@@ -68,6 +64,16 @@ fn integer(key: &Key) -> i64 {
 }
 
 impl Plain {
+    /// Notes the initial transaction, and what the events say.
+    fn note_all(&mut self, events: &[Event]) -> Result<(), Stop> {
+        self.begin(0, Level::Cc)?;
+        self.commit(0);
+        for (place, event) in events.iter().enumerate() {
+            self.note(place, event)?;
+        }
+        Ok(())
+    }
+
     /// Notes what the event at the place says.
     fn note(&mut self, place: usize, event: &Event) -> Result<(), Stop> {
         match event {

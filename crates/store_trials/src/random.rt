@@ -1,22 +1,24 @@
 // Random histories of several sessions at mixed levels, with scans, own reads and rollbacks: each offer beside the trial of all orders, and beside
 // the forced pairs.
+ghost use Rattle.std.specs.Prelude.{◌<◌};
 ghost use Rattle.history_core.specs.Transactions.{HasPending};
 ghost use Rattle.saturation.specs.Laws.{AreForced};
 
 use crate::calls::{Call, begin, go_on};
 use crate::cells::Spot;
-use crate::numbers::Numbers;
 use crate::orders::plain_offer;
 use crate::plain::MOST;
-use crate::seats::misplaced;
 use crate::start::stage;
-use crate::stop::Stop;
+use crate::stop::{Stop, unlike};
 use cell_base::{Cell, Level};
+use choice_stream::SeedWords;
 use graph_base::Graph;
 use history_core::History;
+use link_traits::Words;
 use saturation::{candidates, forced, is_permitted};
 use std::alloc::Global;
 use std::test::Fail;
+use table_samples::misplaced_at;
 use valid_writes::Store;
 
 /// How many calls each history has.
@@ -25,23 +27,29 @@ const CALLS: u32 = 60;
 /// How many sessions each history has.
 const SESSIONS: u32 = 3;
 
+/// Which levels there are.
+const LEVELS: &[Level] = &[Level::Rc, Level::Ra, Level::Cc];
+
 /// What a run compares, and how much of it there was.
 #[derive(Drop)]
 struct Run {
-    numbers: Numbers,
+    words: SeedWords,
     most: u32,
-    reads: u32,
-    permitted: u32,
-    refused: u32,
+    reads: usize,
+    permitted: usize,
+    refused: usize,
+}
+
+/// Whether a run compared so much: reads, and candidates that were refused.
+fn is_large(run: &Run, reads: usize, refused: usize) -> bool {
+    run.reads > reads && run.permitted > run.reads && run.refused > refused
 }
 
 /// Histories of up to six transactions: each offer beside the trial of all orders, and beside the forced pairs of each candidate.
 #[test]
 fn offers_beside_all_orders(rt: HostRuntime) -> Result<(), Fail> {
     let run = run_of(rt.alloc(), 20_191, MOST, 700)?;
-    assert!(&rt; run.reads > 6_500);
-    assert!(&rt; run.permitted > run.reads);
-    assert!(&rt; run.refused > 400);
+    assert!(&rt; is_large(&run, 6_500, 400));
     Ok(())
 }
 
@@ -49,25 +57,36 @@ fn offers_beside_all_orders(rt: HostRuntime) -> Result<(), Fail> {
 #[test]
 fn offers_beside_forced_pairs(rt: HostRuntime) -> Result<(), Fail> {
     let run = run_of(rt.alloc(), 4_096, 12, 1_400)?;
-    assert!(&rt; run.reads > 13_000);
-    assert!(&rt; run.permitted > run.reads);
-    assert!(&rt; run.refused > 800);
+    assert!(&rt; is_large(&run, 13_000, 800));
     Ok(())
 }
 
 /// Plays so many histories of at most so many transactions.
 fn run_of(alloc: Global, seed: u64, most: u32, histories: u32) -> Result<Run, Stop> {
     let mut run = Run {
-        numbers: Numbers { state: seed },
+        words: SeedWords::new(seed, 0),
         most,
         reads: 0,
         permitted: 0,
         refused: 0,
     };
-    for _ in 0..histories {
-        play_random(alloc, &mut run)?;
-    }
+    play_many(alloc, &mut run, histories)?;
     Ok(run)
+}
+
+fn play_many(alloc: Global, run: &mut Run, histories: u32) -> Result<(), Stop> {
+    for _ in 0..histories {
+        play_random(alloc, run)?;
+    }
+    Ok(())
+}
+
+/// The next word below a bound.
+fn below(words: &mut SeedWords, bound: u32) -> u32
+    requires { 0 < bound }
+    ensures { result < bound }
+{
+    words.next() % bound
 }
 
 /// Makes the calls of one history.
@@ -81,15 +100,26 @@ fn play_random(alloc: Global, run: &mut Run) -> Result<(), Stop> {
 
 /// Makes any call in any session.
 fn make_any(alloc: Global, store: Store, run: &mut Run) -> Result<Store, Stop> {
-    let session = 1 + run.numbers.below(SESSIONS);
-    if store.history().pending(session).is_none() {
-        return begin_any(store, session, run);
+    let session = 1 + below(&mut run.words, SESSIONS);
+    match store.history().pending(session) {
+        Some(_) => go_on_any(alloc, store, session, run),
+        None => begin_any(store, session, run),
     }
-    let call = any_call(&mut run.numbers);
-    if let Call::See(spot, _) = call {
-        compare(alloc, &store, session, spot, run)?;
+}
+
+/// Makes any call in a pending transaction. What a read is offered is compared first.
+fn go_on_any(alloc: Global, store: Store, session: u32, run: &mut Run) -> Result<Store, Stop> {
+    let call = any_call(&mut run.words);
+    let compared = compare_call(alloc, &store, session, call, run);
+    go_on(kept(store, compared)?, session, call)
+}
+
+/// The store, where the comparison held.
+fn kept(store: Store, compared: Result<(), Stop>) -> Result<Store, Stop> {
+    match compared {
+        Ok(()) => Ok(store),
+        Err(stop) => Err(stop),
     }
-    go_on(store, session, call)
 }
 
 /// Starts a transaction at any level, as long as there are few.
@@ -97,19 +127,18 @@ fn begin_any(store: Store, session: u32, run: &mut Run) -> Result<Store, Stop> {
     if store.history().begun() >= run.most {
         return Ok(store);
     }
-    let level = match run.numbers.below(3) {
-        0 => Level::Rc,
-        1 => Level::Ra,
-        _ => Level::Cc,
-    };
-    begin(store, session, level)
+    begin(store, session, any_level(&mut run.words))
+}
+
+fn any_level(words: &mut SeedWords) -> Level {
+    LEVELS[below(words, 3) as usize]
 }
 
 /// Any call of a transaction.
-fn any_call(numbers: &mut Numbers) -> Call {
-    let spot = any_spot(numbers);
-    let number = numbers.below(100);
-    match numbers.below(24) {
+fn any_call(words: &mut SeedWords) -> Call {
+    let spot = any_spot(words);
+    let number = below(words, 100);
+    match below(words, 24) {
         0..=2 => Call::Commit,
         3 => Call::RollBack,
         4 => Call::Scan,
@@ -119,11 +148,25 @@ fn any_call(numbers: &mut Numbers) -> Call {
 }
 
 /// Any cell of two rows.
-fn any_spot(numbers: &mut Numbers) -> Spot {
-    let key = i64::from(1 + numbers.below(2));
-    match numbers.below(2) {
+fn any_spot(words: &mut SeedWords) -> Spot {
+    let key = i64::from(1 + below(words, 2));
+    match below(words, 2) {
         0 => Spot::Presence(key),
         _ => Spot::Field(key),
+    }
+}
+
+/// Compares what a read is offered; other calls are offered nothing.
+fn compare_call(
+    alloc: Global,
+    store: &Store,
+    session: u32,
+    call: Call,
+    run: &mut Run,
+) -> Result<(), Stop> {
+    match call {
+        Call::See(spot, _) => compare(alloc, store, session, spot, run),
+        _ => Ok(()),
     }
 }
 
@@ -136,68 +179,116 @@ fn compare(
     run: &mut Run,
 ) -> Result<(), Stop> {
     run.reads = run.reads.saturating_add(1);
-    let by_pairs = by_pairs(alloc, store, session, spot, run)?;
-    if offer(store, session, spot)? != by_pairs {
-        return Err(unlike(store));
-    }
-    if store.history().begun() > MOST {
-        return Ok(());
-    }
-    if plain_offer(alloc, store.history().events(), session, spot)? != by_pairs {
-        return Err(unlike(store));
-    }
-    Ok(())
+    let by_pairs = by_pairs(alloc, store, session, &spot.cell(), run)?;
+    compare_both(alloc, store, session, spot, &by_pairs)
 }
 
-/// Something else was offered than was expected.
-fn unlike(store: &Store) -> Stop {
-    Stop::Unlike(store.history().next_number())
-}
-
-/// The writes that the pending transaction of the session may read next.
-fn offer(store: &Store, session: u32, spot: Spot) -> Result<Vec<u32>, Stop> {
-    match store.history().pending(session) {
-        Some(_) => Ok(store.offer(session, &spot.cell())?),
-        None => Err(misplaced(store)),
-    }
-}
-
-/// The same by the forced pairs.
-fn by_pairs(
+fn compare_both(
     alloc: Global,
     store: &Store,
     session: u32,
     spot: Spot,
-    run: &mut Run,
-) -> Result<Vec<u32>, Stop> {
-    let history = store.history();
-    let graph = forced(alloc, history)?;
-    match history.pending(session) {
-        Some(_) => permitted(alloc, history, &graph, session, &spot.cell(), run),
-        None => Err(misplaced(store)),
+    want: &[u32],
+) -> Result<(), Stop> {
+    compare_offer(store, session, &spot.cell(), want)?;
+    if store.history().begun() > MOST {
+        return Ok(());
+    }
+    compare_orders(alloc, store, session, spot, want)
+}
+
+/// Compares the writes that the pending transaction of the session may read next.
+fn compare_offer(store: &Store, session: u32, cell: &Cell, want: &[u32]) -> Result<(), Stop> {
+    match store.history().pending(session) {
+        Some(_) => same(store, &store.offer(session, cell)?, want),
+        None => Err(Stop::from(misplaced_at(store))),
     }
 }
 
-/// The candidates with which the forced pairs have no cycle.
-fn permitted(
+/// Compares those of the trial of all orders.
+fn compare_orders(
+    alloc: Global,
+    store: &Store,
+    session: u32,
+    spot: Spot,
+    want: &[u32],
+) -> Result<(), Stop> {
+    let offer = plain_offer(alloc, store.history().events(), session, spot)?;
+    same(store, &offer, want)
+}
+
+fn same(store: &Store, offer: &[u32], want: &[u32]) -> Result<(), Stop> {
+    if offer == want {
+        Ok(())
+    } else {
+        Err(unlike(store))
+    }
+}
+
+/// The writes that the pending transaction of the session may read next, by the forced pairs.
+fn by_pairs(
+    alloc: Global,
+    store: &Store,
+    session: u32,
+    cell: &Cell,
+    run: &mut Run,
+) -> Result<Vec<u32>, Stop> {
+    let history = store.history();
+    match history.pending(session) {
+        Some(_) => counted(alloc, history, session, cell, run),
+        None => Err(Stop::from(misplaced_at(store))),
+    }
+}
+
+/// The same of a history in which a transaction of the session is pending. Counts the candidates.
+fn counted(
+    alloc: Global,
+    history: &History,
+    session: u32,
+    cell: &Cell,
+    run: &mut Run,
+) -> Result<Vec<u32>, Stop>
+    requires { HasPending history.now.events session }
+{
+    let mut permitted = Vec::new(alloc);
+    let count = add_permitted(alloc, history, session, cell, &mut permitted)?;
+    run.permitted = run.permitted.saturating_add(permitted.len());
+    run.refused = run
+        .refused
+        .saturating_add(count.saturating_sub(permitted.len()));
+    Ok(permitted)
+}
+
+/// Adds the candidates with which the forced pairs have no cycle; answers how many candidates there are.
+fn add_permitted(
+    alloc: Global,
+    history: &History,
+    session: u32,
+    cell: &Cell,
+    permitted: &mut Vec<u32>,
+) -> Result<usize, Stop>
+    requires { HasPending history.now.events session }
+{
+    let graph = forced(alloc, history)?;
+    add_acyclic(alloc, history, &graph, session, cell, permitted)
+}
+
+fn add_acyclic(
     alloc: Global,
     history: &History,
     graph: &Graph,
     session: u32,
     cell: &Cell,
-    run: &mut Run,
-) -> Result<Vec<u32>, Stop>
+    permitted: &mut Vec<u32>,
+) -> Result<usize, Stop>
     requires forced { AreForced history.now.events graph.now.edges.items }
     requires pending { HasPending history.now.events session }
 {
-    let mut permitted = Vec::new(alloc);
-    for source in &candidates(alloc, history, cell)? {
+    let sources = candidates(alloc, history, cell)?;
+    for source in &sources {
         if is_permitted(alloc, history, graph, session, cell, *source)? {
             permitted.push(*source)?;
-            run.permitted = run.permitted.saturating_add(1);
-        } else {
-            run.refused = run.refused.saturating_add(1);
         }
     }
-    Ok(permitted)
+    Ok(sources.len())
 }

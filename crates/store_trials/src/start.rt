@@ -1,73 +1,66 @@
 // A store whose first session has made the table.
-ghost use Rattle.std.specs.Prelude.{◌≡◌, IfOk};
-ghost use Rattle.sound_table.specs.Sound.{IsSound};
+ghost use Rattle.std.specs.Prelude.{◌≡◌, IfOk, OnOk};
+ghost use Rattle.history_core.specs.Book.{no_session, IsIdle};
 
+use crate::calls::store_of;
 use crate::stop::Stop;
-use cell_base::{Items, Level, Memory, SqlType, Text, Value};
+use cell_base::{Level, Memory};
 use history_core::{Book, InitialState};
-use sql_tree::{Column, Table};
 use std::alloc::Global;
-use valid_writes::Store;
+use table_samples::table;
+use valid_writes::{SeatBook, Store};
 
 /// A store in which so many sessions are open, and the first one has made the table `t`.
 pub fn stage(alloc: Global, sessions: u32) -> Result<Store, Stop> {
-    let mut store = with_table(
-        alloc,
-        Store::new(alloc, Level::Cc, InitialState::empty(alloc))?,
-    )?;
+    let mut store = with_table(alloc)?;
     for _ in 1..sessions {
-        store = open(store)?;
+        store = open_next(store)?;
     }
     Ok(store)
 }
 
-fn with_table(alloc: Global, store: Store) -> Result<Store, Stop> {
-    let table = table(alloc)?;
-    let mut book = store.seat(None);
-    book.open()?;
-    book.define(&table)?;
-    Ok(book.into_store())
-}
-
 /// Opens the next session.
-pub fn open(store: Store) -> Result<Store, Stop> {
+pub fn open_next(store: Store) -> Result<Store, Stop> {
     let mut book = store.seat(None);
-    book.open()?;
-    Ok(book.into_store())
+    let came = open(&mut book);
+    store_of(book, came)
 }
 
-/// The table of `CREATE TABLE t (k bigint PRIMARY KEY, v bigint)`.
-#[tactic(auto, using(sound_table::proofs::Example::sound))]
-fn table(alloc: Global) -> Result<Table, Memory>
-    ensures { IfOk result IsSound }
-{
-    let mut columns = Items::new(alloc);
-    columns.push(column(text(alloc, b"k")?, true))?;
-    columns.push(column(text(alloc, b"v")?, false))?;
-    Ok(Table {
-        name: text(alloc, b"t")?,
-        columns,
-        key: 0,
-        checks: Items::new(alloc),
-    })
+fn with_table(alloc: Global) -> Result<Store, Stop> {
+    let mut book = new_book(alloc)?;
+    let came = open_first(alloc, &mut book);
+    store_of(book, came)
 }
 
-fn column(name: Text, not_null: bool) -> Column
-    ensures { result ≡ record { name = name; kind = SqlType.Bigint; not_null = not_null; default = Value.Null } }
+fn new_book(alloc: Global) -> Result<SeatBook, Memory>
+    ensures { IfOk result (λ book. book.state ≡ no_session) }
 {
-    Column {
-        name,
-        kind: SqlType::Bigint,
-        not_null,
-        default: Value::Null,
+    Ok(Store::new(alloc, Level::Cc, InitialState::empty(alloc))?.seat(None))
+}
+
+fn open_first(alloc: Global, book: &mut SeatBook) -> Result<(), Stop>
+    requires { book.old.state ≡ no_session }
+{
+    open(book)?;
+    define(alloc, book)
+}
+
+fn open(book: &mut SeatBook) -> Result<(), Stop>
+    requires { book.old.state ≡ no_session }
+    ensures { OnOk result (IsIdle book.new.state) }
+{
+    match book.open() {
+        Ok(_) => Ok(()),
+        Err(fault) => Err(Stop::from(fault)),
     }
 }
 
-fn text(alloc: Global, bytes: &[u8]) -> Result<Text, Memory>
-    ensures { IfOk result (λ text. text ≡ bytes.now) }
+fn define(alloc: Global, book: &mut SeatBook) -> Result<(), Stop>
+    requires { IsIdle book.old.state }
 {
-    match Text::from_bytes(alloc, bytes) {
-        Ok(text) => Ok(text),
-        Err(_) => Err(Memory),
+    let table = table(alloc)?;
+    match book.define(&table) {
+        Ok(_) => Ok(()),
+        Err(fault) => Err(Stop::from(fault)),
     }
 }

@@ -2,7 +2,9 @@
 use cell_base::Memory;
 use history_core::{BookFault, Limit};
 use std::alloc::{AllocError, AllocFailed};
+use table_samples::Misplaced;
 use thiserror::Error;
+use valid_writes::Store;
 
 /// Why a run of calls ends early. Numbers are those of the event that would have come next.
 #[derive(Clone, Copy, Debug, PartialEq, Eq, Error)]
@@ -19,6 +21,20 @@ pub enum Stop {
     /// Something else was offered than was expected.
     #[error("another answer before event {0}")]
     Unlike(u32),
+    /// A call succeeded that was to be refused.
+    #[error("a call that was to be refused")]
+    Accepted,
+}
+
+/// Something else came than was expected.
+pub fn unlike(store: &Store) -> Stop {
+    Stop::Unlike(store.history().next_number())
+}
+
+impl From<Misplaced> for Stop {
+    fn from(misplaced: Misplaced) -> Self {
+        Stop::Misplaced(misplaced.next)
+    }
 }
 
 impl From<Memory> for Stop {

@@ -1,11 +1,15 @@
-//! No tests, but a library of those of histories: a table of two columns, and the cells of its first row.
+//! No tests, but a library of those of histories: a table of two columns, the cells of its first row, and the seats of a store whose
+//! sessions take turns.
 #![tactic(auto)]
+
+mod seats;
 
 ghost use Rattle.std.specs.Prelude.{◌≡◌, IfOk};
 ghost use Rattle.sound_table.specs.Sound.{IsSound};
 ghost use Rattle.history_core.specs.Events.{table_of};
 
 use cell_base::{Cell, Items, Key, Memory, SqlType, Text, Value};
+pub use seats::{Misplaced, busy_seat, idle_seat, misplaced_at};
 use sql_tree::{Column, Table};
 use std::alloc::Global;
 

@@ -1,4 +1,4 @@
-use Rattle.store_trials.specs.SessionStates.{IsReady}
+use Rattle.table_samples.specs.SessionStates.{IsReady}
 use Rattle.store_trials.proofs.long.read_many.Given as goal
 
 abbrev pub invariant-loop : goal.invariant-loop

@@ -1,4 +1,4 @@
--- Where the book of a test stands.
+-- Where the seat of a test stands.
 use Rattle.std.specs.Prelude.{◌≡◌, []}
 use Rattle.history_core.specs.Book.{Past, IsIdle, IsInTransaction, HasTable, writes_of}
 

@@ -1,5 +1,5 @@
 use Rattle.history_core.specs.Book.{IsIdle}
-use Rattle.fault_cases.proofs.tables.define_many.Given as goal
+use Rattle.committed_cases.proofs.full.define_many.Given as goal
 
 abbrev pub invariant-loop-at : goal.invariant-loop-at
 invariant-loop-at l = IsIdle l.book.state
