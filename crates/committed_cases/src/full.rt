@@ -73,8 +73,8 @@ fn define_further(alloc: Global, book: &mut SeatBook) -> u32
     ensures { IsIdle book.new.state }
 {
     let mut count = 0u32;
-    for (number, answer) in FURTHER {
-        if define(alloc, book, *number) != *answer {
+    for row in FURTHER {
+        if define(alloc, book, row.0) != row.1 {
             return count;
         }
         count = count.saturating_add(1);

@@ -66,7 +66,7 @@ fn order_of(alloc: Global, number: u32) -> Result<Vec<u32>, Stop> {
     let mut order = vec![in alloc; 0, 1, 2, 3, 4, 5, 6]?;
     let mut rest = number;
     for count in 1..SIZE {
-        swap(&mut order, count, 1 + rest % count);
+        swap(&mut order, count, (rest % count).saturating_add(1));
         rest /= count;
     }
     Ok(order)

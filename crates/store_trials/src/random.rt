@@ -27,9 +27,6 @@ const CALLS: u32 = 60;
 /// How many sessions each history has.
 const SESSIONS: u32 = 3;
 
-/// Which levels there are.
-const LEVELS: &[Level] = &[Level::Rc, Level::Ra, Level::Cc];
-
 /// What a run compares, and how much of it there was.
 #[derive(Drop)]
 struct Run {
@@ -131,7 +128,11 @@ fn begin_any(store: Store, session: u32, run: &mut Run) -> Result<Store, Stop> {
 }
 
 fn any_level(words: &mut SeedWords) -> Level {
-    LEVELS[below(words, 3) as usize]
+    match below(words, 3) {
+        0 => Level::Rc,
+        1 => Level::Ra,
+        _ => Level::Cc,
+    }
 }
 
 /// Any call of a transaction.

@@ -10,7 +10,7 @@ use history_core::{Book, Event};
 use valid_writes::{SeatBook, Store};
 
 /// The session doesn't stand so that the call may be made, before the event of this number.
-#[derive(Clone, Copy, Debug, PartialEq, Eq)]
+#[derive(Clone, Copy)]
 pub struct Misplaced {
     pub next: u32,
 }

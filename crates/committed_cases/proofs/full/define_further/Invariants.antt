@@ -1,5 +1,5 @@
 use Rattle.history_core.specs.Book.{IsIdle}
 use Rattle.committed_cases.proofs.full.define_further.Given as goal
 
-abbrev pub invariant-loop : goal.invariant-loop
-invariant-loop l = IsIdle l.book.state
+abbrev pub invariant-loop-row : goal.invariant-loop-row
+invariant-loop-row l = IsIdle l.book.state
