@@ -2,7 +2,7 @@
 ghost use Rattle.std.specs.Prelude.{◌≡◌, OnOk};
 ghost use Rattle.history_core.specs.Events.{table_of};
 ghost use Rattle.history_core.specs.Initial.{IsStorable};
-ghost use Rattle.summary_cases.specs.SessionStates.{IsReady, IsFresh, IsBusy};
+ghost use Rattle.table_samples.specs.SessionStates.{IsReady, IsFresh, IsBusy};
 
 use cell_base::{Cell, Level, Value};
 use history_core::{Book, BookFault};
