@@ -2,9 +2,8 @@
 ghost use Rattle.std.specs.Prelude.{◌≡◌, ◌+◌, ◌≤◌, IfOk, OnOk};
 ghost use Rattle.sound_table.specs.Sound.{IsSound};
 ghost use Rattle.history_core.specs.Book.{no_session, IsIdle};
-ghost use Rattle.turn_lock.specs.Views.{all_parts};
 ghost use Rattle.shared_book.specs.Books.{past_of};
-ghost use Rattle.shared_cases.specs.SessionStates.{IsReady, IsFresh, IsBusy, SamePass};
+ghost use Rattle.shared_cases.specs.SessionStates.{IsReady, IsFresh, IsBusy, SamePass, ArePassesOf};
 
 use crate::calls::{begin, close, commit, define, look, open, read, write};
 use crate::lines::{are_lines, is_whole};
@@ -145,16 +144,33 @@ fn play<R: Wait>(
     Ok([before, after, again, anew])
 }
 
+/// A history that goes on from the store's, and a pass for each of two books.
+fn shared_by_two(alloc: Global, store: Store) -> Result<(Shared, Pass, Pass), BookFault>
+    ensures { IfOk result (λ made. ArePassesOf made.0 made.1 made.2) }
+{
+    let Ok((shared, mut pass)) = Shared::new(alloc, store) else {
+        return Err(BookFault::Memory);
+    };
+    let other = shared.split(&mut pass);
+    Ok((shared, pass, other))
+}
+
+/// The store that both leave.
+fn store_of(shared: Shared, mut pass: Pass, other: Pass) -> Store
+    requires { ArePassesOf shared pass other }
+{
+    shared.join(&mut pass, other);
+    shared.finish(pass)
+}
+
 /// Both sessions on one shared history, and the store that it leaves.
 fn play_on<R: Wait>(rt: &R, alloc: Global, store: Store) -> Result<(Store, [bool; 4]), BookFault> {
-    let (shared, mut pass) = Shared::new(alloc, store).map_err(|_| BookFault::Memory)?;
-    let other = shared.split(&mut pass);
+    let (shared, pass, other) = shared_by_two(alloc, store)?;
     let mut first = shared.book(rt, pass);
     let mut second = shared.book(rt, other);
     let found = play(&mut first, &mut second, &table(alloc)?)?;
-    let mut pass = first.into_pass();
-    shared.join(&mut pass, second.into_pass());
-    Ok((shared.finish(pass), found))
+    let (pass, other) = (first.into_pass(), second.into_pass());
+    Ok((store_of(shared, pass, other), found))
 }
 
 #[test]
@@ -230,15 +246,13 @@ fn work_in_two<R: Threads + Wait + Sync>(
     store: Store,
     count: u32,
 ) -> Result<(Store, u32, u32), BookFault> {
-    let (shared, mut pass) = Shared::new(alloc, store).map_err(|_| BookFault::Memory)?;
-    let other = shared.split(&mut pass);
+    let (shared, pass, other) = shared_by_two(alloc, store)?;
     let first = shared.book(rt, pass);
     let second = shared.book(rt, other);
     let (one, two) = join(rt, || work(first, count), || work(second, count));
-    let (mut pass, a) = one?;
+    let (pass, a) = one?;
     let (other, b) = two?;
-    shared.join(&mut pass, other);
-    Ok((shared.finish(pass), a, b))
+    Ok((store_of(shared, pass, other), a, b))
 }
 
 /// A store in which session 1 has defined the table.

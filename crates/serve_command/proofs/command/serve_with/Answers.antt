@@ -34,3 +34,9 @@ returns-clause-goes_on g c =
       ends = c.end-status.ensures.ends;
       code_is = c.status_after.ensures ∙ ap (λ (f : Option HostFault). status_of f c.end-status.result.code) ran.fault_is;
     }))
+
+pub finish-store-requires-clause-lock : goal.finish-store-requires-clause-lock
+finish-store-requires-clause-lock g c = c.in-Ok-run.ensures.lock
+
+pub finish-store-requires-clause-parts : goal.finish-store-requires-clause-parts
+finish-store-requires-clause-parts g c = c.in-Ok-run.ensures.parts
