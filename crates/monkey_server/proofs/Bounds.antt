@@ -1,5 +1,5 @@
 -- The options of `serve` are inside their ranges.
-use Rattle.std.proofs.Common.{◌≡◌, ◌≤◌, ℕ, List, Option, None, Some, subst, sym, arith}
+use Rattle.std.proofs.Common.{◌≤◌, ℕ, List, Option, None, Some, subst, sym, arith}
 use Rattle.command_line.specs.declared.serve.ServeOptions.{ServeOptions}
 use Rattle.command_line.specs.Numbers.{IsUpTo}
 use Rattle.command_line.specs.Commands.{IsOr, IsServe}

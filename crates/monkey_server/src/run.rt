@@ -43,19 +43,19 @@ fn status_for(served: Served) -> Status
     Status { code }
 }
 
-// Serves one session at a level over a link, on a book that has no event.
+// Serves one session at a level over a link, on a book that has no event, and lets go of the book.
 fn serve_alone<L: Link>(
     alloc: Global,
     level: Level,
-    book: &mut SeatBook,
+    mut book: SeatBook,
     link: &mut L,
     words: Items<u32>,
 ) -> Served
-    requires { book.old ≡ no_past level }
+    requires { book ≡ no_past level }
     ensures { ServesAlone level words (sight_of L.traffic L.read_faults L.write_faults link.old) result (sight_of L.traffic L.read_faults L.write_faults link.new) }
 {
     let mut words = ListWords::new(words);
-    let served = serve_link(alloc, level, book, link, &mut words);
+    let served = serve_link(alloc, level, &mut book, link, &mut words);
     // Only for its contract: the history is legal.
     let _ = book.history();
     served
@@ -76,7 +76,7 @@ fn pipe<H: Host>(alloc: Global, host: &mut H, command: PipeCommand) -> Status
     ensures none_out { objects_out (H.hosted host.new) ≡ 0 }
 {
     let PipeCommand { level, words } = command;
-    let mut book = match new_book(alloc, level) {
+    let book = match new_book(alloc, level) {
         Ok(book) => book,
         Err(Memory) => return Status { code: 5 },
     };
@@ -85,7 +85,7 @@ fn pipe<H: Host>(alloc: Global, host: &mut H, command: PipeCommand) -> Status
         Err(HostFault::Failed) => return Status { code: 6 },
         Err(HostFault::Memory) => return Status { code: 5 },
     };
-    let served = serve_alone(alloc, level, &mut book, &mut link, words);
+    let served = serve_alone(alloc, level, book, &mut link, words);
     host.link_back(link);
     status_for(served)
 }

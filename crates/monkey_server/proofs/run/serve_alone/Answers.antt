@@ -4,7 +4,7 @@ use Rattle.monkey_server.proofs.run.serve_alone.Goals as goal
 
 pub returns : goal.returns
 returns g c =
-    serves_alone c.args.level c.args.book.now c.args.words c.new-words.result
+    serves_alone c.args.level c.args.book c.args.words c.new-words.result
     (sight_of g.L.Sides.traffic g.L.Sides.read_faults g.L.Sides.write_faults c.args.link.now) c.serve_link-served.result
     c.serve_link-served.new.book c.serve_link-served.new.words
     (sight_of g.L.Sides.traffic g.L.Sides.read_faults g.L.Sides.write_faults c.serve_link-served.new.link)
