@@ -1,2 +1,5 @@
 pub mod Last
 pub mod Noted
+pub mod Numbering
+pub mod PairLemmas
+pub mod PairPlaces

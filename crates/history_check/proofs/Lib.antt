@@ -1,9 +1,11 @@
 pub mod Rights
 pub mod Settled
 pub mod SessionNoteLemmas
-pub mod RecordLemmas
 pub mod NameLemmas
+pub mod CellSteps
 pub mod CountLemmas
+pub mod NoteLemmas
+pub mod PendingLemmas
 pub mod WriteLemmas
 pub mod Verdicts
 pub mod KeyLemmas

@@ -6,7 +6,7 @@ use Rattle.cell_base.specs.declared.cell.Cell.{Cell}
 use Rattle.cell_base.specs.declared.value.Value.{Value}
 use Rattle.history_core.specs.declared.event.Event.{Event}
 use Rattle.history_core.specs.declared.event.Event.TheVariants.{Open, Close, Define, Look, Begin, Scan, Read, Own, Write, Commit, Rollback, Show}
-use Rattle.order_test.specs.Settled.{IsSettled, HasReader, HasSettledSource, IsOrderly}
+use Rattle.order_test.specs.Settled.{IsSettled, HasReader, HasSettledSource, IsOrderly, HasOwner, AreOwned}
 use Rattle.history_check.specs.Rules.{shape, source, IsRight, IsInShape, HasSource}
 use Rattle.history_check.specs.Breaches.{AreRight}
 use Rattle.history_check.proofs.EventLemmas.{take_next}
@@ -70,3 +70,20 @@ orderly_from initial events right k e is =
       reader = reader_of (take k events) e (here shape);
       source = source_of (take k events) e (here source);
     }
+
+owner_of : (before : List Event) (e : Event) → IsInShape before e → HasOwner before e
+owner_of before (Write s x v) fits = fits.0
+owner_of before (Commit s) fits = fits
+owner_of before (Rollback s) fits = fits
+owner_of before (Read s x w n u v) fits = tt
+owner_of before (Scan s table keys) fits = tt
+owner_of before (Open s) fits = tt
+owner_of before (Close s) fits = tt
+owner_of before (Define s name) fits = tt
+owner_of before (Look s count) fits = tt
+owner_of before (Begin s level) fits = tt
+owner_of before (Own s x v) fits = tt
+owner_of before (Show s number) fits = tt
+
+pub owned_from : (initial : List (Cell × Value)) (events : List Event) → AreRight initial events → AreOwned events
+owned_from initial events right k e is = owner_of (take k events) e (right k e (slice_get_within events k e is) is shape)

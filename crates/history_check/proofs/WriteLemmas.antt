@@ -1,5 +1,5 @@
 -- What the record of a transaction says of its writes.
-use Rattle.std.proofs.Common.{◌≡◌, ℕ, ◌+◌, ◌<◌, ◌≤◌, List, Some, length, arith, refl, ap, sym, ◌∙◌, subst, inl, inr}
+use Rattle.std.proofs.Common.{◌≡◌, ℕ, ◌<◌, ◌≤◌, List, Some, arith, refl, ap, sym, ◌∙◌, subst, inl, inr}
 use Rattle.std.specs.List.{slice_get, Contains, Any}
 use Rattle.cell_base.specs.declared.cell.Cell.{Cell}
 use Rattle.cell_base.specs.declared.value.Value.{Value}
@@ -9,9 +9,6 @@ use Rattle.history_core.specs.Transactions.{IsCommitted}
 use Rattle.history_core.specs.Relations.{LastWrites, Writes, WritesValue}
 use Rattle.history_core.specs.Events.{begun}
 use Rattle.history_core.proofs.Prefixes.{start_positive, start_bounded}
-use Rattle.std.proofs.lemmas.Bool.{cases_eq}
-use Rattle.std.proofs.lemmas.Option.{slice_get_within}
-use Rattle.txn_buffer.proofs.Lists.{at_contains, contains_at}
 
 -- there is one last value
 pub last_unique : (events : List Event) (k : ℕ) (x : Cell) (v w : Value) → LastWrites events k x v → LastWrites events k x w → v ≡ w
@@ -27,34 +24,6 @@ last_unique events k x v w first second =
 pub value_writes : (initial : List (Cell × Value)) (events : List Event) (number : ℕ) (cell : Cell) (value : Value) → WritesValue initial events number cell value → Writes events number cell
 value_writes initial events number cell value (inl first) = inl first.0
 value_writes initial events number cell value (inr later) = inr (later.0, record { place = later.1.place; session = later.1.session; value = value; write = later.1.write })
-
--- ---- writes, one by one
-
--- none of the first n is at the cell
-abbrev pub IsAbsentBelow : List (Cell × Value) → Cell → ℕ → Type 0
-IsAbsentBelow writes cell n = (k : ℕ) (entry : Cell × Value) → k < n → slice_get writes k ≡ Some entry → entry.0 ≡ cell → ⊥
-
-pub absent_more :
-    (writes : List (Cell × Value)) (cell : Cell) (n : ℕ) (entry : Cell × Value) → slice_get writes n ≡ Some entry → (entry.0 ≡ cell → ⊥) → IsAbsentBelow writes cell n →
-    IsAbsentBelow writes cell (n + 1)
-absent_more writes cell n entry at other before k last below is same =
-    elim (cases_eq k n) [
-      | inl here ↦
-          let both : Some last ≡ Some entry = sym is ∙ ap (λ (i : ℕ). slice_get writes i) here ∙ at in
-          let one : last ≡ entry = cc in
-          other (ap (λ (e : Cell × Value). e.0) (sym one) ∙ same)
-      | inr apart ↦ before k last (omega arith) is same
-    ]
-
-pub absent_all :
-    (writes : List (Cell × Value)) (cell : Cell) (n : ℕ) → length writes ≤ n → IsAbsentBelow writes cell n → (value : Value) → Contains writes (cell, value) → ⊥
-absent_all writes cell n all none value there =
-    let at = at_contains writes (cell, value) there in
-    none at.0 (cell, value) (let within = slice_get_within writes at.0 (cell, value) at.1 in omega arith) at.1 refl
-
-pub stands_there :
-    (writes : List (Cell × Value)) (cell : Cell) (n : ℕ) (entry : Cell × Value) → slice_get writes n ≡ Some entry → entry.0 ≡ cell → Contains writes (cell, entry.1)
-stands_there writes cell n entry at same = subst (λ (x : Cell). Contains writes (x, entry.1)) same (contains_at writes n entry at)
 
 -- ---- the initial state, cell by cell
 

@@ -2,14 +2,17 @@
 ghost use Rattle.std.specs.Prelude.{◌≡◌, ◌<◌, ◌+◌, ◌∷◌, ◌++◌, [], ℕ, length, OnOk, IfOk, take};
 ghost use Rattle.history_check.specs.Rules.{IsRight, IsInShape, HasSource};
 ghost use Rattle.history_check.specs.Breaches.{IsBreachOf, AreRight, IsFirstEventBreach, IsVerdict, IfBreach};
-ghost use Rattle.history_check.specs.Notes.{AreNotes};
+ghost use Rattle.cell_writers.specs.Numbered.{AreNumbered};
+ghost use Rattle.history_check.specs.Notes.{AreNotes, AreCellNotes};
 
+use crate::cell_notes::cell_notes;
 use crate::judge::verdict;
 use crate::notes::{Notes, no_notes};
 use crate::noting::note;
 use crate::rows::Rows;
 use crate::{Breach, CheckFault};
-use cell_base::{Cell, Value};
+use cell_base::{Cell, Memory, Value};
+use cell_writers::CellNotes;
 use history_core::Event;
 use history_log::Trace;
 use std::alloc::Global;
@@ -23,60 +26,91 @@ pub fn check_events(alloc: Global, trace: &Trace) -> Result<(), CheckFault>
     ensures breach { IfBreach result (IsFirstEventBreach trace.now.initial trace.now.events) }
 {
     match note_events(alloc, trace.initial.as_slice(), trace.events.as_slice()) {
-        Ok(_notes) => Ok(()),
+        Ok(_cells) => Ok(()),
         Err(fault) => Err(fault),
     }
 }
 
-/// The notes of all events, where each of them keeps to the rules.
+/// The notes of the cells after all events, where each of these keeps to the rules.
 pub fn note_events(
     alloc: Global,
     initial: &[(Cell, Value)],
     events: &[Event],
-) -> Result<Notes, CheckFault>
+) -> Result<CellNotes, CheckFault>
     requires few { length events.now < 4294967296 }
-    ensures notes { IfOk result (AreNotes events.now) }
+    ensures notes { IfOk result (AreCellNotes events.now) }
+    ensures numbered { IfOk result (λ cells. AreNumbered events.now cells.numbers) }
     ensures right { OnOk result (AreRight initial.now events.now) }
     ensures breach { IfBreach result (IsFirstEventBreach initial.now events.now) }
 {
-    match Rows::new(alloc, initial) {
-        Ok(rows) => note_all(alloc, &rows, events),
+    match parts_of(alloc, initial, events) {
+        Ok((rows, cells)) => note_all(alloc, cells, &rows, events),
         Err(_memory) => Err(CheckFault::Memory),
     }
 }
 
-/// The notes of all events of this initial state, where each of them keeps to the rules.
-fn note_all(alloc: Global, initial: &Rows, events: &[Event]) -> Result<Notes, CheckFault>
+/// The initial state with its indexes, and the numbers of the cells of the events.
+fn parts_of<'a>(
+    alloc: Global,
+    initial: &'a [(Cell, Value)],
+    events: &[Event],
+) -> Result<(Rows<'a>, CellNotes), Memory>
     requires few { length events.now < 4294967296 }
-    ensures notes { IfOk result (AreNotes events.now) }
+    ensures rows { IfOk result (λ parts. parts.0 ≡ initial.now) }
+    ensures numbered { IfOk result (λ parts. AreNumbered events.now parts.1.numbers) }
+    ensures notes { IfOk result (λ parts. AreCellNotes [] parts.1) }
+{
+    let rows = Rows::new(alloc, initial)?;
+    let cells = cell_notes(alloc, events)?;
+    Ok((rows, cells))
+}
+
+/// The notes of the cells after all events of this initial state, where each of these keeps to the rules.
+fn note_all(
+    alloc: Global,
+    cells: CellNotes,
+    initial: &Rows,
+    events: &[Event],
+) -> Result<CellNotes, CheckFault>
+    requires few { length events.now < 4294967296 }
+    requires notes { AreCellNotes [] cells }
+    requires numbered { AreNumbered events.now cells.numbers }
+    ensures notes { IfOk result (AreCellNotes events.now) }
+    ensures numbered { IfOk result (λ cells. AreNumbered events.now cells.numbers) }
     ensures right { OnOk result (AreRight initial.now events.now) }
     ensures breach { IfBreach result (IsFirstEventBreach initial.now events.now) }
 {
+    let mut cells = cells;
     let mut notes = no_notes(alloc);
     for at in 0..events.len() {
-        match judge_event(&mut notes, initial, &events[..at], &events[at]) {
+        match judge_event(&mut notes, &mut cells, initial, &events[..at], &events[at]) {
             Ok(()) => {}
             Err(fault) => return Err(fault),
         }
     }
-    Ok(notes)
+    Ok(cells)
 }
 
 /// Judges one event, and notes it.
 fn judge_event(
     notes: &mut Notes,
+    cells: &mut CellNotes,
     initial: &Rows,
     before: &[Event],
     event: &Event,
 ) -> Result<(), CheckFault>
     requires notes { AreNotes before.now notes.old }
+    requires cells { AreCellNotes before.now cells.old }
+    requires numbered { AreNumbered (before.now ++ event.now ∷ []) cells.old.numbers }
     requires few { length before.now < 4294967295 }
     ensures right { OnOk result (IsRight initial.now before.now event.now) }
+    ensures numbers { cells.new.numbers ≡ cells.old.numbers }
     ensures notes { OnOk result (AreNotes (before.now ++ event.now ∷ []) notes.new) }
+    ensures cells { OnOk result (AreCellNotes (before.now ++ event.now ∷ []) cells.new) }
     ensures breach { IfBreach result (IsBreachOf initial.now before.now event.now) }
 {
-    match verdict(notes, initial, before, event) {
-        Ok(found) => note_right(notes, initial, before, event, found),
+    match verdict(notes, cells, initial, before, event) {
+        Ok(found) => note_right(notes, cells, initial, before, event, found),
         Err(_memory) => Err(CheckFault::Memory),
     }
 }
@@ -84,34 +118,48 @@ fn judge_event(
 /// Notes the event, where the verdict finds no breach.
 fn note_right(
     notes: &mut Notes,
+    cells: &mut CellNotes,
     initial: &Rows,
     before: &[Event],
     event: &Event,
     found: Option<Breach>,
 ) -> Result<(), CheckFault>
     requires notes { AreNotes before.now notes.old }
+    requires cells { AreCellNotes before.now cells.old }
+    requires numbered { AreNumbered (before.now ++ event.now ∷ []) cells.old.numbers }
     requires few { length before.now < 4294967295 }
     requires verdict { IsVerdict initial.now before.now event.now found }
     ensures right { OnOk result (IsRight initial.now before.now event.now) }
+    ensures numbers { cells.new.numbers ≡ cells.old.numbers }
     ensures notes { OnOk result (AreNotes (before.now ++ event.now ∷ []) notes.new) }
+    ensures cells { OnOk result (AreCellNotes (before.now ++ event.now ∷ []) cells.new) }
     ensures breach { IfBreach result (IsBreachOf initial.now before.now event.now) }
 {
     match found {
         Some(breach) => Err(CheckFault::Breach(breach)),
-        None => note_only(notes, before, event),
+        None => note_only(notes, cells, before, event),
     }
 }
 
 /// Notes the event.
-fn note_only(notes: &mut Notes, before: &[Event], event: &Event) -> Result<(), CheckFault>
+fn note_only(
+    notes: &mut Notes,
+    cells: &mut CellNotes,
+    before: &[Event],
+    event: &Event,
+) -> Result<(), CheckFault>
     requires notes { AreNotes before.now notes.old }
+    requires cells { AreCellNotes before.now cells.old }
+    requires numbered { AreNumbered (before.now ++ event.now ∷ []) cells.old.numbers }
     requires shape { IsInShape before.now event.now }
     requires source { HasSource before.now event.now }
     requires few { length before.now < 4294967295 }
+    ensures numbers { cells.new.numbers ≡ cells.old.numbers }
     ensures notes { OnOk result (AreNotes (before.now ++ event.now ∷ []) notes.new) }
+    ensures cells { OnOk result (AreCellNotes (before.now ++ event.now ∷ []) cells.new) }
     ensures breach { IfBreach result (λ breach. ⊥) }
 {
-    match note(notes, before, event) {
+    match note(notes, cells, before, event) {
         Ok(()) => Ok(()),
         Err(_memory) => Err(CheckFault::Memory),
     }

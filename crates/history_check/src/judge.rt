@@ -6,15 +6,18 @@ ghost use Rattle.history_core.specs.declared.event.Event.{Event};
 ghost use Rattle.history_core.specs.Relations.{Writes};
 ghost use Rattle.history_check.specs.Rules.{IsInShape};
 ghost use Rattle.history_check.specs.Breaches.{IsVerdict};
-ghost use Rattle.history_check.specs.Notes.{AreNotes};
+ghost use Rattle.cell_writers.specs.Numbered.{AreNumbered};
+ghost use Rattle.history_check.specs.Notes.{AreNotes, AreCellNotes, IsNoteOf};
 
 use crate::Breach;
+use crate::cell_notes::note_at;
 use crate::keys::lists_keys;
 use crate::notes::Notes;
 use crate::rows::Rows;
 use crate::shape::is_in_shape;
 use crate::sources::{count_writers, gives_own_value, gives_value, is_writer, wrote_itself};
 use cell_base::{Cell, Key, Memory, Value};
+use cell_writers::{CellNote, CellNotes};
 use history_core::Event;
 
 /// The number of the next event.
@@ -28,11 +31,14 @@ fn next_number(before: &[Event]) -> u32
 /// The first rule that the event breaks, as a breach.
 pub fn verdict(
     notes: &Notes,
+    cells: &CellNotes,
     initial: &Rows,
     before: &[Event],
     event: &Event,
 ) -> Result<Option<Breach>, Memory>
     requires notes { AreNotes before.now notes.now }
+    requires cells { AreCellNotes before.now cells.now }
+    requires numbered { AreNumbered (before.now ++ event.now ∷ []) cells.now.numbers }
     requires few { length before.now < 4294967295 }
     ensures { IfOk result (IsVerdict initial.now before.now event.now) }
 {
@@ -48,7 +54,15 @@ pub fn verdict(
             session,
             table,
             keys,
-        } => of_scan(notes, initial, before, *session, *table, keys.as_slice()),
+        } => of_scan(
+            notes,
+            cells,
+            initial,
+            before,
+            *session,
+            *table,
+            keys.as_slice(),
+        ),
         Event::Read {
             session,
             cell,
@@ -56,14 +70,20 @@ pub fn verdict(
             count,
             word,
             value,
-        } => Ok(of_read(
-            notes, initial, before, *session, cell, *source, *count, *word, value,
-        )),
+        } => {
+            let note = note_at(cells, before, event, cell);
+            Ok(of_read(
+                notes, note, initial, before, *session, cell, *source, *count, *word, value,
+            ))
+        }
         Event::Own {
             session,
             cell,
             value,
-        } => Ok(of_own(notes, before, *session, cell, value)),
+        } => {
+            let note = note_at(cells, before, event, cell);
+            Ok(of_own(notes, note, before, *session, cell, value))
+        }
         Event::Open { .. } => Ok(None),
         Event::Close { .. } => Ok(None),
         Event::Define { .. } => Ok(None),
@@ -108,6 +128,7 @@ fn of_show(before: &[Event], session: u32, number: u32) -> Option<Breach>
 /// The verdict on a scan.
 fn of_scan(
     notes: &Notes,
+    cells: &CellNotes,
     initial: &Rows,
     before: &[Event],
     session: u32,
@@ -115,11 +136,13 @@ fn of_scan(
     keys: &[Key],
 ) -> Result<Option<Breach>, Memory>
     requires notes { AreNotes before.now notes.now }
+    requires cells { AreCellNotes before.now cells.now }
+    requires numbered { AreNumbered before.now cells.now.numbers }
     requires shape { IsInShape before.now (Event.Scan session table keys.now) }
     requires few { length before.now < 4294967295 }
     ensures { IfOk result (IsVerdict initial.now before.now (Event.Scan session table keys.now)) }
 {
-    let lists = lists_keys(notes, initial, before, session, table, keys)?;
+    let lists = lists_keys(notes, cells, initial, before, session, table, keys)?;
     if lists {
         return Ok(None);
     }
@@ -128,12 +151,11 @@ fn of_scan(
 }
 
 /// What is told of a read whose source doesn't give its value: that there is no such source, or that the value is wrong.
-fn wrong_source(notes: &Notes, before: &[Event], source: u32, cell: &Cell, event: u32) -> Breach
-    requires notes { AreNotes before.now notes.now }
-    requires few { length before.now < 4294967295 }
+fn wrong_source(note: &CellNote, before: &[Event], source: u32, cell: &Cell, event: u32) -> Breach
+    requires { IsNoteOf before.now cell.now note.now }
     ensures { (Writes before.now source cell.now × (result ≡ Breach.Value event)) ⊎ ((¬ Writes before.now source cell.now) × (result ≡ Breach.Source event)) }
 {
-    if is_writer(notes, before, source, cell) {
+    if is_writer(note, before, source, cell) {
         Breach::Value { event }
     } else {
         Breach::Source { event }
@@ -143,6 +165,7 @@ fn wrong_source(notes: &Notes, before: &[Event], source: u32, cell: &Cell, event
 /// The verdict on an external read.
 fn of_read(
     notes: &Notes,
+    note: &CellNote,
     initial: &Rows,
     before: &[Event],
     session: u32,
@@ -153,18 +176,19 @@ fn of_read(
     value: &Value,
 ) -> Option<Breach>
     requires notes { AreNotes before.now notes.now }
+    requires note { IsNoteOf before.now cell.now note.now }
     requires shape { IsInShape before.now (Event.Read session cell.now source count word value.now) }
     requires few { length before.now < 4294967295 }
     ensures { IsVerdict initial.now before.now (Event.Read session cell.now source count word value.now) result }
 {
     let event = next_number(before);
-    if wrote_itself(notes, before, session, cell) {
+    if wrote_itself(notes, note, before, session, cell) {
         return Some(Breach::Own { event });
     }
-    if !gives_value(notes, initial, before, source, cell, value) {
-        return Some(wrong_source(notes, before, source, cell, event));
+    if !gives_value(note, initial, before, source, cell, value) {
+        return Some(wrong_source(note, before, source, cell, event));
     }
-    let candidates = count_writers(notes, before, cell);
+    let candidates = count_writers(note, before, cell);
     if count == 0 {
         return Some(Breach::Count { event, candidates });
     }
@@ -177,21 +201,23 @@ fn of_read(
 /// The verdict on an internal read.
 fn of_own(
     notes: &Notes,
+    note: &CellNote,
     before: &[Event],
     session: u32,
     cell: &Cell,
     value: &Value,
 ) -> Option<Breach>
     requires notes { AreNotes before.now notes.now }
+    requires note { IsNoteOf before.now cell.now note.now }
     requires shape { IsInShape before.now (Event.Own session cell.now value.now) }
     requires few { length before.now < 4294967295 }
     ensures { (initial : List (CellValue × ValueOf)) → IsVerdict initial before.now (Event.Own session cell.now value.now) result }
 {
     let event = next_number(before);
-    if !wrote_itself(notes, before, session, cell) {
+    if !wrote_itself(notes, note, before, session, cell) {
         return Some(Breach::Own { event });
     }
-    if !gives_own_value(notes, before, session, cell, value) {
+    if !gives_own_value(notes, note, before, session, cell, value) {
         return Some(Breach::Value { event });
     }
     None

@@ -6,6 +6,7 @@
 #![tactic(auto)]
 
 mod breach;
+mod cell_notes;
 mod events;
 mod judge;
 mod keys;
@@ -13,7 +14,7 @@ mod laws;
 mod notes;
 mod noting;
 mod order;
-mod records;
+mod pending_writes;
 mod rows;
 mod session_note;
 mod session_notes;

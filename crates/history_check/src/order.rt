@@ -1,12 +1,13 @@
 // A trace, its events and its order.
 ghost use Rattle.std.specs.Prelude.{◌≡◌, ◌<◌, length, OnOk};
 ghost use Rattle.history_check.specs.Breaches.{AreRight, IfBreach};
-ghost use Rattle.history_check.specs.Notes.{AreNotes};
+ghost use Rattle.cell_writers.specs.Numbered.{AreNumbered};
+ghost use Rattle.history_check.specs.Notes.{AreCellNotes};
 ghost use Rattle.history_check.specs.Orders.{IsRightTrace, IsFirstBreach, IsFirstOrderBreach, breach_of};
 
 use crate::events::note_events;
-use crate::notes::Notes;
 use crate::{Breach, CheckFault};
+use cell_writers::CellNotes;
 use history_log::Trace;
 use order_test::{Unkept, first_unkept};
 use std::alloc::Global;
@@ -21,23 +22,24 @@ pub fn check(alloc: Global, trace: &Trace) -> Result<(), CheckFault>
     ensures breach { IfBreach result (IsFirstBreach trace.now) }
 {
     match note_events(alloc, trace.initial.as_slice(), trace.events.as_slice()) {
-        Ok(notes) => check_order(&notes, trace),
+        Ok(cells) => check_order(alloc, &cells, trace),
         Err(fault) => Err(fault),
     }
 }
 
 /// Judges the order, where the events are right.
-fn check_order(notes: &Notes, trace: &Trace) -> Result<(), CheckFault>
-    requires notes { AreNotes trace.now.events notes.now }
+fn check_order(alloc: Global, cells: &CellNotes, trace: &Trace) -> Result<(), CheckFault>
+    requires notes { AreCellNotes trace.now.events cells.now }
+    requires numbered { AreNumbered trace.now.events cells.now.numbers }
     requires right { AreRight trace.now.initial trace.now.events }
     requires few { length trace.now.events < 4294967296 }
     ensures ok { OnOk result (IsRightTrace trace.now) }
     ensures breach { IfBreach result (IsFirstBreach trace.now) }
 {
     match first_unkept(
-        notes.alloc,
+        alloc,
         trace.events.as_slice(),
-        &notes.txns,
+        cells,
         trace.order.as_slice(),
     ) {
         Ok(None) => Ok(()),

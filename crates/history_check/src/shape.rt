@@ -7,7 +7,7 @@ ghost use Rattle.history_core.specs.Legal.{IsOpen, IsDefined};
 ghost use Rattle.history_check.specs.Rules.{IsInShape};
 ghost use Rattle.history_check.specs.Notes.{AreNotes};
 
-use crate::notes::{Notes, count_begun, count_opened, is_open, pending_in};
+use crate::notes::{Notes, count_opened, is_open, pending_in};
 use cell_base::{Cell, Text, Value};
 use history_core::Event;
 
@@ -132,7 +132,7 @@ fn may_read(notes: &Notes, before: &[Event], session: u32, cell: &Cell, source: 
     requires few { length before.now < 4294967295 }
     ensures { IsTrue result ↔ (HasPending before.now session × IsDefined before.now (table_of cell.now) × (source ≤ begun before.now)) }
 {
-    may_touch(notes, before, session, table_in(cell)) && source <= count_begun(notes, before)
+    may_touch(notes, before, session, table_in(cell)) && source <= notes.begun
 }
 
 /// Whether the session may write the value to the cell.

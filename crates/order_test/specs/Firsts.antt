@@ -6,7 +6,9 @@ use Rattle.cell_base.specs.declared.cell.Cell.TheVariants.{Presence, Field}
 use Rattle.cell_base.specs.declared.key.Key.{Key}
 use Rattle.cell_base.specs.declared.value.Value.{Value}
 use Rattle.cell_writers.specs.declared.writers.CellWriters.{CellWriters}
+use Rattle.cell_writers.specs.declared.cell_note.CellNotes.{CellNotes}
 use Rattle.cell_writers.specs.Writers.{numbers_at}
+use Rattle.order_test.specs.Entries.{IsEntryAt}
 use Rattle.order_test.specs.declared.firsts.TableFirsts.{TableFirsts}
 
 abbrev pub some_pairs : Option (List (ℕ × Key)) → List (ℕ × Key)
@@ -60,6 +62,21 @@ HasWritten firsts (Field table key column) number = Unit {0}
 -- and with the first n of its writes
 abbrev pub HaveWritten : TableFirsts → List (Cell × Value) → ℕ → ℕ → Type 0
 HaveWritten firsts writes n number = (k : ℕ) (entry : Cell × Value) → k < n → slice_get writes k ≡ Some entry → HasWritten firsts entry.0 number
+
+-- where the cell is a presence its key stands at its table with a number up to the first of these
+abbrev pub HoldsFirst : TableFirsts → List ℕ → Cell → Type 0
+HoldsFirst firsts numbers (Presence table key) = 0 < length numbers → HasUpTo (firsts_at firsts table) key (slice_index numbers 0)
+HoldsFirst firsts numbers (Field table key column) = Unit {0}
+
+-- so it is with the first n cells and the transactions at each
+abbrev pub HoldFirsts : CellNotes → ℕ → TableFirsts → Type 0
+HoldFirsts cells n firsts = (at : ℕ) (entry : Cell × List ℕ) → at < n → IsEntryAt cells at entry → HoldsFirst firsts entry.1 entry.0
+
+-- the key of each presence that a committed transaction wrote stands at its table with a number up to that one
+abbrev pub HoldCommitted : CellNotes → TableFirsts → Type 0
+HoldCommitted cells firsts =
+    (at table : ℕ) (key : Key) (numbers : List ℕ) (number : ℕ) → IsEntryAt cells at (Presence table key, numbers) → Contains numbers number →
+    HasUpTo (firsts_at firsts table) key number
 
 -- each key with a number up to the top is listed
 abbrev pub ListsUpTo : List (ℕ × Key) → List Key → ℕ → Type 0

@@ -2,7 +2,10 @@ pub mod Unkept
 pub mod Settled
 pub mod Places
 pub mod Pasts
+pub mod Glance
+pub mod Records
 pub mod Sights
 pub mod Listed
 pub mod Reaches
+pub mod Entries
 pub mod Firsts

@@ -1,61 +1,26 @@
-// The committed writers of each cell by number, and how far those up to each of them reach in the order.
-ghost use Rattle.std.specs.Prelude.{◌≡◌, ◌≢◌, ◌≤◌, ◌<◌, ◌+◌, ◌⊎◌, ◌↔◌, ℕ, [], ◌∷◌, Some, None, IsTrue, IfOk, OnOk, Contains, length, slice_get, slice_index};
+// How far the committed writers of each cell up to each of them reach in the order.
+ghost use Rattle.std.specs.Prelude.{◌≡◌, ◌≤◌, ◌<◌, ◌+◌, Some, IsTrue, IfOk, OnOk, length, slice_get};
 ghost use Rattle.std.specs.List.Sorted.{IsStrictlyIncreasing};
-ghost use Rattle.cell_base.specs.declared.cell.Cell.{Cell as CellOf};
-ghost use Rattle.indexed_history.specs.Index.{GainsNumber};
-ghost use Rattle.order_test.specs.Reaches.{IsReach, IsReachTo, AreReaches, AreReachesTo, TakesNumber, TakesNumbers, ReachesCommitted, StandNoFurther, reach_at, numbers_at};
+ghost use Rattle.cell_writers.specs.declared.cell_note.CellNote.{CellNote as NoteOf};
+ghost use Rattle.order_test.specs.Entries.{AreAscending};
+ghost use Rattle.order_test.specs.Firsts.{HoldCommitted};
+ghost use Rattle.order_test.specs.Reaches.{IsReach, AddsReach, AreReaches, AreReachesUpTo, StandNoFurther};
 
-use crate::places::Places;
-use crate::rivals::is_committed;
-use cell_base::{Cell, Memory, Value};
-use history_core::Txn;
-use indexmap::IndexMap;
+use crate::firsts::TableFirsts;
+use crate::places::{Places, place_at};
+use crate::presences::firsts_of;
+use cell_base::Memory;
+use cell_writers::CellNotes;
 use std::alloc::Global;
 
-/// Numbers of transactions, ascending, and for each the greatest place in the order of those up to it.
-#[derive(Debug, Drop)]
-pub struct Reach {
-    pub numbers: Vec<u32>,
-    pub highest: Vec<usize>,
-}
-
-/// For each cell the committed transactions that wrote it.
+/// Beside each number that is noted at a cell the greatest place in the order of those up to it, cell after cell.
 #[derive(Debug, Drop)]
 pub struct CellReaches {
-    pub alloc: Global,
-    pub cells: IndexMap<Cell, Reach>,
-}
-
-/// No cell. Takes no memory.
-fn no_reaches(alloc: Global) -> CellReaches
-    ensures { (cell : CellOf) → reach_at result cell ≡ None }
-{
-    CellReaches {
-        alloc,
-        cells: IndexMap::new(alloc),
-    }
-}
-
-/// Whether the number, which none is above, is there.
-fn has_number(numbers: &[u32], number: u32) -> bool
-    requires ascending { IsStrictlyIncreasing numbers.now }
-    requires bounded { (other : ℕ) → Contains numbers.now other → other ≤ number }
-    ensures { IsTrue result ↔ Contains numbers.now number }
-{
-    if numbers.len() == 0 {
-        return false;
-    }
-    numbers[numbers.len() - 1] == number
-}
-
-/// The last of the places, or 0.
-fn last_place(highest: &[usize]) -> usize
-    ensures { (k : ℕ) → k + 1 ≡ length highest.now → slice_index highest.now k ≡ result }
-{
-    if highest.is_empty() {
-        return 0;
-    }
-    highest[highest.len() - 1]
+    /// Where those of each cell begin.
+    pub starts: Vec<usize>,
+    pub highest: Vec<usize>,
+    /// The keys whose presence was written, where there is a scan.
+    pub firsts: TableFirsts,
 }
 
 /// The later of two places.
@@ -65,149 +30,99 @@ fn later(first: usize, second: usize) -> usize
     first.max(second)
 }
 
-/// Puts a number after the others, where it isn't there yet.
-fn push_number(reach: &mut Reach, places: &Places, number: u32) -> Result<(), Memory>
-    requires reach { IsReachTo places.now.at.items number reach.old.numbers.items reach.old.highest.items }
-    requires within { number < length places.now.at.items }
-    ensures reach { OnOk result (IsReachTo places.now.at.items number reach.new.numbers.items reach.new.highest.items) }
-    ensures gains { OnOk result (GainsNumber reach.old.numbers.items number reach.new.numbers.items) }
+/// Puts the reaches of the numbers after the others.
+fn add_reach(highest: &mut Vec<usize>, places: &Places, numbers: &[u32]) -> Result<(), Memory>
+    ensures { OnOk result (AddsReach places.now.at.items numbers.now (length numbers.now) highest.old.items highest.new.items) }
 {
-    if has_number(&reach.numbers, number) {
-        return Ok(());
+    let mut top = 0;
+    for at in 0..numbers.len() {
+        top = later(top, place_at(places, numbers[at]));
+        highest.push(top)?;
     }
-    let before = last_place(&reach.highest);
-    reach.numbers.push(number)?;
-    reach
-        .highest
-        .push(later(before, places.at[number as usize]))?;
     Ok(())
 }
 
-/// One number.
-fn one_number(alloc: Global, places: &Places, number: u32) -> Result<Reach, Memory>
-    requires within { number < length places.now.at.items }
-    ensures reach { IfOk result (λ reach. IsReachTo places.now.at.items number reach.numbers.items reach.highest.items) }
-    ensures is { IfOk result (λ reach. reach.numbers.items ≡ number ∷ []) }
-{
-    let mut numbers = Vec::new(alloc);
-    numbers.push(number)?;
-    let mut highest = Vec::new(alloc);
-    highest.push(places.at[number as usize])?;
-    Ok(Reach { numbers, highest })
-}
-
-/// Notes one number at a cell that has none.
-fn start_cell(
-    reaches: &mut CellReaches,
-    places: &Places,
-    cell: &Cell,
-    number: u32,
-) -> Result<(), Memory>
-    requires empty { numbers_at reaches.old cell.now ≡ [] }
-    requires within { number < length places.now.at.items }
-    ensures { OnOk result (TakesNumber places.now.at.items cell.now number reaches.old reaches.new) }
-{
-    let key = cell.copy(reaches.alloc)?;
-    let reach = one_number(reaches.alloc, places, number)?;
-    reaches.cells.insert(key, reach)?;
-    Ok(())
-}
-
-/// Notes the number at the cell.
+/// Notes the numbers of one cell more.
 fn note_cell(
     reaches: &mut CellReaches,
     places: &Places,
-    cell: &Cell,
-    number: u32,
-) -> Result<(), Memory>
-    requires reaches { AreReachesTo places.now.at.items number reaches.old }
-    requires within { number < length places.now.at.items }
-    ensures { OnOk result (TakesNumber places.now.at.items cell.now number reaches.old reaches.new) }
-{
-    match reaches.cells.get_mut(cell) {
-        Some(reach) => push_number(reach, places, number),
-        None => start_cell(reaches, places, cell, number),
-    }
-}
-
-/// Notes the number at all cells that were written.
-fn note_cells(
-    reaches: &mut CellReaches,
-    places: &Places,
-    writes: &[(Cell, Value)],
-    number: u32,
-) -> Result<(), Memory>
-    requires reaches { AreReachesTo places.now.at.items number reaches.old }
-    requires within { number < length places.now.at.items }
-    ensures { OnOk result (TakesNumbers places.now.at.items writes.now (length writes.now) number reaches.old reaches.new) }
-{
-    for entry in writes {
-        note_cell(reaches, places, &entry.0, number)?;
-    }
-    Ok(())
-}
-
-/// Notes one transaction more, where it has committed. `_txns` are all transactions.
-fn note_txn(
-    reaches: &mut CellReaches,
-    places: &Places,
-    _txns: &[Txn],
+    cells: &CellNotes,
     at: usize,
-    txn: &Txn,
-    number: u32,
 ) -> Result<(), Memory>
-    requires reaches { ReachesCommitted _txns.now at places.now.at.items reaches.old }
-    requires is { slice_get _txns.now at ≡ Some txn.now }
-    requires number { number ≡ at + 1 }
-    requires within { number < length places.now.at.items }
-    ensures { OnOk result (ReachesCommitted _txns.now (at + 1) places.now.at.items reaches.new) }
+    requires reaches { AreReachesUpTo places.now.at.items cells.now.notes.items at reaches.old }
+    requires within { at < length cells.now.notes.items }
+    ensures firsts { reaches.new.firsts ≡ reaches.old.firsts }
+    ensures reaches { OnOk result (AreReachesUpTo places.now.at.items cells.now.notes.items (at + 1) reaches.new) }
 {
-    if !is_committed(txn) {
-        return Ok(());
-    }
-    note_cells(reaches, places, txn.buffer.writes(), number)
+    let numbers = cells.notes[at].committed.as_slice();
+    let start = reaches.highest.len();
+    reaches.starts.push(start)?;
+    add_reach(&mut reaches.highest, places, numbers)
 }
 
-/// The committed writers of each cell.
-pub fn reaches_of(alloc: Global, txns: &[Txn], places: &Places) -> Result<CellReaches, Memory>
-    requires few { length txns.now < 4294967296 }
-    requires within { length txns.now < length places.now.at.items }
-    ensures { IfOk result (ReachesCommitted txns.now (length txns.now) places.now.at.items) }
+/// How far the writers reach, and the keys whose presence was written, where there is a scan.
+pub fn reaches_of(
+    alloc: Global,
+    cells: &CellNotes,
+    places: &Places,
+    scans: bool,
+) -> Result<CellReaches, Memory>
+    requires count { length cells.now.notes.items ≡ length cells.now.numbers.cells.keys }
+    requires ascending { AreAscending cells.now }
+    ensures reaches { IfOk result (AreReaches places.now.at.items cells.now) }
+    ensures firsts { IfOk result (λ reaches. IsTrue scans → HoldCommitted cells.now reaches.firsts) }
 {
-    let mut reaches = no_reaches(alloc);
-    for at in 0..txns.len() {
-        note_txn(&mut reaches, places, txns, at, &txns[at], at as u32 + 1)?;
+    let mut reaches = CellReaches {
+        starts: Vec::new(alloc),
+        highest: Vec::new(alloc),
+        firsts: firsts_of(alloc, cells, scans)?,
+    };
+    for at in 0..cells.notes.len() {
+        note_cell(&mut reaches, places, cells, at)?;
     }
     Ok(reaches)
 }
 
 /// Whether none of the numbers up to the limit stands after the source.
-fn stand_no_further(places: &Places, reach: &Reach, limit: u32, from: u32) -> bool
-    requires reach { IsReach places.now.at.items reach.now.numbers.items reach.now.highest.items }
-    requires within { from < length places.now.at.items }
-    ensures { IsTrue result → StandNoFurther places.now.at.items reach.now.numbers.items limit from }
-{
-    let place = places.at[from as usize];
-    match reach.numbers.binary_search(&limit) {
-        Ok(at) => reach.highest[at] <= place,
-        Err(at) => at == 0 || reach.highest[at - 1] <= place,
-    }
-}
-
-/// Whether none of the transactions up to the limit that wrote the cell stands after the source.
-pub fn cell_is_clear(
+fn stand_no_further(
     places: &Places,
-    reaches: &CellReaches,
-    cell: &Cell,
+    numbers: &[u32],
+    highest: &[usize],
+    start: usize,
     limit: u32,
     from: u32,
 ) -> bool
-    requires reaches { AreReaches places.now.at.items reaches.now }
-    requires within { from < length places.now.at.items }
-    ensures { IsTrue result → StandNoFurther places.now.at.items (numbers_at reaches.now cell.now) limit from }
+    requires ascending { IsStrictlyIncreasing numbers.now }
+    requires reach { IsReach places.now.at.items numbers.now highest.now start }
+    ensures { IsTrue result → StandNoFurther places.now.at.items numbers.now limit from }
 {
-    match reaches.cells.get(cell) {
-        Some(reach) => stand_no_further(places, reach, limit, from),
-        None => true,
+    let place = place_at(places, from);
+    match numbers.binary_search(&limit) {
+        Ok(at) => highest[start + at] <= place,
+        Err(at) => at == 0 || highest[start + at - 1] <= place,
     }
+}
+
+/// Whether none of the transactions up to the limit that wrote the cell of the number stands after the source.
+pub fn cell_is_clear(
+    places: &Places,
+    cells: &CellNotes,
+    reaches: &CellReaches,
+    number: usize,
+    limit: u32,
+    from: u32,
+) -> bool
+    requires within { number < length cells.now.notes.items }
+    requires ascending { AreAscending cells.now }
+    requires reaches { AreReaches places.now.at.items cells.now reaches.now }
+    ensures { IsTrue result → (note : NoteOf) → slice_get cells.now.notes.items number ≡ Some note → StandNoFurther places.now.at.items note.committed limit from }
+{
+    stand_no_further(
+        places,
+        cells.notes[number].committed.as_slice(),
+        &reaches.highest,
+        reaches.starts[number],
+        limit,
+        from,
+    )
 }

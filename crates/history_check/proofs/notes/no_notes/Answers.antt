@@ -1,5 +1,4 @@
 use Rattle.std.proofs.Common.{rules}
-use Rattle.history_check.proofs.Committed.{writers_none}
 use Rattle.history_check.proofs.ScanLemmas.{written_none}
 use Rattle.history_check.proofs.notes.no_notes.Goals as goal
 
@@ -8,8 +7,8 @@ returns c = record {
   settled = search rules;
   sessions = search rules;
   session_notes = search rules;
-  txns = search rules;
-  writers = writers_none c.new_writers.result c.new_writers.ensures;
+  pending = search rules;
+  begun_are = search rules;
   keys = written_none c.new_keys.result;
   tables = search rules;
 }

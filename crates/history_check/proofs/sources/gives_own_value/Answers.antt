@@ -1,15 +1,7 @@
 use Rattle.std.proofs.Common.{◌≡◌, ℕ, Some, None, sym, ◌∙◌, subst}
 use Rattle.std.proofs.lemmas.Bool.{false≢true}
 use Rattle.history_core.specs.Relations.{LastWrites}
-use Rattle.history_core.proofs.Next.{pending_bounded}
-use Rattle.history_core.proofs.Numbers.{pending_positive}
 use Rattle.history_check.proofs.sources.gives_own_value.Goals as goal
-
-pub wrote_last-requires-clause-some : goal.wrote_last-requires-clause-some
-wrote_last-requires-clause-some c = pending_positive _ _ _ ((c.pending_in.ensures c.in-Some.number).0 c.in-Some.is)
-
-pub wrote_last-requires-clause-begun : goal.wrote_last-requires-clause-begun
-wrote_last-requires-clause-begun c = pending_bounded _ _ _ ((c.pending_in.ensures c.in-Some.number).0 c.in-Some.is)
 
 pub returns-in-Some : goal.returns-in-Some
 returns-in-Some c = (

@@ -1,5 +1,4 @@
 use Rattle.std.proofs.Common.{arith, inl, inr}
-use Rattle.std.proofs.lemmas.Bool.{false≢true}
 use Rattle.history_check.proofs.WriteLemmas.{value_bounded}
 use Rattle.history_check.proofs.sources.gives_value.Goals as goal
 
@@ -10,13 +9,4 @@ returns-then-number-eq0 c = (
     | inl first ↦ c.wrote_initially.ensures.1 first.1
     | inr later ↦ absurd (let h = (value_bounded c.args.before.now c.args.number later.0).0 in let z = c.if-number-eq0.true in omega arith)
   ],
-)
-
-pub returns-then-number-count_begun : goal.returns-then-number-count_begun
-returns-then-number-count_begun c = (
-  λ h. absurd (false≢true h),
-  λ writes. absurd (elim writes [
-    | inl first ↦ c.if-number-eq0.false first.0
-    | inr later ↦ let h = value_bounded c.args.before.now c.args.number later.0 in let b = h.1 in let n = c.count_begun.ensures in omega arith
-  ]),
 )

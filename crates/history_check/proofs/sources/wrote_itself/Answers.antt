@@ -1,15 +1,7 @@
 use Rattle.std.proofs.Common.{◌≡◌, ℕ, Some, None, sym, ◌∙◌, subst}
 use Rattle.std.proofs.lemmas.Bool.{false≢true}
 use Rattle.history_core.specs.Relations.{HasWritten}
-use Rattle.history_core.proofs.Next.{pending_bounded}
-use Rattle.history_core.proofs.Numbers.{pending_positive}
 use Rattle.history_check.proofs.sources.wrote_itself.Goals as goal
-
-pub has_written-requires-clause-some : goal.has_written-requires-clause-some
-has_written-requires-clause-some c = pending_positive _ _ _ ((c.pending_in.ensures c.in-Some.number).0 c.in-Some.is)
-
-pub has_written-requires-clause-begun : goal.has_written-requires-clause-begun
-has_written-requires-clause-begun c = pending_bounded _ _ _ ((c.pending_in.ensures c.in-Some.number).0 c.in-Some.is)
 
 pub returns-in-Some : goal.returns-in-Some
 returns-in-Some c = (
