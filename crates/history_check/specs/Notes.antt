@@ -13,8 +13,7 @@ use Rattle.cell_base.specs.declared.cell.Cell.TheVariants.{Presence}
 use Rattle.cell_base.specs.declared.key.Key.{Key}
 use Rattle.history_check.specs.declared.table_keys.TableKeys.{TableKeys}
 use Rattle.history_check.specs.TableKeys.{keys_at}
-use Rattle.cell_writers.specs.declared.writers.CellWriters.{CellWriters}
-use Rattle.cell_writers.specs.Writers.{numbers_at, AreAscending}
+use Rattle.cell_writers.specs.Writers.{AreWriters}
 use Rattle.order_test.specs.Settled.{IsSettled}
 use Rattle.history_check.specs.declared.session_note.SessionNote.{SessionNote}
 use Rattle.history_check.specs.declared.notes.Notes.{Notes}
@@ -57,11 +56,6 @@ pub record IsFreshRecord (txn : Txn) (session : ℕ) (level : Level) : Type 0 wh
   pub state_is : txn.state ≡ Pending
   pub nothing_seen : txn.seen ≡ []
   pub nothing_written : txn.buffer.writes ≡ []
-
--- at each cell stand, ascending, the transactions after the initial one that write it
-pub record AreWriters (events : List Event) (writers : CellWriters) : Type 0 where
-  pub ascending : AreAscending writers
-  pub exact : (cell : Cell) (number : ℕ) → Contains (numbers_at writers cell) number ↔ ((0 < number) × Writes events number cell)
 
 -- each key whose presence was written is noted at its table, whatever became of the transaction
 abbrev pub AreWrittenKeys : List Event → TableKeys → Type 0

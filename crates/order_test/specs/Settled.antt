@@ -2,7 +2,7 @@
 use Rattle.std.specs.Prelude.{◌≡◌, ◌⊎◌, ℕ, Some, List, slice_get, take}
 use Rattle.cell_base.specs.declared.cell.Cell.{Cell}
 use Rattle.history_core.specs.declared.event.Event.{Event}
-use Rattle.history_core.specs.declared.event.Event.TheVariants.{Read, Scan}
+use Rattle.history_core.specs.declared.event.Event.TheVariants.{Read, Scan, Write, Commit, Rollback}
 use Rattle.history_core.specs.Transactions.{IsCommitted, IsPending, HasPending}
 use Rattle.history_core.specs.Relations.{Reads, IsSessionOrdered}
 
@@ -31,3 +31,14 @@ pub record ComesSettled (events : List Event) (event : Event) : Type 0 where
 -- so each event comes after those before it
 abbrev pub IsOrderly : List Event → Type 0
 IsOrderly events = (k : ℕ) (event : Event) → slice_get events k ≡ Some event → ComesSettled (take k events) event
+
+-- a write, a commit or a rollback is one of a pending transaction
+abbrev pub HasOwner : List Event → Event → Type 0
+HasOwner events (Write session cell value) = HasPending events session
+HasOwner events (Commit session) = HasPending events session
+HasOwner events (Rollback session) = HasPending events session
+HasOwner events _ = Unit {0}
+
+-- so it is with each event, after those before it
+abbrev pub AreOwned : List Event → Type 0
+AreOwned events = (k : ℕ) (event : Event) → slice_get events k ≡ Some event → HasOwner (take k events) event
