@@ -23,6 +23,15 @@ impl Model for Numbers {
 }
 
 impl Numbers {
+    /// No number. Takes no memory.
+    pub fn new(alloc: Global) -> Numbers
+        ensures { result ≡ [] }
+    {
+        Numbers {
+            numbers: Vec::new(alloc),
+        }
+    }
+
     /// One number.
     pub fn one(alloc: Global, number: u32) -> Result<Numbers, Memory>
         ensures { IfOk result (λ numbers. numbers ≡ number ∷ []) }

@@ -2,6 +2,8 @@ pub mod Unkept
 pub mod Settled
 pub mod Places
 pub mod Pasts
+pub mod Glance
+pub mod Records
 pub mod Sights
 pub mod Listed
 pub mod Reaches

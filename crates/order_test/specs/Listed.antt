@@ -1,6 +1,5 @@
 -- How the committed writers of each cell are listed session by session, and what the lists show of a read at once.
 use Rattle.std.specs.Prelude.{◌≡◌, ◌<◌, ◌≤◌, ◌+◌, ◌⊎◌, [], ℕ, Option, Some, None, List, Contains, slice_get, slice_index}
-use Rattle.graph_base.specs.Order.{place_of}
 use Rattle.cell_base.specs.declared.cell.Cell.{Cell}
 use Rattle.cell_base.specs.declared.value.Value.{Value}
 use Rattle.cell_writers.specs.declared.writers.CellWriters.{CellWriters}
@@ -60,12 +59,6 @@ abbrev pub HasNoLate : List ℕ → List ℕ → ℕ → ℕ → Type 0
 HasNoLate places numbers limit from =
     ((other : ℕ) → Contains numbers other → other ≤ limit → ⊥)
     ⊎ ((last : ℕ) × IsLastUpTo numbers limit last × ((last ≡ from) ⊎ (slice_index places last < slice_index places from)))
-
--- of the first n transactions the last one of each session has its place there, and session order is kept among them
-pub record AreKeptUpTo (order : List ℕ) (txns : List Txn) (n : ℕ) (following : List ℕ) : Type 0 where
-  pub last : (place : ℕ) (txn : Txn) → place < n → slice_get txns place ≡ Some txn → place_of order (place + 1) ≤ slice_index following txn.session
-  pub kept : (i j : ℕ) (first second : Txn) → i < j → j < n → slice_get txns i ≡ Some first → slice_get txns j ≡ Some second → first.session ≡ second.session →
-      place_of order (i + 1) < place_of order (j + 1)
 
 -- no transaction is a rival of the read
 abbrev pub HasNoRival : List Event → List ℕ → ℕ → Event → ℕ → Type 0

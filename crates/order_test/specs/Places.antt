@@ -12,6 +12,12 @@ pub record ArePlaces (size : ℕ) (order : List ℕ) (places : List ℕ) : Type 
   pub count : length places ≡ size
   pub each : (n : ℕ) → n < size → slice_index places n ≡ place_of order n
 
+-- both numbers have places, and the first one's is before the second one's
+pub record StandsAt (places : List ℕ) (first second : ℕ) : Type 0 where
+  pub first_in : first < length places
+  pub second_in : second < length places
+  pub before : slice_index places first < slice_index places second
+
 -- each number stands where it stands first
 abbrev pub StandOnce : List ℕ → Type 0
 StandOnce order = (k n : ℕ) → slice_get order k ≡ Some n → place_of order n ≡ k

@@ -6,7 +6,7 @@ use Rattle.cell_base.specs.contracts.cell.CellOrd.TheImpl as cell_order
 use Rattle.cell_base.specs.declared.cell.Cell.{Cell}
 use Rattle.cell_base.specs.declared.value.Value.{Value}
 use Rattle.history_core.specs.declared.event.Event.{Event}
-use Rattle.history_core.specs.declared.event.Event.TheVariants.{Read}
+use Rattle.history_core.specs.declared.event.Event.TheVariants.{Read, Scan}
 use Rattle.history_core.specs.declared.txn.Txn.{Txn}
 use Rattle.history_core.specs.Events.{begun}
 use Rattle.history_core.specs.Transactions.{IsOf}
@@ -29,6 +29,12 @@ pub record IsScene (events : List Event) (order : List ℕ) (txns : List Txn) (p
 -- the number is that of a transaction after the initial one
 abbrev pub IsNumber : List Event → ℕ → Type 0
 IsNumber events number = (0 < number) × (number ≤ begun events)
+
+-- a read or a scan
+abbrev pub IsReading : Event → Type 0
+IsReading (Read session cell source count word value) = Unit {0}
+IsReading (Scan session table keys) = Unit {0}
+IsReading _ = ⊥
 
 -- the transaction that a read is from; a scan reads from the initial one
 abbrev pub origin_of : Event → ℕ

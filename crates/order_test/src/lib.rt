@@ -1,16 +1,19 @@
 //! The test of a commit order against a history: whether it meets the history, or what it doesn't keep first.
 //!
-//! `first_unkept` is exact. It stands on records of the transactions and on events that each come as the state of their sessions allow, and
-//! finds the causal pasts by itself.
+//! `first_unkept` is exact. It stands on the committed writers of each cell and on events that each come as the state of their sessions allow.
+//! Where an order is clear from what is light of the events, nothing else is made; else the records of the transactions and their causal pasts
+//! decide.
 #![tactic(auto)]
 
 mod firsts;
+mod glance;
 mod laws;
 mod listed;
 mod pasts;
 mod places;
 mod quick;
 mod reaches;
+mod records;
 mod rivals;
 mod search;
 mod sessions;

@@ -1,10 +1,11 @@
 // The causal past of each transaction. It is closed under session order, so of each session it has the transactions up to some one.
 ghost use Rattle.std.specs.Prelude.{◌≡◌, ◌≢◌, ◌≤◌, ◌<◌, ◌+◌, ◌↔◌, ◌⊎◌, ◌∷◌, ◌++◌, [], ℕ, Some, IfOk, OnOk, length, slice_get, slice_set, slice_index, take};
-ghost use Rattle.history_core.specs.Events.{begun, session_in};
+ghost use Rattle.history_core.specs.Events.{session_in};
 ghost use Rattle.further_reads.specs.Begun.{IsLastBegun};
 ghost use Rattle.order_test.specs.declared.pasts.Past.{Past as PastOf};
 ghost use Rattle.order_test.specs.Settled.{ComesSettled, IsOrderly};
-ghost use Rattle.order_test.specs.Pasts.{AreWithin, AreRows, AreLast, AreReaders, ArePasts, TakesIn, AddsAfter, TakesFrom};
+ghost use Rattle.order_test.specs.Glance.{AreWithin, AreOwners};
+ghost use Rattle.order_test.specs.Pasts.{AreRows, ArePasts, TakesIn, AddsAfter, TakesFrom};
 
 use cell_base::Memory;
 use history_core::Event;
@@ -18,74 +19,25 @@ pub struct Past {
     pub session: u32,
     /// For each session the last of its transactions that precedes the transaction causally, 0 where none does.
     pub tops: Vec<u32>,
-    /// A number that none of these is above.
-    pub latest: u32,
 }
 
-/// What the events so far come to.
+/// The causal past of each transaction, that of the initial one first.
 #[derive(Debug, Drop)]
 pub struct Pasts {
-    pub alloc: Global,
-    /// The causal past of each transaction, that of the initial one first.
+    /// A number above those of all sessions.
+    pub width: usize,
     pub rows: Vec<Past>,
-    /// For each session the last transaction that it has begun, 0 where it has begun none.
-    pub last: Vec<u32>,
-    /// For each event that last transaction of its session.
-    pub readers: Vec<u32>,
-}
-
-/// The session that made the event.
-pub fn session_of(event: &Event) -> u32
-    ensures { result ≡ session_in event.now }
-{
-    match event {
-        Event::Open { session } => *session,
-        Event::Close { session } => *session,
-        Event::Define { session, .. } => *session,
-        Event::Look { session, .. } => *session,
-        Event::Begin { session, .. } => *session,
-        Event::Scan { session, .. } => *session,
-        Event::Read { session, .. } => *session,
-        Event::Own { session, .. } => *session,
-        Event::Write { session, .. } => *session,
-        Event::Commit { session } => *session,
-        Event::Rollback { session } => *session,
-        Event::Show { session, .. } => *session,
-    }
-}
-
-/// A number above those of all sessions.
-fn width_of(events: &[Event]) -> usize
-    ensures some { 0 < result }
-    ensures within { AreWithin result events.now }
-{
-    let mut width = 1;
-    for event in events {
-        width = width.max(session_of(event) as usize + 1);
-    }
-    width
 }
 
 /// No event yet.
-fn no_pasts(alloc: Global, width: usize) -> Result<Pasts, Memory>
+fn first_rows(alloc: Global, width: usize) -> Result<Vec<Past>, Memory>
     requires { 0 < width }
-    ensures pasts { IfOk result (ArePasts []) }
-    ensures width { IfOk result (λ pasts. length pasts.last.items ≡ width) }
+    ensures { IfOk result (λ rows. AreRows [] width rows.items) }
 {
     let tops = vec![in alloc; 0; width]?;
-    let last = vec![in alloc; 0; width]?;
     let mut rows = Vec::new(alloc);
-    rows.push(Past {
-        session: 0,
-        tops,
-        latest: 0,
-    })?;
-    Ok(Pasts {
-        alloc,
-        rows,
-        last,
-        readers: Vec::new(alloc),
-    })
+    rows.push(Past { session: 0, tops })?;
+    Ok(rows)
 }
 
 /// Raises each of the numbers to the other one at its place, where it is below.
@@ -120,7 +72,6 @@ fn take_in(own: &mut Past, source: &Past, number: u32)
 {
     raise_all(&mut own.tops, &source.tops);
     raise(&mut own.tops, source.session, number);
-    own.latest = own.latest.max(source.latest).max(number);
 }
 
 /// Puts the past in the place of another, which it answers.
@@ -137,7 +88,6 @@ fn empty_past(alloc: Global) -> Past {
     Past {
         session: 0,
         tops: Vec::new(alloc),
-        latest: 0,
     }
 }
 
@@ -155,14 +105,9 @@ fn begin_row(alloc: Global, rows: &mut Vec<Past>, last: u32, session: u32) -> Re
     ensures { OnOk result (AddsAfter last session rows.old.items rows.new.items) }
 {
     let before = &rows[last as usize];
-    let latest = before.latest.max(last);
     let mut tops = copy_of(alloc, &before.tops)?;
     tops[session as usize] = last;
-    rows.push(Past {
-        session,
-        tops,
-        latest,
-    })?;
+    rows.push(Past { session, tops })?;
     Ok(())
 }
 
@@ -214,76 +159,30 @@ fn note_row(
     }
 }
 
-/// Notes the transaction that the event begins, if it begins one, as the last of its session.
-fn note_last(last: &mut Vec<u32>, before: &[Event], event: &Event, started: u32)
-    requires last { AreLast before.now (length last.old.items) last.old.items }
-    requires within { session_in event.now < length last.old.items }
-    requires started { started ≡ begun before.now }
-    requires few { started < 4294967295 }
-    ensures count { length last.new.items ≡ length last.old.items }
-    ensures last { AreLast (before.now ++ event.now ∷ []) (length last.new.items) last.new.items }
-{
-    match event {
-        Event::Begin { session, .. } => {
-            last[*session as usize] = started + 1;
-        }
-        Event::Open { .. } => {}
-        Event::Close { .. } => {}
-        Event::Define { .. } => {}
-        Event::Look { .. } => {}
-        Event::Scan { .. } => {}
-        Event::Read { .. } => {}
-        Event::Own { .. } => {}
-        Event::Write { .. } => {}
-        Event::Commit { .. } => {}
-        Event::Rollback { .. } => {}
-        Event::Show { .. } => {}
-    }
-}
-
-/// Notes the transaction of the event's session beside the event.
-fn note_reader(
-    readers: &mut Vec<u32>,
-    before: &[Event],
-    event: &Event,
-    last: u32,
-) -> Result<(), Memory>
-    requires readers { AreReaders before.now readers.old.items }
-    requires comes { ComesSettled before.now event.now }
-    requires last { IsLastBegun before.now (session_in event.now) last }
-    ensures { OnOk result (AreReaders (before.now ++ event.now ∷ []) readers.new.items) }
-{
-    readers.push(last)?;
-    Ok(())
-}
-
-/// Notes the event.
-fn note(pasts: &mut Pasts, before: &[Event], event: &Event) -> Result<(), Memory>
-    requires pasts { ArePasts before.now pasts.old }
-    requires comes { ComesSettled before.now event.now }
-    requires within { session_in event.now < length pasts.old.last.items }
-    requires few { length before.now < 4294967295 }
-    ensures width { length pasts.new.last.items ≡ length pasts.old.last.items }
-    ensures pasts { OnOk result (ArePasts (before.now ++ event.now ∷ []) pasts.new) }
-{
-    let width = pasts.last.len();
-    let last = pasts.last[session_of(event) as usize];
-    let started = (pasts.rows.len() - 1) as u32;
-    note_reader(&mut pasts.readers, before, event, last)?;
-    note_row(pasts.alloc, &mut pasts.rows, before, event, last, width)?;
-    note_last(&mut pasts.last, before, event, started);
-    Ok(())
-}
-
-/// What the events come to.
-pub fn pasts_of(alloc: Global, events: &[Event]) -> Result<Pasts, Memory>
+/// The causal past of each transaction. All sessions are below the width, and the owners are the last transactions of the sessions of the events.
+pub fn pasts_of(
+    alloc: Global,
+    events: &[Event],
+    owners: &[u32],
+    width: usize,
+) -> Result<Pasts, Memory>
     requires orderly { IsOrderly events.now }
-    requires few { length events.now < 4294967296 }
-    ensures { IfOk result (ArePasts events.now) }
+    requires owners { AreOwners events.now owners.now }
+    requires some { 0 < width }
+    requires within { AreWithin width events.now }
+    ensures pasts { IfOk result (ArePasts events.now) }
+    ensures width { IfOk result (λ pasts. pasts.width ≡ width) }
 {
-    let mut pasts = no_pasts(alloc, width_of(events))?;
+    let mut rows = first_rows(alloc, width)?;
     for at in 0..events.len() {
-        note(&mut pasts, &events[..at], &events[at])?;
+        note_row(
+            alloc,
+            &mut rows,
+            &events[..at],
+            &events[at],
+            owners[at],
+            width,
+        )?;
     }
-    Ok(pasts)
+    Ok(Pasts { width, rows })
 }

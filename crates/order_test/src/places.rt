@@ -1,7 +1,7 @@
 // Where each transaction stands in an order.
-ghost use Rattle.std.specs.Prelude.{◌≡◌, ◌<◌, ◌↔◌, IsTrue, IfOk, Some, length, slice_get};
+ghost use Rattle.std.specs.Prelude.{◌≡◌, ◌<◌, ◌↔◌, IsTrue, IfOk, Some, length, slice_get, slice_index};
 ghost use Rattle.order_test.specs.Unkept.{HoldsAll};
-ghost use Rattle.order_test.specs.Places.{AreBelow, ArePlaces, StandOnce, IsPlaced};
+ghost use Rattle.order_test.specs.Places.{AreBelow, ArePlaces, StandOnce, StandsAt, IsPlaced};
 
 use cell_base::Memory;
 use std::alloc::Global;
@@ -76,4 +76,27 @@ pub fn places_of(alloc: Global, order: &[u32], size: usize) -> Result<Option<Pla
         return Ok(None);
     }
     Ok(Some(Places { at }))
+}
+
+/// The place of the number, 0 where it has none.
+pub fn place_at(places: &Places, number: u32) -> usize
+    ensures { result ≡ slice_index places.now.at.items number }
+{
+    if number as usize >= places.at.len() {
+        return 0;
+    }
+    places.at[number as usize]
+}
+
+/// Whether both have places, and the first stands before the second.
+pub fn stands_before(places: &Places, first: u32, second: u32) -> bool
+    ensures { IsTrue result → StandsAt places.now.at.items first second }
+{
+    if first as usize >= places.at.len() {
+        return false;
+    }
+    if second as usize >= places.at.len() {
+        return false;
+    }
+    places.at[first as usize] < places.at[second as usize]
 }

@@ -6,14 +6,15 @@ ghost use Rattle.history_core.specs.Relations.{IsSessionOrdered, ReadsBefore, Re
 ghost use Rattle.order_test.specs.Unkept.{KeepsSessions};
 ghost use Rattle.order_test.specs.Pasts.{ArePasts};
 ghost use Rattle.order_test.specs.Sights.{IsScene, IsReadAt, IsRival, origin_of};
-ghost use Rattle.order_test.specs.Reaches.{ReachesCommitted};
+ghost use Rattle.order_test.specs.Reaches.{IsSurvey};
 ghost use Rattle.order_test.specs.Listed.{AreAllAscending, AreTxnsWithin, ListsCommitted, HasNoLate, HasNoRival, HasNoDirectRival, IsHarmless, AreHarmless, listed_at};
 ghost use Rattle.order_test.specs.Firsts.{AreRisingInAll, AreIndexes, PastIsListed};
 
 use crate::firsts::{TableFirsts, session_is_listed};
+use crate::glance::Glance;
 use crate::listed::{Lists, last_listed};
 use crate::pasts::{Past, Pasts};
-use crate::places::Places;
+use crate::places::{Places, stands_before};
 use crate::reaches::{CellReaches, cell_is_clear};
 use crate::sessions::txn_of;
 use crate::sight::{number_in, past_of, top_of};
@@ -21,19 +22,6 @@ use crate::unmet::is_rival;
 use cell_base::{Cell, Key, Level};
 use cell_writers::CellWriters;
 use history_core::{Event, Seen, Txn};
-
-/// Whether both have places, and the first stands before the second.
-fn stands_before(places: &Places, first: u32, second: u32) -> bool
-    ensures { IsTrue result → slice_index places.now.at.items first < slice_index places.now.at.items second }
-{
-    if first as usize >= places.at.len() {
-        return false;
-    }
-    if second as usize >= places.at.len() {
-        return false;
-    }
-    places.at[first as usize] < places.at[second as usize]
-}
 
 /// Whether the last writer of the cell in the session up to the limit is the source or stands before it.
 fn session_has_none(
@@ -74,28 +62,26 @@ fn past_has_none(
     true
 }
 
-/// Whether none of the committed writers of the cell up to the last number in the reader's causal past stands after the source.
+/// Whether none of the committed writers of the cell up to the limit of the reader's causal past stands after the source.
 pub fn is_reached(
     events: &[Event],
     order: &[u32],
-    txns: &[Txn],
     places: &Places,
-    pasts: &Pasts,
+    writers: &CellWriters,
+    glance: &Glance,
     reaches: &CellReaches,
     place: usize,
     event: &Event,
     reader: u32,
 ) -> bool
-    requires scene { IsScene events.now order.now txns.now places.now }
-    requires pasts { ArePasts events.now pasts.now }
-    requires reaches { ReachesCommitted txns.now (length txns.now) places.now.at.items reaches.now }
+    requires survey { IsSurvey events.now order.now places.now writers.now glance.now reaches.now }
     requires read { IsReadAt events.now place event.now reader }
     ensures { IsTrue result → HasNoRival events.now order.now place event.now reader }
 {
     match event {
         Event::Read { cell, source, .. } => {
-            let limit = past_of(pasts, events, reader).latest;
-            cell_is_clear(places, reaches, cell, limit, *source)
+            let limit = glance.limits[reader as usize];
+            cell_is_clear(places, writers, reaches, cell, limit, *source)
         }
         _ => false,
     }
@@ -415,7 +401,7 @@ fn is_clear_directly(
     sources_are_clear(events, order, txns, places, pasts, place, event, reader)
 }
 
-/// Whether it is seen at once that the read has no rival, whatever its level: no writer of the cell up to the last number in its causal past
+/// Whether it is seen at once that the read has no rival, whatever its level: no writer of the cell up to the limit of its causal past
 /// stands after its source, or its causal past has none that is late, or at Read Atomic neither its sources nor its session have one, or at Read
 /// Committed none of its earlier sources is one.
 pub fn is_clear(
@@ -424,6 +410,8 @@ pub fn is_clear(
     txns: &[Txn],
     places: &Places,
     pasts: &Pasts,
+    writers: &CellWriters,
+    glance: &Glance,
     reaches: &CellReaches,
     lists: &Lists,
     place: usize,
@@ -433,7 +421,7 @@ pub fn is_clear(
     requires scene { IsScene events.now order.now txns.now places.now }
     requires pasts { ArePasts events.now pasts.now }
     requires sessions { KeepsSessions events.now order.now }
-    requires reaches { ReachesCommitted txns.now (length txns.now) places.now.at.items reaches.now }
+    requires survey { IsSurvey events.now order.now places.now writers.now glance.now reaches.now }
     requires lists { ListsCommitted txns.now (length txns.now) lists.now.writers.items }
     requires firsts { AreIndexes lists.now.writers.items (length txns.now) lists.now.firsts.items }
     requires within { AreTxnsWithin (length lists.now.writers.items) txns.now }
@@ -441,7 +429,7 @@ pub fn is_clear(
     ensures { IsTrue result → HasNoRival events.now order.now place event.now reader }
 {
     if is_reached(
-        events, order, txns, places, pasts, reaches, place, event, reader,
+        events, order, places, writers, glance, reaches, place, event, reader,
     ) {
         return true;
     }

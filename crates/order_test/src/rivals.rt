@@ -6,8 +6,7 @@ ghost use Rattle.cell_base.specs.declared.value.Value.{Value as ValueOf};
 ghost use Rattle.cell_base.specs.contracts.cell.CellOrd.TheImpl as cell_order;
 ghost use Rattle.txn_buffer.specs.Buffer.{IsAbsent};
 ghost use Rattle.saturation.specs.Views.{IsUnlisted};
-ghost use Rattle.order_test.specs.Pasts.{IsReading};
-ghost use Rattle.order_test.specs.Sights.{origin_of, IsRivalCell, IsFirstRivalCell, IsFirstUnlisted, IsLeastUnlisted, IsLeastUpTo};
+ghost use Rattle.order_test.specs.Sights.{IsReading, origin_of, IsRivalCell, IsFirstRivalCell, IsFirstUnlisted, IsLeastUnlisted, IsLeastUpTo};
 
 use cell_base::{Cell, Key, Value};
 use history_core::{Event, Txn, TxnState};

@@ -1,25 +1,30 @@
 // The first that an order doesn't keep.
 ghost use Rattle.std.specs.Prelude.{◌≡◌, ◌≤◌, ◌<◌, ◌+◌, ◌↔◌, ℕ, Some, IsTrue, IfOk, IfSome, IfNone, length, slice_get};
 ghost use Rattle.history_core.specs.Events.{begun};
-ghost use Rattle.history_core.specs.Kept.{StandsForTxns};
-ghost use Rattle.order_test.specs.Settled.{IsOrderly};
-ghost use Rattle.order_test.specs.Unkept.{KeepsSessions, IsFirstOutOfSession, IsFound, IsKeptAt, IsKeptBelow};
-ghost use Rattle.order_test.specs.Pasts.{ArePasts, IsReading};
-ghost use Rattle.order_test.specs.Sights.{IsScene, IsNumber, IsReadAt, IsRival, IsAxiomOf, IsFoundAt, IsFoundAmong, origin_of};
-ghost use Rattle.order_test.specs.Reaches.{ReachesCommitted};
+ghost use Rattle.cell_writers.specs.Writers.{AreWriters};
+ghost use Rattle.order_test.specs.Settled.{IsOrderly, AreOwned};
+ghost use Rattle.order_test.specs.Unkept.{HoldsTransactions, KeepsSessions, IsFirstOutOfSession, IsFound, IsKeptAt, IsKeptBelow};
+ghost use Rattle.order_test.specs.Places.{ArePlaces};
+ghost use Rattle.order_test.specs.Pasts.{ArePasts};
+ghost use Rattle.order_test.specs.Sights.{IsScene, IsNumber, IsReadAt, IsReading, IsRival, IsAxiomOf, IsFoundAt, IsFoundAmong, origin_of};
+ghost use Rattle.order_test.specs.Glance.{AreWithin};
+ghost use Rattle.order_test.specs.Reaches.{IsSurvey};
 ghost use Rattle.order_test.specs.Listed.{AreTxnsWithin, ListsCommitted};
 ghost use Rattle.order_test.specs.Firsts.{AreIndexes};
 
 use crate::Unkept;
+use crate::glance::{Glance, glance_of, size_of};
 use crate::listed::{Lists, lists_of};
 use crate::pasts::{Pasts, pasts_of};
-use crate::places::{Places, places_of};
+use crate::places::{Places, places_of, stands_before};
 use crate::quick::{is_clear, is_reached};
 use crate::reaches::{CellReaches, reaches_of};
+use crate::records::txns_of;
 use crate::rivals::{is_reading, origin, rival_cell};
-use crate::sessions::{first_out_of_session, is_late, keeps_sessions, txn_of};
+use crate::sessions::{first_out_of_session, is_late, txn_of};
 use crate::unmet::is_rival;
 use cell_base::Memory;
+use cell_writers::CellWriters;
 use history_core::{Event, Txn};
 use std::alloc::Global;
 
@@ -85,31 +90,28 @@ fn axiom_of(
     }
 }
 
-/// Whether it is seen by the reaches alone that the order keeps what the read or scan asks.
+/// Whether it is clear from what is light that the order keeps what the read or scan asks.
 fn read_is_reached(
     events: &[Event],
     order: &[u32],
-    txns: &[Txn],
     places: &Places,
-    pasts: &Pasts,
+    writers: &CellWriters,
+    glance: &Glance,
     reaches: &CellReaches,
     place: usize,
     event: &Event,
     reader: u32,
 ) -> bool
-    requires scene { IsScene events.now order.now txns.now places.now }
-    requires pasts { ArePasts events.now pasts.now }
-    requires reaches { ReachesCommitted txns.now (length txns.now) places.now.at.items reaches.now }
+    requires survey { IsSurvey events.now order.now places.now writers.now glance.now reaches.now }
     requires orderly { IsOrderly events.now }
     requires read { IsReadAt events.now place event.now reader }
     ensures { IsTrue result → IsKeptAt events.now order.now place }
 {
-    let from = origin(event);
-    if is_late(events, order, txns, places, from, reader) {
+    if !stands_before(places, origin(event), reader) {
         return false;
     }
     is_reached(
-        events, order, txns, places, pasts, reaches, place, event, reader,
+        events, order, places, writers, glance, reaches, place, event, reader,
     )
 }
 
@@ -117,15 +119,13 @@ fn read_is_reached(
 fn event_is_reached(
     events: &[Event],
     order: &[u32],
-    txns: &[Txn],
     places: &Places,
-    pasts: &Pasts,
+    writers: &CellWriters,
+    glance: &Glance,
     reaches: &CellReaches,
     place: usize,
 ) -> bool
-    requires scene { IsScene events.now order.now txns.now places.now }
-    requires pasts { ArePasts events.now pasts.now }
-    requires reaches { ReachesCommitted txns.now (length txns.now) places.now.at.items reaches.now }
+    requires survey { IsSurvey events.now order.now places.now writers.now glance.now reaches.now }
     requires orderly { IsOrderly events.now }
     requires within { place < length events.now }
     ensures { IsTrue result → IsKeptAt events.now order.now place }
@@ -134,30 +134,28 @@ fn event_is_reached(
     if !is_reading(event) {
         return true;
     }
-    let reader = pasts.readers[place];
+    let reader = glance.owners[place];
     read_is_reached(
-        events, order, txns, places, pasts, reaches, place, event, reader,
+        events, order, places, writers, glance, reaches, place, event, reader,
     )
 }
 
-/// The first event of which the reaches alone don't show that the order keeps what it asks, or the end.
+/// The first event of which what is light doesn't show that the order keeps what it asks, or the end.
 fn first_unreached(
     events: &[Event],
     order: &[u32],
-    txns: &[Txn],
     places: &Places,
-    pasts: &Pasts,
+    writers: &CellWriters,
+    glance: &Glance,
     reaches: &CellReaches,
 ) -> usize
-    requires scene { IsScene events.now order.now txns.now places.now }
-    requires pasts { ArePasts events.now pasts.now }
-    requires reaches { ReachesCommitted txns.now (length txns.now) places.now.at.items reaches.now }
+    requires survey { IsSurvey events.now order.now places.now writers.now glance.now reaches.now }
     requires orderly { IsOrderly events.now }
     ensures within { result ≤ length events.now }
     ensures kept { IsKeptBelow events.now order.now result }
 {
     for place in 0..events.len() {
-        if !event_is_reached(events, order, txns, places, pasts, reaches, place) {
+        if !event_is_reached(events, order, places, writers, glance, reaches, place) {
             return place;
         }
     }
@@ -172,6 +170,8 @@ fn found_of(
     txns: &[Txn],
     places: &Places,
     pasts: &Pasts,
+    writers: &CellWriters,
+    glance: &Glance,
     reaches: &CellReaches,
     lists: &Lists,
     place: usize,
@@ -181,7 +181,7 @@ fn found_of(
     requires scene { IsScene events.now order.now txns.now places.now }
     requires pasts { ArePasts events.now pasts.now }
     requires sessions { KeepsSessions events.now order.now }
-    requires reaches { ReachesCommitted txns.now (length txns.now) places.now.at.items reaches.now }
+    requires survey { IsSurvey events.now order.now places.now writers.now glance.now reaches.now }
     requires lists { ListsCommitted txns.now (length txns.now) lists.now.writers.items }
     requires firsts { AreIndexes lists.now.writers.items (length txns.now) lists.now.firsts.items }
     requires txns_within { AreTxnsWithin (length lists.now.writers.items) txns.now }
@@ -200,7 +200,7 @@ fn found_of(
         }));
     }
     if is_clear(
-        events, order, txns, places, pasts, reaches, lists, place, event, reader,
+        events, order, txns, places, pasts, writers, glance, reaches, lists, place, event, reader,
     ) {
         return Ok(None);
     }
@@ -223,6 +223,8 @@ fn found_at(
     txns: &[Txn],
     places: &Places,
     pasts: &Pasts,
+    writers: &CellWriters,
+    glance: &Glance,
     reaches: &CellReaches,
     lists: &Lists,
     place: usize,
@@ -230,7 +232,7 @@ fn found_at(
     requires scene { IsScene events.now order.now txns.now places.now }
     requires pasts { ArePasts events.now pasts.now }
     requires sessions { KeepsSessions events.now order.now }
-    requires reaches { ReachesCommitted txns.now (length txns.now) places.now.at.items reaches.now }
+    requires survey { IsSurvey events.now order.now places.now writers.now glance.now reaches.now }
     requires lists { ListsCommitted txns.now (length txns.now) lists.now.writers.items }
     requires firsts { AreIndexes lists.now.writers.items (length txns.now) lists.now.firsts.items }
     requires txns_within { AreTxnsWithin (length lists.now.writers.items) txns.now }
@@ -243,9 +245,9 @@ fn found_at(
     if !is_reading(event) {
         return Ok(None);
     }
-    let reader = pasts.readers[place];
+    let reader = glance.owners[place];
     found_of(
-        alloc, events, order, txns, places, pasts, reaches, lists, place, event, reader,
+        alloc, events, order, txns, places, pasts, writers, glance, reaches, lists, place, event, reader,
     )
 }
 
@@ -257,6 +259,8 @@ fn found_among(
     txns: &[Txn],
     places: &Places,
     pasts: &Pasts,
+    writers: &CellWriters,
+    glance: &Glance,
     reaches: &CellReaches,
     lists: &Lists,
     start: usize,
@@ -264,7 +268,7 @@ fn found_among(
     requires scene { IsScene events.now order.now txns.now places.now }
     requires pasts { ArePasts events.now pasts.now }
     requires sessions { KeepsSessions events.now order.now }
-    requires reaches { ReachesCommitted txns.now (length txns.now) places.now.at.items reaches.now }
+    requires survey { IsSurvey events.now order.now places.now writers.now glance.now reaches.now }
     requires lists { ListsCommitted txns.now (length txns.now) lists.now.writers.items }
     requires firsts { AreIndexes lists.now.writers.items (length txns.now) lists.now.firsts.items }
     requires txns_within { AreTxnsWithin (length lists.now.writers.items) txns.now }
@@ -275,7 +279,7 @@ fn found_among(
 {
     for place in start..events.len() {
         match found_at(
-            alloc, events, order, txns, places, pasts, reaches, lists, place,
+            alloc, events, order, txns, places, pasts, writers, glance, reaches, lists, place,
         )? {
             Some(unkept) => return Ok(Some(unkept)),
             None => {}
@@ -284,92 +288,141 @@ fn found_among(
     Ok(None)
 }
 
-/// The least pair that session order has, and the order hasn't. It is looked for only where one pass over the transactions finds that there is
-/// one. All sessions are below the width.
+/// The least pair that session order has, and the order hasn't. It is looked for only where the order may not keep session order.
 fn session_breach(
-    alloc: Global,
     events: &[Event],
     order: &[u32],
     txns: &[Txn],
     places: &Places,
-    width: usize,
-) -> Result<Option<(u32, u32)>, Memory>
+    glance: &Glance,
+) -> Option<(u32, u32)>
     requires scene { IsScene events.now order.now txns.now places.now }
-    requires within { AreTxnsWithin width txns.now }
-    ensures some { IfOk result (λ found. IfSome found (λ pair. IsFirstOutOfSession events.now order.now pair.0 pair.1)) }
-    ensures none { IfOk result (λ found. IfNone found (KeepsSessions events.now order.now)) }
+    requires keeps { IsTrue glance.now.keeps → KeepsSessions events.now order.now }
+    ensures some { IfSome result (λ pair. IsFirstOutOfSession events.now order.now pair.0 pair.1) }
+    ensures none { IfNone result (KeepsSessions events.now order.now) }
 {
-    if keeps_sessions(alloc, events, order, txns, places, width)? {
-        return Ok(None);
+    if glance.keeps {
+        return None;
     }
-    Ok(first_out_of_session(events, order, txns, places))
+    first_out_of_session(events, order, txns, places)
 }
 
-/// The first of the events of which the order, which keeps session order, doesn't keep what it asks. The writers of each session are listed only
-/// where there is an event that the reaches alone don't clear.
+/// The first of the events of which the order, which keeps session order, doesn't keep what it asks. It keeps what those before the start ask.
 fn found_after(
     alloc: Global,
     events: &[Event],
     order: &[u32],
     txns: &[Txn],
     places: &Places,
-    pasts: &Pasts,
+    writers: &CellWriters,
+    glance: &Glance,
+    reaches: &CellReaches,
+    start: usize,
+    width: usize,
 ) -> Result<Option<Unkept>, Memory>
     requires scene { IsScene events.now order.now txns.now places.now }
-    requires pasts { ArePasts events.now pasts.now }
     requires sessions { KeepsSessions events.now order.now }
+    requires survey { IsSurvey events.now order.now places.now writers.now glance.now reaches.now }
     requires orderly { IsOrderly events.now }
+    requires kept { IsKeptBelow events.now order.now start }
+    requires some { 0 < width }
+    requires within { AreWithin width events.now }
     requires few { length events.now < 4294967296 }
     ensures { IfOk result (IsFoundAmong events.now order.now) }
 {
-    let reaches = reaches_of(alloc, txns, places)?;
-    let start = first_unreached(events, order, txns, places, pasts, &reaches);
-    if start == events.len() {
-        return Ok(None);
-    }
-    let width = pasts.last.len();
+    let pasts = pasts_of(alloc, events, &glance.owners, width)?;
     let lists = lists_of(alloc, txns, width)?;
     found_among(
-        alloc, events, order, txns, places, pasts, &reaches, &lists, start,
+        alloc, events, order, txns, places, &pasts, writers, glance, reaches, &lists, start,
     )
 }
 
-/// The first that the order doesn't keep, where it holds each transaction once and the initial one first.
+/// The first that the order doesn't keep, by the records of the transactions. It keeps what the events before the start ask.
+fn found_by_records(
+    alloc: Global,
+    events: &[Event],
+    order: &[u32],
+    places: &Places,
+    writers: &CellWriters,
+    glance: &Glance,
+    reaches: &CellReaches,
+    start: usize,
+    width: usize,
+) -> Result<Option<Unkept>, Memory>
+    requires survey { IsSurvey events.now order.now places.now writers.now glance.now reaches.now }
+    requires orderly { IsOrderly events.now }
+    requires owned { AreOwned events.now }
+    requires kept { IsKeptBelow events.now order.now start }
+    requires some { 0 < width }
+    requires within { AreWithin width events.now }
+    requires few { length events.now < 4294967296 }
+    ensures { IfOk result (IsFound events.now order.now) }
+{
+    let txns = txns_of(alloc, events, &glance.owners)?;
+    match session_breach(events, order, &txns, places, glance) {
+        Some((earlier, later)) => Ok(Some(Unkept::Session { earlier, later })),
+        None => found_after(
+            alloc, events, order, &txns, places, writers, glance, reaches, start, width,
+        ),
+    }
+}
+
+/// Whether the order keeps session order and what all events ask.
+fn is_over(events: &[Event], glance: &Glance, start: usize) -> bool
+    ensures { IsTrue result → IsTrue glance.now.keeps × (start ≡ length events.now) }
+{
+    glance.keeps && start == events.len()
+}
+
+/// The first that the order doesn't keep, where it holds each transaction once and the initial one first. The records of the transactions are made
+/// only where the order isn't clear from what is light.
 fn found_in(
     alloc: Global,
     events: &[Event],
     order: &[u32],
-    txns: &[Txn],
     places: &Places,
+    writers: &CellWriters,
+    width: usize,
 ) -> Result<Option<Unkept>, Memory>
-    requires scene { IsScene events.now order.now txns.now places.now }
+    requires holds { HoldsTransactions events.now order.now }
+    requires places { ArePlaces (begun events.now + 1) order.now places.now.at.items }
     requires orderly { IsOrderly events.now }
+    requires owned { AreOwned events.now }
+    requires writers { AreWriters events.now writers.now }
+    requires some { 0 < width }
+    requires within { AreWithin width events.now }
     requires few { length events.now < 4294967296 }
     ensures { IfOk result (IsFound events.now order.now) }
 {
-    let pasts = pasts_of(alloc, events)?;
-    match session_breach(alloc, events, order, txns, places, pasts.last.len())? {
-        Some((earlier, later)) => Ok(Some(Unkept::Session { earlier, later })),
-        None => found_after(alloc, events, order, txns, places, &pasts),
+    let glance = glance_of(alloc, events, order, places, width)?;
+    let reaches = reaches_of(alloc, writers, places)?;
+    let start = first_unreached(events, order, places, writers, &glance, &reaches);
+    if is_over(events, &glance, start) {
+        return Ok(None);
     }
+    found_by_records(
+        alloc, events, order, places, writers, &glance, &reaches, start, width,
+    )
 }
 
 /// The first that the order doesn't keep of the history: that it holds each transaction once and the initial one first, the order of each
-/// session, and then what each read or scan asks, event by event. `None` where the order meets the history. `txns` are the records of its
-/// transactions, and each event has to come as the state of its session allows.
+/// session, and then what each read or scan asks, event by event. `None` where the order meets the history. At each cell the writers are those
+/// transactions that have committed and wrote it, and each event has to come as the state of its session allows.
 pub fn first_unkept(
     alloc: Global,
     events: &[Event],
-    txns: &[Txn],
+    writers: &CellWriters,
     order: &[u32],
 ) -> Result<Option<Unkept>, Memory>
-    requires records { StandsForTxns events.now txns.now }
     requires orderly { IsOrderly events.now }
+    requires owned { AreOwned events.now }
+    requires writers { AreWriters events.now writers.now }
     requires few { length events.now < 4294967296 }
     ensures { IfOk result (IsFound events.now order.now) }
 {
-    match places_of(alloc, order, txns.len() + 1)? {
-        Some(places) => found_in(alloc, events, order, txns, &places),
+    let size = size_of(events);
+    match places_of(alloc, order, size.started + 1)? {
+        Some(places) => found_in(alloc, events, order, &places, writers, size.width),
         None => Ok(Some(Unkept::Order)),
     }
 }

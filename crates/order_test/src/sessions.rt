@@ -1,16 +1,13 @@
 // Whether an order extends the order of each session.
-ghost use Rattle.std.specs.Prelude.{◌≡◌, ◌≤◌, ◌<◌, ◌+◌, ◌↔◌, ℕ, IsTrue, IfOk, IfSome, IfNone, length, slice_index, slice_set};
+ghost use Rattle.std.specs.Prelude.{◌≤◌, ◌↔◌, ℕ, IsTrue, IfSome, IfNone};
 ghost use Rattle.history_core.specs.Events.{begun};
 ghost use Rattle.history_core.specs.Records.{IsRecordOf};
 ghost use Rattle.history_core.specs.Relations.{IsSessionOrdered};
 ghost use Rattle.order_test.specs.Unkept.{IsOutOfSession, IsFirstOutOfSession, KeepsSessions, StandsBefore};
 ghost use Rattle.order_test.specs.Sights.{IsScene, IsNumber};
-ghost use Rattle.order_test.specs.Listed.{AreTxnsWithin};
 
 use crate::places::Places;
-use cell_base::Memory;
 use history_core::{Event, Txn};
-use std::alloc::Global;
 
 /// The record of the transaction.
 pub fn txn_of<'a>(
@@ -122,39 +119,4 @@ pub fn first_out_of_session(
         }
     }
     None
-}
-
-/// Notes that the next transaction of the session has the place, where that is above the one noted before.
-fn note_place(following: &mut [usize], session: u32, place: usize) -> bool
-    requires { session < length following.old }
-    ensures above { IsTrue result → slice_index following.old session < place }
-    ensures noted { IsTrue result → following.new ≡ slice_set following.old session place }
-{
-    if place <= following[session as usize] {
-        return false;
-    }
-    following[session as usize] = place;
-    true
-}
-
-/// Whether the order keeps session order, found in one pass. All sessions are below the width.
-pub fn keeps_sessions(
-    alloc: Global,
-    events: &[Event],
-    order: &[u32],
-    txns: &[Txn],
-    places: &Places,
-    width: usize,
-) -> Result<bool, Memory>
-    requires scene { IsScene events.now order.now txns.now places.now }
-    requires within { AreTxnsWithin width txns.now }
-    ensures { IfOk result (λ keeps. IsTrue keeps → KeepsSessions events.now order.now) }
-{
-    let mut following = vec![in alloc; 0; width]?;
-    for at in 0..txns.len() {
-        if !note_place(&mut following, txns[at].session, places.at[at + 1]) {
-            return Ok(false);
-        }
-    }
-    Ok(true)
 }

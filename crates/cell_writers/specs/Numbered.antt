@@ -1,0 +1,44 @@
+-- The numbers of the cells of events, and what is noted at each number.
+use Rattle.std.specs.Prelude.{◌≡◌, ◌<◌, ◌≤◌, ◌⊎◌, ◌↔◌, ◌++◌, ◌∷◌, [], ℕ, Option, Some, None, List, Contains, length, slice_get, slice_index}
+use Rattle.std.specs.List.Sorted.{IsStrictlyIncreasing}
+use Rattle.cell_base.specs.declared.cell.Cell.{Cell}
+use Rattle.history_core.specs.declared.event.Event.{Event}
+use Rattle.history_core.specs.declared.event.Event.TheVariants.{Read, Own, Write}
+use Rattle.history_core.specs.Relations.{Writes}
+use Rattle.cell_writers.specs.declared.cell_note.CellNote.{CellNote}
+use Rattle.cell_writers.specs.declared.cell_numbers.CellNumbers.{CellNumbers}
+
+-- the cell that the event reads or writes
+abbrev pub cell_in : Event → Option Cell
+cell_in (Read session cell source count word value) = Some cell
+cell_in (Own session cell value) = Some cell
+cell_in (Write session cell value) = Some cell
+cell_in _ = None
+
+-- no cell has two numbers
+abbrev pub AreUnique : List Cell → Type 0
+AreUnique cells = (i j : ℕ) (cell : Cell) → slice_get cells i ≡ Some cell → slice_get cells j ≡ Some cell → i ≡ j
+
+-- the cells with this one, which is the last where it wasn't among them
+abbrev pub AddsCell : List Cell → Cell → List Cell → Type 0
+AddsCell old cell new = (new ≡ old) ⊎ ((new ≡ old ++ cell ∷ []) × (¬ Contains old cell))
+
+-- each cell of the events has one number, which stands at each event of the cell
+pub record AreNumbered (events : List Event) (numbers : CellNumbers) : Type 0 where
+  pub long : length events ≤ length numbers.of_events.items
+  pub unique : AreUnique numbers.cells.keys
+  pub each : (k : ℕ) (event : Event) (cell : Cell) → slice_get events k ≡ Some event → cell_in event ≡ Some cell →
+      slice_get numbers.cells.keys (slice_index numbers.of_events.items k) ≡ Some cell
+
+-- so it is with the events so far, and there are no more numbers than events
+pub record AreNumberedSo (events : List Event) (numbers : CellNumbers) : Type 0 where
+  pub are : AreNumbered events numbers
+  pub count : length numbers.of_events.items ≡ length events
+  pub few : length numbers.cells.keys ≤ length events
+
+-- at the number of each cell stand, ascending, the transactions after the initial one that have committed and write it
+pub record AreWriters (events : List Event) (cells : List Cell) (notes : List CellNote) : Type 0 where
+  pub count : length notes ≡ length cells
+  pub ascending : (i : ℕ) (note : CellNote) → slice_get notes i ≡ Some note → IsStrictlyIncreasing note.committed
+  pub exact : (i : ℕ) (cell : Cell) (note : CellNote) (number : ℕ) → slice_get cells i ≡ Some cell → slice_get notes i ≡ Some note →
+      Contains note.committed number ↔ ((0 < number) × Writes events number cell)

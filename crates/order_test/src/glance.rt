@@ -1,0 +1,236 @@
+// What is light of the events, found in one pass over them.
+ghost use Rattle.std.specs.Prelude.{◌≡◌, ◌≤◌, ◌<◌, ◌+◌, ◌∷◌, ◌++◌, [], Some, IsTrue, IfOk, OnOk, length, slice_get, slice_set, slice_index, take};
+ghost use Rattle.history_core.specs.Events.{begun, session_in};
+ghost use Rattle.further_reads.specs.Begun.{IsLastBegun};
+ghost use Rattle.order_test.specs.Settled.{ComesSettled, IsOrderly};
+ghost use Rattle.order_test.specs.Places.{ArePlaces, StandsAt};
+ghost use Rattle.order_test.specs.Glance.{AreWithin, IsSizeOf, IsGlance, IsNoted, AddsLimit, RaisesLimit};
+
+use crate::places::{Places, stands_before};
+use cell_base::Memory;
+use history_core::Event;
+use std::alloc::Global;
+
+/// How many transactions have begun, and a number above those of all sessions.
+#[derive(Debug, Drop)]
+pub struct Size {
+    pub started: usize,
+    pub width: usize,
+}
+
+/// What the events so far come to, as far as it is light.
+#[derive(Debug, Drop)]
+pub struct Glance {
+    /// For each session the last transaction that it has begun, 0 where it has begun none.
+    pub last: Vec<u32>,
+    /// For each event that last transaction of its session.
+    pub owners: Vec<u32>,
+    /// For each transaction, the initial one first, a number that none in its causal past is above.
+    pub limits: Vec<u32>,
+    /// Whether the order keeps session order.
+    pub keeps: bool,
+}
+
+/// The session that made the event.
+fn session_of(event: &Event) -> u32
+    ensures { result ≡ session_in event.now }
+{
+    match event {
+        Event::Open { session } => *session,
+        Event::Close { session } => *session,
+        Event::Define { session, .. } => *session,
+        Event::Look { session, .. } => *session,
+        Event::Begin { session, .. } => *session,
+        Event::Scan { session, .. } => *session,
+        Event::Read { session, .. } => *session,
+        Event::Own { session, .. } => *session,
+        Event::Write { session, .. } => *session,
+        Event::Commit { session } => *session,
+        Event::Rollback { session } => *session,
+        Event::Show { session, .. } => *session,
+    }
+}
+
+/// How many transactions the event begins: one or none.
+fn beginnings(event: &Event) -> usize
+    ensures value { result ≡ begun (event.now ∷ []) }
+    ensures small { result < 2 }
+{
+    match event {
+        Event::Begin { .. } => 1,
+        Event::Open { .. } => 0,
+        Event::Close { .. } => 0,
+        Event::Define { .. } => 0,
+        Event::Look { .. } => 0,
+        Event::Scan { .. } => 0,
+        Event::Read { .. } => 0,
+        Event::Own { .. } => 0,
+        Event::Write { .. } => 0,
+        Event::Commit { .. } => 0,
+        Event::Rollback { .. } => 0,
+        Event::Show { .. } => 0,
+    }
+}
+
+/// Counts the event.
+fn count(size: &mut Size, before: &[Event], event: &Event)
+    requires size { IsSizeOf before.now size.old }
+    requires few { length before.now < 4294967296 }
+    ensures { IsSizeOf (before.now ++ event.now ∷ []) size.new }
+{
+    size.width = size.width.max(session_of(event) as usize + 1);
+    size.started += beginnings(event);
+}
+
+/// How many transactions have begun, and a number above those of all sessions.
+pub fn size_of(events: &[Event]) -> Size
+    requires few { length events.now < 4294967296 }
+    ensures { IsSizeOf events.now result }
+{
+    let mut size = Size {
+        started: 0,
+        width: 1,
+    };
+    for at in 0..events.len() {
+        count(&mut size, &events[..at], &events[at]);
+    }
+    size
+}
+
+/// No event yet, of so many that there is room for.
+fn no_glance(alloc: Global, _order: &[u32], width: usize, room: usize) -> Result<Glance, Memory>
+    ensures glance { IfOk result (IsGlance [] _order.now) }
+    ensures width { IfOk result (λ glance. length glance.last.items ≡ width) }
+{
+    let last = vec![in alloc; 0; width]?;
+    let limits = vec![in alloc; 0; 1]?;
+    let owners = Vec::with_capacity(alloc, room)?;
+    Ok(Glance {
+        last,
+        owners,
+        limits,
+        keeps: true,
+    })
+}
+
+/// The greater of two numbers.
+fn greater(first: u32, second: u32) -> u32
+    ensures { (first ≤ result) × (second ≤ result) }
+{
+    first.max(second)
+}
+
+/// Whether session order was kept so far, and is with the next transaction after the last one of its session.
+fn goes_on(keeps: bool, places: &Places, last: u32, number: u32) -> bool
+    ensures { IsTrue result → IsTrue keeps × StandsAt places.now.at.items last number }
+{
+    keeps && stands_before(places, last, number)
+}
+
+/// Notes that a transaction begins in the session, whose last one was this. The order keeps session order where it has that one before.
+fn note_begin(
+    glance: &mut Glance,
+    places: &Places,
+    session: u32,
+    last: u32,
+) -> Result<(), Memory>
+    requires last { last < length glance.old.limits.items }
+    requires session { session < length glance.old.last.items }
+    requires few { length glance.old.limits.items < 4294967296 }
+    ensures width { length glance.new.last.items ≡ length glance.old.last.items }
+    ensures adds { OnOk result (AddsLimit places.now.at.items session last glance.old glance.new) }
+{
+    let number = glance.limits.len() as u32;
+    let limit = greater(last, glance.limits[last as usize]);
+    glance.limits.push(limit)?;
+    glance.last[session as usize] = number;
+    glance.keeps = goes_on(glance.keeps, places, last, number);
+    Ok(())
+}
+
+/// Notes that the reader reads from the source.
+fn note_read(limits: &mut Vec<u32>, reader: u32, source: u32)
+    requires reader { reader < length limits.old.items }
+    requires source { source < length limits.old.items }
+    ensures { RaisesLimit reader source limits.old.items limits.new.items }
+{
+    let top = greater(source, limits[source as usize]);
+    limits[reader as usize] = greater(top, limits[reader as usize]);
+}
+
+/// Notes of the event what it changes in the limits. `last` is the last transaction of its session.
+fn note_change(
+    glance: &mut Glance,
+    places: &Places,
+    order: &[u32],
+    before: &[Event],
+    event: &Event,
+    last: u32,
+) -> Result<(), Memory>
+    requires glance { IsNoted before.now order.now event.now last glance.old }
+    requires comes { ComesSettled before.now event.now }
+    requires places { ArePlaces (length places.now.at.items) order.now places.now.at.items }
+    requires few { length before.now < 4294967295 }
+    ensures width { length glance.new.last.items ≡ length glance.old.last.items }
+    ensures glance { OnOk result (IsGlance (before.now ++ event.now ∷ []) order.now glance.new) }
+{
+    match event {
+        Event::Begin { session, .. } => note_begin(glance, places, *session, last),
+        Event::Read { source, .. } => {
+            note_read(&mut glance.limits, last, *source);
+            Ok(())
+        }
+        Event::Open { .. } => Ok(()),
+        Event::Close { .. } => Ok(()),
+        Event::Define { .. } => Ok(()),
+        Event::Look { .. } => Ok(()),
+        Event::Scan { .. } => Ok(()),
+        Event::Own { .. } => Ok(()),
+        Event::Write { .. } => Ok(()),
+        Event::Commit { .. } => Ok(()),
+        Event::Rollback { .. } => Ok(()),
+        Event::Show { .. } => Ok(()),
+    }
+}
+
+/// Notes the event.
+fn note(
+    glance: &mut Glance,
+    places: &Places,
+    order: &[u32],
+    before: &[Event],
+    event: &Event,
+) -> Result<(), Memory>
+    requires glance { IsGlance before.now order.now glance.old }
+    requires comes { ComesSettled before.now event.now }
+    requires within { session_in event.now < length glance.old.last.items }
+    requires places { ArePlaces (length places.now.at.items) order.now places.now.at.items }
+    requires few { length before.now < 4294967295 }
+    ensures width { length glance.new.last.items ≡ length glance.old.last.items }
+    ensures glance { OnOk result (IsGlance (before.now ++ event.now ∷ []) order.now glance.new) }
+{
+    let last = glance.last[session_of(event) as usize];
+    glance.owners.push(last)?;
+    note_change(glance, places, order, before, event, last)
+}
+
+/// What is light of the events. All sessions are below the width.
+pub fn glance_of(
+    alloc: Global,
+    events: &[Event],
+    order: &[u32],
+    places: &Places,
+    width: usize,
+) -> Result<Glance, Memory>
+    requires orderly { IsOrderly events.now }
+    requires within { AreWithin width events.now }
+    requires places { ArePlaces (length places.now.at.items) order.now places.now.at.items }
+    requires few { length events.now < 4294967296 }
+    ensures { IfOk result (IsGlance events.now order.now) }
+{
+    let mut glance = no_glance(alloc, order, width, events.len())?;
+    for at in 0..events.len() {
+        note(&mut glance, places, order, &events[..at], &events[at])?;
+    }
+    Ok(glance)
+}
