@@ -1,6 +1,9 @@
 pub mod Closing
 pub mod PastSteps
-pub mod Readers
+pub mod Taken
+pub mod Owners
+pub mod GlanceLemmas
+pub mod RecordLemmas
 pub mod PlaceLemmas
 pub mod SightLemmas
 pub mod RivalLemmas

@@ -11,12 +11,11 @@ use Rattle.cell_base.specs.declared.value.Value.{Value}
 use Rattle.cell_writers.specs.declared.writers.CellWriters.{CellWriters}
 use Rattle.cell_writers.specs.Writers.{numbers_at, AreAscending}
 use Rattle.history_core.specs.declared.event.Event.{Event}
+use Rattle.history_core.specs.declared.event.Event.TheVariants.{Begin}
 use Rattle.history_core.specs.declared.txn.Txn.{Txn}
 use Rattle.history_core.specs.declared.txn.TxnState.TheVariants.{Committed}
 use Rattle.history_core.specs.Kept.{ChangesOne, StandsForTxns}
-use Rattle.history_core.proofs.Places.{start_session}
-use Rattle.order_test.specs.declared.pasts.Pasts.{Pasts}
-use Rattle.order_test.specs.Pasts.{ArePasts}
+use Rattle.order_test.specs.Glance.{AreWithin}
 use Rattle.order_test.specs.Listed.{AreEmpty, AreTxnsWithin, IsTxnOf, ListsCommitted, NotesWrites}
 
 -- ---- the lists
@@ -120,21 +119,10 @@ lists_note txns n txn old new at before changes = record {
 -- ---- the sessions
 
 -- each transaction has its past in the session of its record, which is below the width
-pub txns_within : (events : List Event) (txns : List Txn) (pasts : Pasts) → StandsForTxns events txns → ArePasts events pasts → AreTxnsWithin (length pasts.last.items) txns
-txns_within events txns pasts stands are place txn is =
-    let inside = slice_get_within txns place txn is in
-    let count = stands.count in
-    let rows = are.rows.count in
-    elim (slice_get_cases pasts.rows.items (place + 1)).1 [
-      | inr beyond ↦ let far = beyond.0 in absurd (omega arith)
-      | inl (past, near, row, value) ↦
-          let of = are.rows.each (place + 1) past row in
-          let started = of.started (omega arith) in
-          let record_of = stands.each place txn is in
-          let same : past.session ≡ txn.session = start_session events (place + 1) past.session txn.session started.0 record_of.place started.1 record_of.started in
-          let below = of.within in
-          omega arith
-    ]
+pub txns_within : (events : List Event) (width : ℕ) (txns : List Txn) → AreWithin width events → StandsForTxns events txns → AreTxnsWithin width txns
+txns_within events width txns within stands place txn is =
+    let record_of = stands.each place txn is in
+    within record_of.place (Begin txn.session record_of.started.level) record_of.started.is
 
 -- ---- what a call changed
 

@@ -38,7 +38,6 @@ other_past events e width n past nothing is =
       count = is.count;
       within = is.within;
       bounded = λ s. let h = is.bounded s in omega arith;
-      latest = is.latest;
       started = λ positive. let found = is.started positive in (found.0, start_kept events e n past.session found.0 found.1);
       exact = λ s a p start. elim (start_back events e a s p start) [
         | inl old ↦ (
@@ -78,7 +77,6 @@ begin_old events sound s level width n past old is =
       count = is.count;
       within = is.within;
       bounded = λ t. let h = is.bounded t in omega arith;
-      latest = is.latest;
       started = λ positive. let found = is.started positive in (found.0, start_kept events (Begin s level) n past.session found.0 found.1);
       exact = λ t a p start. elim (start_back events (Begin s level) a t p start) [
         | inl before ↦ (
@@ -94,9 +92,8 @@ begin_old events sound s level width n past old is =
 
 begin_new :
     (events : List Event) → IsSound events → (s last : ℕ) (level : Level) (width : ℕ) (before past : Past) → IsLastBegun events s last → s < width →
-    IsPastOf events width last before → past.session ≡ s → past.tops.items ≡ set before.tops.items s last →
-    (before.latest ≤ past.latest) × (last ≤ past.latest) → IsPastOf (with_begin events s level) width (begun events + 1) past
-begin_new events sound s last level width before past is small of session tops latest =
+    IsPastOf events width last before → past.session ≡ s → past.tops.items ≡ set before.tops.items s last → IsPastOf (with_begin events s level) width (begun events + 1) past
+begin_new events sound s last level width before past is small of session tops =
     let more : begun (with_begin events s level) ≡ begun events + 1 = begun-push_start events s level in
     let within : s < length before.tops.items = let c = of.count in omega arith in
     let begins = pending_begin events s level in
@@ -112,10 +109,6 @@ begin_new events sound s last level width before past is small of session tops l
       count = ap length tops ∙ length-set before.tops.items s last ∙ of.count;
       within = subst (λ (t : ℕ). t < width) (sym session) small;
       bounded = λ t. let h = top t in omega arith;
-      latest = λ t. elim (read t) [
-        | inl own ↦ let v = own.1 in let high = latest.1 in omega arith
-        | inr other ↦ let v = other.1 in let h = of.latest t in let high = latest.0 in omega arith
-      ];
       started = λ positive. (begins.start, subst (λ (t : ℕ). IsStart (with_begin events s level) (begun events + 1) t begins.start) (sym session) begins.starts);
       exact = λ t a p start. elim (start_back events (Begin s level) a t p start) [
         | inl old ↦ (
@@ -161,7 +154,7 @@ begin_rows events sound s last level width old new is small are adds =
         | inr now ↦
             let number : n ≡ begun events + 1 = let c = are.count in let h = now.0 in omega arith in
             let made : IsPastOf (with_begin events s level) width (begun events + 1) adds.past =
-            begin_new events sound s last level width adds.before adds.past is small (are.each last adds.before adds.is) adds.session_is adds.tops adds.latest in
+            begin_new events sound s last level width adds.before adds.past is small (are.each last adds.before adds.is) adds.session_is adds.tops in
             subst (λ (m : ℕ). IsPastOf (with_begin events s level) width m past) (sym number)
             (subst (λ (q : Past). IsPastOf (with_begin events s level) width (begun events + 1) q) now.1 made)
       ];
@@ -198,7 +191,6 @@ read_old events sound s k x w n u v pending apart width m past other is =
       count = is.count;
       within = is.within;
       bounded = λ t. let h = is.bounded t in omega arith;
-      latest = is.latest;
       started = λ positive. let found = is.started positive in (found.0, start_kept events e m past.session found.0 found.1);
       exact = λ t a p start.
           let old = no_begin events s x w n u v a t p start in (
@@ -227,18 +219,6 @@ read_new events sound s k x w n u v pending apart small width rows own from past
           | inl a ↦ let h = is.bounded t in omega arith
           | inr more ↦ elim more [ inl b ↦ let h = of.bounded t in omega arith | inr c ↦ let h = c.1 in omega arith ]
         ]
-        | inr beyond ↦ let none : get_or past.tops.items t 0 ≡ 0 = get_or_past past.tops.items t 0 (omega arith) in omega arith
-      ];
-      latest = λ t. elim (cases_lt t width) [
-        | inl less ↦
-            let high = takes.latest in
-            let high_own = high.0 in
-            let high_source = high.1 in
-            let high_number = high.2 in
-            elim ((takes.exact t (get_or past.tops.items t 0) (omega arith)).0 (omega arith)) [
-              | inl a ↦ let h = is.latest t in omega arith
-              | inr more ↦ elim more [ inl b ↦ let h = of.latest t in omega arith | inr c ↦ let h = c.1 in omega arith ]
-            ]
         | inr beyond ↦ let none : get_or past.tops.items t 0 ≡ 0 = get_or_past past.tops.items t 0 (omega arith) in omega arith
       ];
       started = λ positive.

@@ -1,5 +1,5 @@
 -- What the lists of writers show of a read at once.
-use Rattle.std.proofs.Common.{◌≡◌, ℕ, ◌+◌, ◌-◌, ◌<◌, ◌≤◌, List, length, get_or, set, Some, arith, refl, ap, sym, ◌∙◌, subst, inl, inr, ◌⊎◌, Option, replicate}
+use Rattle.std.proofs.Common.{◌≡◌, ℕ, ◌+◌, ◌-◌, ◌<◌, ◌≤◌, List, length, Some, arith, refl, ap, sym, ◌∙◌, subst, inl, inr, ◌⊎◌, Option}
 use Rattle.std.specs.List.{Contains, slice_get, slice_index}
 use Rattle.std.proofs.lemmas.Bool.{cases_eq}
 use Rattle.std.proofs.lemmas.Option.{slice_get_within, slice_get_cases, slice_get_read}
@@ -31,10 +31,9 @@ use Rattle.order_test.specs.declared.pasts.Past.{Past}
 use Rattle.order_test.specs.Unkept.{KeepsSessions, StandsBefore, IsUnmet}
 use Rattle.order_test.specs.Pasts.{IsPastOf}
 use Rattle.order_test.specs.Sights.{IsScene, IsReadAt, IsRival, origin_of}
-use Rattle.order_test.specs.Listed.{AreTxnsWithin, ListsCommitted, HasNoLate, HasNoRival, HasNoDirectRival, IsHarmless, AreHarmless, AreKeptUpTo, listed_at, numbers_in}
-use Rattle.order_test.proofs.SightLemmas.{record_at, ordered_from_records, records_from_ordered, out_bounds, visible_at}
+use Rattle.order_test.specs.Listed.{AreTxnsWithin, ListsCommitted, HasNoLate, HasNoRival, HasNoDirectRival, IsHarmless, AreHarmless, listed_at, numbers_in}
+use Rattle.order_test.proofs.SightLemmas.{record_at, ordered_from_records, records_from_ordered, visible_at}
 use Rattle.order_test.proofs.FirstLemmas.{none_unlisted}
-use Rattle.order_test.proofs.PastSteps.{at_set}
 use Rattle.order_test.proofs.SearchLemmas.{less_unless, rival_bounds}
 
 -- ---- what is seen precedes the reader
@@ -120,39 +119,6 @@ none_late events order txns places scene keeps lists listed writers cell limit f
 
 -- ---- a rival of a read
 
--- the record of a rival, and that it writes the cell of the read
-pub record IsRivalTxn (events : List Event) (order : List ℕ) (txns : List Txn) (cell : Cell) (from other : ℕ) : Type 0 where
-  pub at : ℕ
-  pub txn : Txn
-  pub number : at + 1 ≡ other
-  pub is : slice_get txns at ≡ Some txn
-  pub apart : other ≡ from → ⊥
-  pub writes : Writes events other cell
-  pub late : StandsBefore order other from → ⊥
-
-pub rival_txn :
-    (events : List Event) (order : List ℕ) (txns : List Txn) (places : Places) → IsScene events order txns places → (s : ℕ) (cell : Cell) (from count word : ℕ) (value : Value) (place reader : ℕ) →
-    IsReadAt events place (Read s cell from count word value) reader → (other : ℕ) → IsRival events order place from reader other → IsRivalTxn events order txns cell from other
-rival_txn events order txns places scene s cell from count word value place reader read other (of, unmet) =
-    let bounds = rival_bounds events order place (Read s cell from count word value) reader other scene.holds read (of, unmet) in
-    let low = bounds.0 in let high = bounds.1 in
-    let size = scene.records.count in
-    let both : Some unmet.reads.event ≡ Some (Read s cell from count word value) = sym unmet.reads.of_reader.is ∙ read.of.is in
-    let same : unmet.reads.event ≡ Read s cell from count word value = cc in
-    let gives : Gives (Read s cell from count word value) of from = subst (λ (e : Event). Gives e of from) same unmet.reads.gives in
-    elim (slice_get_cases txns (other - 1)).1 [
-      | inr beyond ↦ let far = beyond.0 in absurd (omega arith)
-      | inl (txn, near, row, same_value) ↦ record {
-        at = other - 1;
-        txn = txn;
-        number = omega arith;
-        is = row;
-        apart = unmet.other;
-        writes = subst (λ (c : Cell). Writes events other c) (sym gives.0) unmet.writes;
-        late = unmet.late;
-      }
-    ]
-
 -- none that precedes the reader causally is a rival at the cell, where its session up to the last one in the past has no late writer of it
 pub none_unmet :
     (events : List Event) (order : List ℕ) (txns : List Txn) (places : Places) → IsScene events order txns places → KeepsSessions events order → (lists : List CellWriters) →
@@ -183,7 +149,7 @@ none_unmet events order txns places scene keeps lists listed within event place 
     ]
 
 -- the cell of a rival of a read is the one that is read
-read_cell :
+pub read_cell :
     (events : List Event) (order : List ℕ) (s : ℕ) (cell : Cell) (from count word : ℕ) (value : Value) (place reader other : ℕ) (of : Cell) →
     IsReadAt events place (Read s cell from count word value) reader → IsUnmet events order place from other reader of → cell ≡ of
 read_cell events order s cell from count word value place reader other of read unmet =
@@ -361,69 +327,3 @@ pub clear_at_ra :
 clear_at_ra events order place event reader txn is level none other rival =
     let runs : RunsAt events reader Ra = subst (λ (l : Level). RunsAt events reader l) level is.level in
     none other ((visible_at events reader place other Ra runs).1 rival.1.visible) rival
-
--- ---- session order in one pass
-
-pub kept_none : (order : List ℕ) (txns : List Txn) (width : ℕ) → AreKeptUpTo order txns 0 (replicate {A = ℕ} width 0)
-kept_none order txns width = record {
-  last = λ place txn below. absurd (omega arith);
-  kept = λ i j first second less below. absurd (omega arith);
-}
-
-pub kept_place :
-    (order : List ℕ) (txns : List Txn) (n : ℕ) (following : List ℕ) (txn : Txn) (at : ℕ) → slice_get txns n ≡ Some txn → at ≡ place_of order (n + 1) → txn.session < length following →
-    get_or following txn.session 0 < at → AreKeptUpTo order txns n following → AreKeptUpTo order txns (n + 1) (set following txn.session at)
-kept_place order txns n following txn at is at_is within above before = record {
-  last = λ place other below other_is. elim (cases_eq place n) [
-    | inl same ↦
-        let both : Some other ≡ Some txn = sym other_is ∙ ap (λ (k : ℕ). slice_get txns k) same ∙ is in
-        let one : other ≡ txn = cc in
-        let sessions : other.session ≡ txn.session = ap (λ (t : Txn). t.session) one in
-        let number : place_of order (place + 1) ≡ place_of order (n + 1) = ap (λ (k : ℕ). place_of order (k + 1)) same in
-        elim (at_set following txn.session at other.session within) [ inl here ↦ let now = here.1 in omega arith | inr there ↦ absurd (there.0 sessions) ]
-    | inr apart ↦
-        let old : place_of order (place + 1) ≤ get_or following other.session 0 = before.last place other (omega arith) other_is in
-        elim (at_set following txn.session at other.session within) [
-          | inl here ↦
-              let now = here.1 in
-              let values : get_or following other.session 0 ≡ get_or following txn.session 0 = ap (λ (k : ℕ). get_or following k 0) here.0 in
-              omega arith
-          | inr there ↦ let now = there.1 in omega arith
-        ]
-  ];
-  kept = λ i j first second less below first_is second_is same. elim (cases_eq j n) [
-    | inl now ↦
-        let both : Some second ≡ Some txn = sym second_is ∙ ap (λ (k : ℕ). slice_get txns k) now ∙ is in
-        let one : second ≡ txn = cc in
-        let sessions : first.session ≡ txn.session = same ∙ ap (λ (t : Txn). t.session) one in
-        let old : place_of order (i + 1) ≤ get_or following first.session 0 = before.last i first (omega arith) first_is in
-        let values : get_or following first.session 0 ≡ get_or following txn.session 0 = ap (λ (k : ℕ). get_or following k 0) sessions in
-        let number : place_of order (j + 1) ≡ place_of order (n + 1) = ap (λ (k : ℕ). place_of order (k + 1)) now in
-        omega arith
-    | inr apart ↦ before.kept i j first second less (omega arith) first_is second_is same
-  ];
-}
-
-pub sessions_kept :
-    (events : List Event) (order : List ℕ) (txns : List Txn) (places : Places) → IsScene events order txns places → (n : ℕ) (following : List ℕ) → length txns ≤ n →
-    AreKeptUpTo order txns n following → KeepsSessions events order
-sessions_kept events order txns places scene n following all are a b out =
-    let bounds = out_bounds events order scene.holds a b out in
-    let low = bounds.0 in let less = bounds.1 in let high = bounds.2 in
-    let size = scene.records.count in
-    elim (slice_get_cases txns (a - 1)).1 [
-      | inr beyond ↦ let far = beyond.0 in absurd (omega arith)
-      | inl (first, near_a, first_is, same_a) ↦ elim (slice_get_cases txns (b - 1)).1 [
-        | inr beyond ↦ let far = beyond.0 in absurd (omega arith)
-        | inl (second, near_b, second_is, same_b) ↦
-            let number_a : a - 1 + 1 ≡ a = omega arith in
-            let number_b : b - 1 + 1 ≡ b = omega arith in
-            let record_a = record_at events txns scene.records a (a - 1) first number_a first_is in
-            let record_b = record_at events txns scene.records b (b - 1) second number_b second_is in
-            let kept : place_of order (a - 1 + 1) < place_of order (b - 1 + 1) =
-            are.kept (a - 1) (b - 1) first second (omega arith) (omega arith) first_is second_is (records_from_ordered events a b first second low record_a record_b out.ordered) in
-            let place_a : place_of order (a - 1 + 1) ≡ place_of order a = ap (λ (k : ℕ). place_of order k) number_a in
-            let place_b : place_of order (b - 1 + 1) ≡ place_of order b = ap (λ (k : ℕ). place_of order k) number_b in
-            out.late (omega arith)
-      ]
-    ]

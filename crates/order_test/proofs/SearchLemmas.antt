@@ -15,7 +15,7 @@ use Rattle.history_core.specs.declared.event.Event.TheVariants.{Open, Close, Def
 use Rattle.history_core.specs.declared.txn.Txn.{Txn}
 use Rattle.history_core.specs.declared.txn.TxnState.TheVariants.{Committed}
 use Rattle.history_core.specs.Events.{begun, session_in}
-use Rattle.history_core.specs.Transactions.{IsOf, IsPending, IsCommitted}
+use Rattle.history_core.specs.Transactions.{IsOf, IsPending, IsCommitted, HasPending}
 use Rattle.history_core.specs.Relations.{Gives, Reads, IsVisible, Meets}
 use Rattle.history_core.specs.Records.{IsRecordOf}
 use Rattle.history_core.proofs.Places.{slice_get-take, begun-take_all}
@@ -23,14 +23,14 @@ use Rattle.history_core.proofs.Prefixes.{start_positive, start_bounded}
 use Rattle.history_core.proofs.Offers.{pending_unique, writer_bounded}
 use Rattle.saturation.proofs.Sights.{written_from_record, none_from_record, writes_later}
 use Rattle.saturation.proofs.Decides.{committed_bounded}
-use Rattle.order_test.specs.declared.pasts.Pasts.{Pasts}
 use Rattle.order_test.specs.declared.unkept.Unkept.{Unkept}
 use Rattle.order_test.specs.declared.unkept.Unkept.TheVariants as unkept
-use Rattle.order_test.specs.Settled.{IsOrderly, HasSettledSource}
+use Rattle.order_test.specs.Settled.{IsOrderly, HasReader, HasSettledSource}
 use Rattle.order_test.specs.Unkept.{HoldsTransactions, StandsBefore, IsReadEarly, IsUnmet, IsKeptAt, IsKeptBelow, KeepsSessions, IsFound}
-use Rattle.order_test.specs.Pasts.{IsReading, ArePasts}
-use Rattle.order_test.specs.Sights.{origin_of, IsRivalCell, IsFirstRivalCell, IsReadAt, IsRival, IsAxiomOf, IsFoundAt, IsFoundAmong}
+use Rattle.order_test.specs.Glance.{AreOwners}
+use Rattle.order_test.specs.Sights.{origin_of, IsReading, IsRivalCell, IsFirstRivalCell, IsReadAt, IsRival, IsAxiomOf, IsFoundAt, IsFoundAmong}
 use Rattle.order_test.proofs.PastSteps.{sound_from}
+use Rattle.order_test.proofs.Owners.{owner_pending, of_front}
 use Rattle.order_test.proofs.SightLemmas.{first_before}
 
 -- ---- a read is of one transaction
@@ -337,10 +337,14 @@ found_is events order (Some (unkept.Axiom event origin rival reader cell)) holds
 -- ---- the reader that stands beside an event
 
 pub read_at :
-    (events : List Event) (pasts : Pasts) (place : ℕ) (event : Event) → ArePasts events pasts → IsOrderly events → slice_get events place ≡ Some event → IsReading event →
-    IsReadAt events place event (get_or pasts.readers.items place 0)
-read_at events pasts place event are orderly is reading = record {
-  of = are.readers.each place event is reading;
+    (events : List Event) (owners : List ℕ) (place : ℕ) (event : Event) → AreOwners events owners → IsOrderly events → slice_get events place ≡ Some event → IsReading event →
+    IsReadAt events place event (get_or owners place 0)
+read_at events owners place event are orderly is reading = record {
+  of =
+      let comes = orderly place event is in
+      of_front events (get_or owners place 0) place event is
+      (owner_pending (take place events) (sound_from (take place events) comes.settled) (session_in event) (get_or owners place 0) (pending event reading comes.reader)
+      (are.each place event is));
   from = bounded event (orderly place event is).source;
 }
   where
@@ -348,6 +352,20 @@ read_at events pasts place event are orderly is reading = record {
     within n committed =
         let h = committed_bounded (take place events) n committed in
         let all = begun-take_all events place in omega arith
+
+    pending : (e : Event) → IsReading e → HasReader (take place events) e → HasPending (take place events) (session_in e)
+    pending (Read s x w n u v) reads has = has
+    pending (Scan s table keys) reads has = has
+    pending (Open s) reads has = absurd reads
+    pending (Close s) reads has = absurd reads
+    pending (Define s name) reads has = absurd reads
+    pending (Look s count) reads has = absurd reads
+    pending (Begin s level) reads has = absurd reads
+    pending (Own s x v) reads has = absurd reads
+    pending (Write s x v) reads has = absurd reads
+    pending (Commit s) reads has = absurd reads
+    pending (Rollback s) reads has = absurd reads
+    pending (Show s number) reads has = absurd reads
 
     bounded : (e : Event) → HasSettledSource (take place events) e → origin_of e ≤ begun events
     bounded (Read s x w n u v) source = within w source

@@ -4,7 +4,7 @@ ghost use Rattle.history_core.specs.Events.{begun, session_in};
 ghost use Rattle.further_reads.specs.Begun.{IsLastBegun};
 ghost use Rattle.order_test.specs.Settled.{ComesSettled, IsOrderly};
 ghost use Rattle.order_test.specs.Places.{ArePlaces, StandsAt};
-ghost use Rattle.order_test.specs.Glance.{AreWithin, IsSizeOf, IsGlance, IsNoted, AddsLimit, RaisesLimit};
+ghost use Rattle.order_test.specs.Glance.{AreWithin, IsSizeOf, AreLast, AreOwners, IsGlance, IsNoted, AddsLimit, RaisesLimit};
 
 use crate::places::{Places, stands_before};
 use cell_base::Memory;
@@ -193,6 +193,30 @@ fn note_change(
     }
 }
 
+/// The last transaction of the event's session.
+fn owner_of(glance: &Glance, before: &[Event], event: &Event) -> u32
+    requires last { AreLast before.now (length glance.now.last.items) glance.now.last.items }
+    requires within { session_in event.now < length glance.now.last.items }
+    ensures { IsLastBegun before.now (session_in event.now) result }
+{
+    glance.last[session_of(event) as usize]
+}
+
+/// Notes the transaction of the event's session beside the event.
+fn note_owner(
+    owners: &mut Vec<u32>,
+    before: &[Event],
+    event: &Event,
+    owner: u32,
+) -> Result<(), Memory>
+    requires owners { AreOwners before.now owners.old.items }
+    requires owner { IsLastBegun before.now (session_in event.now) owner }
+    ensures { OnOk result (AreOwners (before.now ++ event.now ∷ []) owners.new.items) }
+{
+    owners.push(owner)?;
+    Ok(())
+}
+
 /// Notes the event.
 fn note(
     glance: &mut Glance,
@@ -209,9 +233,9 @@ fn note(
     ensures width { length glance.new.last.items ≡ length glance.old.last.items }
     ensures glance { OnOk result (IsGlance (before.now ++ event.now ∷ []) order.now glance.new) }
 {
-    let last = glance.last[session_of(event) as usize];
-    glance.owners.push(last)?;
-    note_change(glance, places, order, before, event, last)
+    let owner = owner_of(glance, before, event);
+    note_owner(&mut glance.owners, before, event, owner)?;
+    note_change(glance, places, order, before, event, owner)
 }
 
 /// What is light of the events. All sessions are below the width.

@@ -170,8 +170,7 @@ pub fn pasts_of(
     requires owners { AreOwners events.now owners.now }
     requires some { 0 < width }
     requires within { AreWithin width events.now }
-    ensures pasts { IfOk result (ArePasts events.now) }
-    ensures width { IfOk result (λ pasts. pasts.width ≡ width) }
+    ensures { IfOk result (ArePasts events.now) }
 {
     let mut rows = first_rows(alloc, width)?;
     for at in 0..events.len() {

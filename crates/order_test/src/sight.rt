@@ -90,7 +90,7 @@ fn precedes(
 pub fn past_of<'a>(pasts: &'a Pasts, events: &[Event], number: u32) -> &'a Past
     requires pasts { ArePasts events.now pasts.now }
     requires number { number ≤ begun events.now }
-    ensures { IsPastOf events.now (length pasts.now.last.items) number result.now }
+    ensures { IsPastOf events.now pasts.now.width number result.now }
 {
     &pasts.rows[number as usize]
 }

@@ -1,8 +1,8 @@
 use Rattle.std.proofs.Common.{arith}
 use Rattle.std.proofs.lemmas.Result.{on_ok_weaker}
-use Rattle.history_core.specs.declared.event.Event.TheVariants.{Read}
 use Rattle.order_test.proofs.PastSteps.{sound_from, other_rows, begin_rows, read_rows}
-use Rattle.order_test.proofs.Readers.{reader_now, last_bounded, source_bounded, source_apart}
+use Rattle.order_test.proofs.Taken.{last_bounded, source_bounded, source_apart}
+use Rattle.order_test.proofs.Owners.{owner_pending}
 use Rattle.order_test.proofs.pasts.note_row.Goals as goal
 
 pub begin_row-requires-clause-last : goal.begin_row-requires-clause-last
@@ -26,14 +26,14 @@ pub read_row-requires-clause-apart : goal.read_row-requires-clause-apart
 read_row-requires-clause-apart c =
     let sound = sound_from c.args.before.now c.requires.comes.settled in
     let source = rw c.in-Read.is at c.requires.comes.source in
-    let pending = reader_now c.args.before.now sound (Read c.in-Read.session c.in-Read.cell c.in-Read.source c.in-Read.count c.in-Read.word c.in-Read.value) c.args.last (rw c.in-Read.is at c.requires.comes.reader) (rw c.in-Read.is at c.requires.last) (tt {0}) in
+    let pending = owner_pending c.args.before.now sound c.in-Read.session c.args.last (rw c.in-Read.is at c.requires.comes.reader) (rw c.in-Read.is at c.requires.last) in
     source_apart c.args.before.now c.args.last c.in-Read.session c.in-Read.source pending source
 
 pub returns-in-Read : goal.returns-in-Read
 returns-in-Read c =
     let sound = sound_from c.args.before.now c.requires.comes.settled in
     let source = rw c.in-Read.is at c.requires.comes.source in
-    let pending = reader_now c.args.before.now sound (Read c.in-Read.session c.in-Read.cell c.in-Read.source c.in-Read.count c.in-Read.word c.in-Read.value) c.args.last (rw c.in-Read.is at c.requires.comes.reader) (rw c.in-Read.is at c.requires.last) (tt {0}) in
+    let pending = owner_pending c.args.before.now sound c.in-Read.session c.args.last (rw c.in-Read.is at c.requires.comes.reader) (rw c.in-Read.is at c.requires.last) in
     rw c.in-Read.is (read_rows c.args.before.now sound c.in-Read.session c.args.last c.in-Read.cell c.in-Read.source c.in-Read.count c.in-Read.word c.in-Read.value pending
     (source_apart c.args.before.now c.args.last c.in-Read.session c.in-Read.source pending source)
     (source_bounded c.args.before.now c.in-Read.source source) c.args.width c.args.rows.now.items c.read_row.new.rows.items c.requires.rows c.read_row.ensures)

@@ -1,6 +1,6 @@
 use Rattle.std.proofs.Common.{◌≡◌, ◌<◌, ℕ, length, get_or, max, arith, ap, sym, ◌∙◌}
 use Rattle.std.proofs.lemmas.List.{get_or_default}
-use Rattle.order_test.proofs.Readers.{raised_none, raised_step, greater_one}
+use Rattle.order_test.proofs.Taken.{raised_none, raised_step, greater_one}
 use Rattle.order_test.proofs.pasts.raise_all.Goals as goal
 
 pub loop-at-init : goal.loop-at-init

@@ -1,4 +1,4 @@
-use Rattle.order_test.proofs.Readers.{AreRaised}
+use Rattle.order_test.proofs.Taken.{AreRaised}
 use Rattle.order_test.proofs.pasts.raise_all.Given as goal
 
 abbrev pub invariant-loop-at : goal.invariant-loop-at

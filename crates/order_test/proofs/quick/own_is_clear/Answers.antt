@@ -32,7 +32,7 @@ returns-in-Read c = λ h.
     (own_clear c.args.events.now c.args.order.now c.args.txns.now c.args.places.now c.requires.scene c.requires.sessions c.args.lists.now.writers.items c.requires.lists c.requires.within
     _ c.in-Read.cell c.in-Read.source _ _ _ c.args.place c.args.reader
     (subst (λ (e : Event). IsReadAt c.args.events.now c.args.place e c.args.reader) c.in-Read.is c.requires.read)
-    (length c.args.pasts.now.last.items) c.past_of.result.now c.past_of.ensures c.txn_of.result.now c.txn_of.ensures
+    c.args.pasts.now.width c.past_of.result.now c.past_of.ensures c.txn_of.result.now c.txn_of.ensures
     (subst (λ (limit : ℕ). HasNoLate c.args.places.now.at.items (listed_at c.args.lists.now.writers.items c.txn_of.result.now.session c.in-Read.cell) limit c.in-Read.source)
     c.top_of-limit.ensures
     (subst (λ (ls : List CellWriters). HasNoLate c.args.places.now.at.items (listed_at ls c.txn_of.result.now.session c.in-Read.cell) c.top_of-limit.result c.in-Read.source)
@@ -58,7 +58,7 @@ returns-in-Scan c = λ h.
     (own_scan_clear c.args.events.now c.args.order.now c.args.txns.now c.args.places.now c.requires.scene c.requires.sessions c.args.lists.now.writers.items c.requires.lists c.requires.within
     c.args.lists.now.firsts.items c.requires.firsts _ c.in-Scan.table c.in-Scan.keys c.args.place c.args.reader
     (subst (λ (e : Event). IsReadAt c.args.events.now c.args.place e c.args.reader) c.in-Scan.is c.requires.read)
-    (length c.args.pasts.now.last.items) c.past_of.result.now c.past_of.ensures c.txn_of.result.now c.txn_of.ensures
+    c.args.pasts.now.width c.past_of.result.now c.past_of.ensures c.txn_of.result.now c.txn_of.ensures
     (subst (λ (limit : ℕ). SessionIsListed c.args.lists.now.firsts.items c.txn_of.result.now.session c.in-Scan.table c.in-Scan.keys limit) c.top_of-limit.ensures
     (subst (λ (fs : List TableFirsts). SessionIsListed fs c.txn_of.result.now.session c.in-Scan.table c.in-Scan.keys c.top_of-limit.result) c.deref-in-Scan.ensures.value
     (subst (λ (ks : List Key). SessionIsListed c.deref-in-Scan.result.now c.txn_of.result.now.session c.in-Scan.table ks c.top_of-limit.result) c.as_slice.ensures (c.session_is_listed.ensures h)))))

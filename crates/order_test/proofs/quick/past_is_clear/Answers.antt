@@ -21,7 +21,7 @@ returns-in-Read c = λ h.
     (past_clear c.args.events.now c.args.order.now c.args.txns.now c.args.places.now c.requires.scene c.requires.sessions c.args.lists.now.writers.items c.requires.lists c.requires.within
     _ c.in-Read.cell c.in-Read.source _ _ _ c.args.place c.args.reader
     (subst (λ (e : Event). IsReadAt c.args.events.now c.args.place e c.args.reader) c.in-Read.is c.requires.read)
-    (length c.args.pasts.now.last.items) c.past_of.result.now c.past_of.ensures
+    c.args.pasts.now.width c.past_of.result.now c.past_of.ensures
     (subst (λ (ls : List CellWriters). (session : ℕ) → session < length ls →
     HasNoLate c.args.places.now.at.items (listed_at ls session c.in-Read.cell) (slice_index c.past_of.result.now.tops.items session) c.in-Read.source)
     c.deref.ensures.value (c.past_has_none.ensures h)))
@@ -37,7 +37,7 @@ returns-in-Scan c = λ h.
     (scan_clear c.args.events.now c.args.order.now c.args.txns.now c.args.places.now c.requires.scene c.requires.sessions c.args.lists.now.writers.items c.requires.lists c.requires.within
     c.args.lists.now.firsts.items c.requires.firsts _ c.in-Scan.table c.in-Scan.keys c.args.place c.args.reader
     (subst (λ (e : Event). IsReadAt c.args.events.now c.args.place e c.args.reader) c.in-Scan.is c.requires.read)
-    (length c.args.pasts.now.last.items) c.past_of-in-Scan.result.now c.past_of-in-Scan.ensures
+    c.args.pasts.now.width c.past_of-in-Scan.result.now c.past_of-in-Scan.ensures
     (subst (λ (fs : List TableFirsts). PastIsListed fs c.past_of-in-Scan.result.now.tops.items c.in-Scan.table c.in-Scan.keys) c.deref-in-Scan.ensures.value
     (subst (λ (ks : List Key). PastIsListed c.deref-in-Scan.result.now c.past_of-in-Scan.result.now.tops.items c.in-Scan.table ks) c.as_slice.ensures (c.past_is_listed.ensures h))))
 

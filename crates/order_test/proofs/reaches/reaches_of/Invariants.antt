@@ -1,5 +1,5 @@
-use Rattle.order_test.specs.Reaches.{ReachesCommitted}
+use Rattle.order_test.specs.Reaches.{AreReachesUpTo}
 use Rattle.order_test.proofs.reaches.reaches_of.Given as goal
 
 abbrev pub invariant-loop-at : goal.invariant-loop-at
-invariant-loop-at l = ReachesCommitted l.txns l.at l.places.at.items l.reaches
+invariant-loop-at l = AreReachesUpTo l.places.at.items l.writers.lists.entries l.at l.reaches

@@ -1,0 +1,268 @@
+-- How what is light goes on standing for the events.
+use Rattle.std.proofs.Common.{◌≡◌, ℕ, ◌+◌, ◌<◌, ◌≤◌, List, [], ◌∷◌, ◌++◌, false, cond, length, get_or, set, arith, refl, ap, sym, ◌∙◌, subst, inl, inr, ◌⊎◌}
+use Rattle.std.proofs.lemmas.List.{length_push, length-set, get_or_append_left, get_or_push}
+use Rattle.std.proofs.lemmas.Bool.{cases_eq, cases_lt, false≢true}
+use Rattle.txn_buffer.proofs.Lists.{slice_get_push_cases}
+use Rattle.graph_base.specs.Order.{place_of}
+use Rattle.graph_base.proofs.Places.{count_by-push}
+use Rattle.cell_base.specs.declared.level.Level.{Level}
+use Rattle.cell_base.specs.declared.cell.Cell.{Cell}
+use Rattle.cell_base.specs.declared.value.Value.{Value}
+use Rattle.history_core.specs.declared.event.Event.{Event}
+use Rattle.history_core.specs.declared.event.Event.TheVariants.{Begin, Read}
+use Rattle.history_core.specs.Events.{begun, is_begin, session_in}
+use Rattle.history_core.specs.Transactions.{IsStart, IsPending}
+use Rattle.history_core.specs.Relations.{PrecedesCausally}
+use Rattle.history_core.proofs.Grown.{start_back}
+use Rattle.history_core.proofs.Prefixes.{IsSound, start_bounded, begun-push_start, begun-push_other}
+use Rattle.saturation.specs.Laws.{with_read}
+use Rattle.saturation.proofs.Decides.{start_exists}
+use Rattle.further_reads.specs.Begun.{ForcesNothing, with_begin, IsLastBegun}
+use Rattle.further_reads.proofs.Lasts.{last_begun_still, last_begun_other, last_begun_now}
+use Rattle.further_reads.proofs.Sources.{begins_nothing}
+use Rattle.order_test.specs.declared.glance.Size.{Size}
+use Rattle.order_test.specs.declared.glance.Glance.{Glance}
+use Rattle.order_test.specs.Unkept.{KeepsSessions, StandsBefore}
+use Rattle.order_test.specs.Places.{ArePlaces, StandsAt}
+use Rattle.order_test.specs.Glance.{IsSizeOf, AreLast, AreOwners, AreLimits, IsNoted, IsGlance, AddsLimit, RaisesLimit}
+use Rattle.order_test.proofs.Closing.{read_past_back, other_past_back, begun_first, begin_past_back, begin_past_new}
+use Rattle.order_test.proofs.PastSteps.{at_set}
+use Rattle.order_test.proofs.SearchLemmas.{less_unless}
+
+-- ---- sizes
+
+pub size_none : (size : Size) → size.started ≡ 0 → size.width ≡ 1 → IsSizeOf [] size
+size_none size none one = record { some = omega arith; within = λ k event is. cc; started = none }
+
+pub size_push :
+    (events : List Event) (e : Event) (old new : Size) → old.width ≤ new.width → session_in e < new.width → new.started ≡ old.started + begun (e ∷ []) → IsSizeOf events old →
+    IsSizeOf (events ++ e ∷ []) new
+size_push events e old new wider here counts is = record {
+  some = let h = is.some in omega arith;
+  within = λ k f at. elim (slice_get_push_cases events e k f at) [
+    | inl before ↦ let h = is.within k f before.1 in omega arith
+    | inr now ↦ subst (λ (g : Event). session_in g < new.width) now.1 here
+  ];
+  started =
+      let all : begun (events ++ e ∷ []) ≡ begun events + cond (is_begin e) 1 0 = count_by-push is_begin events e in
+      let one : begun (e ∷ []) ≡ cond (is_begin e) 1 0 = count_by-push is_begin [] e in
+      let was = is.started in omega arith;
+}
+
+-- ---- the last transactions of sessions
+
+pub last_still : (events : List Event) (e : Event) (width : ℕ) (last : List ℕ) → is_begin e ≡ false → AreLast events width last → AreLast (events ++ e ∷ []) width last
+last_still events e width last none are s small = last_begun_still events e s (get_or last s 0) none (are s small)
+
+last_begins :
+    (events : List Event) (s : ℕ) (level : Level) (width : ℕ) (last : List ℕ) → s < length last → AreLast events width last →
+    AreLast (with_begin events s level) width (set last s (begun events + 1))
+last_begins events s level width last within are t small =
+    elim (at_set last s (begun events + 1) t within) [
+      | inl here ↦
+          subst (λ (m : ℕ). IsLastBegun (with_begin events s level) t m) (sym here.1)
+          (subst (λ (r : ℕ). IsLastBegun (with_begin events s level) r (begun events + 1)) (sym here.0) (last_begun_now events s level))
+      | inr other ↦
+          subst (λ (m : ℕ). IsLastBegun (with_begin events s level) t m) (sym other.1)
+          (last_begun_other events s level t (get_or last t 0) other.0 (are t small))
+    ]
+
+-- ---- limits of causal pasts
+
+limits_still : (events : List Event) (e : Event) (limits : List ℕ) → ForcesNothing e → AreLimits events limits → AreLimits (events ++ e ∷ []) limits
+limits_still events e limits nothing are =
+    let same : begun (events ++ e ∷ []) ≡ begun events = begun-push_other events e (begins_nothing e nothing) in
+    record {
+      count = let c = are.count in omega arith;
+      each = λ n bounded a chain. are.each n (omega arith) a (other_past_back events e nothing a n chain);
+    }
+
+limit_begin :
+    (events : List Event) → IsSound events → (s last : ℕ) (level : Level) (limits : List ℕ) (limit : ℕ) → IsLastBegun events s last → last ≤ begun events → last ≤ limit →
+    get_or limits last 0 ≤ limit → AreLimits events limits → (a : ℕ) → PrecedesCausally (with_begin events s level) a (begun events + 1) → a ≤ limit
+limit_begin events sound s last level limits limit is bounded high top are a chain =
+    elim (cases_lt (begun events) a) [
+      | inl above ↦ absurd (begun_first events sound s level a above (begun events + 1) chain)
+      | inr within ↦ elim (cases_eq a 0) [
+        | inl zero ↦ omega arith
+        | inr other ↦
+            let found = start_exists events a (omega arith) (omega arith) in
+            elim (begin_past_new events sound s last level is a found.0 found.1.0 found.1.1 chain) [
+              | inl own ↦ let h = own.1 in omega arith
+              | inr on ↦ let h = are.each last bounded a on in omega arith
+            ]
+      ]
+    ]
+
+limits_begin :
+    (events : List Event) → IsSound events → (s last : ℕ) (level : Level) (limits : List ℕ) (limit : ℕ) → IsLastBegun events s last → last ≤ limit → get_or limits last 0 ≤ limit →
+    AreLimits events limits → AreLimits (with_begin events s level) (limits ++ limit ∷ [])
+limits_begin events sound s last level limits limit is high top are =
+    let more : begun (with_begin events s level) ≡ begun events + 1 = begun-push_start events s level in
+    let long : length (limits ++ limit ∷ []) ≡ length limits + 1 = length_push limits limit in
+    let bounded : last ≤ begun events = elim is.is [ inl none ↦ omega arith | inr found ↦ start_bounded events last s found.0 found.1 ] in
+    record {
+      count = let c = are.count in omega arith;
+      each = λ n small a chain. elim (cases_lt (begun events) n) [
+        | inr old ↦
+            let same : get_or (limits ++ limit ∷ []) n 0 ≡ get_or limits n 0 = get_or_append_left limits (limit ∷ []) 0 n (let c = are.count in omega arith) in
+            let h = are.each n (omega arith) a (begin_past_back events sound s level a n (omega arith) chain) in omega arith
+        | inl new ↦
+            let number : n ≡ begun events + 1 = omega arith in
+            let here : get_or (limits ++ limit ∷ []) n 0 ≡ limit = get_or_push limits limit 0 n (let c = are.count in omega arith) in
+            let h = limit_begin events sound s last level limits limit is bounded high top are a
+            (subst (λ (m : ℕ). PrecedesCausally (with_begin events s level) a m) number chain) in omega arith
+      ];
+    }
+
+pub limits_read :
+    (events : List Event) → IsSound events → (s k : ℕ) (x : Cell) (w n u : ℕ) (v : Value) → IsPending events k s → (w ≡ k → ⊥) → k ≤ begun events → w ≤ begun events →
+    (old new : List ℕ) → RaisesLimit k w old new → AreLimits events old → AreLimits (with_read events s x w n u v) new
+limits_read events sound s k x w n u v pending apart reader source old new raises are =
+    let same : begun (with_read events s x w n u v) ≡ begun events = begun-push_other events (Read s x w n u v) refl in
+    let inside : k < length old = let c = are.count in omega arith in
+    let high = raises.top in
+    let high_source = high.0 in
+    let high_limit = high.1 in
+    let own = raises.own in
+    rw raises.set_to record {
+      count = length-set old k raises.limit ∙ are.count ∙ ap (λ (m : ℕ). m + 1) (sym same);
+      each = λ m small a chain. elim (read_past_back events sound s k x w n u v pending apart a m chain) [
+        | inl before ↦
+            let h = are.each m (omega arith) a before in
+            elim (at_set old k raises.limit m inside) [
+              | inl here ↦
+                  let now = here.1 in
+                  let values : get_or old m 0 ≡ get_or old k 0 = ap (λ (i : ℕ). get_or old i 0) here.0 in omega arith
+              | inr other ↦ let now = other.1 in omega arith
+            ]
+        | inr into ↦ elim (at_set old k raises.limit m inside) [
+          | inr other ↦ absurd (other.0 into.0)
+          | inl here ↦
+              let now = here.1 in
+              elim into.1 [
+                | inl one ↦ omega arith
+                | inr on ↦ let h = are.each w source a on in omega arith
+              ]
+        ]
+      ];
+    }
+
+-- ---- session order
+
+pub keeps_none : (order : List ℕ) → KeepsSessions [] order
+keeps_none order a b out = let none = out.ordered.started.is in cc
+
+pub keeps_still : (events : List Event) (e : Event) (order : List ℕ) → is_begin e ≡ false → KeepsSessions events order → KeepsSessions (events ++ e ∷ []) order
+keeps_still events e order none keeps a b out =
+    let so = out.ordered in
+    keeps a b record {
+      ordered = record {
+        earlier = so.earlier;
+        place = so.place;
+        session = so.session;
+        started = old b so.session so.place so.started;
+        same = elim so.same [ inl initial ↦ inl initial | inr other ↦ inr (other.0, old a so.session other.0 other.1) ];
+      };
+      late = out.late;
+    }
+  where
+    old : (k s p : ℕ) → IsStart (events ++ e ∷ []) k s p → IsStart events k s p
+    old k s p start = elim (start_back events e k s p start) [ inl before ↦ before | inr new ↦ absurd (false≢true (sym none ∙ ap is_begin new.is)) ]
+
+pub keeps_begin :
+    (events : List Event) (s last : ℕ) (level : Level) (order : List ℕ) → IsLastBegun events s last → StandsBefore order last (begun events + 1) → KeepsSessions events order →
+    KeepsSessions (with_begin events s level) order
+keeps_begin events s last level order is stands keeps a b out =
+    let so = out.ordered in
+    let up = so.earlier in
+    elim (start_back events (Begin s level) b so.session so.place so.started) [
+      | inl old_b ↦
+          let bounded : b ≤ begun events = start_bounded events b so.session so.place old_b in
+          keeps a b record {
+            ordered = record {
+              earlier = so.earlier;
+              place = so.place;
+              session = so.session;
+              started = old_b;
+              same = elim so.same [ inl initial ↦ inl initial | inr other ↦ inr (other.0, old a so.session other.0 (omega arith) other.1) ];
+            };
+            late = out.late;
+          }
+      | inr new_b ↦
+          let number = new_b.counts in
+          let session : so.session ≡ s = sym (ap session_in new_b.is) in
+          let same : (a ≡ 0) ⊎ ((q : ℕ) × IsStart events a s q) =
+          elim so.same [
+            | inl initial ↦ inl initial
+            | inr other ↦ inr (other.0, subst (λ (r : ℕ). IsStart events a r other.0) session (old a so.session other.0 (omega arith) other.1))
+          ]
+          in
+          let below : a ≤ last = elim same [ inl initial ↦ omega arith | inr started ↦ is.latest a started.0 started.1 ] in
+          let place_b : place_of order b ≡ place_of order (begun events + 1) = ap (λ (n : ℕ). place_of order n) number in
+          elim (cases_eq a last) [
+            | inl one ↦
+                let place_a : place_of order a ≡ place_of order last = ap (λ (n : ℕ). place_of order n) one in
+                out.late (omega arith)
+            | inr apart ↦ elim is.is [
+              | inl none ↦ absurd (omega arith)
+              | inr found ↦
+                  let less : place_of order a < place_of order last =
+                  less_unless (place_of order a) (place_of order last) (λ late.
+                  keeps a last record {
+                    ordered = record { earlier = omega arith; place = found.0; session = s; started = found.1; same = same };
+                    late = late;
+                  })
+                  in
+                  out.late (omega arith)
+            ]
+          ]
+    ]
+  where
+    old : (k r p : ℕ) → k < begun events + 1 → IsStart (with_begin events s level) k r p → IsStart events k r p
+    old k r p less start = elim (start_back events (Begin s level) k r p start) [ inl before ↦ before | inr new ↦ let c = new.counts in absurd (omega arith) ]
+
+-- places tell what stands before what
+pub stands_from : (size : ℕ) (order places : List ℕ) → ArePlaces size order places → (a b : ℕ) → StandsAt places a b → StandsBefore order a b
+stands_from size order places are a b at =
+    let c = are.count in
+    let in_a = at.first_in in
+    let in_b = at.second_in in
+    let less = at.before in
+    let first : get_or places a 0 ≡ place_of order a = are.each a (omega arith) in
+    let second : get_or places b 0 ≡ place_of order b = are.each b (omega arith) in omega arith
+
+-- ---- all of it
+
+pub glance_still :
+    (events : List Event) (order : List ℕ) (e : Event) (owner : ℕ) (glance : Glance) → ForcesNothing e → IsNoted events order e owner glance → IsGlance (events ++ e ∷ []) order glance
+glance_still events order e owner glance nothing noted =
+    let none : is_begin e ≡ false = begins_nothing e nothing in
+    record {
+      last = last_still events e (length glance.last.items) glance.last.items none noted.last;
+      owners = noted.owners;
+      limits = limits_still events e glance.limits.items nothing noted.limits;
+      keeps = λ h. keeps_still events e order none (noted.keeps h);
+    }
+
+pub glance_begin :
+    (events : List Event) → IsSound events → (order places : List ℕ) (s : ℕ) (level : Level) (last : ℕ) (old new : Glance) → ArePlaces (length places) order places →
+    IsNoted events order (Begin s level) last old → AddsLimit places s last old new → IsGlance (with_begin events s level) order new
+glance_begin events sound order places s level last old new are noted adds =
+    let number : length old.limits.items ≡ begun events + 1 = noted.limits.count in
+    let lasts : set old.last.items s (begun events + 1) ≡ new.last.items = ap (λ (n : ℕ). set old.last.items s n) (sym number) ∙ sym adds.last_is in
+    let width : length old.last.items ≡ length new.last.items = sym (length-set old.last.items s (length old.limits.items)) ∙ ap length (sym adds.last_is) in
+    record {
+      last =
+          subst (λ (n : ℕ). AreLast (with_begin events s level) n new.last.items) width
+          (subst (λ (xs : List ℕ). AreLast (with_begin events s level) (length old.last.items) xs) lasts
+          (last_begins events s level (length old.last.items) old.last.items noted.within noted.last));
+      owners = subst (λ (xs : List ℕ). AreOwners (with_begin events s level) xs) (sym adds.owners) noted.owners;
+      limits =
+          subst (λ (xs : List ℕ). AreLimits (with_begin events s level) xs) (sym adds.limits)
+          (limits_begin events sound s last level old.limits.items adds.limit noted.of adds.top.0 adds.top.1 noted.limits);
+      keeps = λ h.
+          let both = adds.keeps h in
+          keeps_begin events s last level order noted.of
+          (subst (λ (n : ℕ). StandsBefore order last n) number (stands_from (length places) order places are last (length old.limits.items) both.1)) (noted.keeps both.0);
+    }

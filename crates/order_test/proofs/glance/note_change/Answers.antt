@@ -1,0 +1,72 @@
+use Rattle.std.proofs.Common.{arith, refl}
+use Rattle.std.proofs.lemmas.Result.{on_ok_weaker}
+use Rattle.order_test.proofs.PastSteps.{sound_from}
+use Rattle.order_test.proofs.Taken.{last_bounded, source_bounded, source_apart}
+use Rattle.order_test.proofs.Owners.{owner_pending}
+use Rattle.order_test.proofs.GlanceLemmas.{glance_still, glance_begin, last_still, limits_read, keeps_still}
+use Rattle.order_test.proofs.glance.note_change.Goals as goal
+
+pub note_begin-requires-clause-last : goal.note_begin-requires-clause-last
+note_begin-requires-clause-last c =
+    let h = last_bounded c.args.before.now _ c.args.last c.requires.glance.of in let n = c.requires.glance.limits.count in omega arith
+
+pub returns-in-Begin-clause-glance : goal.returns-in-Begin-clause-glance
+returns-in-Begin-clause-glance c =
+    on_ok_weaker c.note_begin.result
+    (λ adds. rw c.in-Begin.is (glance_begin c.args.before.now (sound_from c.args.before.now c.requires.comes.settled) c.args.order.now c.args.places.now.at.items c.in-Begin.session
+    c.in-Begin.level c.args.last c.args.glance.now c.note_begin.new.glance c.requires.places (rw c.in-Begin.is at c.requires.glance) adds))
+    c.note_begin.ensures.adds
+
+pub note_read-requires-clause-reader : goal.note_read-requires-clause-reader
+note_read-requires-clause-reader c =
+    let h = last_bounded c.args.before.now _ c.args.last c.requires.glance.of in let n = c.requires.glance.limits.count in omega arith
+
+pub note_read-requires-clause-source : goal.note_read-requires-clause-source
+note_read-requires-clause-source c =
+    let h = source_bounded c.args.before.now c.in-Read.source (rw c.in-Read.is at c.requires.comes.source) in let n = c.requires.glance.limits.count in omega arith
+
+pub returns-in-Read-clause-glance : goal.returns-in-Read-clause-glance
+returns-in-Read-clause-glance c =
+    let sound = sound_from c.args.before.now c.requires.comes.settled in
+    let source = rw c.in-Read.is at c.requires.comes.source in
+    let noted = rw c.in-Read.is at c.requires.glance in
+    let pending = owner_pending c.args.before.now sound c.in-Read.session c.args.last (rw c.in-Read.is at c.requires.comes.reader) noted.of in
+    rw c.in-Read.is record {
+      last = last_still c.args.before.now _ _ _ refl noted.last;
+      owners = noted.owners;
+      limits =
+          limits_read c.args.before.now sound c.in-Read.session c.args.last c.in-Read.cell c.in-Read.source c.in-Read.count c.in-Read.word c.in-Read.value pending
+          (source_apart c.args.before.now c.args.last c.in-Read.session c.in-Read.source pending source) (last_bounded c.args.before.now _ c.args.last noted.of)
+          (source_bounded c.args.before.now c.in-Read.source source) c.args.glance.now.limits.items c.note_read.new.limits.items c.note_read.ensures noted.limits;
+      keeps = λ h. keeps_still c.args.before.now _ c.args.order.now refl (noted.keeps h);
+    }
+
+pub returns-in-Open-clause-glance : goal.returns-in-Open-clause-glance
+returns-in-Open-clause-glance c = rw c.in-Open.is (glance_still c.args.before.now c.args.order.now _ c.args.last c.args.glance.now tt (rw c.in-Open.is at c.requires.glance))
+
+pub returns-in-Close-clause-glance : goal.returns-in-Close-clause-glance
+returns-in-Close-clause-glance c = rw c.in-Close.is (glance_still c.args.before.now c.args.order.now _ c.args.last c.args.glance.now tt (rw c.in-Close.is at c.requires.glance))
+
+pub returns-in-Define-clause-glance : goal.returns-in-Define-clause-glance
+returns-in-Define-clause-glance c = rw c.in-Define.is (glance_still c.args.before.now c.args.order.now _ c.args.last c.args.glance.now tt (rw c.in-Define.is at c.requires.glance))
+
+pub returns-in-Look-clause-glance : goal.returns-in-Look-clause-glance
+returns-in-Look-clause-glance c = rw c.in-Look.is (glance_still c.args.before.now c.args.order.now _ c.args.last c.args.glance.now tt (rw c.in-Look.is at c.requires.glance))
+
+pub returns-in-Scan-clause-glance : goal.returns-in-Scan-clause-glance
+returns-in-Scan-clause-glance c = rw c.in-Scan.is (glance_still c.args.before.now c.args.order.now _ c.args.last c.args.glance.now tt (rw c.in-Scan.is at c.requires.glance))
+
+pub returns-in-Own-clause-glance : goal.returns-in-Own-clause-glance
+returns-in-Own-clause-glance c = rw c.in-Own.is (glance_still c.args.before.now c.args.order.now _ c.args.last c.args.glance.now tt (rw c.in-Own.is at c.requires.glance))
+
+pub returns-in-Write-clause-glance : goal.returns-in-Write-clause-glance
+returns-in-Write-clause-glance c = rw c.in-Write.is (glance_still c.args.before.now c.args.order.now _ c.args.last c.args.glance.now tt (rw c.in-Write.is at c.requires.glance))
+
+pub returns-in-Commit-clause-glance : goal.returns-in-Commit-clause-glance
+returns-in-Commit-clause-glance c = rw c.in-Commit.is (glance_still c.args.before.now c.args.order.now _ c.args.last c.args.glance.now tt (rw c.in-Commit.is at c.requires.glance))
+
+pub returns-in-Rollback-clause-glance : goal.returns-in-Rollback-clause-glance
+returns-in-Rollback-clause-glance c = rw c.in-Rollback.is (glance_still c.args.before.now c.args.order.now _ c.args.last c.args.glance.now tt (rw c.in-Rollback.is at c.requires.glance))
+
+pub returns-in-Show-clause-glance : goal.returns-in-Show-clause-glance
+returns-in-Show-clause-glance c = rw c.in-Show.is (glance_still c.args.before.now c.args.order.now _ c.args.last c.args.glance.now tt (rw c.in-Show.is at c.requires.glance))

@@ -1,0 +1,4 @@
+use Rattle.order_test.proofs.records.keep_write.Goals as goal
+
+pub returns : goal.returns
+returns c = rw c.reserve.ensures.writes at c.put.ensures.value
