@@ -4,6 +4,8 @@ use Rattle.std.specs.List.Sorted.{IsStrictlyIncreasing}
 use Rattle.indexmap.specs.IndexMap.{get}
 use Rattle.cell_base.specs.declared.cell.Cell.{Cell}
 use Rattle.cell_base.specs.declared.value.Value.{Value}
+use Rattle.history_core.specs.declared.event.Event.{Event}
+use Rattle.history_core.specs.Relations.{Writes}
 use Rattle.indexed_history.specs.Index.{same_cell, some_numbers}
 use Rattle.cell_writers.specs.declared.writers.CellWriters.{CellWriters}
 
@@ -14,6 +16,11 @@ numbers_at writers cell = some_numbers (get same_cell writers.lists cell)
 -- each list ascends
 abbrev pub AreAscending : CellWriters → Type 0
 AreAscending writers = (cell : Cell) → IsStrictlyIncreasing (numbers_at writers cell)
+
+-- at each cell stand, ascending, the transactions after the initial one that write it
+pub record AreWriters (events : List Event) (writers : CellWriters) : Type 0 where
+  pub ascending : AreAscending writers
+  pub exact : (cell : Cell) (number : ℕ) → Contains (numbers_at writers cell) number ↔ ((0 < number) × Writes events number cell)
 
 -- the number is noted at the cell, and all that was noted
 abbrev pub GainsWriter : CellWriters → Cell → ℕ → CellWriters → Type 0

@@ -1,5 +1,5 @@
 // Numbers that ascend.
-ghost use Rattle.std.specs.Prelude.{◌≡◌, ◌≤◌, ◌<◌, ◌↔◌, ◌∷◌, [], ℕ, Contains, IsTrue, IfOk, OnOk, OnErr, IfSome, IfNone, length, get_or};
+ghost use Rattle.std.specs.Prelude.{◌≡◌, ◌≤◌, ◌<◌, ◌∷◌, [], ℕ, Contains, IsTrue, IfOk, OnOk, OnErr, IfSome, IfNone, length, get_or};
 ghost use Rattle.std.specs.List.Sorted.{IsStrictlyIncreasing};
 ghost use Rattle.indexed_history.specs.Index.{GainsNumber};
 ghost use Rattle.cell_writers.specs.Writers.{IsLastUpTo, IsFirstAbove};
@@ -23,15 +23,6 @@ impl Model for Numbers {
 }
 
 impl Numbers {
-    /// No number. Takes no memory.
-    pub fn new(alloc: Global) -> Numbers
-        ensures { result ≡ [] }
-    {
-        Numbers {
-            numbers: Vec::new(alloc),
-        }
-    }
-
     /// One number.
     pub fn one(alloc: Global, number: u32) -> Result<Numbers, Memory>
         ensures { IfOk result (λ numbers. numbers ≡ number ∷ []) }
@@ -46,17 +37,6 @@ impl Numbers {
         ensures { result.now ≡ self.now }
     {
         self.numbers.as_slice()
-    }
-
-    /// Whether the number is among them.
-    pub fn contains(&self, number: u32) -> bool
-        requires { IsStrictlyIncreasing self.now }
-        ensures { IsTrue result ↔ Contains self.now number }
-    {
-        match self.numbers.binary_search(&number) {
-            Ok(_at) => true,
-            Err(_at) => false,
-        }
     }
 
     /// Puts a number in its place, where it isn't there yet. Out of memory nothing changes.

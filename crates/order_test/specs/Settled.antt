@@ -1,4 +1,3 @@
-READ /work/h/brief-b2.md NOW: the contract of first_unkept has changed (writers by the number of the cell; cell_writers has new modules). Then delete this line and READ-ME-NOW--contract-changed--brief-b2.md.
 -- What holds of events of which each comes as the state of its session allows.
 use Rattle.std.specs.Prelude.{◌≡◌, ◌⊎◌, ℕ, Some, List, slice_get, take}
 use Rattle.cell_base.specs.declared.cell.Cell.{Cell}
