@@ -1,9 +1,10 @@
 -- How what is light goes on standing for the events.
-use Rattle.std.proofs.Common.{◌≡◌, ℕ, ◌+◌, ◌<◌, ◌≤◌, List, [], ◌∷◌, ◌++◌, false, cond, length, get_or, set, arith, refl, ap, sym, ◌∙◌, subst, inl, inr, ◌⊎◌}
-use Rattle.std.proofs.lemmas.List.{length_push, length-set, get_or_append_left, get_or_push}
+use Rattle.std.proofs.Common.{◌≡◌, ℕ, ◌+◌, ◌<◌, ◌≤◌, List, [], ◌∷◌, ◌++◌, false, cond, length, get_or, set, replicate, arith, refl, ap, sym, ◌∙◌, subst, inl, inr, ◌⊎◌}
+use Rattle.std.proofs.lemmas.List.{length_push, length-set, length-replicate, get_or-replicate, get_or_append_left, get_or_push}
 use Rattle.std.proofs.lemmas.Bool.{cases_eq, cases_lt, false≢true}
 use Rattle.txn_buffer.proofs.Lists.{slice_get_push_cases}
 use Rattle.graph_base.specs.Order.{place_of}
+use Rattle.graph_base.proofs.Chains.{last_pair}
 use Rattle.graph_base.proofs.Places.{count_by-push}
 use Rattle.cell_base.specs.declared.level.Level.{Level}
 use Rattle.cell_base.specs.declared.cell.Cell.{Cell}
@@ -12,13 +13,13 @@ use Rattle.history_core.specs.declared.event.Event.{Event}
 use Rattle.history_core.specs.declared.event.Event.TheVariants.{Begin, Read}
 use Rattle.history_core.specs.Events.{begun, is_begin, session_in}
 use Rattle.history_core.specs.Transactions.{IsStart, IsPending}
-use Rattle.history_core.specs.Relations.{PrecedesCausally}
+use Rattle.history_core.specs.Relations.{Precedes, PrecedesCausally}
 use Rattle.history_core.proofs.Grown.{start_back}
 use Rattle.history_core.proofs.Prefixes.{IsSound, start_bounded, begun-push_start, begun-push_other}
 use Rattle.saturation.specs.Laws.{with_read}
 use Rattle.saturation.proofs.Decides.{start_exists}
 use Rattle.further_reads.specs.Begun.{ForcesNothing, with_begin, IsLastBegun}
-use Rattle.further_reads.proofs.Lasts.{last_begun_still, last_begun_other, last_begun_now}
+use Rattle.further_reads.proofs.Lasts.{last_begun_none, last_begun_still, last_begun_other, last_begun_now}
 use Rattle.further_reads.proofs.Sources.{begins_nothing}
 use Rattle.order_test.specs.declared.glance.Size.{Size}
 use Rattle.order_test.specs.declared.glance.Glance.{Glance}
@@ -45,7 +46,7 @@ size_push events e old new wider here counts is = record {
   ];
   started =
       let all : begun (events ++ e ∷ []) ≡ begun events + cond (is_begin e) 1 0 = count_by-push is_begin events e in
-      let one : begun (e ∷ []) ≡ cond (is_begin e) 1 0 = count_by-push is_begin [] e in
+      let one : begun (e ∷ []) ≡ 0 + cond (is_begin e) 1 0 = count_by-push is_begin [] e in
       let was = is.started in omega arith;
 }
 
@@ -233,6 +234,27 @@ stands_from size order places are a b at =
     let second : get_or places b 0 ≡ place_of order b = are.each b (omega arith) in omega arith
 
 -- ---- all of it
+
+pub glance_none :
+    (order : List ℕ) (width : ℕ) (glance : Glance) → glance.last.items ≡ replicate {A = ℕ} width 0 → glance.owners.items ≡ [] → glance.limits.items ≡ 0 ∷ [] → IsGlance [] order glance
+glance_none order width glance lasts owners limits = record {
+  last = λ s small.
+      let long : length glance.last.items ≡ width = ap length lasts ∙ length-replicate width 0 in
+      let zero : get_or glance.last.items s 0 ≡ 0 = ap (λ (xs : List ℕ). get_or xs s 0) lasts ∙ get_or-replicate width s 0 0 (omega arith) in
+      subst (λ (n : ℕ). IsLastBegun [] s n) (sym zero) (last_begun_none s);
+  owners = record { count = ap length owners; each = λ k event is. cc };
+  limits = record {
+    count = ap length limits;
+    each = λ number small writer chain.
+        let pair = last_pair (Precedes []) writer number chain in
+        absurd (none pair.before number pair.is);
+  };
+  keeps = λ h. keeps_none order;
+}
+  where
+    none : (a b : ℕ) → Precedes [] a b → ⊥
+    none a b (inl so) = let is = so.started.is in cc
+    none a b (inr wr) = let is = wr.reads.of_reader.is in cc
 
 pub glance_still :
     (events : List Event) (order : List ℕ) (e : Event) (owner : ℕ) (glance : Glance) → ForcesNothing e → IsNoted events order e owner glance → IsGlance (events ++ e ∷ []) order glance

@@ -4,6 +4,7 @@ use Rattle.std.specs.List.{Contains, slice_get}
 use Rattle.std.specs.List.Sorted.{IsStrictlyIncreasing}
 use Rattle.std.proofs.lemmas.Bool.{cases_lt}
 use Rattle.std.proofs.lemmas.List.{length_push, get_or_append_left, get_or_push, get_or_default}
+use Rattle.std.proofs.lemmas.Option.{slice_get_within}
 use Rattle.graph_base.specs.Order.{place_of}
 use Rattle.graph_base.proofs.Fronts.{contains_from_once}
 use Rattle.graph_base.proofs.Places.{get_or-place_of, place_of-contained}
@@ -22,7 +23,7 @@ use Rattle.order_test.specs.Places.{ArePlaces}
 use Rattle.order_test.specs.Sights.{IsReadAt}
 use Rattle.order_test.specs.Listed.{HasNoRival}
 use Rattle.order_test.specs.Unkept.{HoldsAll, HoldsTransactions}
-use Rattle.order_test.specs.Reaches.{IsReachUpTo, IsReach, AddsReach, AreReachesUpTo, StandNoFurther}
+use Rattle.order_test.specs.Reaches.{IsReachUpTo, IsReach, AddsReach, AreReachesUpTo, AreReaches, StandNoFurther}
 use Rattle.order_test.proofs.SearchLemmas.{rival_bounds}
 use Rattle.order_test.proofs.QuickLemmas.{visible_is_causal, read_cell}
 
@@ -122,6 +123,19 @@ reaches_more places lists n cell numbers old new at starts adds before =
               let same = adds.kept (start + k) (omega arith) in
               let h = is.reach i k order below in omega arith;
         }
+
+-- the reach of the cell at a place
+pub reach_of :
+    (places : List ℕ) (writers : CellWriters) (reaches : CellReaches) → AreReaches places writers reaches → (at : ℕ) (cell : Cell) (numbers : List ℕ) →
+    slice_get writers.lists.entries at ≡ Some (cell, numbers) → (ns highest : List ℕ) (start : ℕ) → ns ≡ numbers → highest ≡ reaches.highest.items →
+    start ≡ get_or reaches.starts.items at start → IsReach places ns highest start
+reach_of places writers reaches are at cell numbers is ns highest start same high value =
+    let inside = slice_get_within writers.lists.entries at (cell, numbers) is in
+    let count = are.count in
+    let start_is : get_or reaches.starts.items at 0 ≡ start = get_or_default reaches.starts.items at 0 start (omega arith) ∙ sym value in
+    subst (λ (xs : List ℕ). IsReach places xs highest start) (sym same)
+    (subst (λ (hs : List ℕ). IsReach places numbers hs start) (sym high)
+    (subst (λ (s : ℕ). IsReach places numbers reaches.highest.items s) start_is (are.each at (cell, numbers) inside is)))
 
 -- ---- how far those up to a limit reach
 

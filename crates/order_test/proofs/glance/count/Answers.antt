@@ -5,6 +5,6 @@ use Rattle.order_test.proofs.glance.count.Goals as goal
 pub returns : goal.returns
 returns c =
     size_push c.args.before.now c.args.event.now c.args.size.now _
-    (let wide = c.max.ensures in omega arith)
-    (let wide = c.max.ensures in let session = c.session_of.ensures in omega arith)
+    (let wide = c.max-size.ensures in omega arith)
+    (let wide = c.max-size.ensures in let session = c.session_of.ensures in omega arith)
     (let one = c.beginnings.ensures.value in omega arith) c.requires.size
