@@ -8,8 +8,8 @@ use Rattle.order_test.proofs.SearchLemmas.{reader_number}
 use Rattle.order_test.proofs.ReachLemmas.{reached_clear, value_at}
 use Rattle.order_test.proofs.quick.is_reached.Goals as goal
 
-pub bounds-limits-reader : goal.bounds-limits-reader
-bounds-limits-reader c =
+pub index-limit-requires : goal.index-limit-requires
+index-limit-requires c =
     let number = reader_number c.args.events.now c.args.place c.args.event.now c.args.reader c.requires.read in
     let high = number.1 in let count = c.requires.survey.glance_is.limits.count in omega arith
 
