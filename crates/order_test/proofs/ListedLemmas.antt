@@ -4,7 +4,7 @@ use Rattle.std.specs.List.{Contains, slice_get}
 use Rattle.std.specs.List.Sorted.{IsStrictlyIncreasing}
 use Rattle.std.proofs.lemmas.Bool.{cases_eq}
 use Rattle.std.proofs.lemmas.List.{length-set}
-use Rattle.std.proofs.lemmas.Option.{slice_get_within, slice_get_cases}
+use Rattle.std.proofs.lemmas.Option.{slice_get_within}
 use Rattle.txn_buffer.proofs.Lists.{slice_get-set_same, slice_get-set_other, slice_get_push_cases}
 use Rattle.cell_base.specs.declared.cell.Cell.{Cell}
 use Rattle.cell_base.specs.declared.value.Value.{Value}

@@ -1,6 +1,6 @@
 -- How far the committed writers of each cell reach in the order.
 use Rattle.std.proofs.Common.{◌≡◌, ℕ, ◌+◌, ◌-◌, ◌<◌, ◌≤◌, List, [], ◌∷◌, ◌++◌, length, get_or, Some, arith, refl, ap, sym, ◌∙◌, subst, inl, inr}
-use Rattle.std.specs.List.{Contains, slice_get}
+use Rattle.std.specs.List.{slice_get}
 use Rattle.std.specs.List.Sorted.{IsStrictlyIncreasing}
 use Rattle.std.proofs.lemmas.Bool.{cases_lt}
 use Rattle.std.proofs.lemmas.List.{length_push, get_or_append_left, get_or_push, get_or_default}
@@ -23,7 +23,7 @@ use Rattle.order_test.specs.Places.{ArePlaces}
 use Rattle.order_test.specs.Sights.{IsReadAt}
 use Rattle.order_test.specs.Listed.{HasNoRival}
 use Rattle.order_test.specs.Unkept.{HoldsAll, HoldsTransactions}
-use Rattle.order_test.specs.Reaches.{IsReachUpTo, IsReach, AddsReach, AreReachesUpTo, AreReaches, StandNoFurther}
+use Rattle.order_test.specs.Reaches.{IsReach, AddsReach, AreReachesUpTo, AreReaches, StandNoFurther}
 use Rattle.order_test.proofs.SearchLemmas.{rival_bounds}
 use Rattle.order_test.proofs.QuickLemmas.{visible_is_causal, read_cell}
 

@@ -128,12 +128,7 @@ fn goes_on(keeps: bool, places: &Places, last: u32, number: u32) -> bool
 }
 
 /// Notes that a transaction begins in the session, whose last one was this. The order keeps session order where it has that one before.
-fn note_begin(
-    glance: &mut Glance,
-    places: &Places,
-    session: u32,
-    last: u32,
-) -> Result<(), Memory>
+fn note_begin(glance: &mut Glance, places: &Places, session: u32, last: u32) -> Result<(), Memory>
     requires last { last < length glance.old.limits.items }
     requires session { session < length glance.old.last.items }
     requires few { length glance.old.limits.items < 4294967296 }

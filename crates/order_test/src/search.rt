@@ -247,7 +247,8 @@ fn found_at(
     }
     let reader = glance.owners[place];
     found_of(
-        alloc, events, order, txns, places, pasts, writers, glance, reaches, lists, place, event, reader,
+        alloc, events, order, txns, places, pasts, writers, glance, reaches, lists, place, event,
+        reader,
     )
 }
 

@@ -1,5 +1,4 @@
-use Rattle.std.proofs.Common.{sym, ◌∙◌, subst, arith, ℕ}
-use Rattle.std.proofs.lemmas.List.{get_or_default}
+use Rattle.std.proofs.Common.{sym, subst, arith, ℕ}
 use Rattle.history_core.specs.declared.event.Event.{Event}
 use Rattle.order_test.specs.Glance.{IsLimitOf}
 use Rattle.order_test.specs.Listed.{HasNoRival}

@@ -1,4 +1,4 @@
-use Rattle.std.proofs.Common.{◌≡◌, ◌+◌, ℕ, List, length, get_or, arith, sym, subst}
+use Rattle.std.proofs.Common.{◌≡◌, ◌+◌, ℕ, List, length, arith, sym, subst}
 use Rattle.order_test.specs.Reaches.{AddsReach}
 use Rattle.order_test.proofs.ReachLemmas.{AddsUpTo, adds_none, adds_more}
 use Rattle.order_test.proofs.reaches.add_reach.Goals as goal

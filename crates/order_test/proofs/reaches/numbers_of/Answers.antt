@@ -1,5 +1,4 @@
 use Rattle.std.proofs.Common.{Some, ap, sym, ◌∙◌, List, ℕ}
-use Rattle.cell_base.specs.declared.cell.Cell.{Cell}
 use Rattle.order_test.proofs.reaches.numbers_of.Goals as goal
 
 pub returns : goal.returns

@@ -1,4 +1,4 @@
-use Rattle.std.proofs.Common.{◌≡◌, ◌+◌, ◌-◌, ℕ, arith, sym, subst}
+use Rattle.std.proofs.Common.{◌≡◌, ◌+◌, ◌-◌, ℕ, arith, subst}
 use Rattle.history_core.specs.Events.{session_in}
 use Rattle.history_core.specs.Transactions.{IsPending}
 use Rattle.history_core.proofs.Next.{pending_bounded}
