@@ -150,10 +150,10 @@ one_rises before after key number none pushed =
 
 -- ---- the writes of one transaction
 
-has_more : (pairs : List (ℕ × Key)) (key : Key) (n m : ℕ) → n ≤ m → HasUpTo pairs key n → HasUpTo pairs key m
+pub has_more : (pairs : List (ℕ × Key)) (key : Key) (n m : ℕ) → n ≤ m → HasUpTo pairs key n → HasUpTo pairs key m
 has_more pairs key n m up has = record { first = has.first; within = let low = has.within in omega arith; is = has.is }
 
-has_kept : (old new : TableFirsts) → KeepsFirsts old new → (table : ℕ) (key : Key) (number : ℕ) → HasUpTo (firsts_at old table) key number → HasUpTo (firsts_at new table) key number
+pub has_kept : (old new : TableFirsts) → KeepsFirsts old new → (table : ℕ) (key : Key) (number : ℕ) → HasUpTo (firsts_at old table) key number → HasUpTo (firsts_at new table) key number
 has_kept old new keeps table key number has = record { first = has.first; within = has.within; is = keeps table (has.first, key) has.is }
 
 -- a key that was listed before

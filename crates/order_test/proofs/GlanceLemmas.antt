@@ -1,5 +1,6 @@
 -- How what is light goes on standing for the events.
-use Rattle.std.proofs.Common.{◌≡◌, ℕ, ◌+◌, ◌<◌, ◌≤◌, List, [], ◌∷◌, ◌++◌, false, cond, length, get_or, set, replicate, arith, refl, ap, sym, ◌∙◌, subst, inl, inr, ◌⊎◌}
+use Rattle.std.proofs.Common.{◌≡◌, ℕ, ◌+◌, ◌<◌, ◌≤◌, List, [], ◌∷◌, ◌++◌, Bool, false, cond, length, get_or, set, replicate, arith, refl, ap, sym, ◌∙◌, subst, inl, inr, ◌⊎◌}
+use Rattle.std.specs.Prelude.{IsTrue}
 use Rattle.std.proofs.lemmas.List.{length_push, length-set, length-replicate, get_or-replicate, get_or_append_left, get_or_push}
 use Rattle.std.proofs.lemmas.Bool.{cases_eq, cases_lt, false≢true}
 use Rattle.txn_buffer.proofs.Lists.{slice_get_push_cases}
@@ -25,7 +26,7 @@ use Rattle.order_test.specs.declared.glance.Size.{Size}
 use Rattle.order_test.specs.declared.glance.Glance.{Glance}
 use Rattle.order_test.specs.Unkept.{KeepsSessions, StandsBefore}
 use Rattle.order_test.specs.Places.{ArePlaces, StandsAt}
-use Rattle.order_test.specs.Glance.{IsSizeOf, AreLast, AreOwners, AreLimits, IsNoted, IsGlance, AddsLimit, RaisesLimit}
+use Rattle.order_test.specs.Glance.{IsSizeOf, AreLast, AreOwners, AreLimits, IsScan, TellsScans, IsNoted, IsGlance, AddsLimit, RaisesLimit}
 use Rattle.order_test.proofs.Closing.{read_past_back, other_past_back, begun_first, begin_past_back, begin_past_new}
 use Rattle.order_test.proofs.PastSteps.{at_set}
 use Rattle.order_test.proofs.SearchLemmas.{less_unless}
@@ -70,7 +71,7 @@ last_begins events s level width last within are t small =
 
 -- ---- limits of causal pasts
 
-limits_still : (events : List Event) (e : Event) (limits : List ℕ) → ForcesNothing e → AreLimits events limits → AreLimits (events ++ e ∷ []) limits
+pub limits_still : (events : List Event) (e : Event) (limits : List ℕ) → ForcesNothing e → AreLimits events limits → AreLimits (events ++ e ∷ []) limits
 limits_still events e limits nothing are =
     let same : begun (events ++ e ∷ []) ≡ begun events = begun-push_other events e (begins_nothing e nothing) in
     record {
@@ -233,6 +234,14 @@ stands_from size order places are a b at =
     let first : get_or places a 0 ≡ place_of order a = are.each a (omega arith) in
     let second : get_or places b 0 ≡ place_of order b = are.each b (omega arith) in omega arith
 
+-- ---- scans
+
+pub scans_push : (events : List Event) (e : Event) (told : Bool) → (IsScan e → IsTrue told) → TellsScans events told → TellsScans (events ++ e ∷ []) told
+scans_push events e told here before k f at scan = elim (slice_get_push_cases events e k f at) [
+  | inl old ↦ before k f old.1 scan
+  | inr new ↦ here (subst (λ (g : Event). IsScan g) (sym new.1) scan)
+]
+
 -- ---- all of it
 
 pub glance_none :
@@ -250,6 +259,7 @@ glance_none order width glance lasts owners limits = record {
         absurd (none pair.before number pair.is);
   };
   keeps = λ h. keeps_none order;
+  scans = λ k event is. cc;
 }
   where
     none : (a b : ℕ) → Precedes [] a b → ⊥
@@ -257,14 +267,15 @@ glance_none order width glance lasts owners limits = record {
     none a b (inr wr) = let is = wr.reads.of_reader.is in cc
 
 pub glance_still :
-    (events : List Event) (order : List ℕ) (e : Event) (owner : ℕ) (glance : Glance) → ForcesNothing e → IsNoted events order e owner glance → IsGlance (events ++ e ∷ []) order glance
-glance_still events order e owner glance nothing noted =
+    (events : List Event) (order : List ℕ) (e : Event) (owner : ℕ) (glance : Glance) → ForcesNothing e → (IsScan e → ⊥) → IsNoted events order e owner glance → IsGlance (events ++ e ∷ []) order glance
+glance_still events order e owner glance nothing none_scan noted =
     let none : is_begin e ≡ false = begins_nothing e nothing in
     record {
       last = last_still events e (length glance.last.items) glance.last.items none noted.last;
       owners = noted.owners;
       limits = limits_still events e glance.limits.items nothing noted.limits;
       keeps = λ h. keeps_still events e order none (noted.keeps h);
+      scans = scans_push events e glance.scans (λ scan. absurd (none_scan scan)) noted.scans;
     }
 
 pub glance_begin :
@@ -287,4 +298,7 @@ glance_begin events sound order places s level last old new are noted adds =
           let both = adds.keeps h in
           keeps_begin events s last level order noted.of
           (subst (λ (n : ℕ). StandsBefore order last n) number (stands_from (length places) order places are last (length old.limits.items) both.1)) (noted.keeps both.0);
+      scans =
+          subst (λ (told : Bool). TellsScans (with_begin events s level) told) (sym adds.scans)
+          (scans_push events (Begin s level) old.scans (λ scan. absurd scan) noted.scans);
     }

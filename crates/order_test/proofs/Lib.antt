@@ -14,3 +14,4 @@ pub mod ListedLemmas
 pub mod FirstLemmas
 pub mod QuickLemmas
 pub mod ReachLemmas
+pub mod PresenceLemmas

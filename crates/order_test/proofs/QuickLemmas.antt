@@ -207,7 +207,7 @@ scan_cell : (s table : ℕ) (keys : List Key) (cell : Cell) → Gives (Scan s ta
 scan_cell s table keys (Presence of_table key) gives = (key, ap (λ (n : ℕ). Presence n key) gives.0, gives.1)
 scan_cell s table keys (Field of_table key column) gives = absurd gives
 
-scanned :
+pub scanned :
     (events : List Event) (order : List ℕ) (s table : ℕ) (keys : List Key) (place reader other : ℕ) (cell : Cell) → IsReadAt events place (Scan s table keys) reader →
     IsUnmet events order place 0 other reader cell → (key : Key) × (cell ≡ Presence table key) × (Contains keys key → ⊥)
 scanned events order s table keys place reader other cell read unmet =

@@ -61,6 +61,15 @@ HasWritten firsts (Field table key column) number = Unit {0}
 abbrev pub HaveWritten : TableFirsts → List (Cell × Value) → ℕ → ℕ → Type 0
 HaveWritten firsts writes n number = (k : ℕ) (entry : Cell × Value) → k < n → slice_get writes k ≡ Some entry → HasWritten firsts entry.0 number
 
+-- where the cell is a presence its key stands at its table with a number up to the first of these
+abbrev pub HoldsFirst : TableFirsts → List ℕ → Cell → Type 0
+HoldsFirst firsts numbers (Presence table key) = 0 < length numbers → HasUpTo (firsts_at firsts table) key (slice_index numbers 0)
+HoldsFirst firsts numbers (Field table key column) = Unit {0}
+
+-- so it is with the first n cells and the numbers at each
+abbrev pub HoldFirsts : List (Cell × List ℕ) → ℕ → TableFirsts → Type 0
+HoldFirsts lists n firsts = (at : ℕ) (entry : Cell × List ℕ) → at < n → slice_get lists at ≡ Some entry → HoldsFirst firsts entry.1 entry.0
+
 -- each key with a number up to the top is listed
 abbrev pub ListsUpTo : List (ℕ × Key) → List Key → ℕ → Type 0
 ListsUpTo pairs keys top = (number : ℕ) (key : Key) → Contains pairs (number, key) → number ≤ top → Contains keys key

@@ -1,6 +1,8 @@
--- What is light of the events: for each its transaction, for each transaction a limit of its causal past, and whether session order is kept.
-use Rattle.std.specs.Prelude.{◌≡◌, ◌<◌, ◌≤◌, ◌+◌, ℕ, Some, IsTrue, List, [], ◌∷◌, ◌++◌, length, slice_get, slice_set, slice_index, take}
+-- What is light of the events: for each its transaction, for each transaction a limit of its causal past, whether session order is kept, and
+-- whether there is a scan.
+use Rattle.std.specs.Prelude.{◌≡◌, ◌<◌, ◌≤◌, ◌+◌, ℕ, Bool, Some, IsTrue, List, [], ◌∷◌, ◌++◌, length, slice_get, slice_set, slice_index, take}
 use Rattle.history_core.specs.declared.event.Event.{Event}
+use Rattle.history_core.specs.declared.event.Event.TheVariants.{Scan}
 use Rattle.history_core.specs.Events.{begun, session_in}
 use Rattle.history_core.specs.Relations.{PrecedesCausally}
 use Rattle.further_reads.specs.Begun.{IsLastBegun}
@@ -37,11 +39,21 @@ pub record AreLimits (events : List Event) (limits : List ℕ) : Type 0 where
   pub count : length limits ≡ begun events + 1
   pub each : (number : ℕ) → number ≤ begun events → IsLimitOf events number (slice_index limits number)
 
+-- a scan
+abbrev pub IsScan : Event → Type 0
+IsScan (Scan session table keys) = Unit {0}
+IsScan _ = ⊥
+
+-- where one of the events is a scan it is told
+abbrev pub TellsScans : List Event → Bool → Type 0
+TellsScans events told = (k : ℕ) (event : Event) → slice_get events k ≡ Some event → IsScan event → IsTrue told
+
 pub record IsGlance (events : List Event) (order : List ℕ) (glance : Glance) : Type 0 where
   pub last : AreLast events (length glance.last.items) glance.last.items
   pub owners : AreOwners events glance.owners.items
   pub limits : AreLimits events glance.limits.items
   pub keeps : IsTrue glance.keeps → KeepsSessions events order
+  pub scans : TellsScans events glance.scans
 
 -- what was light before the event, and its transaction, which stands beside it
 pub record IsNoted (events : List Event) (order : List ℕ) (event : Event) (owner : ℕ) (glance : Glance) : Type 0 where
@@ -49,6 +61,7 @@ pub record IsNoted (events : List Event) (order : List ℕ) (event : Event) (own
   pub owners : AreOwners (events ++ event ∷ []) glance.owners.items
   pub limits : AreLimits events glance.limits.items
   pub keeps : IsTrue glance.keeps → KeepsSessions events order
+  pub scans : TellsScans events glance.scans
   pub of : IsLastBegun events (session_in event) owner
   pub within : session_in event < length glance.last.items
 
@@ -60,6 +73,7 @@ pub record AddsLimit (places : List ℕ) (session last : ℕ) (old new : Glance)
   pub limits : new.limits.items ≡ old.limits.items ++ limit ∷ []
   pub top : (last ≤ limit) × (slice_index old.limits.items last ≤ limit)
   pub keeps : IsTrue new.keeps → IsTrue old.keeps × StandsAt places last (length old.limits.items)
+  pub scans : new.scans ≡ old.scans
 
 -- the limit of the reader is raised to the source and to its limit
 pub record RaisesLimit (reader source : ℕ) (old new : List ℕ) : Type 0 where

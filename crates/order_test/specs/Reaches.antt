@@ -1,5 +1,5 @@
 -- How far the committed writers of each cell reach in the order.
-use Rattle.std.specs.Prelude.{◌≡◌, ◌<◌, ◌≤◌, ◌+◌, ℕ, Some, List, Contains, length, slice_get, slice_index}
+use Rattle.std.specs.Prelude.{◌≡◌, ◌<◌, ◌≤◌, ◌+◌, ℕ, Some, IsTrue, List, Contains, length, slice_get, slice_index}
 use Rattle.cell_base.specs.declared.cell.Cell.{Cell}
 use Rattle.history_core.specs.declared.event.Event.{Event}
 use Rattle.history_core.specs.Events.{begun}
@@ -8,6 +8,7 @@ use Rattle.cell_writers.specs.Writers.{AreWriters}
 use Rattle.order_test.specs.declared.glance.Glance.{Glance}
 use Rattle.order_test.specs.declared.places.Places.{Places}
 use Rattle.order_test.specs.declared.reaches.CellReaches.{CellReaches}
+use Rattle.order_test.specs.Firsts.{HoldListed}
 use Rattle.order_test.specs.Glance.{IsGlance}
 use Rattle.order_test.specs.Places.{ArePlaces}
 use Rattle.order_test.specs.Unkept.{HoldsTransactions}
@@ -47,3 +48,4 @@ pub record IsSurvey (events : List Event) (order : List ℕ) (places : Places) (
   pub writers_are : AreWriters events writers
   pub glance_is : IsGlance events order glance
   pub reaches_are : AreReaches places.at.items writers reaches
+  pub firsts_are : IsTrue glance.scans → HoldListed writers reaches.firsts

@@ -36,7 +36,7 @@ impl Firsts {
     }
 
     /// The keys with their numbers.
-    fn as_slice(&self) -> &[(u32, Key)]
+    pub fn as_slice(&self) -> &[(u32, Key)]
         ensures { result.now ≡ self.now }
     {
         self.pairs.as_slice()
@@ -71,9 +71,8 @@ pub fn new_firsts(alloc: Global) -> TableFirsts
 
 /// Notes one key at a table that has none.
 fn start_key(firsts: &mut TableFirsts, table: u32, key: Key, number: u32) -> Result<(), Memory>
-    requires rising { AreRising firsts.old number }
-    requires empty { firsts_at firsts.old table ≡ [] }
-    ensures rising { AreRising firsts.new number }
+    requires { firsts_at firsts.old table ≡ [] }
+    ensures rising { AreRising firsts.old number → AreRising firsts.new number }
     ensures kept { KeepsFirsts firsts.old firsts.new }
     ensures noted { OnOk result (HasUpTo (firsts_at firsts.new table) key number) }
 {
@@ -83,10 +82,9 @@ fn start_key(firsts: &mut TableFirsts, table: u32, key: Key, number: u32) -> Res
     Ok(())
 }
 
-/// Notes a key at its table, with a number that isn't below those noted before.
-fn note_key(firsts: &mut TableFirsts, table: u32, key: Key, number: u32) -> Result<(), Memory>
-    requires { AreRising firsts.old number }
-    ensures rising { AreRising firsts.new number }
+/// Notes a key at its table. The numbers don't fall, where this one isn't below those noted before.
+pub fn note_key(firsts: &mut TableFirsts, table: u32, key: Key, number: u32) -> Result<(), Memory>
+    ensures rising { AreRising firsts.old number → AreRising firsts.new number }
     ensures kept { KeepsFirsts firsts.old firsts.new }
     ensures noted { OnOk result (HasUpTo (firsts_at firsts.new table) key number) }
 {

@@ -1,5 +1,5 @@
 // What is light of the events, found in one pass over them.
-ghost use Rattle.std.specs.Prelude.{◌≡◌, ◌≤◌, ◌<◌, ◌+◌, ◌∷◌, ◌++◌, [], Some, IsTrue, IfOk, OnOk, length, slice_get, slice_set, slice_index, take};
+ghost use Rattle.std.specs.Prelude.{◌≡◌, ◌≤◌, ◌<◌, ◌+◌, ◌∷◌, ◌++◌, [], IsTrue, IfOk, OnOk, length};
 ghost use Rattle.history_core.specs.Events.{begun, session_in};
 ghost use Rattle.further_reads.specs.Begun.{IsLastBegun};
 ghost use Rattle.order_test.specs.Settled.{ComesSettled, IsOrderly};
@@ -29,6 +29,8 @@ pub struct Glance {
     pub limits: Vec<u32>,
     /// Whether the order keeps session order.
     pub keeps: bool,
+    /// Whether there is a scan.
+    pub scans: bool,
 }
 
 /// The session that made the event.
@@ -110,6 +112,7 @@ fn no_glance(alloc: Global, _order: &[u32], width: usize, room: usize) -> Result
         owners,
         limits,
         keeps: true,
+        scans: false,
     })
 }
 
@@ -179,7 +182,10 @@ fn note_change(
         Event::Close { .. } => Ok(()),
         Event::Define { .. } => Ok(()),
         Event::Look { .. } => Ok(()),
-        Event::Scan { .. } => Ok(()),
+        Event::Scan { .. } => {
+            glance.scans = true;
+            Ok(())
+        }
         Event::Own { .. } => Ok(()),
         Event::Write { .. } => Ok(()),
         Event::Commit { .. } => Ok(()),

@@ -11,6 +11,7 @@ mod laws;
 mod listed;
 mod pasts;
 mod places;
+mod presences;
 mod quick;
 mod reaches;
 mod records;

@@ -1,5 +1,5 @@
 // The causal past of each transaction. It is closed under session order, so of each session it has the transactions up to some one.
-ghost use Rattle.std.specs.Prelude.{◌≡◌, ◌≢◌, ◌≤◌, ◌<◌, ◌+◌, ◌↔◌, ◌⊎◌, ◌∷◌, ◌++◌, [], ℕ, Some, IfOk, OnOk, length, slice_get, slice_set, slice_index, take};
+ghost use Rattle.std.specs.Prelude.{◌≡◌, ◌≢◌, ◌≤◌, ◌<◌, ◌+◌, ◌↔◌, ◌⊎◌, ◌∷◌, ◌++◌, [], ℕ, Some, IfOk, OnOk, length, slice_get, slice_set, slice_index};
 ghost use Rattle.history_core.specs.Events.{session_in};
 ghost use Rattle.further_reads.specs.Begun.{IsLastBegun};
 ghost use Rattle.order_test.specs.declared.pasts.Past.{Past as PastOf};

@@ -1,5 +1,5 @@
 // What is seen at once of a read: that it has no rival. Where that isn't seen, a search decides.
-ghost use Rattle.std.specs.Prelude.{◌≡◌, ◌≤◌, ◌<◌, ◌+◌, ℕ, Some, IsTrue, length, slice_get, slice_index};
+ghost use Rattle.std.specs.Prelude.{◌≡◌, ◌<◌, ◌+◌, ℕ, Some, IsTrue, length, slice_get, slice_index};
 ghost use Rattle.history_core.specs.declared.txn.Seen.{Seen as SeenOf};
 ghost use Rattle.saturation.specs.Views.{number_of, IsReadFrom};
 ghost use Rattle.history_core.specs.Relations.{IsSessionOrdered, ReadsBefore, ReadsFrom};
@@ -15,6 +15,7 @@ use crate::glance::Glance;
 use crate::listed::{Lists, last_listed};
 use crate::pasts::{Past, Pasts};
 use crate::places::{Places, stands_before};
+use crate::presences::table_lists_to;
 use crate::reaches::{CellReaches, cell_is_clear};
 use crate::sessions::txn_of;
 use crate::sight::{number_in, past_of, top_of};
@@ -62,7 +63,8 @@ fn past_has_none(
     true
 }
 
-/// Whether none of the committed writers of the cell up to the limit of the reader's causal past stands after the source.
+/// Whether none of the committed writers of the cell up to the limit of the reader's causal past stands after the source, or the scan lists each key
+/// whose presence one up to this limit wrote.
 pub fn is_reached(
     events: &[Event],
     order: &[u32],
@@ -82,6 +84,10 @@ pub fn is_reached(
         Event::Read { cell, source, .. } => {
             let limit = glance.limits[reader as usize];
             cell_is_clear(places, writers, reaches, cell, limit, *source)
+        }
+        Event::Scan { table, keys, .. } => {
+            let limit = glance.limits[reader as usize];
+            table_lists_to(&reaches.firsts, *table, keys.as_slice(), limit)
         }
         _ => false,
     }

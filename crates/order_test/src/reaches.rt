@@ -1,11 +1,13 @@
 // How far the committed writers of each cell up to each of them reach in the order.
-ghost use Rattle.std.specs.Prelude.{◌≡◌, ◌≤◌, ◌<◌, ◌+◌, ℕ, Some, IsTrue, IfOk, OnOk, length, slice_get, slice_index};
+ghost use Rattle.std.specs.Prelude.{◌≡◌, ◌≤◌, ◌<◌, ◌+◌, IsTrue, IfOk, OnOk, length};
 ghost use Rattle.std.specs.List.Sorted.{IsStrictlyIncreasing};
-ghost use Rattle.cell_base.specs.declared.cell.Cell.{Cell as CellOf};
 ghost use Rattle.cell_writers.specs.Writers.{AreAscending, numbers_at};
+ghost use Rattle.order_test.specs.Firsts.{HoldListed};
 ghost use Rattle.order_test.specs.Reaches.{IsReach, AddsReach, AreReaches, AreReachesUpTo, StandNoFurther};
 
+use crate::firsts::TableFirsts;
 use crate::places::{Places, place_at};
+use crate::presences::{entry_at, firsts_of};
 use cell_base::{Cell, Memory};
 use cell_writers::CellWriters;
 use std::alloc::Global;
@@ -16,6 +18,8 @@ pub struct CellReaches {
     /// Where those of each cell begin.
     pub starts: Vec<usize>,
     pub highest: Vec<usize>,
+    /// The keys whose presence was written, where there is a scan.
+    pub firsts: TableFirsts,
 }
 
 /// The later of two places.
@@ -37,17 +41,6 @@ fn add_reach(highest: &mut Vec<usize>, places: &Places, numbers: &[u32]) -> Resu
     Ok(())
 }
 
-/// The numbers that are noted at the cell of the place.
-fn numbers_of<'a>(writers: &'a CellWriters, at: usize) -> &'a [u32]
-    requires { at < length writers.now.lists.entries }
-    ensures { (cell : CellOf) × (slice_get writers.now.lists.entries at ≡ Some (cell, result.now)) }
-{
-    match writers.lists.get_index(at) {
-        Some((_cell, numbers)) => numbers.as_slice(),
-        None => unreachable!(),
-    }
-}
-
 /// Notes the numbers of one cell more.
 fn note_cell(
     reaches: &mut CellReaches,
@@ -57,24 +50,30 @@ fn note_cell(
 ) -> Result<(), Memory>
     requires reaches { AreReachesUpTo places.now.at.items writers.now.lists.entries at reaches.old }
     requires within { at < length writers.now.lists.entries }
-    ensures { OnOk result (AreReachesUpTo places.now.at.items writers.now.lists.entries (at + 1) reaches.new) }
+    ensures firsts { reaches.new.firsts ≡ reaches.old.firsts }
+    ensures reaches { OnOk result (AreReachesUpTo places.now.at.items writers.now.lists.entries (at + 1) reaches.new) }
 {
+    let (_cell, numbers) = entry_at(writers, at);
     let start = reaches.highest.len();
     reaches.starts.push(start)?;
-    add_reach(&mut reaches.highest, places, numbers_of(writers, at))
+    add_reach(&mut reaches.highest, places, numbers)
 }
 
-/// How far the writers reach.
+/// How far the writers reach, and the keys whose presence was written, where there is a scan.
 pub fn reaches_of(
     alloc: Global,
     writers: &CellWriters,
     places: &Places,
+    scans: bool,
 ) -> Result<CellReaches, Memory>
-    ensures { IfOk result (AreReaches places.now.at.items writers.now) }
+    requires { AreAscending writers.now }
+    ensures reaches { IfOk result (AreReaches places.now.at.items writers.now) }
+    ensures firsts { IfOk result (λ reaches. IsTrue scans → HoldListed writers.now reaches.firsts) }
 {
     let mut reaches = CellReaches {
         starts: Vec::new(alloc),
         highest: Vec::new(alloc),
+        firsts: firsts_of(alloc, writers, scans)?,
     };
     for at in 0..writers.lists.len() {
         note_cell(&mut reaches, places, writers, at)?;

@@ -1,5 +1,5 @@
 // The first that an order doesn't keep.
-ghost use Rattle.std.specs.Prelude.{◌≡◌, ◌≤◌, ◌<◌, ◌+◌, ◌↔◌, ℕ, Some, IsTrue, IfOk, IfSome, IfNone, length, slice_get};
+ghost use Rattle.std.specs.Prelude.{◌≡◌, ◌≤◌, ◌<◌, ◌+◌, ℕ, Some, IsTrue, IfOk, IfSome, IfNone, length};
 ghost use Rattle.history_core.specs.Events.{begun};
 ghost use Rattle.cell_writers.specs.Writers.{AreWriters};
 ghost use Rattle.order_test.specs.Settled.{IsOrderly, AreOwned};
@@ -396,7 +396,7 @@ fn found_in(
     ensures { IfOk result (IsFound events.now order.now) }
 {
     let glance = glance_of(alloc, events, order, places, width)?;
-    let reaches = reaches_of(alloc, writers, places)?;
+    let reaches = reaches_of(alloc, writers, places, glance.scans)?;
     let start = first_unreached(events, order, places, writers, &glance, &reaches);
     if is_over(events, &glance, start) {
         return Ok(None);

@@ -3,7 +3,7 @@ use Rattle.std.proofs.lemmas.Result.{on_ok_weaker}
 use Rattle.order_test.proofs.PastSteps.{sound_from}
 use Rattle.order_test.proofs.Taken.{last_bounded, source_bounded, source_apart}
 use Rattle.order_test.proofs.Owners.{owner_pending}
-use Rattle.order_test.proofs.GlanceLemmas.{glance_still, glance_begin, last_still, limits_read, keeps_still}
+use Rattle.order_test.proofs.GlanceLemmas.{glance_still, glance_begin, last_still, limits_still, limits_read, keeps_still, scans_push}
 use Rattle.order_test.proofs.glance.note_change.Goals as goal
 
 pub note_begin-requires-clause-last : goal.note_begin-requires-clause-last
@@ -39,34 +39,43 @@ returns-in-Read-clause-glance c =
           (source_apart c.args.before.now c.args.last c.in-Read.session c.in-Read.source pending source) (last_bounded c.args.before.now _ c.args.last noted.of)
           (source_bounded c.args.before.now c.in-Read.source source) c.args.glance.now.limits.items c.note_read.new.limits.items c.note_read.ensures noted.limits;
       keeps = λ h. keeps_still c.args.before.now _ c.args.order.now refl (noted.keeps h);
+      scans = scans_push c.args.before.now _ c.args.glance.now.scans (λ scan. absurd scan) noted.scans;
     }
 
 pub returns-in-Open-clause-glance : goal.returns-in-Open-clause-glance
-returns-in-Open-clause-glance c = rw c.in-Open.is (glance_still c.args.before.now c.args.order.now _ c.args.last c.args.glance.now tt (rw c.in-Open.is at c.requires.glance))
+returns-in-Open-clause-glance c = rw c.in-Open.is (glance_still c.args.before.now c.args.order.now _ c.args.last c.args.glance.now tt (λ scan. scan) (rw c.in-Open.is at c.requires.glance))
 
 pub returns-in-Close-clause-glance : goal.returns-in-Close-clause-glance
-returns-in-Close-clause-glance c = rw c.in-Close.is (glance_still c.args.before.now c.args.order.now _ c.args.last c.args.glance.now tt (rw c.in-Close.is at c.requires.glance))
+returns-in-Close-clause-glance c = rw c.in-Close.is (glance_still c.args.before.now c.args.order.now _ c.args.last c.args.glance.now tt (λ scan. scan) (rw c.in-Close.is at c.requires.glance))
 
 pub returns-in-Define-clause-glance : goal.returns-in-Define-clause-glance
-returns-in-Define-clause-glance c = rw c.in-Define.is (glance_still c.args.before.now c.args.order.now _ c.args.last c.args.glance.now tt (rw c.in-Define.is at c.requires.glance))
+returns-in-Define-clause-glance c = rw c.in-Define.is (glance_still c.args.before.now c.args.order.now _ c.args.last c.args.glance.now tt (λ scan. scan) (rw c.in-Define.is at c.requires.glance))
 
 pub returns-in-Look-clause-glance : goal.returns-in-Look-clause-glance
-returns-in-Look-clause-glance c = rw c.in-Look.is (glance_still c.args.before.now c.args.order.now _ c.args.last c.args.glance.now tt (rw c.in-Look.is at c.requires.glance))
+returns-in-Look-clause-glance c = rw c.in-Look.is (glance_still c.args.before.now c.args.order.now _ c.args.last c.args.glance.now tt (λ scan. scan) (rw c.in-Look.is at c.requires.glance))
 
 pub returns-in-Scan-clause-glance : goal.returns-in-Scan-clause-glance
-returns-in-Scan-clause-glance c = rw c.in-Scan.is (glance_still c.args.before.now c.args.order.now _ c.args.last c.args.glance.now tt (rw c.in-Scan.is at c.requires.glance))
+returns-in-Scan-clause-glance c =
+    let noted = rw c.in-Scan.is at c.requires.glance in
+    rw c.in-Scan.is record {
+      last = last_still c.args.before.now _ _ _ refl noted.last;
+      owners = noted.owners;
+      limits = limits_still c.args.before.now _ _ tt noted.limits;
+      keeps = λ h. keeps_still c.args.before.now _ c.args.order.now refl (noted.keeps h);
+      scans = λ k event at scan. refl;
+    }
 
 pub returns-in-Own-clause-glance : goal.returns-in-Own-clause-glance
-returns-in-Own-clause-glance c = rw c.in-Own.is (glance_still c.args.before.now c.args.order.now _ c.args.last c.args.glance.now tt (rw c.in-Own.is at c.requires.glance))
+returns-in-Own-clause-glance c = rw c.in-Own.is (glance_still c.args.before.now c.args.order.now _ c.args.last c.args.glance.now tt (λ scan. scan) (rw c.in-Own.is at c.requires.glance))
 
 pub returns-in-Write-clause-glance : goal.returns-in-Write-clause-glance
-returns-in-Write-clause-glance c = rw c.in-Write.is (glance_still c.args.before.now c.args.order.now _ c.args.last c.args.glance.now tt (rw c.in-Write.is at c.requires.glance))
+returns-in-Write-clause-glance c = rw c.in-Write.is (glance_still c.args.before.now c.args.order.now _ c.args.last c.args.glance.now tt (λ scan. scan) (rw c.in-Write.is at c.requires.glance))
 
 pub returns-in-Commit-clause-glance : goal.returns-in-Commit-clause-glance
-returns-in-Commit-clause-glance c = rw c.in-Commit.is (glance_still c.args.before.now c.args.order.now _ c.args.last c.args.glance.now tt (rw c.in-Commit.is at c.requires.glance))
+returns-in-Commit-clause-glance c = rw c.in-Commit.is (glance_still c.args.before.now c.args.order.now _ c.args.last c.args.glance.now tt (λ scan. scan) (rw c.in-Commit.is at c.requires.glance))
 
 pub returns-in-Rollback-clause-glance : goal.returns-in-Rollback-clause-glance
-returns-in-Rollback-clause-glance c = rw c.in-Rollback.is (glance_still c.args.before.now c.args.order.now _ c.args.last c.args.glance.now tt (rw c.in-Rollback.is at c.requires.glance))
+returns-in-Rollback-clause-glance c = rw c.in-Rollback.is (glance_still c.args.before.now c.args.order.now _ c.args.last c.args.glance.now tt (λ scan. scan) (rw c.in-Rollback.is at c.requires.glance))
 
 pub returns-in-Show-clause-glance : goal.returns-in-Show-clause-glance
-returns-in-Show-clause-glance c = rw c.in-Show.is (glance_still c.args.before.now c.args.order.now _ c.args.last c.args.glance.now tt (rw c.in-Show.is at c.requires.glance))
+returns-in-Show-clause-glance c = rw c.in-Show.is (glance_still c.args.before.now c.args.order.now _ c.args.last c.args.glance.now tt (λ scan. scan) (rw c.in-Show.is at c.requires.glance))
