@@ -48,11 +48,7 @@ fn note_entry(firsts: &mut TableFirsts, writers: &CellWriters, at: usize) -> Res
 }
 
 /// The keys of all presences, where they are wanted.
-pub fn firsts_of(
-    alloc: Global,
-    writers: &CellWriters,
-    wanted: bool,
-) -> Result<TableFirsts, Memory>
+pub fn firsts_of(alloc: Global, writers: &CellWriters, wanted: bool) -> Result<TableFirsts, Memory>
     requires { AreAscending writers.now }
     ensures { IfOk result (λ firsts. IsTrue wanted → HoldListed writers.now firsts) }
 {

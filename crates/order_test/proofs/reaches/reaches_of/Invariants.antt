@@ -6,5 +6,5 @@ use Rattle.order_test.proofs.reaches.reaches_of.Given as goal
 abbrev pub invariant-loop-at : goal.invariant-loop-at
 invariant-loop-at l = record {
   reaches : AreReachesUpTo l.places.at.items l.writers.lists.entries l.at l.reaches;
-  firsts : IsTrue l.scans → HoldListed l.writers l.reaches.firsts
+  firsts : IsTrue l.scans → HoldListed l.writers l.reaches.firsts;
 }
