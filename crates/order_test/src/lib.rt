@@ -9,6 +9,7 @@ mod firsts;
 mod glance;
 mod laws;
 mod listed;
+mod met;
 mod pasts;
 mod places;
 mod presences;

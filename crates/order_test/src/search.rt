@@ -15,6 +15,7 @@ ghost use Rattle.order_test.specs.Firsts.{AreIndexes};
 use crate::Unkept;
 use crate::glance::{Glance, glance_of, size_of};
 use crate::listed::{Lists, lists_of};
+use crate::met::is_met;
 use crate::pasts::{Pasts, pasts_of};
 use crate::places::{Places, places_of, stands_before};
 use crate::quick::{is_clear, is_reached};
@@ -156,6 +157,93 @@ fn first_unreached(
 {
     for place in 0..events.len() {
         if !event_is_reached(events, order, places, writers, glance, reaches, place) {
+            return place;
+        }
+    }
+    events.len()
+}
+
+/// Whether it is clear from what is light and from the causal pasts that the order keeps what the event at the place asks.
+fn event_is_met(
+    events: &[Event],
+    order: &[u32],
+    places: &Places,
+    writers: &CellWriters,
+    glance: &Glance,
+    reaches: &CellReaches,
+    pasts: &Pasts,
+    place: usize,
+) -> bool
+    requires survey { IsSurvey events.now order.now places.now writers.now glance.now reaches.now }
+    requires pasts { ArePasts events.now pasts.now }
+    requires orderly { IsOrderly events.now }
+    requires within { place < length events.now }
+    ensures { IsTrue result → IsKeptAt events.now order.now place }
+{
+    if event_is_reached(events, order, places, writers, glance, reaches, place) {
+        return true;
+    }
+    let event = &events[place];
+    if !is_reading(event) {
+        return false;
+    }
+    let reader = glance.owners[place];
+    read_is_met(
+        events, order, places, writers, glance, reaches, pasts, place, event, reader,
+    )
+}
+
+/// The same of a read or a scan.
+fn read_is_met(
+    events: &[Event],
+    order: &[u32],
+    places: &Places,
+    writers: &CellWriters,
+    glance: &Glance,
+    reaches: &CellReaches,
+    pasts: &Pasts,
+    place: usize,
+    event: &Event,
+    reader: u32,
+) -> bool
+    requires survey { IsSurvey events.now order.now places.now writers.now glance.now reaches.now }
+    requires pasts { ArePasts events.now pasts.now }
+    requires orderly { IsOrderly events.now }
+    requires read { IsReadAt events.now place event.now reader }
+    ensures { IsTrue result → IsKeptAt events.now order.now place }
+{
+    if !stands_before(places, origin(event), reader) {
+        return false;
+    }
+    is_met(
+        events, order, places, writers, glance, reaches, pasts, place, event, reader,
+    )
+}
+
+/// The first event from the start on of which this doesn't show that the order keeps what it asks, or the end. It keeps what those before the
+/// start ask.
+fn first_unmet(
+    events: &[Event],
+    order: &[u32],
+    places: &Places,
+    writers: &CellWriters,
+    glance: &Glance,
+    reaches: &CellReaches,
+    pasts: &Pasts,
+    start: usize,
+) -> usize
+    requires survey { IsSurvey events.now order.now places.now writers.now glance.now reaches.now }
+    requires pasts { ArePasts events.now pasts.now }
+    requires orderly { IsOrderly events.now }
+    requires within { start ≤ length events.now }
+    requires kept { IsKeptBelow events.now order.now start }
+    ensures within { result ≤ length events.now }
+    ensures kept { IsKeptBelow events.now order.now result }
+{
+    for place in start..events.len() {
+        if !event_is_met(
+            events, order, places, writers, glance, reaches, pasts, place,
+        ) {
             return place;
         }
     }
@@ -318,28 +406,67 @@ fn found_after(
     writers: &CellWriters,
     glance: &Glance,
     reaches: &CellReaches,
+    pasts: &Pasts,
     start: usize,
     width: usize,
 ) -> Result<Option<Unkept>, Memory>
     requires scene { IsScene events.now order.now txns.now places.now }
     requires sessions { KeepsSessions events.now order.now }
     requires survey { IsSurvey events.now order.now places.now writers.now glance.now reaches.now }
+    requires pasts { ArePasts events.now pasts.now }
     requires orderly { IsOrderly events.now }
     requires kept { IsKeptBelow events.now order.now start }
-    requires some { 0 < width }
     requires within { AreWithin width events.now }
     requires few { length events.now < 4294967296 }
     ensures { IfOk result (IsFoundAmong events.now order.now) }
 {
-    let pasts = pasts_of(alloc, events, &glance.owners, width)?;
     let lists = lists_of(alloc, txns, width)?;
     found_among(
-        alloc, events, order, txns, places, &pasts, writers, glance, reaches, &lists, start,
+        alloc, events, order, txns, places, pasts, writers, glance, reaches, &lists, start,
     )
 }
 
 /// The first that the order doesn't keep, by the records of the transactions. It keeps what the events before the start ask.
 fn found_by_records(
+    alloc: Global,
+    events: &[Event],
+    order: &[u32],
+    places: &Places,
+    writers: &CellWriters,
+    glance: &Glance,
+    reaches: &CellReaches,
+    pasts: &Pasts,
+    start: usize,
+    width: usize,
+) -> Result<Option<Unkept>, Memory>
+    requires survey { IsSurvey events.now order.now places.now writers.now glance.now reaches.now }
+    requires pasts { ArePasts events.now pasts.now }
+    requires orderly { IsOrderly events.now }
+    requires owned { AreOwned events.now }
+    requires kept { IsKeptBelow events.now order.now start }
+    requires within { AreWithin width events.now }
+    requires few { length events.now < 4294967296 }
+    ensures { IfOk result (IsFound events.now order.now) }
+{
+    let txns = txns_of(alloc, events, &glance.owners)?;
+    match session_breach(events, order, &txns, places, glance) {
+        Some((earlier, later)) => Ok(Some(Unkept::Session { earlier, later })),
+        None => found_after(
+            alloc, events, order, &txns, places, writers, glance, reaches, pasts, start, width,
+        ),
+    }
+}
+
+/// Whether the order keeps session order and what all events ask.
+fn is_over(events: &[Event], glance: &Glance, start: usize) -> bool
+    ensures { IsTrue result → IsTrue glance.now.keeps × (start ≡ length events.now) }
+{
+    glance.keeps && start == events.len()
+}
+
+/// The first that the order doesn't keep, by the causal pasts. It keeps what the events before the start ask. The records of the transactions are
+/// made only where there is an event that the pasts don't clear.
+fn found_by_pasts(
     alloc: Global,
     events: &[Event],
     order: &[u32],
@@ -353,30 +480,27 @@ fn found_by_records(
     requires survey { IsSurvey events.now order.now places.now writers.now glance.now reaches.now }
     requires orderly { IsOrderly events.now }
     requires owned { AreOwned events.now }
+    requires start { start ≤ length events.now }
     requires kept { IsKeptBelow events.now order.now start }
     requires some { 0 < width }
     requires within { AreWithin width events.now }
     requires few { length events.now < 4294967296 }
     ensures { IfOk result (IsFound events.now order.now) }
 {
-    let txns = txns_of(alloc, events, &glance.owners)?;
-    match session_breach(events, order, &txns, places, glance) {
-        Some((earlier, later)) => Ok(Some(Unkept::Session { earlier, later })),
-        None => found_after(
-            alloc, events, order, &txns, places, writers, glance, reaches, start, width,
-        ),
+    let pasts = pasts_of(alloc, events, &glance.owners, width)?;
+    let next = first_unmet(
+        events, order, places, writers, glance, reaches, &pasts, start,
+    );
+    if is_over(events, glance, next) {
+        return Ok(None);
     }
+    found_by_records(
+        alloc, events, order, places, writers, glance, reaches, &pasts, next, width,
+    )
 }
 
-/// Whether the order keeps session order and what all events ask.
-fn is_over(events: &[Event], glance: &Glance, start: usize) -> bool
-    ensures { IsTrue result → IsTrue glance.now.keeps × (start ≡ length events.now) }
-{
-    glance.keeps && start == events.len()
-}
-
-/// The first that the order doesn't keep, where it holds each transaction once and the initial one first. The records of the transactions are made
-/// only where the order isn't clear from what is light.
+/// The first that the order doesn't keep, where it holds each transaction once and the initial one first. More is made of the
+/// events only where the order isn't clear from what is light.
 fn found_in(
     alloc: Global,
     events: &[Event],
@@ -401,7 +525,7 @@ fn found_in(
     if is_over(events, &glance, start) {
         return Ok(None);
     }
-    found_by_records(
+    found_by_pasts(
         alloc, events, order, places, writers, &glance, &reaches, start, width,
     )
 }
