@@ -1,14 +1,10 @@
-use Rattle.std.proofs.Common.{List, sym, subst, arith, ℕ}
-use Rattle.cell_base.specs.declared.key.Key.{Key}
+use Rattle.std.proofs.Common.{sym, subst, arith, ℕ}
 use Rattle.history_core.specs.declared.event.Event.{Event}
-use Rattle.history_core.specs.declared.event.Event.TheVariants.{Scan}
-use Rattle.order_test.specs.Firsts.{firsts_at, ListsUpTo}
 use Rattle.order_test.specs.Glance.{IsLimitOf}
 use Rattle.order_test.specs.Listed.{HasNoRival}
 use Rattle.order_test.specs.Sights.{IsReadAt}
 use Rattle.order_test.proofs.SearchLemmas.{reader_number}
 use Rattle.order_test.proofs.ReachLemmas.{reached_clear, value_at}
-use Rattle.order_test.proofs.PresenceLemmas.{scan_reached_clear}
 use Rattle.order_test.proofs.met.is_met.Goals as goal
 
 pub index-limit-requires : goal.index-limit-requires

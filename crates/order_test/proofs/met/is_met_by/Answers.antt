@@ -1,4 +1,4 @@
-use Rattle.std.proofs.Common.{Bool, true, not, arith, sym, ◌∙◌, ap}
+use Rattle.std.proofs.Common.{not, arith, sym, ◌∙◌, ap}
 use Rattle.std.proofs.lemmas.Bool.{false≢true}
 use Rattle.order_test.proofs.met.is_met_by.Goals as goal
 

@@ -1,4 +1,4 @@
-use Rattle.std.proofs.Common.{◌+◌, ◌-◌, ℕ, arith, subst}
+use Rattle.std.proofs.Common.{◌-◌, ℕ, arith, subst}
 use Rattle.order_test.proofs.ReachLemmas.{AreMetFrom, met_none, met_step, met_reach, met_whole}
 use Rattle.order_test.proofs.met.numbers_are_met.Goals as goal
 
