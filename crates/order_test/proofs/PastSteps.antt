@@ -1,32 +1,83 @@
 -- How the pasts go on standing for the events.
-use Rattle.std.proofs.Common.{◌≡◌, ℕ, ◌+◌, ◌<◌, ◌≤◌, List, [], ◌∷◌, ◌++◌, length, get_or, get_or-set_same, get_or-set_other, set, arith, refl, ap, sym, ◌∙◌, subst, inl, inr, ◌⊎◌}
-use Rattle.std.proofs.lemmas.List.{length_push, length-set, get_or_past}
+use Rattle.std.proofs.Common.{◌≡◌, ℕ, ◌+◌, ◌<◌, ◌≤◌, List, [], ◌∷◌, ◌++◌, Some, length, get_or, replicate, get_or-set_same, get_or-set_other, set, arith, refl, ap, sym, ◌∙◌, subst, inl, inr, ◌⊎◌}
+use Rattle.std.proofs.lemmas.List.{length_push, length-set, length-replicate, get_or-replicate, get_or_past}
+use Rattle.std.specs.List.{Contains, slice_get}
+use Rattle.std.proofs.lemmas.List.Elements.{Contains-append_left, Contains-push}
 use Rattle.std.proofs.lemmas.Option.{slice_get_cases}
 use Rattle.std.proofs.lemmas.Bool.{cases_eq, cases_lt, false≢true}
 use Rattle.txn_buffer.proofs.Lists.{slice_get_push_cases, slice_get-set_cases}
 use Rattle.graph_base.proofs.Chains.{chained_one}
 use Rattle.cell_base.specs.declared.level.Level.{Level}
 use Rattle.cell_base.specs.declared.cell.Cell.{Cell}
+use Rattle.cell_base.specs.declared.cell.Cell.TheVariants.{Presence, Field}
 use Rattle.cell_base.specs.declared.value.Value.{Value}
 use Rattle.history_core.specs.declared.event.Event.{Event}
-use Rattle.history_core.specs.declared.event.Event.TheVariants.{Begin, Read}
-use Rattle.history_core.specs.Events.{begun, is_begin}
-use Rattle.history_core.specs.Transactions.{IsStart, IsPending}
-use Rattle.history_core.specs.Relations.{Precedes}
+use Rattle.history_core.specs.declared.event.Event.TheVariants.{Open, Close, Define, Look, Begin, Scan, Read, Own, Write, Commit, Rollback, Show}
+use Rattle.history_core.specs.Events.{begun, is_begin, session_in}
+use Rattle.history_core.specs.Transactions.{IsStart, IsPending, RunsAt}
+use Rattle.history_core.specs.Relations.{Gives, Precedes}
 use Rattle.history_core.proofs.Places.{start_session}
-use Rattle.history_core.proofs.Grown.{start_back, start_kept}
+use Rattle.history_core.proofs.Grown.{start_back, start_kept, runs_kept, reads_back}
 use Rattle.history_core.proofs.Prefixes.{IsSound, start_positive, start_bounded, begun-push_start, begun-push_other}
-use Rattle.history_core.proofs.Next.{pending_begin}
+use Rattle.history_core.proofs.Offers.{pending_unique}
+use Rattle.history_core.proofs.Next.{pending_begin, runs_begin}
 use Rattle.saturation.specs.Laws.{with_read}
 use Rattle.further_reads.specs.Begun.{ForcesNothing, with_begin, IsLastBegun}
 use Rattle.further_reads.proofs.Sources.{begins_nothing}
 use Rattle.order_test.specs.declared.pasts.Past.{Past}
 use Rattle.order_test.specs.Settled.{IsSettled}
-use Rattle.order_test.specs.Pasts.{IsPastOf, AreRows, TakesIn, TakesFrom, AddsAfter}
+use Rattle.order_test.specs.Pasts.{HoldsReads, IsPastOf, AreRows, TakesIn, TakesFrom, AddsAfter}
 use Rattle.order_test.proofs.Closing.{read_past_back, past_kept, read_past_source, other_past_back, begun_first, begin_past_back, begin_past_new, begin_past_own, begin_past_last}
 
 pub sound_from : (events : List Event) → IsSettled events → IsSound events
 sound_from events settled = record { sources = settled.sources; last = settled.last }
+
+-- ---- reads
+
+-- an event that gives nothing but what the initial transaction wrote
+reads_other :
+    (events : List Event) (e : Event) (n : ℕ) (reads : List (ℕ × ℕ)) → ((cell : Cell) (source : ℕ) → 0 < source → Gives e cell source → ⊥) → HoldsReads events n reads →
+    HoldsReads (events ++ e ∷ []) n reads
+reads_other events e n reads none holds place source cell some r = elim (reads_back events e n place cell source r) [
+  | inl old ↦ holds place source cell some old
+  | inr new ↦ absurd (none cell source some new.2)
+]
+
+gives_none : (e : Event) → ForcesNothing e → (cell : Cell) (source : ℕ) → 0 < source → Gives e cell source → ⊥
+gives_none (Scan s table keys) nothing (Presence t key) source some gives = let initial = gives.2 in omega arith
+gives_none (Scan s table keys) nothing (Field t key c) source some gives = gives
+gives_none (Open s) nothing cell source some gives = gives
+gives_none (Close s) nothing cell source some gives = gives
+gives_none (Define s name) nothing cell source some gives = gives
+gives_none (Look s count) nothing cell source some gives = gives
+gives_none (Begin s level) nothing cell source some gives = gives
+gives_none (Read s x w n u v) nothing cell source some gives = nothing
+gives_none (Own s x v) nothing cell source some gives = gives
+gives_none (Write s x v) nothing cell source some gives = gives
+gives_none (Commit s) nothing cell source some gives = gives
+gives_none (Rollback s) nothing cell source some gives = gives
+gives_none (Show s number) nothing cell source some gives = gives
+
+-- what begins has read nothing
+reads_begin :
+    (events : List Event) (s : ℕ) (level : Level) (reads : List (ℕ × ℕ)) → HoldsReads (with_begin events s level) (begun events + 1) reads
+reads_begin events s level reads place source cell some r = elim (reads_back events (Begin s level) (begun events + 1) place cell source r) [
+  | inl old ↦
+      let of = old.of_reader in
+      let h = start_bounded events (begun events + 1) (session_in old.event) of.start of.starts in absurd (omega arith)
+  | inr new ↦ absurd new.2
+]
+
+-- a read more
+reads_more :
+    (events : List Event) (s k : ℕ) (x : Cell) (w n u : ℕ) (v : Value) (reads : List (ℕ × ℕ)) → HoldsReads events k reads →
+    HoldsReads (with_read events s x w n u v) k (reads ++ (length events, w) ∷ [])
+reads_more events s k x w n u v reads holds place source cell some r = elim (reads_back events (Read s x w n u v) k place cell source r) [
+  | inl old ↦ Contains-append_left reads ((length events, w) ∷ []) (place, source) (holds place source cell some old)
+  | inr new ↦
+      subst (λ (p : ℕ). Contains (reads ++ (length events, w) ∷ []) (p, source)) (sym new.0)
+      (subst (λ (m : ℕ). Contains (reads ++ (length events, w) ∷ []) (length events, m)) new.2.1 (Contains-push reads (length events, w)))
+]
 
 -- ---- an event that is neither a begin nor a read
 
@@ -39,6 +90,8 @@ other_past events e width n past nothing is =
       within = is.within;
       bounded = λ s. let h = is.bounded s in omega arith;
       started = λ positive. let found = is.started positive in (found.0, start_kept events e n past.session found.0 found.1);
+      runs = λ positive. runs_kept events e n past.level (is.runs positive);
+      reads = reads_other events e n past.reads.items (gives_none e nothing) is.reads;
       exact = λ s a p start. elim (start_back events e a s p start) [
         | inl old ↦ (
           λ le. past_kept events e a n ((is.exact s a p old).0 le),
@@ -78,6 +131,8 @@ begin_old events sound s level width n past old is =
       within = is.within;
       bounded = λ t. let h = is.bounded t in omega arith;
       started = λ positive. let found = is.started positive in (found.0, start_kept events (Begin s level) n past.session found.0 found.1);
+      runs = λ positive. runs_kept events (Begin s level) n past.level (is.runs positive);
+      reads = reads_other events (Begin s level) n past.reads.items (λ cell source some gives. gives) is.reads;
       exact = λ t a p start. elim (start_back events (Begin s level) a t p start) [
         | inl before ↦ (
           λ le. past_kept events (Begin s level) a n ((is.exact t a p before).0 le),
@@ -92,8 +147,8 @@ begin_old events sound s level width n past old is =
 
 begin_new :
     (events : List Event) → IsSound events → (s last : ℕ) (level : Level) (width : ℕ) (before past : Past) → IsLastBegun events s last → s < width →
-    IsPastOf events width last before → past.session ≡ s → past.tops.items ≡ set before.tops.items s last → IsPastOf (with_begin events s level) width (begun events + 1) past
-begin_new events sound s last level width before past is small of session tops =
+    IsPastOf events width last before → past.session ≡ s → past.level ≡ level → past.tops.items ≡ set before.tops.items s last → IsPastOf (with_begin events s level) width (begun events + 1) past
+begin_new events sound s last level width before past is small of session level_is tops =
     let more : begun (with_begin events s level) ≡ begun events + 1 = begun-push_start events s level in
     let within : s < length before.tops.items = let c = of.count in omega arith in
     let begins = pending_begin events s level in
@@ -110,6 +165,8 @@ begin_new events sound s last level width before past is small of session tops =
       within = subst (λ (t : ℕ). t < width) (sym session) small;
       bounded = λ t. let h = top t in omega arith;
       started = λ positive. (begins.start, subst (λ (t : ℕ). IsStart (with_begin events s level) (begun events + 1) t begins.start) (sym session) begins.starts);
+      runs = λ positive. subst (λ (l : Level). RunsAt (with_begin events s level) (begun events + 1) l) (sym level_is) (runs_begin events s level);
+      reads = reads_begin events s level past.reads.items;
       exact = λ t a p start. elim (start_back events (Begin s level) a t p start) [
         | inl old ↦ (
           λ le. elim (read t) [
@@ -142,7 +199,7 @@ begin_new events sound s last level width before past is small of session tops =
 
 pub begin_rows :
     (events : List Event) → IsSound events → (s last : ℕ) (level : Level) (width : ℕ) (old new : List Past) → IsLastBegun events s last → s < width →
-    AreRows events width old → AddsAfter last s old new → AreRows (with_begin events s level) width new
+    AreRows events width old → AddsAfter last s level old new → AreRows (with_begin events s level) width new
 begin_rows events sound s last level width old new is small are adds =
     let more : begun (with_begin events s level) ≡ begun events + 1 = begun-push_start events s level in
     let long : length (old ++ adds.past ∷ []) ≡ length old + 1 = length_push old adds.past in
@@ -154,7 +211,7 @@ begin_rows events sound s last level width old new is small are adds =
         | inr now ↦
             let number : n ≡ begun events + 1 = let c = are.count in let h = now.0 in omega arith in
             let made : IsPastOf (with_begin events s level) width (begun events + 1) adds.past =
-            begin_new events sound s last level width adds.before adds.past is small (are.each last adds.before adds.is) adds.session_is adds.tops in
+            begin_new events sound s last level width adds.before adds.past is small (are.each last adds.before adds.is) adds.session_is adds.level_is adds.tops in
             subst (λ (m : ℕ). IsPastOf (with_begin events s level) width m past) (sym number)
             (subst (λ (q : Past). IsPastOf (with_begin events s level) width (begun events + 1) q) now.1 made)
       ];
@@ -192,6 +249,11 @@ read_old events sound s k x w n u v pending apart width m past other is =
       within = is.within;
       bounded = λ t. let h = is.bounded t in omega arith;
       started = λ positive. let found = is.started positive in (found.0, start_kept events e m past.session found.0 found.1);
+      runs = λ positive. runs_kept events e m past.level (is.runs positive);
+      reads = λ place source cell some r. elim (reads_back events e m place cell source r) [
+        | inl before ↦ is.reads place source cell some before
+        | inr new ↦ absurd (other (pending_unique events sound s m k new.1 pending))
+      ];
       exact = λ t a p start.
           let old = no_begin events s x w n u v a t p start in (
             λ le. past_kept events e a m ((is.exact t a p old).0 le),
@@ -204,7 +266,7 @@ read_old events sound s k x w n u v pending apart width m past other is =
 
 read_new :
     (events : List Event) → IsSound events → (s k : ℕ) (x : Cell) (w n u : ℕ) (v : Value) → IsPending events k s → (w ≡ k → ⊥) → w ≤ begun events → (width : ℕ) (rows : List Past)
-    (own from past : Past) → AreRows events width rows → IsPastOf events width k own → IsPastOf events width w from → TakesIn w from own past →
+    (own from past : Past) → AreRows events width rows → IsPastOf events width k own → IsPastOf events width w from → TakesIn (length events) w from own past →
     IsPastOf (with_read events s x w n u v) width k past
 read_new events sound s k x w n u v pending apart small width rows own from past are is of takes =
     let e : Event = Read s x w n u v in
@@ -224,6 +286,8 @@ read_new events sound s k x w n u v pending apart small width rows own from past
       started = λ positive.
           let found = is.started positive in
           (found.0, start_kept events e k past.session found.0 (subst (λ (t : ℕ). IsStart events k t found.0) (sym takes.session) found.1));
+      runs = λ positive. runs_kept events e k past.level (subst (λ (l : Level). RunsAt events k l) (sym takes.level) (is.runs positive));
+      reads = subst (λ (rs : List (ℕ × ℕ)). HoldsReads (with_read events s x w n u v) k rs) (sym takes.reads) (reads_more events s k x w n u v own.reads.items is.reads);
       exact = λ t a p start.
           let old = no_begin events s x w n u v a t p start in
           let less : t < length own.tops.items = let h = session_within events width rows are a t p old in omega arith in
@@ -265,7 +329,7 @@ read_new events sound s k x w n u v pending apart small width rows own from past
 
 pub read_rows :
     (events : List Event) → IsSound events → (s k : ℕ) (x : Cell) (w n u : ℕ) (v : Value) → IsPending events k s → (w ≡ k → ⊥) → w ≤ begun events → (width : ℕ) (old new : List Past) →
-    AreRows events width old → TakesFrom k w old new → AreRows (with_read events s x w n u v) width new
+    AreRows events width old → TakesFrom (length events) k w old new → AreRows (with_read events s x w n u v) width new
 read_rows events sound s k x w n u v pending apart small width old new are takes =
     let same : begun (with_read events s x w n u v) ≡ begun events = begun-push_other events (Read s x w n u v) refl in
     let c = takes.changes in
@@ -280,3 +344,31 @@ read_rows events sound s k x w n u v pending apart small width old new are takes
         | inr other ↦ read_old events sound s k x w n u v pending apart width m past other.0 (are.each m past other.1)
       ];
     }
+
+-- ---- no event
+
+pub rows_none : (width : ℕ) (past : Past) → 0 < width → past.tops.items ≡ replicate {A = ℕ} width 0 → past.session ≡ 0 → AreRows [] width (past ∷ [])
+rows_none width past some tops session = record {
+  count = refl;
+  each = λ number row at. subst (λ (p : Past). IsPastOf [] width number p) (one number row at) record {
+    count = count;
+    within = omega arith;
+    bounded = λ s. elim (cases_lt s width) [
+      | inl less ↦ let zero : get_or past.tops.items s 0 ≡ 0 = ap (λ (xs : List ℕ). get_or xs s 0) tops ∙ get_or-replicate width s 0 0 less in omega arith
+      | inr beyond ↦ let zero : get_or past.tops.items s 0 ≡ 0 = get_or_past past.tops.items s 0 (let long = count in omega arith) in omega arith
+    ];
+    started = λ positive. absurd (first number row at positive);
+    runs = λ positive. absurd (first number row at positive);
+    reads = λ place source cell more r. let none = r.of_reader.is in cc;
+    exact = λ s a p start. let none = start.is in cc;
+  };
+}
+  where
+    count : length past.tops.items ≡ width
+    count = ap length tops ∙ length-replicate width 0
+
+    one : (n : ℕ) (row : Past) → slice_get (past ∷ []) n ≡ Some row → past ≡ row
+    one n row at = elim (slice_get_push_cases [] past n row at) [ inl old ↦ let far = old.0 in absurd (omega arith) | inr new ↦ new.1 ]
+
+    first : (n : ℕ) (row : Past) → slice_get (past ∷ []) n ≡ Some row → 0 < n → ⊥
+    first n row at positive = elim (slice_get_push_cases [] past n row at) [ inl old ↦ let far = old.0 in omega arith | inr new ↦ let here = new.0 in omega arith ]

@@ -13,7 +13,7 @@ use Rattle.cell_base.specs.declared.value.Value.{Value}
 use Rattle.history_core.specs.declared.event.Event.{Event}
 use Rattle.history_core.specs.declared.event.Event.TheVariants.{Read}
 use Rattle.history_core.specs.Events.{begun}
-use Rattle.history_core.specs.Relations.{Writes, PrecedesCausally}
+use Rattle.history_core.specs.Relations.{Writes}
 use Rattle.indexed_history.proofs.Ascending.{increasing_less, get_contained}
 use Rattle.cell_writers.specs.declared.writers.CellWriters.{CellWriters}
 use Rattle.cell_writers.specs.Writers.{AreWriters, numbers_at}
@@ -170,33 +170,34 @@ no_further_before places numbers highest start limit from at reach within above 
       | inr not_before ↦ let h = above place.0 (omega arith) inside in absurd (omega arith)
     ]
 
--- ---- how far those in a causal past reach
+-- ---- how far those that a read sees reach
 
 -- those from a place on are met
-abbrev pub AreMetFrom : List Event → List ℕ → ℕ → List ℕ → ℕ → ℕ → ℕ → Type 0
-AreMetFrom events places reader numbers limit place n =
-    (k : ℕ) → n ≤ k → k < length numbers → get_or numbers k 0 ≤ limit → IsPlaceMet events places reader place (get_or numbers k 0)
+abbrev pub AreMetFrom : List Event → List ℕ → ℕ → ℕ → List ℕ → ℕ → ℕ → ℕ → Type 0
+AreMetFrom events places reader at numbers limit place n =
+    (k : ℕ) → n ≤ k → k < length numbers → get_or numbers k 0 ≤ limit → IsPlaceMet events places reader at place (get_or numbers k 0)
 
 pub met_none :
-    (events : List Event) (places : List ℕ) (reader : ℕ) (numbers : List ℕ) (limit place n : ℕ) → IsCountTo numbers limit n → AreMetFrom events places reader numbers limit place n
-met_none events places reader numbers limit place n count k over below up causal = let h = count.above k over below in absurd (omega arith)
+    (events : List Event) (places : List ℕ) (reader at : ℕ) (numbers : List ℕ) (limit place n : ℕ) → IsCountTo numbers limit n →
+    AreMetFrom events places reader at numbers limit place n
+met_none events places reader at numbers limit place n count k over below up some seen = let h = count.above k over below in absurd (omega arith)
 
 pub met_step :
-    (events : List Event) (places : List ℕ) (reader : ℕ) (numbers : List ℕ) (limit place n m : ℕ) → m + 1 ≡ n → IsPlaceMet events places reader place (get_or numbers m 0) →
-    AreMetFrom events places reader numbers limit place n → AreMetFrom events places reader numbers limit place m
-met_step events places reader numbers limit place n m one here after k over below up causal = elim (cases_lt m k) [
-  | inl above ↦ after k (omega arith) below up causal
+    (events : List Event) (places : List ℕ) (reader at : ℕ) (numbers : List ℕ) (limit place n m : ℕ) → m + 1 ≡ n → IsPlaceMet events places reader at place (get_or numbers m 0) →
+    AreMetFrom events places reader at numbers limit place n → AreMetFrom events places reader at numbers limit place m
+met_step events places reader at numbers limit place n m one here after k over below up = elim (cases_lt m k) [
+  | inl above ↦ after k (omega arith) below up
   | inr last ↦
       let same : k ≡ m = omega arith in
-      let value : get_or numbers k 0 ≡ get_or numbers m 0 = ap (λ (i : ℕ). get_or numbers i 0) same in
-      subst (λ (number : ℕ). get_or places number 0 ≤ place) (sym value) (here (subst (λ (number : ℕ). PrecedesCausally events number reader) value causal))
+      subst (λ (number : ℕ). IsPlaceMet events places reader at place number) (sym (ap (λ (i : ℕ). get_or numbers i 0) same)) here
 ]
 
 -- those before the place reach no further
 pub met_reach :
-    (events : List Event) (places : List ℕ) (reader : ℕ) (numbers highest : List ℕ) (start limit from n m : ℕ) → IsReach places numbers highest start → m + 1 ≡ n → n ≤ length numbers →
-    get_or highest (start + m) 0 ≤ get_or places from 0 → AreMetFrom events places reader numbers limit (get_or places from 0) n → AreMet events places reader numbers limit from
-met_reach events places reader numbers highest start limit from n m reach one inside up after number there less causal =
+    (events : List Event) (places : List ℕ) (reader at : ℕ) (numbers highest : List ℕ) (start limit from n m : ℕ) → IsReach places numbers highest start → m + 1 ≡ n →
+    n ≤ length numbers → get_or highest (start + m) 0 ≤ get_or places from 0 → AreMetFrom events places reader at numbers limit (get_or places from 0) n →
+    AreMet events places reader at numbers limit from
+met_reach events places reader at numbers highest start limit from n m reach one inside up after number there less some seen =
     let place = get_contained numbers number there in
     let within = place.1 in
     let value = place.2 in
@@ -205,22 +206,19 @@ met_reach events places reader numbers highest start limit from n m reach one in
       | inl before ↦
           let h : get_or places (get_or numbers place.0 0) 0 ≤ get_or highest (start + m) 0 = reach.reach place.0 m (omega arith) (omega arith) in omega arith
       | inr not_before ↦
-          let h : get_or places (get_or numbers place.0 0) 0 ≤ get_or places from 0 =
-          after place.0 (omega arith) within (omega arith) (subst (λ (i : ℕ). PrecedesCausally events i reader) (sym value) causal)
-          in omega arith
+          let met : IsPlaceMet events places reader at (get_or places from 0) number =
+          subst (λ (i : ℕ). IsPlaceMet events places reader at (get_or places from 0) i) value (after place.0 (omega arith) within (omega arith))
+          in met some seen
     ]
 
 pub met_whole :
-    (events : List Event) (places : List ℕ) (reader : ℕ) (numbers : List ℕ) (limit from n : ℕ) → n ≡ 0 → AreMetFrom events places reader numbers limit (get_or places from 0) n →
-    AreMet events places reader numbers limit from
-met_whole events places reader numbers limit from n none after number there less causal =
+    (events : List Event) (places : List ℕ) (reader at : ℕ) (numbers : List ℕ) (limit from n : ℕ) → n ≡ 0 → AreMetFrom events places reader at numbers limit (get_or places from 0) n →
+    AreMet events places reader at numbers limit from
+met_whole events places reader at numbers limit from n none after number there less =
     let place = get_contained numbers number there in
     let within = place.1 in
     let value = place.2 in
-    let named : get_or places (get_or numbers place.0 0) 0 ≡ get_or places number 0 = ap (λ (i : ℕ). get_or places i 0) value in
-    let h : get_or places (get_or numbers place.0 0) 0 ≤ get_or places from 0 =
-    after place.0 (omega arith) within (omega arith) (subst (λ (i : ℕ). PrecedesCausally events i reader) (sym value) causal)
-    in omega arith
+    subst (λ (i : ℕ). IsPlaceMet events places reader at (get_or places from 0) i) value (after place.0 (omega arith) within (omega arith))
 
 -- where two that the order holds have one place they are the same
 one_place : (size : ℕ) (order : List ℕ) → HoldsAll size order → (a b : ℕ) → a < size → b < size → place_of order a ≡ place_of order b → a ≡ b
@@ -234,7 +232,7 @@ one_place size order holds a b small_a small_b same =
 pub reached_clear :
     (events : List Event) (order places : List ℕ) → HoldsTransactions events order → ArePlaces (begun events + 1) order places → (writers : CellWriters) → AreWriters events writers →
     (s : ℕ) (cell : Cell) (from count word : ℕ) (value : Value) (place reader : ℕ) → IsReadAt events place (Read s cell from count word value) reader → (limit : ℕ) →
-    IsLimitOf events reader limit → AreMet events places reader (numbers_at writers cell) limit from → HasNoRival events order place (Read s cell from count word value) reader
+    IsLimitOf events reader limit → AreMet events places reader place (numbers_at writers cell) limit from → HasNoRival events order place (Read s cell from count word value) reader
 reached_clear events order places holds are writers wrote s cell from count word value place reader read limit is_limit stand other rival =
     let bounds = rival_bounds events order place (Read s cell from count word value) reader other holds read rival in
     let low = bounds.0 in
@@ -243,7 +241,7 @@ reached_clear events order places holds are writers wrote s cell from count word
     let causal = visible_is_causal events reader place other unmet.visible.level unmet.visible.sees in
     let same_cell = read_cell events order s cell from count word value place reader other rival.0 read unmet in
     let writes : Writes events other cell = subst (λ (c : Cell). Writes events other c) (sym same_cell) unmet.writes in
-    let stands : get_or places other 0 ≤ get_or places from 0 = stand other ((wrote.exact cell other).1 (low, writes)) (is_limit other causal) causal in
+    let stands : get_or places other 0 ≤ get_or places from 0 = stand other ((wrote.exact cell other).1 (low, writes)) (is_limit other causal) low unmet.visible in
     let first : get_or places other 0 ≡ place_of order other = are.each other (omega arith) in
     let from_in = read.from in
     let second : get_or places from 0 ≡ place_of order from = are.each from (omega arith) in

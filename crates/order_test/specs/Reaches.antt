@@ -3,7 +3,7 @@ use Rattle.std.specs.Prelude.{◌≡◌, ◌<◌, ◌≤◌, ◌+◌, ℕ, Some,
 use Rattle.cell_base.specs.declared.cell.Cell.{Cell}
 use Rattle.history_core.specs.declared.event.Event.{Event}
 use Rattle.history_core.specs.Events.{begun}
-use Rattle.history_core.specs.Relations.{PrecedesCausally}
+use Rattle.history_core.specs.Relations.{IsVisible}
 use Rattle.cell_writers.specs.declared.writers.CellWriters.{CellWriters}
 use Rattle.cell_writers.specs.Writers.{AreWriters}
 use Rattle.order_test.specs.declared.glance.Glance.{Glance}
@@ -42,14 +42,14 @@ abbrev pub StandNoFurther : List ℕ → List ℕ → ℕ → ℕ → Type 0
 StandNoFurther places numbers limit from =
     (number : ℕ) → Contains numbers number → number ≤ limit → slice_index places number ≤ slice_index places from
 
--- the number's place isn't after this one, where the reader has it in its causal past
-abbrev pub IsPlaceMet : List Event → List ℕ → ℕ → ℕ → ℕ → Type 0
-IsPlaceMet events places reader place number = PrecedesCausally events number reader → slice_index places number ≤ place
+-- the number's place isn't after this one, where the read of the reader sees it
+abbrev pub IsPlaceMet : List Event → List ℕ → ℕ → ℕ → ℕ → ℕ → Type 0
+IsPlaceMet events places reader at place number = 0 < number → IsVisible events reader at number → slice_index places number ≤ place
 
 -- so it is with the numbers up to the limit and the place of the source
-abbrev pub AreMet : List Event → List ℕ → ℕ → List ℕ → ℕ → ℕ → Type 0
-AreMet events places reader numbers limit from =
-    (number : ℕ) → Contains numbers number → number ≤ limit → IsPlaceMet events places reader (slice_index places from) number
+abbrev pub AreMet : List Event → List ℕ → ℕ → ℕ → List ℕ → ℕ → ℕ → Type 0
+AreMet events places reader at numbers limit from =
+    (number : ℕ) → Contains numbers number → number ≤ limit → IsPlaceMet events places reader at (slice_index places from) number
 
 -- so many of the numbers are up to the limit, and they come first
 pub record IsCountTo (numbers : List ℕ) (limit count : ℕ) : Type 0 where

@@ -1,8 +1,8 @@
-// Whether the causal past of a reader has a late writer of its cell, found among the few writers that stand after the source.
-ghost use Rattle.std.specs.Prelude.{◌≡◌, ◌≤◌, ◌<◌, ◌+◌, IsTrue, length};
+// Whether a read sees a late writer of its cell, found among the few writers that stand after the source.
+ghost use Rattle.std.specs.Prelude.{◌≡◌, ◌≤◌, ◌<◌, ◌↔◌, IsTrue, Any};
 ghost use Rattle.std.specs.List.Sorted.{IsStrictlyIncreasing};
 ghost use Rattle.history_core.specs.Events.{begun};
-ghost use Rattle.history_core.specs.Relations.{PrecedesCausally};
+ghost use Rattle.history_core.specs.Relations.{IsSessionOrdered, Precedes, PrecedesCausally, ReadsBefore, IsVisible};
 ghost use Rattle.cell_writers.specs.Writers.{AreAscending, numbers_at};
 ghost use Rattle.order_test.specs.Pasts.{ArePasts};
 ghost use Rattle.order_test.specs.Sights.{IsReadAt};
@@ -14,37 +14,136 @@ use crate::pasts::Pasts;
 use crate::places::{Places, place_at};
 use crate::reaches::CellReaches;
 use crate::sight::{past_of, top_of};
-use cell_base::Cell;
+use cell_base::{Cell, Level};
 use cell_writers::CellWriters;
 use history_core::Event;
 
-/// Whether the transaction may be in the causal past of the reader.
+/// Whether the entry is of a read before the place from the transaction.
+fn is_read_of(entry: &(usize, u32), place: usize, number: u32) -> bool
+    ensures { IsTrue result ↔ ((entry.now.0 < place) × (entry.now.1 ≡ number)) }
+{
+    entry.0 < place && entry.1 == number
+}
+
+/// Whether one of the reads before the place is from the transaction.
+fn has_read_of(reads: &[(usize, u32)], place: usize, number: u32) -> bool
+    ensures { IsTrue result ↔ Any (λ r. (r.0 < place) × (r.1 ≡ number)) reads.now }
+{
+    reads.iter().any(|entry| is_read_of(entry, place, number))
+}
+
+/// Whether the reader has read from the transaction before the place.
+fn has_read_before(
+    events: &[Event],
+    pasts: &Pasts,
+    reader: u32,
+    place: usize,
+    number: u32,
+) -> bool
+    requires pasts { ArePasts events.now pasts.now }
+    requires reader { reader ≤ begun events.now }
+    requires some { 0 < number }
+    ensures { ReadsBefore events.now reader place number → IsTrue result }
+{
+    has_read_of(&past_of(pasts, events, reader).reads, place, number)
+}
+
+/// Whether the transaction comes before the reader in its session.
+fn is_before(events: &[Event], pasts: &Pasts, reader: u32, number: u32) -> bool
+    requires pasts { ArePasts events.now pasts.now }
+    requires reader { reader ≤ begun events.now }
+    requires number { number ≤ begun events.now }
+    requires some { 0 < number }
+    ensures { IsSessionOrdered events.now number reader → IsTrue result }
+{
+    let session = past_of(pasts, events, number).session;
+    let own = past_of(pasts, events, reader).session;
+    number < reader && session == own
+}
+
+/// Whether the transaction precedes the reader, by session order or by the write-read relation.
+fn is_direct(events: &[Event], pasts: &Pasts, reader: u32, number: u32) -> bool
+    requires pasts { ArePasts events.now pasts.now }
+    requires reader { reader ≤ begun events.now }
+    requires number { number ≤ begun events.now }
+    requires some { 0 < number }
+    ensures { Precedes events.now number reader → IsTrue result }
+{
+    if is_before(events, pasts, reader, number) {
+        return true;
+    }
+    has_read_before(events, pasts, reader, events.len(), number)
+}
+
+/// Whether the transaction is in the causal past of the reader.
 fn is_in_past(events: &[Event], pasts: &Pasts, reader: u32, number: u32) -> bool
     requires pasts { ArePasts events.now pasts.now }
     requires reader { reader ≤ begun events.now }
+    requires number { number ≤ begun events.now }
+    requires some { 0 < number }
     ensures { PrecedesCausally events.now number reader → IsTrue result }
 {
-    if number as usize >= pasts.rows.len() {
-        return true;
-    }
     let session = past_of(pasts, events, number).session;
     top_of(past_of(pasts, events, reader), session as usize) >= number
 }
 
-/// Whether the transaction stands no further than the place, or isn't in the causal past of the reader.
+/// Whether the read of the reader at the place sees the transaction, at the level of the reader.
+fn is_seen(
+    events: &[Event],
+    pasts: &Pasts,
+    reader: u32,
+    place: usize,
+    number: u32,
+) -> bool
+    requires pasts { ArePasts events.now pasts.now }
+    requires reader { reader ≤ begun events.now }
+    requires number { number ≤ begun events.now }
+    requires some { 0 < number }
+    ensures { IsVisible events.now reader place number → IsTrue result }
+{
+    match past_of(pasts, events, reader).level {
+        Level::Rc => has_read_before(events, pasts, reader, place, number),
+        Level::Ra => is_direct(events, pasts, reader, number),
+        Level::Cc => is_in_past(events, pasts, reader, number),
+    }
+}
+
+/// The same of any number, which may be that of no transaction after the initial one.
+fn may_be_seen(
+    events: &[Event],
+    pasts: &Pasts,
+    reader: u32,
+    place: usize,
+    number: u32,
+) -> bool
+    requires pasts { ArePasts events.now pasts.now }
+    requires reader { reader ≤ begun events.now }
+    ensures { IsVisible events.now reader place number → IsTrue result }
+{
+    if number == 0 {
+        return true;
+    }
+    if number as usize >= pasts.rows.len() {
+        return true;
+    }
+    is_seen(events, pasts, reader, place, number)
+}
+
+/// Whether the transaction stands no further than the limit, or isn't seen by the read of the reader at the place.
 fn is_met_by(
     events: &[Event],
     pasts: &Pasts,
     places: &Places,
     reader: u32,
-    number: u32,
     place: usize,
+    number: u32,
+    limit: usize,
 ) -> bool
     requires pasts { ArePasts events.now pasts.now }
     requires reader { reader ≤ begun events.now }
-    ensures { IsTrue result → IsPlaceMet events.now places.now.at.items reader place number }
+    ensures { IsTrue result → IsPlaceMet events.now places.now.at.items reader place limit number }
 {
-    place_at(places, number) <= place || !is_in_past(events, pasts, reader, number)
+    place_at(places, number) <= limit || !may_be_seen(events, pasts, reader, place, number)
 }
 
 /// How many of the numbers are up to the limit.
@@ -58,7 +157,7 @@ fn count_to(numbers: &[u32], limit: u32) -> usize
     }
 }
 
-/// Whether none of the numbers up to the limit that are in the causal past of the reader stands after the source. They are gone through from the
+/// Whether none of the numbers up to the limit that the read of the reader at the place sees stands after the source. They are gone through from the
 /// last one on, as long as one before stands after it.
 fn numbers_are_met(
     events: &[Event],
@@ -68,6 +167,7 @@ fn numbers_are_met(
     highest: &[usize],
     start: usize,
     reader: u32,
+    place: usize,
     limit: u32,
     from: u32,
 ) -> bool
@@ -75,15 +175,23 @@ fn numbers_are_met(
     requires reader { reader ≤ begun events.now }
     requires ascending { IsStrictlyIncreasing numbers.now }
     requires reach { IsReach places.now.at.items numbers.now highest.now start }
-    ensures { IsTrue result → AreMet events.now places.now.at.items reader numbers.now limit from }
+    ensures { IsTrue result → AreMet events.now places.now.at.items reader place numbers.now limit from }
 {
-    let place = place_at(places, from);
+    let top = place_at(places, from);
     let mut left = count_to(numbers, limit);
     while left > 0 {
-        if highest[start + (left - 1)] <= place {
+        if highest[start + (left - 1)] <= top {
             return true;
         }
-        if !is_met_by(events, pasts, places, reader, numbers[left - 1], place) {
+        if !is_met_by(
+            events,
+            pasts,
+            places,
+            reader,
+            place,
+            numbers[left - 1],
+            top,
+        ) {
             return false;
         }
         left -= 1;
@@ -100,6 +208,7 @@ fn cell_is_met(
     reaches: &CellReaches,
     cell: &Cell,
     reader: u32,
+    place: usize,
     limit: u32,
     from: u32,
 ) -> bool
@@ -107,7 +216,7 @@ fn cell_is_met(
     requires reader { reader ≤ begun events.now }
     requires ascending { AreAscending writers.now }
     requires reaches { AreReaches places.now.at.items writers.now reaches.now }
-    ensures { IsTrue result → AreMet events.now places.now.at.items reader (numbers_at writers.now cell.now) limit from }
+    ensures { IsTrue result → AreMet events.now places.now.at.items reader place (numbers_at writers.now cell.now) limit from }
 {
     match writers.lists.get_full(cell) {
         Some((at, _cell, numbers)) => {
@@ -119,6 +228,7 @@ fn cell_is_met(
                 &reaches.highest,
                 reaches.starts[at],
                 reader,
+                place,
                 limit,
                 from,
             )
@@ -127,7 +237,7 @@ fn cell_is_met(
     }
 }
 
-/// Whether none of the committed writers of the cell in the reader's causal past stands after the source.
+/// Whether none of the committed writers of the cell that the read sees stands after the source.
 pub fn is_met(
     events: &[Event],
     order: &[u32],
@@ -149,7 +259,7 @@ pub fn is_met(
         Event::Read { cell, source, .. } => {
             let limit = glance.limits[reader as usize];
             cell_is_met(
-                events, pasts, places, writers, reaches, cell, reader, limit, *source,
+                events, pasts, places, writers, reaches, cell, reader, place, limit, *source,
             )
         }
         _ => false,

@@ -7,7 +7,7 @@ ghost use Rattle.order_test.specs.Settled.{ComesSettled, IsOrderly};
 ghost use Rattle.order_test.specs.Glance.{AreWithin, AreOwners};
 ghost use Rattle.order_test.specs.Pasts.{AreRows, ArePasts, TakesIn, AddsAfter, TakesFrom};
 
-use cell_base::Memory;
+use cell_base::{Level, Memory};
 use history_core::Event;
 use std::alloc::Global;
 use std::mem;
@@ -17,6 +17,10 @@ use std::mem;
 pub struct Past {
     /// The session of the transaction.
     pub session: u32,
+    /// The level of the transaction.
+    pub level: Level,
+    /// Its reads: the place of each and the transaction that it is from.
+    pub reads: Vec<(usize, u32)>,
     /// For each session the last of its transactions that precedes the transaction causally, 0 where none does.
     pub tops: Vec<u32>,
 }
@@ -36,7 +40,12 @@ fn first_rows(alloc: Global, width: usize) -> Result<Vec<Past>, Memory>
 {
     let tops = vec![in alloc; 0; width]?;
     let mut rows = Vec::new(alloc);
-    rows.push(Past { session: 0, tops })?;
+    rows.push(Past {
+        session: 0,
+        level: Level::Cc,
+        reads: Vec::new(alloc),
+        tops,
+    })?;
     Ok(rows)
 }
 
@@ -64,14 +73,16 @@ fn raise(tops: &mut Vec<u32>, place: u32, number: u32)
     }
 }
 
-/// Takes into the past of a transaction the source that it reads from, which has this number, and the past of the source.
-fn take_in(own: &mut Past, source: &Past, number: u32)
+/// Takes into the past of a transaction the source that it reads from at the place, which has this number, and the past of the source.
+fn take_in(own: &mut Past, source: &Past, place: usize, number: u32) -> Result<(), Memory>
     requires count { length source.now.tops.items ≡ length own.old.tops.items }
     requires within { source.now.session < length own.old.tops.items }
-    ensures { TakesIn number source.now own.old own.new }
+    ensures { OnOk result (TakesIn place number source.now own.old own.new) }
 {
+    own.reads.push((place, number))?;
     raise_all(&mut own.tops, &source.tops);
     raise(&mut own.tops, source.session, number);
+    Ok(())
 }
 
 /// Puts the past in the place of another, which it answers.
@@ -87,6 +98,8 @@ fn replace_past(rows: &mut Vec<Past>, at: usize, past: Past) -> Past
 fn empty_past(alloc: Global) -> Past {
     Past {
         session: 0,
+        level: Level::Cc,
+        reads: Vec::new(alloc),
         tops: Vec::new(alloc),
     }
 }
@@ -99,30 +112,48 @@ fn copy_of(alloc: Global, numbers: &[u32]) -> Result<Vec<u32>, Memory>
 }
 
 /// Adds the past of a transaction that begins in the session, after the last one there.
-fn begin_row(alloc: Global, rows: &mut Vec<Past>, last: u32, session: u32) -> Result<(), Memory>
+fn begin_row(
+    alloc: Global,
+    rows: &mut Vec<Past>,
+    last: u32,
+    session: u32,
+    level: Level,
+) -> Result<(), Memory>
     requires last { last < length rows.old.items }
     requires within { (past : PastOf) → slice_get rows.old.items last ≡ Some past → session < length past.tops.items }
-    ensures { OnOk result (AddsAfter last session rows.old.items rows.new.items) }
+    ensures { OnOk result (AddsAfter last session level rows.old.items rows.new.items) }
 {
     let before = &rows[last as usize];
     let mut tops = copy_of(alloc, &before.tops)?;
     tops[session as usize] = last;
-    rows.push(Past { session, tops })?;
+    rows.push(Past {
+        session,
+        level,
+        reads: Vec::new(alloc),
+        tops,
+    })?;
     Ok(())
 }
 
-/// Adds to the past of the reader the source and its past.
-fn read_row(alloc: Global, rows: &mut Vec<Past>, reader: u32, source: u32)
+/// Adds to the past of the reader the source that it reads from at the place, and its past.
+fn read_row(
+    alloc: Global,
+    rows: &mut Vec<Past>,
+    place: usize,
+    reader: u32,
+    source: u32,
+) -> Result<(), Memory>
     requires reader { reader < length rows.old.items }
     requires source { source < length rows.old.items }
     requires apart { source ≢ reader }
     requires one { (own from : PastOf) → slice_get rows.old.items reader ≡ Some own → slice_get rows.old.items source ≡ Some from → length from.tops.items ≡ length own.tops.items }
     requires within { (from : PastOf) → slice_get rows.old.items source ≡ Some from → from.session < length from.tops.items }
-    ensures { TakesFrom reader source rows.old.items rows.new.items }
+    ensures { OnOk result (TakesFrom place reader source rows.old.items rows.new.items) }
 {
     let mut own = replace_past(rows, reader as usize, empty_past(alloc));
-    take_in(&mut own, &rows[source as usize], source);
+    take_in(&mut own, &rows[source as usize], place, source)?;
     let _empty = replace_past(rows, reader as usize, own);
+    Ok(())
 }
 
 /// Notes of the event what it changes in the pasts. `last` is the last transaction of its session.
@@ -141,11 +172,8 @@ fn note_row(
     ensures { OnOk result (AreRows (before.now ++ event.now ∷ []) width rows.new.items) }
 {
     match event {
-        Event::Begin { session, .. } => begin_row(alloc, rows, last, *session),
-        Event::Read { source, .. } => {
-            read_row(alloc, rows, last, *source);
-            Ok(())
-        }
+        Event::Begin { session, level } => begin_row(alloc, rows, last, *session, *level),
+        Event::Read { source, .. } => read_row(alloc, rows, before.len(), last, *source),
         Event::Open { .. } => Ok(()),
         Event::Close { .. } => Ok(()),
         Event::Define { .. } => Ok(()),

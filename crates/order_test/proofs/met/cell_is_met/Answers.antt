@@ -19,4 +19,4 @@ numbers_are_met-requires-clause-reach c =
 pub returns-in-Some : goal.returns-in-Some
 returns-in-Some c = λ h.
     let same : numbers_at c.args.writers.now c.args.cell.now ≡ c.as_slice.result.now = ap some_numbers (sym c.in-Some.ensures.value) ∙ sym c.as_slice.ensures in
-    subst (λ (ns : List ℕ). AreMet c.args.events.now c.args.places.now.at.items c.args.reader ns c.args.limit c.args.from) (sym same) (c.numbers_are_met.ensures h)
+    subst (λ (ns : List ℕ). AreMet c.args.events.now c.args.places.now.at.items c.args.reader c.args.place ns c.args.limit c.args.from) (sym same) (c.numbers_are_met.ensures h)

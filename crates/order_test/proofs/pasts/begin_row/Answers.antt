@@ -10,5 +10,7 @@ returns c =
       past = _;
       adds = c.in_ok-push.ensures.items;
       session_is = refl;
+      level_is = refl;
+      nothing_read = c.new.ensures.items;
       tops = ap (λ (xs : List ℕ). set xs c.args.session c.args.last) (c.in_ok-tops.ensures ∙ c.deref.ensures.value);
     }

@@ -1,4 +1,4 @@
-use Rattle.std.proofs.Common.{arith}
+use Rattle.std.proofs.Common.{arith, sym, ◌∙◌}
 use Rattle.std.proofs.lemmas.Result.{on_ok_weaker}
 use Rattle.order_test.proofs.PastSteps.{sound_from, other_rows, begin_rows, read_rows}
 use Rattle.order_test.proofs.Taken.{last_bounded, source_bounded, source_apart}
@@ -34,9 +34,11 @@ returns-in-Read c =
     let sound = sound_from c.args.before.now c.requires.comes.settled in
     let source = rw c.in-Read.is at c.requires.comes.source in
     let pending = owner_pending c.args.before.now sound c.in-Read.session c.args.last (rw c.in-Read.is at c.requires.comes.reader) (rw c.in-Read.is at c.requires.last) in
-    rw c.in-Read.is (read_rows c.args.before.now sound c.in-Read.session c.args.last c.in-Read.cell c.in-Read.source c.in-Read.count c.in-Read.word c.in-Read.value pending
+    on_ok_weaker c.read_row.result
+    (λ takes. rw c.in-Read.is (read_rows c.args.before.now sound c.in-Read.session c.args.last c.in-Read.cell c.in-Read.source c.in-Read.count c.in-Read.word c.in-Read.value pending
     (source_apart c.args.before.now c.args.last c.in-Read.session c.in-Read.source pending source)
-    (source_bounded c.args.before.now c.in-Read.source source) c.args.width c.args.rows.now.items c.read_row.new.rows.items c.requires.rows c.read_row.ensures)
+    (source_bounded c.args.before.now c.in-Read.source source) c.args.width c.args.rows.now.items c.read_row.new.rows.items c.requires.rows takes))
+    c.read_row.ensures
 
 pub returns-in-Open : goal.returns-in-Open
 returns-in-Open c = rw c.in-Open.is (other_rows c.args.before.now _ c.args.width c.args.rows.now.items tt c.requires.rows)
@@ -67,3 +69,13 @@ returns-in-Rollback c = rw c.in-Rollback.is (other_rows c.args.before.now _ c.ar
 
 pub returns-in-Show : goal.returns-in-Show
 returns-in-Show c = rw c.in-Show.is (other_rows c.args.before.now _ c.args.width c.args.rows.now.items tt c.requires.rows)
+
+pub begin_row-requires-clause-within : goal.begin_row-requires-clause-within
+begin_row-requires-clause-within c = λ past is.
+    let count = (c.requires.rows.each c.args.last past is).count in let within = (rw c.in-Begin.is at c.requires.within) in omega arith
+
+pub read_row-requires-clause-one : goal.read_row-requires-clause-one
+read_row-requires-clause-one c = λ own from is_own is_from. (c.requires.rows.each c.in-Read.source from is_from).count ∙ sym (c.requires.rows.each c.args.last own is_own).count
+
+pub read_row-requires-clause-within : goal.read_row-requires-clause-within
+read_row-requires-clause-within c = λ from is. let row = c.requires.rows.each c.in-Read.source from is in let count = row.count in let within = row.within in omega arith

@@ -26,6 +26,6 @@ returns c =
         set_to =
             c.replace_past-empty.ensures.now ∙ ap (λ (rows : List Past). set rows c.args.reader c.take_in.new.own) taken
             ∙ set-set c.args.rows.now.items c.args.reader c.empty_past.result c.take_in.new.own;
-        changes = c.take_in.ensures;
+        changes = c.in_ok-take_in.ensures;
       };
     }

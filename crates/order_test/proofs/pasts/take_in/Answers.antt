@@ -6,6 +6,8 @@ pub returns : goal.returns
 returns c =
     record {
       session = refl;
+      level = refl;
+      reads = c.in_ok-push.ensures.items;
       count = c.raise.ensures.count ∙ c.raise_all.ensures.count;
       exact =
           subst (λ (ys : List ℕ). TakesInAt c.args.own.now.tops.items ys c.raise.new.tops.items c.args.source.now.session c.args.number) c.deref.ensures.value

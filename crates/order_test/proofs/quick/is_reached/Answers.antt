@@ -29,7 +29,7 @@ returns-in-Read c = λ h.
     (subst (λ (limit : ℕ). IsLimitOf c.args.events.now c.args.reader limit)
     (value_at c.args.glance.now.limits.items c.args.reader c.index-limit.result.now (omega arith) c.index-limit.ensures)
     (c.requires.survey.glance_is.limits.each c.args.reader high))
-    (λ number there up causal. c.cell_is_clear.ensures h number there up))
+    (λ number there up some seen. c.cell_is_clear.ensures h number there up))
 
 pub index-limit-requires-in-Scan : goal.index-limit-requires-in-Scan
 index-limit-requires-in-Scan c =
