@@ -33,13 +33,7 @@ fn has_read_of(reads: &[(usize, u32)], place: usize, number: u32) -> bool
 }
 
 /// Whether the reader has read from the transaction before the place.
-fn has_read_before(
-    events: &[Event],
-    pasts: &Pasts,
-    reader: u32,
-    place: usize,
-    number: u32,
-) -> bool
+fn has_read_before(events: &[Event], pasts: &Pasts, reader: u32, place: usize, number: u32) -> bool
     requires pasts { ArePasts events.now pasts.now }
     requires reader { reader ≤ begun events.now }
     requires some { 0 < number }
@@ -88,13 +82,7 @@ fn is_in_past(events: &[Event], pasts: &Pasts, reader: u32, number: u32) -> bool
 }
 
 /// Whether the read of the reader at the place sees the transaction, at the level of the reader.
-fn is_seen(
-    events: &[Event],
-    pasts: &Pasts,
-    reader: u32,
-    place: usize,
-    number: u32,
-) -> bool
+fn is_seen(events: &[Event], pasts: &Pasts, reader: u32, place: usize, number: u32) -> bool
     requires pasts { ArePasts events.now pasts.now }
     requires reader { reader ≤ begun events.now }
     requires number { number ≤ begun events.now }
@@ -109,13 +97,7 @@ fn is_seen(
 }
 
 /// The same of any number, which may be that of no transaction after the initial one.
-fn may_be_seen(
-    events: &[Event],
-    pasts: &Pasts,
-    reader: u32,
-    place: usize,
-    number: u32,
-) -> bool
+fn may_be_seen(events: &[Event], pasts: &Pasts, reader: u32, place: usize, number: u32) -> bool
     requires pasts { ArePasts events.now pasts.now }
     requires reader { reader ≤ begun events.now }
     ensures { IsVisible events.now reader place number → IsTrue result }
@@ -183,15 +165,7 @@ fn numbers_are_met(
         if highest[start + (left - 1)] <= top {
             return true;
         }
-        if !is_met_by(
-            events,
-            pasts,
-            places,
-            reader,
-            place,
-            numbers[left - 1],
-            top,
-        ) {
+        if !is_met_by(events, pasts, places, reader, place, numbers[left - 1], top) {
             return false;
         }
         left -= 1;
