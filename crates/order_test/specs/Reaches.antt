@@ -1,11 +1,13 @@
 -- How far the committed writers of each cell reach in the order.
 use Rattle.std.specs.Prelude.{◌≡◌, ◌<◌, ◌≤◌, ◌+◌, ℕ, Some, IsTrue, List, Contains, length, slice_get, slice_index}
 use Rattle.cell_base.specs.declared.cell.Cell.{Cell}
+use Rattle.cell_base.specs.declared.cell.Cell.TheVariants.{Presence}
+use Rattle.cell_base.specs.declared.key.Key.{Key}
 use Rattle.history_core.specs.declared.event.Event.{Event}
 use Rattle.history_core.specs.Events.{begun}
 use Rattle.history_core.specs.Relations.{IsVisible}
 use Rattle.cell_writers.specs.declared.writers.CellWriters.{CellWriters}
-use Rattle.cell_writers.specs.Writers.{AreWriters}
+use Rattle.cell_writers.specs.Writers.{AreWriters, numbers_at}
 use Rattle.order_test.specs.declared.glance.Glance.{Glance}
 use Rattle.order_test.specs.declared.places.Places.{Places}
 use Rattle.order_test.specs.declared.reaches.CellReaches.{CellReaches}
@@ -50,6 +52,20 @@ IsPlaceMet events places reader at place number = 0 < number → IsVisible event
 abbrev pub AreMet : List Event → List ℕ → ℕ → ℕ → List ℕ → ℕ → ℕ → Type 0
 AreMet events places reader at numbers limit from =
     (number : ℕ) → Contains numbers number → number ≤ limit → IsPlaceMet events places reader at (slice_index places from) number
+
+-- the read of the reader sees none of the numbers after the initial one
+abbrev pub AreUnseen : List Event → ℕ → ℕ → List ℕ → Type 0
+AreUnseen events reader at numbers = (number : ℕ) → Contains numbers number → 0 < number → ¬ IsVisible events reader at number
+
+-- the key is listed, or the scan sees none that wrote its presence, where the number is up to the limit
+abbrev pub IsKeyMet : List Event → ℕ → ℕ → CellWriters → ℕ → List Key → ℕ → ℕ → Key → Type 0
+IsKeyMet events reader at writers table keys limit number key =
+    number ≤ limit → (¬ Contains keys key) → AreUnseen events reader at (numbers_at writers (Presence table key))
+
+-- so it is with each of these keys
+abbrev pub AreKeysMet : List Event → ℕ → ℕ → CellWriters → ℕ → List Key → ℕ → List (ℕ × Key) → Type 0
+AreKeysMet events reader at writers table keys limit pairs =
+    (number : ℕ) (key : Key) → Contains pairs (number, key) → IsKeyMet events reader at writers table keys limit number key
 
 -- so many of the numbers are up to the limit, and they come first
 pub record IsCountTo (numbers : List ℕ) (limit count : ℕ) : Type 0 where

@@ -1,5 +1,5 @@
 // Whether a read sees a late writer of its cell, found among the few writers that stand after the source.
-ghost use Rattle.std.specs.Prelude.{◌≡◌, ◌≤◌, ◌<◌, ◌↔◌, IsTrue, Any};
+ghost use Rattle.std.specs.Prelude.{◌≡◌, ◌≤◌, ◌<◌, ◌↔◌, IsTrue, IfOk, Any};
 ghost use Rattle.std.specs.List.Sorted.{IsStrictlyIncreasing};
 ghost use Rattle.history_core.specs.Events.{begun};
 ghost use Rattle.history_core.specs.Relations.{IsSessionOrdered, Precedes, PrecedesCausally, ReadsBefore, IsVisible};
@@ -7,16 +7,20 @@ ghost use Rattle.cell_writers.specs.Writers.{AreAscending, numbers_at};
 ghost use Rattle.order_test.specs.Pasts.{ArePasts};
 ghost use Rattle.order_test.specs.Sights.{IsReadAt};
 ghost use Rattle.order_test.specs.Listed.{HasNoRival};
-ghost use Rattle.order_test.specs.Reaches.{IsReach, AreReaches, IsSurvey, AreMet, IsCountTo, IsPlaceMet};
+ghost use Rattle.order_test.specs.Firsts.{firsts_at};
+ghost use Rattle.order_test.specs.Reaches.{IsReach, AreReaches, IsSurvey, AreMet, IsCountTo, IsPlaceMet, AreUnseen, IsKeyMet, AreKeysMet};
 
+use crate::firsts::TableFirsts;
 use crate::glance::Glance;
 use crate::pasts::Pasts;
 use crate::places::{Places, place_at};
+use crate::presences::is_listed_to;
 use crate::reaches::CellReaches;
 use crate::sight::{past_of, top_of};
-use cell_base::{Cell, Level};
-use cell_writers::CellWriters;
+use cell_base::{Cell, Key, Level, Memory};
+use cell_writers::{CellWriters, writers_at};
 use history_core::Event;
+use std::alloc::Global;
 
 /// Whether the entry is of a read before the place from the transaction.
 fn is_read_of(entry: &(usize, u32), place: usize, number: u32) -> bool
@@ -211,8 +215,110 @@ fn cell_is_met(
     }
 }
 
-/// Whether none of the committed writers of the cell that the read sees stands after the source.
+/// Whether the read of the reader at the place sees none of the numbers.
+fn none_is_seen(events: &[Event], pasts: &Pasts, reader: u32, place: usize, numbers: &[u32]) -> bool
+    requires pasts { ArePasts events.now pasts.now }
+    requires reader { reader ≤ begun events.now }
+    ensures { IsTrue result → AreUnseen events.now reader place numbers.now }
+{
+    for at in 0..numbers.len() {
+        if may_be_seen(events, pasts, reader, place, numbers[at]) {
+            return false;
+        }
+    }
+    true
+}
+
+/// Whether the key of the pair is listed, or the scan of the table sees no transaction that wrote its presence. A number above the limit is that of
+/// none that is seen.
+fn pair_is_met(
+    alloc: Global,
+    events: &[Event],
+    pasts: &Pasts,
+    writers: &CellWriters,
+    table: u32,
+    keys: &[Key],
+    pair: &(u32, Key),
+    reader: u32,
+    place: usize,
+    limit: u32,
+) -> Result<bool, Memory>
+    requires pasts { ArePasts events.now pasts.now }
+    requires reader { reader ≤ begun events.now }
+    ensures { IfOk result (λ met. IsTrue met → IsKeyMet events.now reader place writers.now table keys.now limit pair.now.0 pair.now.1) }
+{
+    if is_listed_to(pair, keys, limit) {
+        return Ok(true);
+    }
+    let cell = Cell::Presence(table, pair.1.copy(alloc)?);
+    Ok(none_is_seen(events, pasts, reader, place, writers_at(writers, &cell)))
+}
+
+/// The same of all pairs.
+fn pairs_are_met(
+    alloc: Global,
+    events: &[Event],
+    pasts: &Pasts,
+    writers: &CellWriters,
+    table: u32,
+    keys: &[Key],
+    pairs: &[(u32, Key)],
+    reader: u32,
+    place: usize,
+    limit: u32,
+) -> Result<bool, Memory>
+    requires pasts { ArePasts events.now pasts.now }
+    requires reader { reader ≤ begun events.now }
+    ensures { IfOk result (λ met. IsTrue met → AreKeysMet events.now reader place writers.now table keys.now limit pairs.now) }
+{
+    for at in 0..pairs.len() {
+        if !pair_is_met(
+            alloc, events, pasts, writers, table, keys, &pairs[at], reader, place, limit,
+        )? {
+            return Ok(false);
+        }
+    }
+    Ok(true)
+}
+
+/// The same of the keys of the table.
+fn table_is_met(
+    alloc: Global,
+    events: &[Event],
+    pasts: &Pasts,
+    writers: &CellWriters,
+    firsts: &TableFirsts,
+    table: u32,
+    keys: &[Key],
+    reader: u32,
+    place: usize,
+    limit: u32,
+) -> Result<bool, Memory>
+    requires pasts { ArePasts events.now pasts.now }
+    requires reader { reader ≤ begun events.now }
+    ensures { IfOk result (λ met. IsTrue met → AreKeysMet events.now reader place writers.now table keys.now limit (firsts_at firsts.now table)) }
+{
+    match firsts.tables.get(&table) {
+        Some(list) => pairs_are_met(
+            alloc,
+            events,
+            pasts,
+            writers,
+            table,
+            keys,
+            list.as_slice(),
+            reader,
+            place,
+            limit,
+        ),
+        None => Ok(true),
+    }
+}
+
+/// Whether none of the committed writers of the cell that the read sees stands after the source, or the scan sees none that wrote the presence of a
+/// key that it doesn't list.
 pub fn is_met(
+    alloc: Global,
     events: &[Event],
     order: &[u32],
     places: &Places,
@@ -223,19 +329,34 @@ pub fn is_met(
     place: usize,
     event: &Event,
     reader: u32,
-) -> bool
+) -> Result<bool, Memory>
     requires survey { IsSurvey events.now order.now places.now writers.now glance.now reaches.now }
     requires pasts { ArePasts events.now pasts.now }
     requires read { IsReadAt events.now place event.now reader }
-    ensures { IsTrue result → HasNoRival events.now order.now place event.now reader }
+    ensures { IfOk result (λ met. IsTrue met → HasNoRival events.now order.now place event.now reader) }
 {
     match event {
         Event::Read { cell, source, .. } => {
             let limit = glance.limits[reader as usize];
-            cell_is_met(
+            Ok(cell_is_met(
                 events, pasts, places, writers, reaches, cell, reader, place, limit, *source,
+            ))
+        }
+        Event::Scan { table, keys, .. } => {
+            let limit = glance.limits[reader as usize];
+            table_is_met(
+                alloc,
+                events,
+                pasts,
+                writers,
+                &reaches.firsts,
+                *table,
+                keys.as_slice(),
+                reader,
+                place,
+                limit,
             )
         }
-        _ => false,
+        _ => Ok(false),
     }
 }

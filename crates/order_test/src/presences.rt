@@ -63,7 +63,7 @@ pub fn firsts_of(alloc: Global, writers: &CellWriters, wanted: bool) -> Result<T
 }
 
 /// Whether the key of the pair is listed, or its number is above the top.
-fn is_listed_to(pair: &(u32, Key), keys: &[Key], top: u32) -> bool
+pub fn is_listed_to(pair: &(u32, Key), keys: &[Key], top: u32) -> bool
     ensures { IsTrue result → pair.now.0 ≤ top → Contains keys.now pair.now.1 }
 {
     pair.0 > top || contains_key(keys, &pair.1)

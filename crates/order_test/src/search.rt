@@ -165,6 +165,7 @@ fn first_unreached(
 
 /// Whether it is clear from what is light and from the causal pasts that the order keeps what the event at the place asks.
 fn event_is_met(
+    alloc: Global,
     events: &[Event],
     order: &[u32],
     places: &Places,
@@ -173,28 +174,29 @@ fn event_is_met(
     reaches: &CellReaches,
     pasts: &Pasts,
     place: usize,
-) -> bool
+) -> Result<bool, Memory>
     requires survey { IsSurvey events.now order.now places.now writers.now glance.now reaches.now }
     requires pasts { ArePasts events.now pasts.now }
     requires orderly { IsOrderly events.now }
     requires within { place < length events.now }
-    ensures { IsTrue result → IsKeptAt events.now order.now place }
+    ensures { IfOk result (λ met. IsTrue met → IsKeptAt events.now order.now place) }
 {
     if event_is_reached(events, order, places, writers, glance, reaches, place) {
-        return true;
+        return Ok(true);
     }
     let event = &events[place];
     if !is_reading(event) {
-        return false;
+        return Ok(false);
     }
     let reader = glance.owners[place];
     read_is_met(
-        events, order, places, writers, glance, reaches, pasts, place, event, reader,
+        alloc, events, order, places, writers, glance, reaches, pasts, place, event, reader,
     )
 }
 
 /// The same of a read or a scan.
 fn read_is_met(
+    alloc: Global,
     events: &[Event],
     order: &[u32],
     places: &Places,
@@ -205,24 +207,25 @@ fn read_is_met(
     place: usize,
     event: &Event,
     reader: u32,
-) -> bool
+) -> Result<bool, Memory>
     requires survey { IsSurvey events.now order.now places.now writers.now glance.now reaches.now }
     requires pasts { ArePasts events.now pasts.now }
     requires orderly { IsOrderly events.now }
     requires read { IsReadAt events.now place event.now reader }
-    ensures { IsTrue result → IsKeptAt events.now order.now place }
+    ensures { IfOk result (λ met. IsTrue met → IsKeptAt events.now order.now place) }
 {
     if !stands_before(places, origin(event), reader) {
-        return false;
+        return Ok(false);
     }
     is_met(
-        events, order, places, writers, glance, reaches, pasts, place, event, reader,
+        alloc, events, order, places, writers, glance, reaches, pasts, place, event, reader,
     )
 }
 
 /// The first event from the start on of which this doesn't show that the order keeps what it asks, or the end. It keeps what those before the
 /// start ask.
 fn first_unmet(
+    alloc: Global,
     events: &[Event],
     order: &[u32],
     places: &Places,
@@ -231,23 +234,23 @@ fn first_unmet(
     reaches: &CellReaches,
     pasts: &Pasts,
     start: usize,
-) -> usize
+) -> Result<usize, Memory>
     requires survey { IsSurvey events.now order.now places.now writers.now glance.now reaches.now }
     requires pasts { ArePasts events.now pasts.now }
     requires orderly { IsOrderly events.now }
     requires within { start ≤ length events.now }
     requires kept { IsKeptBelow events.now order.now start }
-    ensures within { result ≤ length events.now }
-    ensures kept { IsKeptBelow events.now order.now result }
+    ensures within { IfOk result (λ next. next ≤ length events.now) }
+    ensures kept { IfOk result (λ next. IsKeptBelow events.now order.now next) }
 {
     for place in start..events.len() {
         if !event_is_met(
-            events, order, places, writers, glance, reaches, pasts, place,
-        ) {
-            return place;
+            alloc, events, order, places, writers, glance, reaches, pasts, place,
+        )? {
+            return Ok(place);
         }
     }
-    events.len()
+    Ok(events.len())
 }
 
 /// What is found of a read or a scan.
@@ -489,8 +492,8 @@ fn found_by_pasts(
 {
     let pasts = pasts_of(alloc, events, &glance.owners, width)?;
     let next = first_unmet(
-        events, order, places, writers, glance, reaches, &pasts, start,
-    );
+        alloc, events, order, places, writers, glance, reaches, &pasts, start,
+    )?;
     if is_over(events, glance, next) {
         return Ok(None);
     }

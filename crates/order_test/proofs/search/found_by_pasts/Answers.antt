@@ -7,4 +7,4 @@ returns-then-is_over c =
     let over = c.is_over.ensures c.if-is_over.true in
     let end = over.1 in
     meets_from_kept c.args.events.now c.args.order.now c.requires.survey.holds (c.requires.survey.glance_is.keeps over.0)
-    (kept_all c.args.events.now c.args.order.now c.first_unmet-next.result (omega arith) c.first_unmet-next.ensures.kept)
+    (kept_all c.args.events.now c.args.order.now c.in_ok-next.next (omega arith) c.in_ok-next.ensures.kept)
