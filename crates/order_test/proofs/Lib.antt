@@ -10,7 +10,6 @@ pub mod RivalLemmas
 pub mod SearchLemmas
 pub mod UnkeptLaws
 pub mod Prefixed
-pub mod ListedLemmas
 pub mod FirstLemmas
 pub mod QuickLemmas
 pub mod ReachLemmas

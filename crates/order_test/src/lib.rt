@@ -8,7 +8,6 @@
 mod firsts;
 mod glance;
 mod laws;
-mod listed;
 mod met;
 mod pasts;
 mod places;

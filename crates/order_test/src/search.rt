@@ -7,18 +7,15 @@ ghost use Rattle.order_test.specs.Unkept.{HoldsTransactions, KeepsSessions, IsFi
 ghost use Rattle.order_test.specs.Places.{ArePlaces};
 ghost use Rattle.order_test.specs.Pasts.{ArePasts};
 ghost use Rattle.order_test.specs.Sights.{IsScene, IsNumber, IsReadAt, IsReading, IsRival, IsAxiomOf, IsFoundAt, IsFoundAmong, origin_of};
-ghost use Rattle.order_test.specs.Glance.{AreWithin};
+ghost use Rattle.order_test.specs.Glance.{AreWithin, AreOwners};
 ghost use Rattle.order_test.specs.Reaches.{IsSurvey};
-ghost use Rattle.order_test.specs.Listed.{AreTxnsWithin, ListsCommitted};
-ghost use Rattle.order_test.specs.Firsts.{AreIndexes};
 
 use crate::Unkept;
 use crate::glance::{Glance, glance_of, size_of};
-use crate::listed::{Lists, lists_of};
 use crate::met::is_met;
 use crate::pasts::{Pasts, pasts_of};
 use crate::places::{Places, places_of, stands_before};
-use crate::quick::{is_clear, is_reached};
+use crate::quick::is_reached;
 use crate::reaches::{CellReaches, reaches_of};
 use crate::records::txns_of;
 use crate::rivals::{is_reading, origin, rival_cell};
@@ -261,21 +258,12 @@ fn found_of(
     txns: &[Txn],
     places: &Places,
     pasts: &Pasts,
-    writers: &CellWriters,
-    glance: &Glance,
-    reaches: &CellReaches,
-    lists: &Lists,
     place: usize,
     event: &Event,
     reader: u32,
 ) -> Result<Option<Unkept>, Memory>
     requires scene { IsScene events.now order.now txns.now places.now }
     requires pasts { ArePasts events.now pasts.now }
-    requires sessions { KeepsSessions events.now order.now }
-    requires survey { IsSurvey events.now order.now places.now writers.now glance.now reaches.now }
-    requires lists { ListsCommitted txns.now (length txns.now) lists.now.writers.items }
-    requires firsts { AreIndexes lists.now.writers.items (length txns.now) lists.now.firsts.items }
-    requires txns_within { AreTxnsWithin (length lists.now.writers.items) txns.now }
     requires orderly { IsOrderly events.now }
     requires read { IsReadAt events.now place event.now reader }
     requires reading { IsReading event.now }
@@ -290,11 +278,6 @@ fn found_of(
             reader,
         }));
     }
-    if is_clear(
-        events, order, txns, places, pasts, writers, glance, reaches, lists, place, event, reader,
-    ) {
-        return Ok(None);
-    }
     match first_rival(events, order, txns, places, pasts, place, event, reader) {
         Some(rival) => {
             let axiom = axiom_of(
@@ -306,7 +289,7 @@ fn found_of(
     }
 }
 
-/// What is found of the event at the place.
+/// What is found of the event at the place. The owners are the last transactions of the sessions of the events.
 fn found_at(
     alloc: Global,
     events: &[Event],
@@ -314,19 +297,12 @@ fn found_at(
     txns: &[Txn],
     places: &Places,
     pasts: &Pasts,
-    writers: &CellWriters,
-    glance: &Glance,
-    reaches: &CellReaches,
-    lists: &Lists,
+    owners: &[u32],
     place: usize,
 ) -> Result<Option<Unkept>, Memory>
     requires scene { IsScene events.now order.now txns.now places.now }
     requires pasts { ArePasts events.now pasts.now }
-    requires sessions { KeepsSessions events.now order.now }
-    requires survey { IsSurvey events.now order.now places.now writers.now glance.now reaches.now }
-    requires lists { ListsCommitted txns.now (length txns.now) lists.now.writers.items }
-    requires firsts { AreIndexes lists.now.writers.items (length txns.now) lists.now.firsts.items }
-    requires txns_within { AreTxnsWithin (length lists.now.writers.items) txns.now }
+    requires owners { AreOwners events.now owners.now }
     requires orderly { IsOrderly events.now }
     requires within { place < length events.now }
     requires few { length events.now < 4294967296 }
@@ -336,10 +312,9 @@ fn found_at(
     if !is_reading(event) {
         return Ok(None);
     }
-    let reader = glance.owners[place];
+    let reader = owners[place];
     found_of(
-        alloc, events, order, txns, places, pasts, writers, glance, reaches, lists, place, event,
-        reader,
+        alloc, events, order, txns, places, pasts, place, event, reader,
     )
 }
 
@@ -351,28 +326,19 @@ fn found_among(
     txns: &[Txn],
     places: &Places,
     pasts: &Pasts,
-    writers: &CellWriters,
-    glance: &Glance,
-    reaches: &CellReaches,
-    lists: &Lists,
+    owners: &[u32],
     start: usize,
 ) -> Result<Option<Unkept>, Memory>
     requires scene { IsScene events.now order.now txns.now places.now }
     requires pasts { ArePasts events.now pasts.now }
-    requires sessions { KeepsSessions events.now order.now }
-    requires survey { IsSurvey events.now order.now places.now writers.now glance.now reaches.now }
-    requires lists { ListsCommitted txns.now (length txns.now) lists.now.writers.items }
-    requires firsts { AreIndexes lists.now.writers.items (length txns.now) lists.now.firsts.items }
-    requires txns_within { AreTxnsWithin (length lists.now.writers.items) txns.now }
+    requires owners { AreOwners events.now owners.now }
     requires orderly { IsOrderly events.now }
     requires kept { IsKeptBelow events.now order.now start }
     requires few { length events.now < 4294967296 }
     ensures { IfOk result (IsFoundAmong events.now order.now) }
 {
     for place in start..events.len() {
-        match found_at(
-            alloc, events, order, txns, places, pasts, writers, glance, reaches, lists, place,
-        )? {
+        match found_at(alloc, events, order, txns, places, pasts, owners, place)? {
             Some(unkept) => return Ok(Some(unkept)),
             None => {}
         }
@@ -399,36 +365,6 @@ fn session_breach(
     first_out_of_session(events, order, txns, places)
 }
 
-/// The first of the events of which the order, which keeps session order, doesn't keep what it asks. It keeps what those before the start ask.
-fn found_after(
-    alloc: Global,
-    events: &[Event],
-    order: &[u32],
-    txns: &[Txn],
-    places: &Places,
-    writers: &CellWriters,
-    glance: &Glance,
-    reaches: &CellReaches,
-    pasts: &Pasts,
-    start: usize,
-    width: usize,
-) -> Result<Option<Unkept>, Memory>
-    requires scene { IsScene events.now order.now txns.now places.now }
-    requires sessions { KeepsSessions events.now order.now }
-    requires survey { IsSurvey events.now order.now places.now writers.now glance.now reaches.now }
-    requires pasts { ArePasts events.now pasts.now }
-    requires orderly { IsOrderly events.now }
-    requires kept { IsKeptBelow events.now order.now start }
-    requires within { AreWithin width events.now }
-    requires few { length events.now < 4294967296 }
-    ensures { IfOk result (IsFoundAmong events.now order.now) }
-{
-    let lists = lists_of(alloc, txns, width)?;
-    found_among(
-        alloc, events, order, txns, places, pasts, writers, glance, reaches, &lists, start,
-    )
-}
-
 /// The first that the order doesn't keep, by the records of the transactions. It keeps what the events before the start ask.
 fn found_by_records(
     alloc: Global,
@@ -440,22 +376,27 @@ fn found_by_records(
     reaches: &CellReaches,
     pasts: &Pasts,
     start: usize,
-    width: usize,
 ) -> Result<Option<Unkept>, Memory>
     requires survey { IsSurvey events.now order.now places.now writers.now glance.now reaches.now }
     requires pasts { ArePasts events.now pasts.now }
     requires orderly { IsOrderly events.now }
     requires owned { AreOwned events.now }
     requires kept { IsKeptBelow events.now order.now start }
-    requires within { AreWithin width events.now }
     requires few { length events.now < 4294967296 }
     ensures { IfOk result (IsFound events.now order.now) }
 {
     let txns = txns_of(alloc, events, &glance.owners)?;
     match session_breach(events, order, &txns, places, glance) {
         Some((earlier, later)) => Ok(Some(Unkept::Session { earlier, later })),
-        None => found_after(
-            alloc, events, order, &txns, places, writers, glance, reaches, pasts, start, width,
+        None => found_among(
+            alloc,
+            events,
+            order,
+            &txns,
+            places,
+            pasts,
+            &glance.owners,
+            start,
         ),
     }
 }
@@ -498,7 +439,7 @@ fn found_by_pasts(
         return Ok(None);
     }
     found_by_records(
-        alloc, events, order, places, writers, glance, reaches, &pasts, next, width,
+        alloc, events, order, places, writers, glance, reaches, &pasts, next,
     )
 }
 

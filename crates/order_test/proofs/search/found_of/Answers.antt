@@ -32,9 +32,3 @@ returns-in-None c =
     kept_is c.args.events.now c.args.order.now c.args.place c.args.event.now c.args.reader c.requires.orderly c.requires.read
     (λ late. false≢true (sym c.if-is_late.false ∙ c.is_late.ensures.1 (subst (λ (n : ℕ). StandsBefore c.args.order.now n c.args.reader → ⊥) (sym c.origin-from.ensures) late)))
     c.in-None.ensures.none
-
-pub returns-then-is_clear : goal.returns-then-is_clear
-returns-then-is_clear c =
-    kept_is c.args.events.now c.args.order.now c.args.place c.args.event.now c.args.reader c.requires.orderly c.requires.read
-    (λ late. false≢true (sym c.if-is_late.false ∙ c.is_late.ensures.1 (subst (λ (n : ℕ). StandsBefore c.args.order.now n c.args.reader → ⊥) (sym c.origin-from.ensures) late)))
-    (c.is_clear.ensures c.if-is_clear.true)
