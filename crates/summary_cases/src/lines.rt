@@ -1,21 +1,30 @@
 // The lines of two histories.
-use crate::calls::{begin, commit, read, roll_back, write};
-use crate::seats::{busy_seat, first_seat, idle_seat, new_seat};
-use cell_base::{Level, Value};
-use history_core::{BookFault, InitialState};
+use crate::handing::without;
+use crate::play::play;
+use crate::steps::Step;
+use crate::steps::Step::{Begin, Commit, Find, Make, Open, OpenFirst, Read, RollBack, Write};
+use cell_base::Level;
+use history_core::BookFault;
 use history_summary::summary;
 use std::alloc::Global;
-use table_samples::{field, presence};
-use valid_writes::Store;
+
+/// The line of a level and a seed, for what sessions do one after another.
+fn line_of(
+    alloc: Global,
+    level: Level,
+    seed: u64,
+    steps: &[(u32, Step)],
+) -> Result<Vec<u8>, BookFault> {
+    let store = play(alloc, level, steps)?;
+    let line = summary(alloc, level, seed, store.history());
+    Ok(without(store, line)?)
+}
 
 /// Nothing has happened, and the seed is the greatest one.
 #[test]
 fn a_history_without_events(rt: HostRuntime) -> Result<(), BookFault> {
-    let alloc = rt.alloc();
-    let store = Store::new(alloc, Level::Cc, InitialState::empty(alloc))?;
-    let line = summary(alloc, Level::Cc, u64::MAX, store.history())?;
     assert_eq!(&rt;
-        line.as_slice(),
+        line_of(rt.alloc(), Level::Cc, u64::MAX, &[])?.as_slice(),
         b"sim cc 18446744073709551615 sessions 0 transactions 0 events 0 reads 0 offered 0 weak 0\n".as_slice()
     );
     Ok(())
@@ -29,79 +38,39 @@ fn a_history_without_events(rt: HostRuntime) -> Result<(), BookFault> {
 /// Transaction 4 of session 1 begins (17) and writes the field (18). Transaction 5 of session 2 begins (19), writes the field (20) and commits
 /// (21), and then 4 commits (22). Transaction 6 of session 2 begins (23), reads the field from 5, a weak read since 4 committed last
 /// (24: 0 1 4 5), then from 4 (25: 4 5), and commits (26).
+const TWO_SESSIONS: [(u32, Step); 25] = [
+    (1, OpenFirst),
+    (1, Begin),
+    (1, Find(0)),
+    (1, Make),
+    (1, Write(10)),
+    (1, Commit),
+    (2, Open),
+    (2, Begin),
+    (2, Read(0)),
+    (2, Read(1)),
+    (2, Write(20)),
+    (2, RollBack),
+    (2, Begin),
+    (2, Read(1)),
+    (2, Commit),
+    (1, Begin),
+    (1, Write(40)),
+    (2, Begin),
+    (2, Write(50)),
+    (2, Commit),
+    (1, Commit),
+    (2, Begin),
+    (2, Read(3)),
+    (2, Read(0)),
+    (2, Commit),
+];
+
 #[test]
 fn a_history_of_two_sessions(rt: HostRuntime) -> Result<(), BookFault> {
-    let alloc = rt.alloc();
-    let store = Store::new(alloc, Level::Rc, InitialState::empty(alloc))?;
-    let store = insert_row(alloc, store)?;
-    let store = read_in_turn(store)?;
-    let store = write_first(store)?;
-    let store = write_between(store)?;
-    let store = commit_last(store)?;
-    let store = read_both(store)?;
-    let line = summary(alloc, Level::Rc, 42, store.history())?;
     assert_eq!(&rt;
-        line.as_slice(),
+        line_of(rt.alloc(), Level::Rc, 42, &TWO_SESSIONS)?.as_slice(),
         b"sim rc 42 sessions 2 transactions 6 events 26 reads 6 offered 13 weak 2\n".as_slice()
     );
     Ok(())
-}
-
-/// Session 1 and transaction 1.
-fn insert_row(alloc: Global, store: Store) -> Result<Store, BookFault> {
-    let mut book = first_seat(alloc, store)?;
-    begin(&mut book)?;
-    read(&mut book, &presence(), 0)?;
-    write(&mut book, presence(), Value::Flag(true))?;
-    write(&mut book, field(), Value::Int(10))?;
-    commit(&mut book);
-    Ok(book.into_store())
-}
-
-/// Session 2, and transactions 2 and 3.
-fn read_in_turn(store: Store) -> Result<Store, BookFault> {
-    let mut book = new_seat(store)?;
-    begin(&mut book)?;
-    read(&mut book, &field(), 0)?;
-    read(&mut book, &field(), 1)?;
-    write(&mut book, field(), Value::Int(20))?;
-    roll_back(&mut book);
-    begin(&mut book)?;
-    read(&mut book, &field(), 1)?;
-    commit(&mut book);
-    Ok(book.into_store())
-}
-
-/// Transaction 4 up to its write.
-fn write_first(store: Store) -> Result<Store, BookFault> {
-    let mut book = idle_seat(store, 1)?;
-    begin(&mut book)?;
-    write(&mut book, field(), Value::Int(40))?;
-    Ok(book.into_store())
-}
-
-/// Transaction 5.
-fn write_between(store: Store) -> Result<Store, BookFault> {
-    let mut book = idle_seat(store, 2)?;
-    begin(&mut book)?;
-    write(&mut book, field(), Value::Int(50))?;
-    commit(&mut book);
-    Ok(book.into_store())
-}
-
-/// The Commit of transaction 4.
-fn commit_last(store: Store) -> Result<Store, BookFault> {
-    let mut book = busy_seat(store, 1)?;
-    commit(&mut book);
-    Ok(book.into_store())
-}
-
-/// Transaction 6.
-fn read_both(store: Store) -> Result<Store, BookFault> {
-    let mut book = idle_seat(store, 2)?;
-    begin(&mut book)?;
-    read(&mut book, &field(), 3)?;
-    read(&mut book, &field(), 0)?;
-    commit(&mut book);
-    Ok(book.into_store())
 }
