@@ -20,6 +20,8 @@ mod drivers;
 #[cfg(test)]
 mod halves;
 #[cfg(test)]
+mod handing;
+#[cfg(test)]
 mod levels;
 #[cfg(test)]
 mod playing;

@@ -1,8 +1,9 @@
 // Halls, step by step, beside what the texts of their interleavings say.
-ghost use Rattle.std.specs.Prelude.{◌≡◌, ◌<◌, ◌≤◌, All, IfOk};
+ghost use Rattle.std.specs.Prelude.{◌≡◌, ◌<◌, ◌≤◌, All, IfOk, length};
 ghost use Rattle.session_hall.specs.declared.client.Client.{Client as Known};
 ghost use Rattle.session_hall.specs.Halls.{IsHall, clients_of};
 
+use crate::handing::without;
 use crate::reading::Interleaving;
 use cell_base::Memory;
 use event_text::event_lines;
@@ -155,22 +156,44 @@ fn other_replies(
     Ok(String::new(alloc))
 }
 
+// What isn't as these events say, of those of the hall's history.
+fn other_events(alloc: Global, hall: &Hall, expected: &str) -> Result<String, AllocError>
+    requires { IsHall hall.now }
+{
+    let found = event_lines(alloc, hall.history().events())?;
+    let other = other_event(alloc, found.as_str(), expected);
+    without(found, other)
+}
+
 // What isn't as the text says, once the clients have gone on in the order of its events: nothing, where all of it is.
+fn played(alloc: Global, hall: &mut Hall, count: u32, row: &Interleaving) -> Result<String, Fail>
+    requires hall { IsHall hall.old }
+    requires count { count ≤ clients_of hall.old }
+{
+    take_turns(hall, count, row.events.as_str())?;
+    let found = other_events(alloc, hall, row.events.as_str())?;
+    if !found.as_str().is_empty() {
+        return Ok(found);
+    }
+    Ok(other_replies(alloc, hall, count, &row.clients)?)
+}
+
+// How many clients there are, as far as that can be told.
+fn count_of(clients: &[Client]) -> u32
+    ensures { result ≤ length clients.now }
+{
+    u32::try_from(clients.len()).unwrap_or(u32::MAX)
+}
+
+// What isn't as the text says, in a hall of its clients.
 fn found_in(alloc: Global, row: &Interleaving, piece: u32) -> Result<String, Fail>
     requires { 0 < piece }
 {
     let clients = clients(alloc, &row.clients, piece)?;
-    let Ok(count) = u32::try_from(clients.len()) else {
-        return Ok(String::from_str(alloc, "too many clients")?);
-    };
+    let count = count_of(clients.as_slice());
     let mut hall = Hall::new(alloc, row.level, clients)?;
-    take_turns(&mut hall, count, row.events.as_str())?;
-    let events = event_lines(alloc, hall.history().events())?;
-    let found = other_event(alloc, events.as_str(), row.events.as_str())?;
-    if !found.as_str().is_empty() {
-        return Ok(found);
-    }
-    Ok(other_replies(alloc, &hall, count, &row.clients)?)
+    let found = played(alloc, &mut hall, count, row);
+    without(hall, found)
 }
 
 /// What isn't as the interleaving's text says, where the streams of its clients come in pieces of this length: nothing, where all of it is.
@@ -180,6 +203,9 @@ pub fn difference(alloc: Global, row: &Interleaving, piece: u32) -> Result<Strin
     let unread = row.unread.as_str();
     if !unread.is_empty() {
         return Ok(format!(in alloc; "unread: {unread}")?);
+    }
+    if u32::try_from(row.clients.len()).is_err() {
+        return Ok(String::from_str(alloc, "too many clients")?);
     }
     found_in(alloc, row, piece)
 }

@@ -1,4 +1,5 @@
 // An interleaving's text, line by line.
+use crate::handing::{after, beside, push_each, push_made, without};
 use crate::setups::setup;
 use cell_base::Level;
 use session_text::{Session, Unread, read_sessions};
@@ -139,17 +140,59 @@ fn push_line(alloc: Global, parts: &mut Parts, line: &str) -> Result<(), Unread>
     }
 }
 
-// The parts of a text. A line that can't be read is kept as such.
+// A line that can't be read is kept as such.
+fn push_any_line(alloc: Global, parts: &mut Parts, line: &str) -> Result<(), Unread> {
+    match push_line(alloc, parts, line) {
+        Ok(()) => Ok(()),
+        Err(Unread::Line) => push_line_of(&mut parts.unread, line),
+        Err(Unread::Memory) => Err(Unread::Memory),
+    }
+}
+
+fn push_lines(alloc: Global, parts: &mut Parts, text: &str) -> Result<(), Unread> {
+    for line in text.lines() {
+        push_any_line(alloc, parts, line)?;
+    }
+    Ok(())
+}
+
+// The parts of a text.
 fn read_parts(alloc: Global, text: &str) -> Result<Parts, Unread> {
     let mut parts = no_parts(alloc);
-    for line in text.lines() {
-        match push_line(alloc, &mut parts, line) {
-            Ok(()) => {}
-            Err(Unread::Line) => push_line_of(&mut parts.unread, line)?,
-            Err(Unread::Memory) => return Err(Unread::Memory),
-        }
+    let read = push_lines(alloc, &mut parts, text);
+    after(parts, read)
+}
+
+// Adds the lines of sessions that couldn't be read.
+fn push_unread(unread: &mut String, sessions: &[Session]) -> Result<(), Unread> {
+    for session in sessions {
+        unread.push_str(session.unread.as_str())?;
     }
-    Ok(parts)
+    Ok(())
+}
+
+// Adds the sessions of the text. A line that can't be read is added to those.
+fn push_client(
+    alloc: Global,
+    text: &str,
+    clients: &mut Vec<Session>,
+    unread: &mut String,
+) -> Result<(), Unread> {
+    let sessions = read_sessions(alloc, text)?;
+    let told = push_unread(unread, &sessions);
+    push_each(clients, after(sessions, told))
+}
+
+fn push_clients(
+    alloc: Global,
+    texts: &[String],
+    clients: &mut Vec<Session>,
+    unread: &mut String,
+) -> Result<(), Unread> {
+    for text in texts {
+        push_client(alloc, text.as_str(), clients, unread)?;
+    }
+    Ok(())
 }
 
 // The sessions of these texts. A line that can't be read is added to those.
@@ -159,39 +202,53 @@ fn read_clients(
     unread: &mut String,
 ) -> Result<Vec<Session>, Unread> {
     let mut clients = Vec::new(alloc);
-    for text in texts {
-        for session in read_sessions(alloc, text.as_str())? {
-            unread.push_str(session.unread.as_str())?;
-            clients.push(session)?;
-        }
-    }
-    Ok(clients)
+    let read = push_clients(alloc, texts, &mut clients, unread);
+    after(clients, read)
+}
+
+// The parts with these clients.
+fn with_clients(parts: Parts, clients: Vec<Session>) -> Interleaving {
+    let Parts {
+        name,
+        level,
+        clients: texts,
+        events,
+        unread,
+    } = parts;
+    without(
+        texts,
+        Interleaving {
+            name,
+            level,
+            clients,
+            events,
+            unread,
+        },
+    )
 }
 
 // The interleaving of a text.
 fn read_interleaving(alloc: Global, text: &str) -> Result<Interleaving, Unread> {
-    let Parts {
-        name,
-        level,
-        clients,
-        events,
-        mut unread,
-    } = read_parts(alloc, text)?;
-    let clients = read_clients(alloc, &clients, &mut unread)?;
-    Ok(Interleaving {
-        name,
-        level,
-        clients,
-        events,
-        unread,
-    })
+    let mut parts = read_parts(alloc, text)?;
+    let clients = read_clients(alloc, &parts.clients, &mut parts.unread);
+    let (parts, clients) = beside(parts, clients)?;
+    Ok(with_clients(parts, clients))
+}
+
+fn push_interleavings(
+    alloc: Global,
+    text: &str,
+    rows: &mut Vec<Interleaving>,
+) -> Result<(), Unread> {
+    for paragraph in text.split("\n\n") {
+        push_made(rows, read_interleaving(alloc, paragraph))?;
+    }
+    Ok(())
 }
 
 /// The interleavings of a text, which are parted by an empty line each. Fails where memory runs out.
 pub fn read_interleavings(alloc: Global, text: &str) -> Result<Vec<Interleaving>, Unread> {
-    let mut out = Vec::new(alloc);
-    for paragraph in text.split("\n\n") {
-        out.push(read_interleaving(alloc, paragraph)?)?;
-    }
-    Ok(out)
+    let mut rows = Vec::new(alloc);
+    let read = push_interleavings(alloc, text, &mut rows);
+    after(rows, read)
 }

@@ -4,6 +4,7 @@ ghost use Rattle.std.specs.Prelude.{◌<◌};
 use crate::causes::causes;
 use crate::drivers::drivers;
 use crate::halves::halves;
+use crate::handing::without;
 use crate::levels::levels;
 use crate::playing::difference;
 use crate::reading::{Interleaving, read_interleavings};
@@ -25,17 +26,23 @@ fn first_difference(alloc: Global, rows: &[Interleaving], piece: u32) -> Result<
     Ok(String::new(alloc))
 }
 
-// What isn't as the interleavings of the text say, in pieces of several lengths; or how many there are, where all is.
-fn outcome(alloc: Global, text: &str) -> Result<String, Fail> {
-    let rows = read_interleavings(alloc, text)?;
+// What isn't as the interleavings say, in pieces of several lengths; or how many there are, where all is.
+fn outcome_of(alloc: Global, rows: &[Interleaving]) -> Result<String, Fail> {
     for piece in [1, 7, 10_000] {
-        let found = first_difference(alloc, &rows, piece)?;
+        let found = first_difference(alloc, rows, piece)?;
         if !found.as_str().is_empty() {
             return Ok(found);
         }
     }
     let count = rows.len();
     Ok(format!(in alloc; "{count} hold")?)
+}
+
+// The same of the interleavings of the text.
+fn outcome(alloc: Global, text: &str) -> Result<String, Fail> {
+    let rows = read_interleavings(alloc, text)?;
+    let found = outcome_of(alloc, rows.as_slice());
+    without(rows, found)
 }
 
 #[test]
