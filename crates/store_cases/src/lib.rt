@@ -10,6 +10,8 @@ mod cases;
 #[cfg(test)]
 mod cells;
 #[cfg(test)]
+mod kept;
+#[cfg(test)]
 mod play;
 #[cfg(test)]
 mod start;

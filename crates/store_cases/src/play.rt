@@ -1,10 +1,14 @@
 // Calls of several sessions in order, each with what it is offered and what it tells.
-ghost use Rattle.history_core.specs.Book.{IsInTransaction, HasTable};
+ghost use Rattle.std.specs.Prelude.{◌≡◌};
+ghost use Rattle.history_core.specs.Events.{table_of};
+ghost use Rattle.history_core.specs.Transactions.{HasPending};
+ghost use Rattle.history_core.specs.Book.{IsIdle, IsInTransaction, HasTable};
 
 use crate::cells::{Spot, are_integers};
+use crate::kept::{kept, let_go};
 use crate::start::stage;
 use crate::stop::Stop;
-use cell_base::Level;
+use cell_base::{Cell, Level, Value};
 use history_core::{Book, BookFault, Event};
 use std::alloc::Global;
 use table_samples::{busy_seat, idle_seat, misplaced_at};
@@ -58,7 +62,7 @@ pub fn hold(alloc: Global, cases: &[Case]) -> Result<(), Stop> {
 /// Plays the case at each of its levels.
 fn hold_one(alloc: Global, case: &Case) -> Result<(), Stop> {
     for level in case.levels {
-        play(alloc, *level, case)?;
+        let_go(play(alloc, *level, case))?;
     }
     Ok(())
 }
@@ -93,25 +97,46 @@ fn play_one(store: Store, session: u32, call: Call) -> Result<Store, Stop> {
 
 fn begin(store: Store, session: u32, level: Level) -> Result<Store, Stop> {
     let mut book = idle_seat(store, session)?;
+    let begun = begin_in(&mut book, level);
+    kept(book.into_store(), begun)
+}
+
+fn begin_in(book: &mut SeatBook, level: Level) -> Result<(), Stop>
+    requires { IsIdle book.old.state }
+{
     book.begin(level)?;
-    Ok(book.into_store())
+    Ok(())
 }
 
 /// Makes a call in the pending transaction.
 fn go_on(store: Store, session: u32, call: Call) -> Result<Store, Stop> {
-    if !is_offered(&store, session, call)? {
-        return Err(unlike(&store));
-    }
-    let mut book = busy_seat(store, session)?;
-    if !act(&mut book, call)? {
-        return Err(unlike(&book.into_store()));
-    }
-    Ok(book.into_store())
+    let offered = be_offered(&store, session, call);
+    answer(kept(store, offered)?, session, call)
 }
 
-/// Something else came than was expected.
-fn unlike(store: &Store) -> Stop {
-    Stop::Unlike(store.history().next_number())
+fn answer(store: Store, session: u32, call: Call) -> Result<Store, Stop> {
+    let mut book = busy_seat(store, session)?;
+    let answered = be_answered(&mut book, call);
+    kept(book.into_store(), answered)
+}
+
+/// Ends the case where a read isn't offered what it says.
+fn be_offered(store: &Store, session: u32, call: Call) -> Result<(), Stop> {
+    if is_offered(store, session, call)? {
+        return Ok(());
+    }
+    Err(Stop::Unlike(store.history().next_number()))
+}
+
+/// Makes the call, and ends the case where it doesn't give what it is to give.
+fn be_answered(book: &mut SeatBook, call: Call) -> Result<(), Stop>
+    requires pending { IsInTransaction book.old.state }
+    requires table { HasTable book.old 0 }
+{
+    if act(book, call)? {
+        return Ok(());
+    }
+    Err(Stop::Unlike(book.history().next_number()))
 }
 
 /// Whether a read is offered what it says; other calls are offered nothing.
@@ -125,9 +150,15 @@ fn is_offered(store: &Store, session: u32, call: Call) -> Result<bool, Stop> {
 /// Whether the pending transaction of the session may read just these writes next.
 fn offers(store: &Store, session: u32, spot: Spot, want: &[u32]) -> Result<bool, Stop> {
     match store.history().pending(session) {
-        Some(_) => Ok(store.offer(session, &spot.cell())?.as_slice() == want),
+        Some(_) => offers_at(store, session, &spot.cell(), want),
         None => Err(Stop::from(misplaced_at(store))),
     }
+}
+
+fn offers_at(store: &Store, session: u32, cell: &Cell, want: &[u32]) -> Result<bool, Stop>
+    requires { HasPending store.now.events session }
+{
+    Ok(store.offer(session, cell)?.as_slice() == want)
 }
 
 /// Makes the call, and tells whether it gave what it is to give.
@@ -136,13 +167,10 @@ fn act(book: &mut SeatBook, call: Call) -> Result<bool, BookFault>
     requires table { HasTable book.old 0 }
 {
     match call {
-        Call::Scan(want) => Ok(are_integers(book.scan(0)?.as_slice(), want)),
+        Call::Scan(want) => scan(book, want),
         Call::Read(spot, offered, word, number) => read(book, spot, offered, word, number),
         Call::Own(spot, number) => own(book, spot, number),
-        Call::Write(spot, number) => {
-            book.write(spot.cell(), spot.written(number))?;
-            Ok(true)
-        }
+        Call::Write(spot, number) => write(book, spot, number),
         Call::Commit => {
             book.commit();
             Ok(true)
@@ -156,6 +184,22 @@ fn act(book: &mut SeatBook, call: Call) -> Result<bool, BookFault>
     }
 }
 
+/// Scans the table. No where other keys are listed.
+fn scan(book: &mut SeatBook, want: &[i64]) -> Result<bool, BookFault>
+    requires pending { IsInTransaction book.old.state }
+    requires table { HasTable book.old 0 }
+{
+    Ok(are_integers(book.scan(0)?.as_slice(), want))
+}
+
+fn write(book: &mut SeatBook, spot: Spot, number: i64) -> Result<bool, BookFault>
+    requires pending { IsInTransaction book.old.state }
+    requires table { HasTable book.old 0 }
+{
+    book.write(spot.cell(), spot.written(number))?;
+    Ok(true)
+}
+
 /// Reads the cell by the word. No where the transaction has written it, or something else is told.
 fn read(
     book: &mut SeatBook,
@@ -167,24 +211,35 @@ fn read(
     requires pending { IsInTransaction book.old.state }
     requires table { HasTable book.old 0 }
 {
-    let cell = spot.cell();
-    if book.wrote(&cell) {
+    let reads = reads(book, &spot.cell(), word, &spot.value(number));
+    Ok(reads? && is_told(book, offered, word))
+}
+
+fn reads(book: &mut SeatBook, cell: &Cell, word: u32, want: &Value) -> Result<bool, BookFault>
+    requires pending { IsInTransaction book.old.state }
+    requires table { HasTable book.old 0 }
+    requires cell { table_of cell.now ≡ 0 }
+{
+    if book.wrote(cell) {
         return Ok(false);
     }
-    let value = book.read(&cell, word)?;
-    Ok(value.is_same(&spot.value(number)) && is_told(book, offered, word))
+    Ok(book.read(cell, word)?.is_same(want))
 }
 
 /// Reads what the transaction has written to the cell. No where it hasn't, or another value is told.
 fn own(book: &mut SeatBook, spot: Spot, number: i64) -> Result<bool, BookFault>
     requires { IsInTransaction book.old.state }
 {
-    let cell = spot.cell();
-    if !book.wrote(&cell) {
+    owns(book, &spot.cell(), &spot.value(number))
+}
+
+fn owns(book: &mut SeatBook, cell: &Cell, want: &Value) -> Result<bool, BookFault>
+    requires { IsInTransaction book.old.state }
+{
+    if !book.wrote(cell) {
         return Ok(false);
     }
-    let value = book.own(&cell)?;
-    Ok(value.is_same(&spot.value(number)))
+    Ok(book.own(cell)?.is_same(want))
 }
 
 /// Whether the last event is a read that takes the one of the offered writes that the word picks.

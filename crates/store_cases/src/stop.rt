@@ -6,7 +6,7 @@ use table_samples::Misplaced;
 use thiserror::Error;
 
 /// Why a run of calls ends early. Numbers are those of the event that would have come next.
-#[derive(Clone, Copy, Debug, PartialEq, Eq, Error)]
+#[derive(Clone, Copy, Debug, Error)]
 pub enum Stop {
     /// Out of memory, or the history is full.
     #[error("no room")]
