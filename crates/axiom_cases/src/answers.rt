@@ -1,4 +1,5 @@
 // What the axiom crates answer over a store's history.
+use crate::handing::without;
 use crate::play::Spot;
 use crate::stop::Stop;
 use cell_base::{Cell, Level};
@@ -8,7 +9,20 @@ use saturation::is_writer;
 use std::alloc::Global;
 
 /// What a further read of the session forces by the level.
-pub fn trial(
+pub fn trial_at(
+    alloc: Global,
+    history: &History,
+    level: Level,
+    session: u32,
+    spot: Spot,
+    source: u32,
+) -> Result<Vec<Edge>, Stop> {
+    let cell = spot.cell();
+    let pairs = trial(alloc, history, level, session, &cell, source);
+    without(cell, pairs)
+}
+
+fn trial(
     alloc: Global,
     history: &History,
     level: Level,
@@ -59,8 +73,9 @@ pub fn forces(
     source: u32,
     want: &[(u32, u32)],
 ) -> Result<bool, Stop> {
-    let pairs = trial(alloc, history, level, session, &spot.cell(), source)?;
-    Ok(are_pairs(pairs.as_slice(), want))
+    let pairs = trial_at(alloc, history, level, session, spot, source)?;
+    let so = are_pairs(pairs.as_slice(), want);
+    Ok(without(pairs, so))
 }
 
 fn are_pairs(pairs: &[Edge], want: &[(u32, u32)]) -> bool {
@@ -80,5 +95,6 @@ pub fn sees(
 ) -> Result<bool, Stop> {
     let place = history.next_number().saturating_sub(1).saturating_sub(back);
     let writers = visible(alloc, history, level, reader, place)?;
-    Ok(writers.as_slice() == want)
+    let so = writers.as_slice() == want;
+    Ok(without(writers, so))
 }

@@ -7,6 +7,8 @@
 #[cfg(test)]
 mod answers;
 #[cfg(test)]
+mod handing;
+#[cfg(test)]
 mod histories;
 #[cfg(test)]
 mod play;

@@ -1,13 +1,15 @@
 // Steps of several sessions, one after another, in one store.
+ghost use Rattle.history_core.specs.Book.{IsIdle, IsInTransaction};
 ghost use Rattle.history_core.specs.Initial.{IsStorable};
 
+use crate::handing::{after, beside, misplaced, without};
 use crate::seats::{busy_seat, has_table, idle_seat, table};
 use crate::stop::Stop;
 use crate::tables::table_of;
 use cell_base::{Cell, Key, Level, Value};
 use history_core::{Book, InitialState};
 use std::alloc::Global;
-use valid_writes::Store;
+use valid_writes::{SeatBook, Store};
 
 /// A cell of one of the tables, each with the key k and the column v: the table's number and the key.
 #[derive(Clone, Copy)]
@@ -36,16 +38,6 @@ impl Spot {
             Spot::Field(_, _) => Value::Int(10),
         }
     }
-}
-
-/// Whether the row of the key is there in the first table.
-pub fn p(key: i64) -> Spot {
-    Spot::Presence(0, key)
-}
-
-/// The column v of the row of the key in the first table.
-pub fn f(key: i64) -> Spot {
-    Spot::Field(0, key)
 }
 
 /// What a session does next.
@@ -78,11 +70,7 @@ pub fn play(alloc: Global, level: Level, steps: &[(u32, Step)]) -> Result<Store,
 pub fn make(store: Store, level: Level, session: u32, step: Step) -> Result<Store, Stop> {
     match step {
         Step::Begin => begin(store, session, level),
-        Step::Scan(table) => scan(store, session, table),
-        Step::Read(spot, source) => read(store, session, spot, source),
-        Step::Write(spot) => write(store, session, spot),
-        Step::Commit => commit(store, session),
-        Step::RollBack => roll_back(store, session),
+        _ => go_on(store, session, step),
     }
 }
 
@@ -112,51 +100,61 @@ fn stage(alloc: Global) -> Result<Store, Stop> {
 
 fn open(store: Store) -> Result<Store, Stop> {
     let mut book = store.seat(None);
-    book.open()?;
-    Ok(book.into_store())
+    let opened = book.open();
+    after(book.into_store(), opened)
 }
 
 fn define(alloc: Global, store: Store, text: &[u8]) -> Result<Store, Stop> {
-    let table = table_of(alloc, text)?;
     let mut book = idle_seat(store, 1)?;
-    book.define(&table)?;
+    let defined = define_in(alloc, &mut book, text);
+    let (book, ()) = beside(book, defined)?;
     Ok(book.into_store())
+}
+
+fn define_in(alloc: Global, book: &mut SeatBook, text: &[u8]) -> Result<(), Stop>
+    requires { IsIdle book.old.state }
+{
+    let table = table_of(alloc, text)?;
+    let answer = book.define(&table);
+    without(table, answer)?;
+    Ok(())
 }
 
 fn begin(store: Store, session: u32, level: Level) -> Result<Store, Stop> {
     let mut book = idle_seat(store, session)?;
-    book.begin(level)?;
-    Ok(book.into_store())
+    let begun = book.begin(level);
+    after(book.into_store(), begun)
 }
 
-fn scan(store: Store, session: u32, table: u32) -> Result<Store, Stop> {
+/// Makes a step in the pending transaction.
+fn go_on(store: Store, session: u32, step: Step) -> Result<Store, Stop> {
+    let word = word_of(&store, session, step);
+    let (store, word) = beside(store, word)?;
     let mut book = busy_seat(store, session)?;
-    if !has_table(&book, table) {
-        return Err(Stop::Misplaced);
-    }
-    book.scan(table)?;
-    Ok(book.into_store())
+    let made = act(&mut book, step, word);
+    let (store, ()) = beside(book.into_store(), made)?;
+    Ok(store)
 }
 
-fn read(store: Store, session: u32, spot: Spot, source: u32) -> Result<Store, Stop> {
-    let cell = spot.cell();
-    let word = word_for(&store, session, &cell, source)?;
-    let mut book = busy_seat(store, session)?;
-    if book.wrote(&cell) {
-        return Err(Stop::Misplaced);
+/// The word that a read's source is picked by, and 0 for another step.
+fn word_of(store: &Store, session: u32, step: Step) -> Result<u32, Stop> {
+    match step {
+        Step::Read(spot, source) => word_for(store, session, spot, source),
+        _ => Ok(0),
     }
-    if !has_table(&book, table(&cell)) {
-        return Err(Stop::Misplaced);
-    }
-    book.read(&cell, word)?;
-    Ok(book.into_store())
 }
 
 /// The word that picks the source.
-fn word_for(store: &Store, session: u32, cell: &Cell, source: u32) -> Result<u32, Stop> {
-    let offer = offer(store, session, cell)?;
+fn word_for(store: &Store, session: u32, spot: Spot, source: u32) -> Result<u32, Stop> {
+    let offer = offer(store, session, &spot.cell())?;
+    let word = place_of(offer.as_slice(), source);
+    without(offer, word)
+}
+
+/// The place of the source in what is offered.
+fn place_of(offer: &[u32], source: u32) -> Result<u32, Stop> {
     let mut word = 0u32;
-    for number in offer.as_slice() {
+    for number in offer {
         if *number == source {
             return Ok(word);
         }
@@ -165,24 +163,64 @@ fn word_for(store: &Store, session: u32, cell: &Cell, source: u32) -> Result<u32
     Err(Stop::Misplaced)
 }
 
-fn write(store: Store, session: u32, spot: Spot) -> Result<Store, Stop> {
-    let cell = spot.cell();
-    let mut book = busy_seat(store, session)?;
-    if !has_table(&book, table(&cell)) {
+/// Makes the step, a read by the word. A transaction can't begin in another one.
+fn act(book: &mut SeatBook, step: Step, word: u32) -> Result<(), Stop>
+    requires { IsInTransaction book.old.state }
+{
+    match step {
+        Step::Begin => Err(Stop::Misplaced),
+        Step::Scan(table) => scan(book, table),
+        Step::Read(spot, _) => read(book, spot, word),
+        Step::Write(spot) => write(book, spot.cell(), spot.value()),
+        Step::Commit => {
+            book.commit();
+            Ok(())
+        }
+        Step::RollBack => {
+            book.rollback();
+            Ok(())
+        }
+    }
+}
+
+fn scan(book: &mut SeatBook, table: u32) -> Result<(), Stop>
+    requires { IsInTransaction book.old.state }
+{
+    if !has_table(book, table) {
         return Err(Stop::Misplaced);
     }
-    book.write(cell, spot.value())?;
-    Ok(book.into_store())
+    book.scan(table)?;
+    Ok(())
 }
 
-fn commit(store: Store, session: u32) -> Result<Store, Stop> {
-    let mut book = busy_seat(store, session)?;
-    book.commit();
-    Ok(book.into_store())
+fn read(book: &mut SeatBook, spot: Spot, word: u32) -> Result<(), Stop>
+    requires { IsInTransaction book.old.state }
+{
+    let cell = spot.cell();
+    let found = read_cell(book, &cell, word);
+    without(cell, found)
 }
 
-fn roll_back(store: Store, session: u32) -> Result<Store, Stop> {
-    let mut book = busy_seat(store, session)?;
-    book.rollback();
-    Ok(book.into_store())
+fn read_cell(book: &mut SeatBook, cell: &Cell, word: u32) -> Result<(), Stop>
+    requires { IsInTransaction book.old.state }
+{
+    if book.wrote(cell) {
+        return Err(Stop::Misplaced);
+    }
+    if !has_table(book, table(cell)) {
+        return Err(Stop::Misplaced);
+    }
+    book.read(cell, word)?;
+    Ok(())
+}
+
+fn write(book: &mut SeatBook, cell: Cell, value: Value) -> Result<(), Stop>
+    requires pending { IsInTransaction book.old.state }
+    requires storable { IsStorable value }
+{
+    if !has_table(book, table(&cell)) {
+        return misplaced((cell, value));
+    }
+    book.write(cell, value)?;
+    Ok(())
 }

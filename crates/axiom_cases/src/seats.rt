@@ -5,6 +5,7 @@ ghost use Rattle.history_core.specs.Events.{table_of};
 ghost use Rattle.history_core.specs.Legal.{IsOpen};
 ghost use Rattle.history_core.specs.Book.{IsIdle, IsInTransaction, HasTable};
 
+use crate::handing::misplaced;
 use crate::stop::Stop;
 use cell_base::Cell;
 use history_core::{Event, History};
@@ -51,10 +52,10 @@ pub fn idle_seat(store: Store, session: u32) -> Result<SeatBook, Stop>
     ensures { IfOk result (λ book. IsIdle book.state) }
 {
     if !is_open(store.history(), session) {
-        return Err(Stop::Misplaced);
+        return misplaced(store);
     }
     match store.history().pending(session) {
-        Some(_) => Err(Stop::Misplaced),
+        Some(_) => misplaced(store),
         None => Ok(store.seat(Some(session))),
     }
 }
@@ -64,11 +65,11 @@ pub fn busy_seat(store: Store, session: u32) -> Result<SeatBook, Stop>
     ensures { IfOk result (λ book. IsInTransaction book.state) }
 {
     if !is_open(store.history(), session) {
-        return Err(Stop::Misplaced);
+        return misplaced(store);
     }
     match store.history().pending(session) {
         Some(_) => Ok(store.seat(Some(session))),
-        None => Err(Stop::Misplaced),
+        None => misplaced(store),
     }
 }
 

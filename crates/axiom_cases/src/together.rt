@@ -2,9 +2,11 @@
 ghost use Rattle.std.specs.Prelude.{◌↔◌, IsTrue, IfOk};
 ghost use Rattle.graph_base.specs.Walk.{IsInRange};
 
-use crate::answers::trial;
+use crate::answers::trial_at;
+use crate::handing::{beside, without};
 use crate::histories::{CHAINED, LISTED, LOST, ROLLED_BACK, SCANNED, U1, UPDATED};
-use crate::play::{Spot, Step, f, make, offer, p, play};
+use crate::play::Spot::{Field, Presence};
+use crate::play::{Spot, Step, make, offer, play};
 use crate::stop::Stop;
 use cell_base::Level;
 use cell_base::Level::{Cc, Ra, Rc};
@@ -18,14 +20,30 @@ use valid_writes::Store;
 /// whose trial closes no cycle with what was forced before. At each level over six histories.
 #[test]
 fn trials_are_what_reads_add(rt: HostRuntime) -> Result<(), Stop> {
-    let alloc = rt.alloc();
-    assert!(&rt; agree(alloc, &UPDATED, 1, f(1))?);
-    assert!(&rt; agree(alloc, &LOST, 1, p(2))?);
-    assert!(&rt; agree(alloc, &CHAINED, 3, p(1))?);
-    assert!(&rt; agree(alloc, &SCANNED, 1, U1)?);
-    assert!(&rt; agree(alloc, &LISTED, 3, U1)?);
-    assert!(&rt; agree(alloc, &ROLLED_BACK, 2, p(1))?);
+    assert_eq!(&rt; first_other(rt.alloc(), &AGREEING)?, "");
     Ok(())
+}
+
+/// A history, and the next read of a session: the history's name, its steps, the session, and the cell.
+type Next<'a> = (&'a str, &'a [(u32, Step)], u32, Spot);
+
+const AGREEING: [Next<'static>; 6] = [
+    ("UPDATED", &UPDATED, 1, Field(0, 1)),
+    ("LOST", &LOST, 1, Presence(0, 2)),
+    ("CHAINED", &CHAINED, 3, Presence(0, 1)),
+    ("SCANNED", &SCANNED, 1, U1),
+    ("LISTED", &LISTED, 3, U1),
+    ("ROLLED_BACK", &ROLLED_BACK, 2, Presence(0, 1)),
+];
+
+/// The name of the first history of which it isn't so, or an empty one.
+fn first_other<'a>(alloc: Global, rows: &[Next<'a>]) -> Result<&'a str, Stop> {
+    for (name, steps, session, spot) in rows {
+        if !agree(alloc, steps, *session, *spot)? {
+            return Ok(*name);
+        }
+    }
+    Ok("")
 }
 
 /// Whether all of this is so at each level.
@@ -65,7 +83,14 @@ fn is_source(
     source: u32,
 ) -> Result<bool, Stop> {
     let store = play(alloc, level, steps)?;
-    Ok(is_writer(store.history(), source, &spot.cell()))
+    let so = is_source_in(store.history(), spot, source);
+    Ok(without(store, so))
+}
+
+fn is_source_in(history: &History, spot: Spot, source: u32) -> bool {
+    let cell = spot.cell();
+    let so = is_writer(history, source, &cell);
+    without(cell, so)
 }
 
 /// Whether it is so of the read.
@@ -78,28 +103,42 @@ fn agrees(
     source: u32,
 ) -> Result<bool, Stop> {
     let store = play(alloc, level, steps)?;
-    let both = forced_with_trial(alloc, store.history(), level, session, spot, source)?;
-    let is_offered = is_offered(&store, session, spot, source)?;
-    if closes_cycle(alloc, &both)? == is_offered {
-        return Ok(false);
+    let both = forced_with_trial(alloc, store.history(), level, session, spot, source);
+    let (store, both) = beside(store, both)?;
+    let read = Step::Read(spot, source);
+    let is_offered = is_offered(&store, session, spot, source);
+    let so = agrees_with(alloc, store, level, session, read, is_offered, &both);
+    without(both, so)
+}
+
+/// Whether it is so of the read, for what was forced before and what is in the trial.
+fn agrees_with(
+    alloc: Global,
+    store: Store,
+    level: Level,
+    session: u32,
+    read: Step,
+    is_offered: Result<bool, Stop>,
+    both: &Graph,
+) -> Result<bool, Stop> {
+    let (store, is_offered) = beside(store, is_offered)?;
+    let (store, closes) = beside(store, closes_cycle(alloc, both))?;
+    if closes == is_offered {
+        return Ok(without(store, false));
     }
     if !is_offered {
-        return Ok(true);
+        return Ok(without(store, true));
     }
-    adds(
-        alloc,
-        store,
-        level,
-        session,
-        Step::Read(spot, source),
-        &both,
-    )
+    adds(alloc, store, level, session, read, both)
 }
 
 /// Whether the read is offered.
 fn is_offered(store: &Store, session: u32, spot: Spot, source: u32) -> Result<bool, Stop> {
-    let sources = offer(store, session, &spot.cell())?;
-    Ok(sources.as_slice().contains(&source))
+    let cell = spot.cell();
+    let sources = offer(store, session, &cell);
+    let sources = without(cell, sources)?;
+    let so = sources.as_slice().contains(&source);
+    Ok(without(sources, so))
 }
 
 /// What the history forces, and the trial of the read.
@@ -112,9 +151,32 @@ fn forced_with_trial(
     source: u32,
 ) -> Result<Graph, Stop> {
     let mut graph = forced(alloc, history)?;
-    let pairs = trial(alloc, history, level, session, &spot.cell(), source)?;
-    add_all(&mut graph.edges, pairs.as_slice())?;
+    let added = add_trial(
+        alloc,
+        &mut graph.edges,
+        history,
+        level,
+        session,
+        spot,
+        source,
+    );
+    let (graph, ()) = beside(graph, added)?;
     Ok(graph)
+}
+
+/// Adds the trial of the read.
+fn add_trial(
+    alloc: Global,
+    edges: &mut Vec<Edge>,
+    history: &History,
+    level: Level,
+    session: u32,
+    spot: Spot,
+    source: u32,
+) -> Result<(), Stop> {
+    let pairs = trial_at(alloc, history, level, session, spot, source)?;
+    let added = add_all(edges, pairs.as_slice());
+    without(pairs, added)
 }
 
 fn add_all(edges: &mut Vec<Edge>, more: &[Edge]) -> Result<(), Stop> {
@@ -134,8 +196,15 @@ fn adds(
     want: &Graph,
 ) -> Result<bool, Stop> {
     let store = make(store, level, session, step)?;
-    let after = forced(alloc, store.history())?;
-    Ok(are_same(after.edges.as_slice(), want.edges.as_slice()))
+    let so = is_forced(alloc, store.history(), want);
+    without(store, so)
+}
+
+/// Whether just these pairs are forced.
+fn is_forced(alloc: Global, history: &History, want: &Graph) -> Result<bool, Stop> {
+    let found = forced(alloc, history)?;
+    let so = are_same(found.edges.as_slice(), want.edges.as_slice());
+    Ok(without(found, so))
 }
 
 /// Whether all numbers of the graph's edges are below its size.
