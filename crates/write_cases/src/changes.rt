@@ -1,18 +1,54 @@
 // The changes that an UPDATE or a DELETE makes.
+use crate::changes::Filter::{All, Compared, DividesTen};
+use crate::changes::Term::{Constant, Field, Sum};
+use crate::changes::Verb::{Delete, Update};
+use crate::compared::is;
+use crate::held::{alone, both, kept};
 use crate::shown;
 use crate::trees::Lit::{Int, Null, Str};
 use crate::trees::{Lit, column, compared, constant, divides_ten, shown_to, sum, table};
-use cell_base::{Items, Key, SqlFault, Value};
+use cell_base::{Items, Key, Memory, SqlFault, Value};
 use row_writes::changes_of;
 use sql_tree::{Op, Table, TypedChange, TypedExpr};
 use std::alloc::{AllocError, Global};
 use std::test::Fail;
 
+/// The condition of a statement.
+#[derive(Clone, Copy)]
+enum Filter {
+    /// None.
+    All,
+    /// A comparison of a column with an integer.
+    Compared(Op, u32, i64),
+    /// `10 / column > -100`.
+    DividesTen(u32),
+}
+
+/// What is assigned.
+#[derive(Clone, Copy)]
+enum Term {
+    Constant(Lit),
+    Field(u32),
+    Sum(u32, i64),
+}
+
+/// A statement without its condition: the assigned columns, in text order.
+#[derive(Clone, Copy)]
+enum Verb {
+    Update(&'static [(u32, Term)]),
+    Delete,
+}
+
+/// A statement, and its changes or the code's name.
+type Case = (Verb, Filter, &'static str);
+
+type Row = (i64, &'static [Lit]);
+
 /// The rows that each statement was shown: keys 1, 2 and 3.
-const SHOWN: [(i64, [Lit; 5]); 3] = [
-    (1, [Int(1), Int(5), Str("ab"), Int(7), Null]),
-    (2, [Int(2), Null, Null, Int(1), Str("x")]),
-    (3, [Int(3), Int(0), Str("c"), Int(-2), Null]),
+const SHOWN: &[Row] = &[
+    (1, &[Int(1), Int(5), Str("ab"), Int(7), Null]),
+    (2, &[Int(2), Null, Null, Int(1), Str("x")]),
+    (3, &[Int(3), Int(0), Str("c"), Int(-2), Null]),
 ];
 
 /// The changes, or the code's name.
@@ -29,156 +65,172 @@ fn answer(
     }
 }
 
-fn answer_over(
+fn filter_of(alloc: Global, filter: Filter) -> Result<Option<TypedExpr>, Memory> {
+    match filter {
+        All => Ok(None),
+        Compared(op, place, n) => Ok(Some(compared(alloc, op, place, n)?)),
+        DividesTen(place) => Ok(Some(divides_ten(alloc, place)?)),
+    }
+}
+
+fn term_of(alloc: Global, term: Term) -> Result<TypedExpr, Memory> {
+    match term {
+        Constant(lit) => constant(alloc, lit),
+        Field(place) => Ok(column(place)),
+        Sum(place, n) => sum(alloc, place, n),
+    }
+}
+
+fn assign(
+    assigned: &mut Items<(u32, TypedExpr)>,
     alloc: Global,
-    change: &TypedChange,
-    rows: &[(i64, [Lit; 5])],
-) -> Result<String, Fail> {
-    let table = table(alloc, 0)?;
-    let rows = shown_to(alloc, rows)?;
-    Ok(answer(alloc, &table, change, rows.as_slice())?)
+    set: &[(u32, Term)],
+) -> Result<(), Memory> {
+    for (column, term) in set {
+        assigned.push((*column, term_of(alloc, *term)?))?;
+    }
+    Ok(())
+}
+
+fn set_of(alloc: Global, set: &[(u32, Term)]) -> Result<Items<(u32, TypedExpr)>, Memory> {
+    let mut assigned = Items::new(alloc);
+    let done = assign(&mut assigned, alloc, set);
+    kept(assigned, done)
 }
 
 fn change(
     alloc: Global,
-    filter: Option<TypedExpr>,
-    set: Items<(u32, TypedExpr)>,
+    filter: Filter,
+    set: &[(u32, Term)],
     delete: bool,
-) -> TypedChange {
-    TypedChange {
+) -> Result<TypedChange, Memory> {
+    let (filter, set) = both(filter_of(alloc, filter), set_of(alloc, set))?;
+    Ok(TypedChange {
         table: 0,
         point: None,
         mentioned: Items::new(alloc),
         filter,
         set,
         delete,
+    })
+}
+
+fn change_of(alloc: Global, verb: Verb, filter: Filter) -> Result<TypedChange, Memory> {
+    match verb {
+        Update(set) => change(alloc, filter, set, false),
+        Delete => change(alloc, filter, &[], true),
     }
 }
 
-fn updated(
-    alloc: Global,
-    filter: Option<TypedExpr>,
-    set: Items<(u32, TypedExpr)>,
-) -> Result<String, Fail> {
-    answer_over(alloc, &change(alloc, filter, set, false), &SHOWN)
+fn answer_over(alloc: Global, rows: &[Row], verb: Verb, filter: Filter) -> Result<String, Memory> {
+    let scene = both(table(alloc, 0), shown_to(alloc, rows));
+    let (change, scene) = both(change_of(alloc, verb, filter), scene)?;
+    let given = answer(alloc, &scene.0, &change, scene.1.as_slice());
+    Ok(alone((change, scene), given)?)
 }
 
-fn deleted(alloc: Global, filter: Option<TypedExpr>) -> Result<String, Fail> {
-    answer_over(
-        alloc,
-        &change(alloc, filter, Items::new(alloc), true),
-        &SHOWN,
-    )
-}
-
-/// Constants that are assigned to columns, in text order.
-fn constants_to(alloc: Global, set: &[(u32, Lit)]) -> Result<Items<(u32, TypedExpr)>, Fail> {
-    let mut assigned = Items::new(alloc);
-    for (column, lit) in set {
-        assigned.push((*column, constant(alloc, *lit)?))?;
+fn hold(alloc: Global, rows: &[Row], cases: &[Case]) -> Result<(), Fail> {
+    for (place, (verb, filter, want)) in cases.iter().enumerate() {
+        is(place, answer_over(alloc, rows, *verb, *filter), want)?;
     }
-    Ok(assigned)
+    Ok(())
 }
 
-fn is_updated(
-    alloc: Global,
-    filter: Option<TypedExpr>,
-    set: &[(u32, Lit)],
-    want: &str,
-) -> Result<bool, Fail> {
-    let set = constants_to(alloc, set)?;
-    Ok(updated(alloc, filter, set)?.as_str() == want)
-}
-
-/// `SET b = a, a = a + 1 WHERE k <> 2`.
-fn shifted(alloc: Global) -> Result<String, Fail> {
-    let mut set = Items::new(alloc);
-    set.push((3, column(1)))?;
-    set.push((1, sum(alloc, 1, 1)?))?;
-    let filter = compared(alloc, Op::Lt, 0, 2)?;
-    updated(alloc, Some(filter), set)
-}
+/// `SET b = a, a = a + 1 WHERE k < 2`.
+const OLD_ROW: &[Case] = &[(
+    Update(&[(3, Field(1)), (1, Sum(1, 1))]),
+    Compared(Op::Lt, 0, 2),
+    "1: 1=6 3=5;",
+)];
 
 #[test]
 fn assigns_over_the_old_row(rt: HostRuntime) -> Result<(), Fail> {
-    assert_eq!(rt; shifted(rt.alloc())?.as_str(), "1: 1=6 3=5;");
-    Ok(())
+    hold(rt.alloc(), SHOWN, OLD_ROW)
 }
+
+const T_N: Verb = Update(&[(4, Constant(Str("n")))]);
+
+const WHERE: &[Case] = &[
+    (T_N, All, "1: 4=n;2: 4=n;3: 4=n;"),
+    (T_N, Compared(Op::Ge, 1, 0), "1: 4=n;3: 4=n;"),
+    (T_N, Compared(Op::Gt, 1, 9), ""),
+];
 
 #[test]
 fn keeps_the_rows_for_which_where_is_true(rt: HostRuntime) -> Result<(), Fail> {
-    let alloc = rt.alloc();
-    let set = [(4, Str("n"))];
-    assert!(rt; is_updated(alloc, None, &set, "1: 4=n;2: 4=n;3: 4=n;")?);
-    let above = compared(alloc, Op::Ge, 1, 0)?;
-    assert!(rt; is_updated(alloc, Some(above), &set, "1: 4=n;3: 4=n;")?);
-    let none = compared(alloc, Op::Gt, 1, 9)?;
-    assert!(rt; is_updated(alloc, Some(none), &set, "")?);
-    Ok(())
+    hold(rt.alloc(), SHOWN, WHERE)
 }
 
 /// `WHERE 10 / a > -100`, which fails at the third row; the assignment fails at the first.
+const WHERE_FIRST: &[Case] = &[(
+    Update(&[(2, Constant(Str("abcd")))]),
+    DividesTen(1),
+    "S22012",
+)];
+
 #[test]
 fn evaluates_where_for_all_rows_first(rt: HostRuntime) -> Result<(), Fail> {
-    let alloc = rt.alloc();
-    let filter = divides_ten(alloc, 1)?;
-    assert!(rt; is_updated(alloc, Some(filter), &[(2, Str("abcd"))], "S22012")?);
-    Ok(())
+    hold(rt.alloc(), SHOWN, WHERE_FIRST)
 }
+
+const WIDE: (u32, Term) = (1, Constant(Int(2147483648)));
+
+const LONG: (u32, Term) = (2, Constant(Str("abcd")));
+
+const CONVERTED: &[Case] = &[
+    (Update(&[WIDE, LONG]), All, "S22003"),
+    (Update(&[LONG, WIDE]), All, "S22001"),
+    (
+        Update(&[(2, Constant(Str("abc  ")))]),
+        Compared(Op::Lt, 0, 2),
+        "1: 2=abc;",
+    ),
+];
 
 #[test]
 fn converts_in_text_order(rt: HostRuntime) -> Result<(), Fail> {
-    let alloc = rt.alloc();
-    let wide = (1, Int(2147483648));
-    let long = (2, Str("abcd"));
-    assert!(rt; is_updated(alloc, None, &[wide, long], "S22003")?);
-    assert!(rt; is_updated(alloc, None, &[long, wide], "S22001")?);
-    let spaces = compared(alloc, Op::Lt, 0, 2)?;
-    assert!(rt; is_updated(alloc, Some(spaces), &[(2, Str("abc  "))], "1: 2=abc;")?);
-    Ok(())
+    hold(rt.alloc(), SHOWN, CONVERTED)
 }
+
+const NULL_B: (u32, Term) = (3, Constant(Null));
+
+const NEGATIVE_A: (u32, Term) = (1, Constant(Int(-1)));
+
+const TESTED: &[Case] = &[
+    (Update(&[NULL_B]), All, "S23502"),
+    (Update(&[NEGATIVE_A]), All, "S23514"),
+    (Update(&[NEGATIVE_A, NULL_B]), All, "S23502"),
+    (Update(&[(3, Constant(Int(0)))]), All, "S22012"),
+    (Update(&[(1, Constant(Null))]), All, "1: 1=-;2: 1=-;3: 1=-;"),
+];
 
 #[test]
 fn tests_what_is_assigned(rt: HostRuntime) -> Result<(), Fail> {
-    let alloc = rt.alloc();
-    let null_b = (3, Null);
-    let negative_a = (1, Int(-1));
-    assert!(rt; is_updated(alloc, None, &[null_b], "S23502")?);
-    assert!(rt; is_updated(alloc, None, &[negative_a], "S23514")?);
-    assert!(rt; is_updated(alloc, None, &[negative_a, null_b], "S23502")?);
-    assert!(rt; is_updated(alloc, None, &[(3, Int(0))], "S22012")?);
-    assert!(rt; is_updated(alloc, None, &[(1, Null)], "1: 1=-;2: 1=-;3: 1=-;")?);
-    Ok(())
+    hold(rt.alloc(), SHOWN, TESTED)
 }
 
 /// A row as a statement that reads neither a nor b is shown it: b is null there, and a isn't what the CHECK allows.
-const PARTLY_READ: [(i64, [Lit; 5]); 1] = [(9, [Int(9), Int(-4), Null, Null, Null])];
+const PARTLY_READ: &[Row] = &[(9, &[Int(9), Int(-4), Null, Null, Null])];
 
-fn partly_updated(alloc: Global, set: &[(u32, Lit)]) -> Result<String, Fail> {
-    let set = constants_to(alloc, set)?;
-    answer_over(alloc, &change(alloc, None, set, false), &PARTLY_READ)
-}
+const PARTLY_UPDATED: &[Case] = &[
+    (Update(&[(2, Constant(Str("x")))]), All, "9: 2=x;"),
+    (Update(&[(1, Constant(Int(3)))]), All, "9: 1=3;"),
+    (Update(&[(3, Constant(Int(2)))]), All, "9: 3=2;"),
+    (Update(&[(3, Constant(Int(0)))]), All, "S22012"),
+];
 
 #[test]
 fn leaves_out_what_mentions_no_assigned_column(rt: HostRuntime) -> Result<(), Fail> {
-    let alloc = rt.alloc();
-    assert_eq!(rt;
-        partly_updated(alloc, &[(2, Str("x"))])?.as_str(),
-        "9: 2=x;"
-    );
-    assert_eq!(rt; partly_updated(alloc, &[(1, Int(3))])?.as_str(), "9: 1=3;");
-    assert_eq!(rt; partly_updated(alloc, &[(3, Int(2))])?.as_str(), "9: 3=2;");
-    assert_eq!(rt; partly_updated(alloc, &[(3, Int(0))])?.as_str(), "S22012");
-    Ok(())
+    hold(rt.alloc(), PARTLY_READ, PARTLY_UPDATED)
 }
+
+const DELETED: &[Case] = &[
+    (Delete, All, "1:;2:;3:;"),
+    (Delete, Compared(Op::Eq, 1, 0), "3:;"),
+    (Delete, DividesTen(1), "S22012"),
+];
 
 #[test]
 fn deletes_rows_without_fields(rt: HostRuntime) -> Result<(), Fail> {
-    let alloc = rt.alloc();
-    assert_eq!(rt; deleted(alloc, None)?.as_str(), "1:;2:;3:;");
-    let filter = compared(alloc, Op::Eq, 1, 0)?;
-    assert_eq!(rt; deleted(alloc, Some(filter))?.as_str(), "3:;");
-    let fails = divides_ten(alloc, 1)?;
-    assert_eq!(rt; deleted(alloc, Some(fails))?.as_str(), "S22012");
-    Ok(())
+    hold(rt.alloc(), SHOWN, DELETED)
 }

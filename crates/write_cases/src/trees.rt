@@ -1,8 +1,8 @@
 // The table of all cases, and expressions over it.
+use crate::held::{both, kept};
 use cell_base::{Boxed, Items, Key, Memory, SqlType, Text, Value};
 use sql_tree::{Column, Op, Table, TypedExpr, TypedNode};
 use std::alloc::Global;
-use std::test::Fail;
 
 /// A constant.
 #[derive(Clone, Copy)]
@@ -21,12 +21,19 @@ const COLUMNS: [(SqlType, bool); 5] = [
     (SqlType::Text, false),
 ];
 
-pub fn value_of(alloc: Global, lit: Lit) -> Result<Value, Fail> {
-    Ok(match lit {
-        Lit::Null => Value::Null,
-        Lit::Int(n) => Value::Int(n),
-        Lit::Str(text) => Value::Text(Text::from_bytes(alloc, text.as_bytes())?),
-    })
+pub fn text_of(alloc: Global, bytes: &[u8]) -> Result<Text, Memory> {
+    match Text::from_bytes(alloc, bytes) {
+        Ok(text) => Ok(text),
+        Err(_) => Err(Memory),
+    }
+}
+
+pub fn value_of(alloc: Global, lit: Lit) -> Result<Value, Memory> {
+    match lit {
+        Lit::Null => Ok(Value::Null),
+        Lit::Int(n) => Ok(Value::Int(n)),
+        Lit::Str(text) => Ok(Value::Text(text_of(alloc, text.as_bytes())?)),
+    }
 }
 
 fn kind_of(lit: Lit) -> SqlType {
@@ -42,7 +49,7 @@ fn kind_of(lit: Lit) -> SqlType {
     }
 }
 
-pub fn constant(alloc: Global, lit: Lit) -> Result<TypedExpr, Fail> {
+pub fn constant(alloc: Global, lit: Lit) -> Result<TypedExpr, Memory> {
     Ok(TypedExpr {
         kind: kind_of(lit),
         node: TypedNode::Constant(value_of(alloc, lit)?),
@@ -61,11 +68,9 @@ fn binary(
     alloc: Global,
     kind: SqlType,
     op: Op,
-    left: TypedExpr,
-    right: TypedExpr,
+    (left, right): (TypedExpr, TypedExpr),
 ) -> Result<TypedExpr, Memory> {
-    let left = Boxed::new(alloc, left)?;
-    let right = Boxed::new(alloc, right)?;
+    let (left, right) = both(Boxed::new(alloc, left), Boxed::new(alloc, right))?;
     Ok(TypedExpr {
         kind,
         node: TypedNode::Binary(op, left, right),
@@ -73,94 +78,141 @@ fn binary(
 }
 
 /// A comparison of a column with an integer.
-pub fn compared(alloc: Global, op: Op, place: u32, n: i64) -> Result<TypedExpr, Fail> {
+pub fn compared(alloc: Global, op: Op, place: u32, n: i64) -> Result<TypedExpr, Memory> {
     let right = constant(alloc, Lit::Int(n))?;
-    Ok(binary(alloc, SqlType::Boolean, op, column(place), right)?)
+    binary(alloc, SqlType::Boolean, op, (column(place), right))
 }
 
 /// A sum of a column and an integer.
-pub fn sum(alloc: Global, place: u32, n: i64) -> Result<TypedExpr, Fail> {
+pub fn sum(alloc: Global, place: u32, n: i64) -> Result<TypedExpr, Memory> {
     let right = constant(alloc, Lit::Int(n))?;
-    Ok(binary(alloc, SqlType::Integer, Op::Add, column(place), right)?)
+    binary(alloc, SqlType::Integer, Op::Add, (column(place), right))
 }
 
-fn ten_by(alloc: Global, place: u32) -> Result<TypedExpr, Fail> {
+fn ten_by(alloc: Global, place: u32) -> Result<TypedExpr, Memory> {
     let left = constant(alloc, Lit::Int(10))?;
-    Ok(binary(alloc, SqlType::Integer, Op::Div, left, column(place))?)
+    binary(alloc, SqlType::Integer, Op::Div, (left, column(place)))
 }
 
 /// `10 / column > -100`: true where the column isn't 0.
-pub fn divides_ten(alloc: Global, place: u32) -> Result<TypedExpr, Fail> {
-    let left = ten_by(alloc, place)?;
-    let right = constant(alloc, Lit::Int(-100))?;
-    Ok(binary(alloc, SqlType::Boolean, Op::Gt, left, right)?)
+pub fn divides_ten(alloc: Global, place: u32) -> Result<TypedExpr, Memory> {
+    let sides = both(ten_by(alloc, place), constant(alloc, Lit::Int(-100)))?;
+    binary(alloc, SqlType::Boolean, Op::Gt, sides)
 }
 
-fn columns(alloc: Global) -> Result<Items<Column>, Fail> {
-    let mut columns = Items::new(alloc);
+fn push_column(
+    columns: &mut Items<Column>,
+    alloc: Global,
+    kind: SqlType,
+    not_null: bool,
+) -> Result<(), Memory> {
+    columns.push(Column {
+        name: text_of(alloc, b"c")?,
+        kind,
+        not_null,
+        default: Value::Null,
+    })
+}
+
+fn push_columns(columns: &mut Items<Column>, alloc: Global) -> Result<(), Memory> {
     for (kind, not_null) in COLUMNS {
-        columns.push(Column {
-            name: Text::from_bytes(alloc, b"c")?,
-            kind,
-            not_null,
-            default: Value::Null,
-        })?;
+        push_column(columns, alloc, kind, not_null)?;
     }
-    Ok(columns)
+    Ok(())
 }
 
-fn checks(alloc: Global) -> Result<Items<TypedExpr>, Fail> {
-    let mut checks = Items::new(alloc);
+fn columns(alloc: Global) -> Result<Items<Column>, Memory> {
+    let mut columns = Items::new(alloc);
+    let pushed = push_columns(&mut columns, alloc);
+    kept(columns, pushed)
+}
+
+fn push_checks(checks: &mut Items<TypedExpr>, alloc: Global) -> Result<(), Memory> {
     checks.push(compared(alloc, Op::Ge, 1, 0)?)?;
-    checks.push(divides_ten(alloc, 3)?)?;
-    Ok(checks)
+    checks.push(divides_ten(alloc, 3)?)
+}
+
+fn checks(alloc: Global) -> Result<Items<TypedExpr>, Memory> {
+    let mut checks = Items::new(alloc);
+    let pushed = push_checks(&mut checks, alloc);
+    kept(checks, pushed)
 }
 
 /// `(k integer PRIMARY KEY, a integer, v varchar(3), b integer NOT NULL, t text, CHECK (a >= 0), CHECK (10 / b > -100))`, or
 /// with t for its key.
-pub fn table(alloc: Global, key: u32) -> Result<Table, Fail> {
+pub fn table(alloc: Global, key: u32) -> Result<Table, Memory> {
+    let (columns, rest) = both(columns(alloc), both(checks(alloc), text_of(alloc, b"t")))?;
+    let (checks, name) = rest;
     Ok(Table {
-        name: Text::from_bytes(alloc, b"t")?,
-        columns: columns(alloc)?,
+        name,
+        columns,
         key,
-        checks: checks(alloc)?,
+        checks,
     })
 }
 
-/// Constants, one after another.
-pub fn constants(alloc: Global, lits: &[Lit]) -> Result<Items<TypedExpr>, Fail> {
-    let mut exprs = Items::new(alloc);
+fn push_constants(exprs: &mut Items<TypedExpr>, alloc: Global, lits: &[Lit]) -> Result<(), Memory> {
     for lit in lits {
         exprs.push(constant(alloc, *lit)?)?;
     }
-    Ok(exprs)
+    Ok(())
 }
 
-/// The rows of VALUES.
-pub fn rows_of(alloc: Global, rows: &[[Lit; 5]]) -> Result<Items<Items<TypedExpr>>, Fail> {
+/// Constants, one after another.
+pub fn constants(alloc: Global, lits: &[Lit]) -> Result<Items<TypedExpr>, Memory> {
     let mut exprs = Items::new(alloc);
+    let pushed = push_constants(&mut exprs, alloc, lits);
+    kept(exprs, pushed)
+}
+
+fn push_rows(
+    exprs: &mut Items<Items<TypedExpr>>,
+    alloc: Global,
+    rows: &[&[Lit]],
+) -> Result<(), Memory> {
     for row in rows {
         exprs.push(constants(alloc, row)?)?;
     }
-    Ok(exprs)
+    Ok(())
 }
 
-fn values(alloc: Global, lits: &[Lit]) -> Result<Items<Value>, Fail> {
-    let mut values = Items::new(alloc);
+/// The rows of VALUES.
+pub fn rows_of(alloc: Global, rows: &[&[Lit]]) -> Result<Items<Items<TypedExpr>>, Memory> {
+    let mut exprs = Items::new(alloc);
+    let pushed = push_rows(&mut exprs, alloc, rows);
+    kept(exprs, pushed)
+}
+
+fn push_values(values: &mut Items<Value>, alloc: Global, lits: &[Lit]) -> Result<(), Memory> {
     for lit in lits {
         values.push(value_of(alloc, *lit)?)?;
     }
-    Ok(values)
+    Ok(())
+}
+
+fn values(alloc: Global, lits: &[Lit]) -> Result<Items<Value>, Memory> {
+    let mut values = Items::new(alloc);
+    let pushed = push_values(&mut values, alloc, lits);
+    kept(values, pushed)
+}
+
+fn push_shown(
+    shown: &mut Items<(Key, Items<Value>)>,
+    alloc: Global,
+    rows: &[(i64, &[Lit])],
+) -> Result<(), Memory> {
+    for (key, row) in rows {
+        shown.push((Key::Int(*key), values(alloc, row)?))?;
+    }
+    Ok(())
 }
 
 /// The rows that a statement was shown, with integers for keys.
 pub fn shown_to(
     alloc: Global,
-    rows: &[(i64, [Lit; 5])],
-) -> Result<Items<(Key, Items<Value>)>, Fail> {
+    rows: &[(i64, &[Lit])],
+) -> Result<Items<(Key, Items<Value>)>, Memory> {
     let mut shown = Items::new(alloc);
-    for (key, row) in rows {
-        shown.push((Key::Int(*key), values(alloc, row)?))?;
-    }
-    Ok(shown)
+    let pushed = push_shown(&mut shown, alloc, rows);
+    kept(shown, pushed)
 }

@@ -1,8 +1,10 @@
 // The cells that are written.
+use crate::compared::is;
+use crate::held::{alone, both, kept};
 use crate::shown;
 use crate::trees::Lit::{Int, Null, Str};
-use crate::trees::{rows_of, table};
-use cell_base::{Cell, Items, Key, Memory, Text, Value};
+use crate::trees::{Lit, rows_of, table, text_of};
+use cell_base::{Cell, Items, Key, Memory, Value};
 use row_writes::{RowChange, delete_writes, insert_writes, rows_to_insert, update_writes};
 use sql_tree::{Table, TypedExpr};
 use std::alloc::{AllocError, Global};
@@ -30,71 +32,87 @@ fn written(
     }
 }
 
-fn inserts(alloc: Global, key: u32) -> Result<String, Fail> {
-    let rows = rows_of(
-        alloc,
-        &[
-            [Int(2), Int(5), Str("ab"), Int(7), Str("x")],
-            [Int(1), Null, Null, Int(1), Str("y")],
-        ],
-    )?;
-    let table = table(alloc, key)?;
-    Ok(answer(alloc, written(alloc, &table, rows.as_slice()))?)
+const ROWS: &[&[Lit]] = &[
+    &[Int(2), Int(5), Str("ab"), Int(7), Str("x")],
+    &[Int(1), Null, Null, Int(1), Str("y")],
+];
+
+fn inserts(alloc: Global, key: u32) -> Result<String, Memory> {
+    let (rows, table) = both(rows_of(alloc, ROWS), table(alloc, key))?;
+    let given = answer(alloc, written(alloc, &table, rows.as_slice()));
+    Ok(alone((rows, table), given)?)
 }
+
+/// The column of the key, and what is written.
+const INSERTED: &[(u32, &str)] = &[
+    (
+        0,
+        "7.1=t 7.1.1=- 7.1.2=- 7.1.3=1 7.1.4=y 7.2=t 7.2.1=5 7.2.2=ab 7.2.3=7 7.2.4=x ",
+    ),
+    (
+        4,
+        "7.x=t 7.x.0=2 7.x.1=5 7.x.2=ab 7.x.3=7 7.y=t 7.y.0=1 7.y.1=- 7.y.2=- 7.y.3=1 ",
+    ),
+];
 
 #[test]
 fn writes_presence_and_then_fields(rt: HostRuntime) -> Result<(), Fail> {
-    let alloc = rt.alloc();
-    assert_eq!(rt;
-        inserts(alloc, 0)?.as_str(),
-        "7.1=t 7.1.1=- 7.1.2=- 7.1.3=1 7.1.4=y 7.2=t 7.2.1=5 7.2.2=ab 7.2.3=7 7.2.4=x "
-    );
-    assert_eq!(rt;
-        inserts(alloc, 4)?.as_str(),
-        "7.x=t 7.x.0=2 7.x.1=5 7.x.2=ab 7.x.3=7 7.y=t 7.y.0=1 7.y.1=- 7.y.2=- 7.y.3=1 "
-    );
+    for (key, want) in INSERTED {
+        is(*key as usize, inserts(rt.alloc(), *key), want)?;
+    }
     Ok(())
 }
 
-fn fields(alloc: Global) -> Result<Items<(u32, Value)>, Fail> {
-    let mut fields = Items::new(alloc);
+fn push_fields(fields: &mut Items<(u32, Value)>, alloc: Global) -> Result<(), Memory> {
     fields.push((1, Value::Null))?;
-    fields.push((2, Value::Text(Text::from_bytes(alloc, b"ab")?)))?;
-    Ok(fields)
+    fields.push((2, Value::Text(text_of(alloc, b"ab")?)))
+}
+
+fn fields(alloc: Global) -> Result<Items<(u32, Value)>, Memory> {
+    let mut fields = Items::new(alloc);
+    let pushed = push_fields(&mut fields, alloc);
+    kept(fields, pushed)
+}
+
+fn push_change(
+    changes: &mut Items<RowChange>,
+    key: i64,
+    fields: Result<Items<(u32, Value)>, Memory>,
+) -> Result<(), Memory> {
+    changes.push(RowChange {
+        key: Key::Int(key),
+        fields: fields?,
+    })
+}
+
+fn push_changes(changes: &mut Items<RowChange>, alloc: Global) -> Result<(), Memory> {
+    push_change(changes, 3, fields(alloc))?;
+    push_change(changes, 5, Ok(Items::new(alloc)))
 }
 
 /// Two changes: of key 3 with two fields, and of key 5 with none.
-fn two_changes(alloc: Global) -> Result<Items<RowChange>, Fail> {
+fn two_changes(alloc: Global) -> Result<Items<RowChange>, Memory> {
     let mut changes = Items::new(alloc);
-    changes.push(RowChange {
-        key: Key::Int(3),
-        fields: fields(alloc)?,
-    })?;
-    changes.push(RowChange {
-        key: Key::Int(5),
-        fields: Items::new(alloc),
-    })?;
-    Ok(changes)
+    let pushed = push_changes(&mut changes, alloc);
+    kept(changes, pushed)
 }
 
-fn updates(alloc: Global) -> Result<String, Fail> {
+fn updates(alloc: Global) -> Result<String, Memory> {
     let changes = two_changes(alloc)?;
     Ok(answer(alloc, update_writes(alloc, 0, changes))?)
 }
 
-fn deletes(alloc: Global) -> Result<String, Fail> {
+fn deletes(alloc: Global) -> Result<String, Memory> {
     let changes = two_changes(alloc)?;
     Ok(answer(alloc, delete_writes(alloc, 63, changes))?)
 }
 
 #[test]
 fn writes_assigned_fields_alone(rt: HostRuntime) -> Result<(), Fail> {
-    assert_eq!(rt; updates(rt.alloc())?.as_str(), "0.3.1=- 0.3.2=ab ");
-    Ok(())
+    is(0, updates(rt.alloc()), "0.3.1=- 0.3.2=ab ")
 }
 
 #[test]
 fn writes_absence_alone(rt: HostRuntime) -> Result<(), Fail> {
-    assert_eq!(rt; deletes(rt.alloc())?.as_str(), "63.3=f 63.5=f ");
-    Ok(())
+    is(0, deletes(rt.alloc()), "63.3=f 63.5=f ")
 }
