@@ -1,5 +1,5 @@
 -- Which bytes words are made of: neither a line feed nor a blank, and outside cells no point.
-use Rattle.std.proofs.Common.{◌≡◌, ◌≢◌, ℕ, ℤ, zero, suc, pos, negsuc, ◌+◌, ◌/◌, ◌%◌, ◌<◌, ◌^◌, ◌==◌, ◌&&◌, ◌||◌, Bool, true, false, List, [], ◌∷◌, ◌++◌, length, get_or, refl, nat_lt, arith}
+use Rattle.std.proofs.Common.{◌≡◌, ◌≢◌, ℕ, ℤ, zero, suc, pos, negsuc, ◌+◌, ◌/◌, ◌%◌, ◌<◌, ◌^◌, ◌==◌, ◌&&◌, ◌||◌, Bool, true, false, List, [], ◌∷◌, ◌++◌, length, get_or, refl, nat_lt, ◌∙◌, arith}
 use Rattle.std.proofs.lemmas.Fmt.{decimal_by_steps}
 use Rattle.std.proofs.lemmas.Bool.Decides.{nat_tests}
 use Rattle.std.specs.Prelude.{codes}
@@ -65,6 +65,14 @@ plain_lacks_point bs plain = lacks_from 46 bs (all_weaker IsPlain (λ b. b ≢ 4
 pub ink_lacks_blank : (bs : List ℕ) → Ink bs → Lacks 32 bs
 ink_lacks_blank bs inked = lacks_from 32 bs (all_weaker IsInk (λ b. b ≢ 32) (λ b p. p.1) bs inked)
 
+-- digits are above each byte of the marks
+decimal_high : (n : ℕ) → n < 2 ^ 64 → AllByRecursion (λ b. 47 < b) (decimal n)
+decimal_high = decimal_by_steps (λ n ds. AllByRecursion (λ b. 47 < b) ds) (λ n lt. (omega arith, tt))
+    (λ n ds low done. all_append (λ b. 47 < b) ds ((48 + n % 10) ∷ []) done (omega arith, tt))
+
+pub digits_lack : (byte n : ℕ) → byte < 48 → n < 2 ^ 32 → Lacks byte (decimal n)
+digits_lack byte n low fits = lacks_from byte (decimal n) (all_weaker (λ b. 47 < b) (λ b. b ≢ byte) (λ b high e. omega arith) (decimal n) (decimal_high n (omega arith)))
+
 -- literals, by a test that computes
 unfoldable pub test_plain : List ℕ → Bool
 test_plain [] = true
@@ -127,6 +135,9 @@ joined_ink (x ∷ y ∷ xs) all = all_append IsInk x (46 ∷ join_with_byte 46 (
 
 pub cell_ink : (cell : Cell) → FitsCell cell → Ink (cell_word cell)
 cell_ink cell fits = joined_ink (cell_parts cell) (parts_plain cell fits)
+
+pub cell_lacks_blank : (byte : ℕ) (cell : Cell) → byte ≡ 32 → FitsCell cell → Lacks byte (cell_word cell)
+cell_lacks_blank byte cell is fits = lacks_from byte (cell_word cell) (all_weaker IsInk (λ b. b ≢ byte) (λ b inked e. inked.1 (e ∙ is)) (cell_word cell) (cell_ink cell fits))
 
 pub value_plain : (value : Value) → FitsValue value → Plain (value_word value)
 unfolding test_plain

@@ -1,6 +1,6 @@
 // Numbers of few digits, read digit by digit.
-ghost use Rattle.std.specs.Prelude.{◌≡◌, ◌≤◌, ◌<◌, ◌+◌, ◌++◌, ◌∷◌, [], decimal, IfSome};
-ghost use Rattle.history_log.specs.Reading.{IsNumber};
+ghost use Rattle.std.specs.Prelude.{◌≡◌, ◌<◌, ◌+◌, ◌++◌, ◌∷◌, [], decimal, IfSome};
+ghost use Rattle.history_log.specs.Reading.{IsU32, IsNumber};
 
 /// The digit that the byte is.
 fn digit_of(byte: u8) -> Option<u32>
@@ -15,35 +15,47 @@ fn digit_of(byte: u8) -> Option<u32>
     Some((byte - b'0') as u32)
 }
 
-/// The number with one digit more, where it is below 1,000,000,000.
-fn with_digit(number: u32, byte: u8) -> Option<u32>
-    requires { 0 < number }
-    ensures more { IfSome result (λ more. (0 < more) × (more < 1000000000)) }
-    ensures spelled { IfSome result (λ more. decimal more ≡ decimal number ++ byte ∷ []) }
+/// The number with one digit more, where it is below 429,496,729.
+fn with_digit(number: u32, digit: u32) -> Option<u32>
+    requires positive { 0 < number }
+    requires digit { digit < 10 }
+    ensures more { IfSome result (λ more. (0 < more) × (more < 4294967296)) }
+    ensures spelled { IfSome result (λ more. decimal more ≡ decimal number ++ (48 + digit) ∷ []) }
 {
-    if number >= 100_000_000 {
+    if number >= 429_496_729 {
         return None;
     }
-    let digit = digit_of(byte)?;
     Some(number * 10 + digit)
 }
 
-/// The number that a word of up to nine digits is. `None` says nothing of the word.
+/// The number that the text begins with, and what stands after it. `None` says nothing of the text.
+pub fn leading_number(text: &[u8]) -> Option<(u32, &[u8])>
+    ensures { IfSome result (λ x. IsU32 x.0 × (text.now ≡ decimal x.0 ++ x.1.now)) }
+{
+    if text.is_empty() {
+        return None;
+    }
+    let mut number = digit_of(text[0])?;
+    if number == 0 {
+        return Some((number, &text[1..]));
+    }
+    for at in 1..text.len() {
+        let Some(digit) = digit_of(text[at]) else {
+            return Some((number, &text[at..]));
+        };
+        number = with_digit(number, digit)?;
+    }
+    Some((number, &text[text.len()..]))
+}
+
+/// The number that the word is. `None` says nothing of the word.
 pub fn few_digits(word: &[u8]) -> Option<u32>
     ensures { IfSome result (λ n. IsNumber n word.now) }
 {
-    if word.is_empty() {
-        return None;
+    let (number, rest) = leading_number(word)?;
+    if rest.is_empty() {
+        Some(number)
+    } else {
+        None
     }
-    let mut number = digit_of(word[0])?;
-    if word.len() == 1 {
-        return Some(number);
-    }
-    if number == 0 {
-        return None;
-    }
-    for at in 1..word.len() {
-        number = with_digit(number, word[at])?;
-    }
-    Some(number)
 }

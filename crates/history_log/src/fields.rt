@@ -14,6 +14,9 @@ use std::alloc::Global;
 pub fn take_number(words: &mut Parts) -> Result<u32, Misread>
     ensures { Takes decimal IsU32 result words.old words.new }
 {
+    if let Some(n) = words.next_number() {
+        return Ok(n);
+    }
     let Some(word) = words.next() else {
         return Err(Misread::Form);
     };
@@ -60,6 +63,9 @@ pub fn take_key(alloc: Global, words: &mut Parts) -> Result<Key, Misread>
 pub fn take_cell(alloc: Global, words: &mut Parts) -> Result<Cell, Misread>
     ensures { Takes cell_word FitsCell result words.old words.new }
 {
+    if let Some(cell) = words.next_cell() {
+        return Ok(cell);
+    }
     match words.next() {
         Some(word) => cell_of(alloc, word),
         None => Err(Misread::Form),
@@ -70,6 +76,9 @@ pub fn take_cell(alloc: Global, words: &mut Parts) -> Result<Cell, Misread>
 pub fn take_value(alloc: Global, words: &mut Parts) -> Result<Value, Misread>
     ensures { Takes value_word FitsValue result words.old words.new }
 {
+    if let Some(n) = words.next_number() {
+        return Ok(Value::Int(n as i64));
+    }
     match words.next() {
         Some(word) => value_of(alloc, word),
         None => Err(Misread::Form),

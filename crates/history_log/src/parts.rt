@@ -1,7 +1,12 @@
 // A text cut at each place where one byte stands: lines at their line feeds, words at their blanks.
-ghost use Rattle.std.specs.Prelude.{◌≡◌, ◌∷◌, ◌++◌, [], IfSome, IfNone, IsNone};
+ghost use Rattle.std.specs.Prelude.{◌≡◌, ◌∷◌, ◌++◌, [], decimal, IfSome, IfNone, IsNone};
 ghost use Rattle.history_log.specs.Cut.{Lacks, cut_at};
+ghost use Rattle.history_log.specs.Spelling.{cell_word};
+ghost use Rattle.history_log.specs.Reading.{IsU32, FitsCell};
 
+use crate::cells::leading_cell;
+use crate::digits::leading_number;
+use cell_base::Cell;
 use std::marker::Model;
 
 /// The parts of a text that are left. Contracts see the list of them; the last one ends where the text does.
@@ -48,6 +53,49 @@ impl<'a> Parts<'a> {
                 Some(text)
             }
         }
+    }
+
+    /// Takes the next part, where it is a number of few digits. `None` takes nothing, and says nothing of the part.
+    pub fn next_number(&mut self) -> Option<u32>
+        ensures some { IfSome result (λ n. IsU32 n × (self.old ≡ decimal n ∷ self.new)) }
+        ensures none { IsNone result → self.new ≡ self.old }
+    {
+        // (no digit is below 0)
+        if self.separator >= b'0' {
+            return None;
+        }
+        let text = self.rest?;
+        let (number, rest) = leading_number(text)?;
+        if rest.is_empty() {
+            self.rest = None;
+            return Some(number);
+        }
+        if rest[0] != self.separator {
+            return None;
+        }
+        self.rest = Some(&rest[1..]);
+        Some(number)
+    }
+
+    /// Takes the next part, where it is a cell with a key of few digits. `None` takes nothing, and says nothing of the part.
+    pub fn next_cell(&mut self) -> Option<Cell>
+        ensures some { IfSome result (λ cell. FitsCell cell × (self.old ≡ cell_word cell ∷ self.new)) }
+        ensures none { IsNone result → self.new ≡ self.old }
+    {
+        if self.separator != b' ' {
+            return None;
+        }
+        let text = self.rest?;
+        let (cell, rest) = leading_cell(text)?;
+        if rest.is_empty() {
+            self.rest = None;
+            return Some(cell);
+        }
+        if rest[0] != b' ' {
+            return None;
+        }
+        self.rest = Some(&rest[1..]);
+        Some(cell)
     }
 }
 

@@ -89,7 +89,7 @@ fn hex_bytes(alloc: Global, digits: &[u8]) -> Result<Items<u8>, Misread>
 }
 
 /// What stands after this byte, where the word begins with it.
-fn after_byte(word: &[u8], byte: u8) -> Option<&[u8]>
+pub fn after_byte(word: &[u8], byte: u8) -> Option<&[u8]>
     ensures { MatchOption result ((rest : List ℕ) → word.now ≢ byte ∷ rest) (λ rest. word.now ≡ byte ∷ rest.now) }
 {
     if word.is_empty() {

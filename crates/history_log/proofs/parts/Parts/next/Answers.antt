@@ -1,12 +1,7 @@
-use Rattle.std.proofs.Common.{◌≡◌, sym, ◌∙◌, ap, refl, ℕ, List, [], Option, Some, Bor}
-use Rattle.std.specs.Option.{option_map_or}
+use Rattle.std.proofs.Common.{◌≡◌, sym, ◌∙◌, ap, refl}
 use Rattle.history_log.specs.Cut.{cut_at}
-use Rattle.history_log.proofs.Cuts.{cut_last, cut_first}
+use Rattle.history_log.proofs.Cuts.{at_rest, cut_last, cut_first}
 use Rattle.history_log.proofs.parts.Parts.next.Goals as goal
-
-at_rest : (separator : ℕ) (whole : List (List ℕ)) (rest : Option (Bor (List ℕ))) (text : Bor (List ℕ)) → rest ≡ Some text
-    → whole ≡ option_map_or (λ r. cut_at separator r.now) rest [] → whole ≡ cut_at separator text.now
-at_rest separator whole rest text e v = rw e at v
 
 pub returns-in-Some-clause-some : goal.returns-in-Some-clause-some
 returns-in-Some-clause-some c =
