@@ -9,7 +9,7 @@ use Rattle.history_check.specs.declared.breach.Breach.{Breach}
 use Rattle.history_check.specs.Orders.{IsRightTrace, IsFirstBreach}
 use Rattle.check_command.specs.Lines.{breach_words, fault_words, line_of}
 
--- the bytes are the log of a history that has no breach
+-- the bytes are few, and the log of a history that has no breach
 pub record IsRightLog (bytes : List ℕ) : Type 0 where
   pub few : HasFewBytes bytes
   pub version : Version
@@ -17,7 +17,7 @@ pub record IsRightLog (bytes : List ℕ) : Type 0 where
   pub log : IsLog version trace bytes
   pub right : IsRightTrace trace
 
--- the bytes are the log of a history that has this breach first
+-- the bytes are few, and the log of a history that has this breach first
 pub record IsBreachedLog (bytes : List ℕ) (breach : Breach) : Type 0 where
   pub few : HasFewBytes bytes
   pub version : Version

@@ -19,7 +19,8 @@ use std::alloc::Global;
 
 /// Judges the events of a trace, whatever its order: that they are a history of its initial state, event by event, with sources that are
 /// there, their values, and counts from 1 to the number of candidates. Limits of a history aren't looked at. The breach is the first in the
-/// order of the events.
+/// order of the events. As in `check`, whether the initial state is one isn't judged, and one of 4,294,967,296 cells or more is refused as out of
+/// memory.
 pub fn check_events(alloc: Global, trace: &Trace) -> Result<(), CheckFault>
     requires few { length trace.now.events < 4294967296 }
     ensures ok { OnOk result (AreRight trace.now.initial trace.now.events) }

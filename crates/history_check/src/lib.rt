@@ -1,6 +1,6 @@
 //! The judge of a trace: whether its events are a history, and whether its order meets it.
 //!
-//! `check_events` goes through the events once, with notes of its own, and answers the first breach: of the first event that breaks a rule,
+//! `check_events` numbers the cells of all events, then goes through the events once, with notes of its own, and answers the first breach: of the first event that breaks a rule,
 //! and of the first rule that it breaks. `event_laws` says what that comes to. `check` judges the order as well, by
 //! `order_test`, and `trace_laws` says that its answers exclude each other.
 #![tactic(auto)]

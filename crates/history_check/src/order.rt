@@ -16,6 +16,9 @@ use std::alloc::Global;
 /// each transaction once and the initial one first, keeps the order of each session, has each source before its reader, and before each source
 /// whatever other writer of the cell the read sees at the level of its transaction. The breach is the first of the events, and after them
 /// the first of the order.
+///
+/// Whether the initial state is one, so that its cells ascend and each field's row is there, is the reader's matter: `history_log::read` sees to
+/// it. One of 4,294,967,296 cells or more is refused as out of memory.
 pub fn check(alloc: Global, trace: &Trace) -> Result<(), CheckFault>
     requires few { length trace.now.events < 4294967296 }
     ensures ok { OnOk result (IsRightTrace trace.now) }

@@ -7,7 +7,7 @@ use cell_base::Memory;
 use history_core::Event;
 use std::alloc::Global;
 
-/// The places of the writes of the transaction that is pending in a session, in their order; none where nothing is pending.
+/// The places of the writes of the transaction that is pending in a session; none where nothing is pending.
 #[derive(Debug, Drop)]
 pub struct PendingWrites {
     pub places: Vec<u32>,

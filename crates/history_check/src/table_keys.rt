@@ -93,7 +93,7 @@ fn add_key(keys: &mut TableKeys, table: u32, key: Key) -> Result<(), Memory>
     }
 }
 
-/// Notes the key of a presence at its table. A field leaves all as it is.
+/// Notes the key of a presence at its table. A field has none to note.
 pub fn note_key(keys: &mut TableKeys, cell: &Cell) -> Result<(), Memory>
     ensures kept { KeepsKeys keys.old keys.new }
     ensures noted { OnOk result (IsKept keys.new cell.now) }

@@ -53,9 +53,5 @@ pub fn few_digits(word: &[u8]) -> Option<u32>
     ensures { IfSome result (λ n. IsNumber n word.now) }
 {
     let (number, rest) = leading_number(word)?;
-    if rest.is_empty() {
-        Some(number)
-    } else {
-        None
-    }
+    if rest.is_empty() { Some(number) } else { None }
 }

@@ -27,6 +27,7 @@ pub record LogWritten (path : List ℕ) (history : Chronicle) (before after : Ho
 pub record LogCut (path : List ℕ) (history : Chronicle) (fault : WriteFault) (before after : Hosted) : Type 0 where
   pub order : List ℕ
   pub order_is : IsFirstOrder history order
+  pub is_log : IsLog (newest history.initial) (trace_of history order) (text_of (trace_of history order))
   pub unwritten : Unwritten path (text_of (trace_of history order)) fault before after
 
 -- what came of a log that wasn't written whole
@@ -49,8 +50,8 @@ status_after (Some faults.Make) code = 6
 status_after (Some faults.Write) code = 4
 status_after (Some faults.Memory) code = 5
 
--- The log of the history was written, where one was asked for, or not, and then the line was printed. What is wrong with the log stands before
--- what is wrong with the line.
+-- The log of the history was written, where one was asked for, or not, and the line was printed. In which order isn't said, since what a host
+-- tells has none between its files and its output. What is wrong with the log stands before what is wrong with the line.
 pub record LogsAndPrints (log : Option (List ℕ)) (history : Chronicle) (line : List ℕ) (before : Hosted) (code : ℕ) (after : Hosted) : Type 0 where
   pub fault : Option WriteFault
   pub between : Hosted

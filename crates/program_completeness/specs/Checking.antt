@@ -15,7 +15,7 @@ OneVerdict =
     (bytes line other : List ℕ) (code other_code : ℕ) → IsVerdict bytes line code → IsVerdict bytes other other_code
     → (line ≡ other) × (code ≡ other_code)
 
--- its status is 0 exactly where the text is the log of a history that has no breach
+-- its status is 0 exactly where the text, of at most 268,435,456 bytes, is the log of a history that has no breach
 abbrev pub ZeroIsRight : Type 0
 ZeroIsRight = (bytes line : List ℕ) (code : ℕ) → IsVerdict bytes line code → (code ≡ 0) ↔ IsRightLog bytes
 

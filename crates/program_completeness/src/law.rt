@@ -28,7 +28,8 @@ pub fn servers_are_complete()
     ensures program { ServeRunsAreComplete }
 {}
 
-/// A text has one verdict: one line and one status, which is 0 exactly where the text is the log of a history that has no breach.
+/// A text has one verdict: one line and one status, which is 0 exactly where the text, of at most 268,435,456 bytes, is the log of a history that
+/// has no breach.
 pub fn verdicts_are_exact()
     ensures one { OneVerdict }
     ensures zero { ZeroIsRight }

@@ -30,7 +30,8 @@ pub record Opened (options : ServeOptions) (before : Networked) (opened returned
   pub next : Option (List Passage)
   pub network : after ≡ doors_returned returned (doors_opened options.listen opened next before)
 
--- The log of the history was written, where one was asked for, and the line was printed; or memory ran out before, and nothing was.
+-- The log of the history was written, where one was asked for, or not, for a fault that the status tells, and the line was printed; or memory
+-- ran out before, and nothing was.
 abbrev pub Ends : ServeOptions → Chronicle → Hosted → ℕ → Hosted → Type 0
 Ends options history before code after =
     LogsAndPrints options.log history (served_line history.events) before code after ⊎ ((code ≡ 5) × (after ≡ before))

@@ -93,7 +93,7 @@ pub record IsCutOff (level : Level) (seed sessions queries : ℕ) : Type 0 where
   pub run : Runs level clients (at_first level) picks last
   pub many : length picks ≡ most_steps
 
--- the log of a simulation was written, where one was asked for, and its summary was printed
+-- the log of a simulation was written, where one was asked for, or not, for a fault that the status tells, and its summary was printed
 pub record Told (level : Level) (seed sessions queries : ℕ) (log : Option (List ℕ)) (before : Hosted) (code : ℕ) (after : Hosted) : Type 0 where
   pub history : Chronicle
   pub simulation : IsSimulation level seed sessions queries history
@@ -102,7 +102,7 @@ pub record Told (level : Level) (seed sessions queries : ℕ) (log : Option (Lis
   pub told : LogsAndPrints log history line before code after
 
 -- `sim LEVEL SEED SESSIONS QUERIES`, with the path of a log or without: memory ran out, in the simulation or in one of its sessions, and nothing
--- was printed; the simulation was cut off; or its log was written and its summary printed.
+-- was printed; the simulation was cut off; or its log was written, or not, and its summary printed.
 abbrev pub Simulates : Level → ℕ → ℕ → ℕ → Option (List ℕ) → Hosted → ℕ → Hosted → Type 0
 Simulates level seed sessions queries log before code after =
     ((code ≡ 5) × (after ≡ before))

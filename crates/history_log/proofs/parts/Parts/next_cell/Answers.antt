@@ -13,6 +13,8 @@ returns-then-is_empty-clause-some c =
 pub returns-clause-some : goal.returns-clause-some
 returns-clause-some c =
     let start : c.args.self.now ≡ cut_at c.self.inside.separator c.in_ok-text.text.now = at_rest _ _ _ _ c.in_ok-text.was (sym c.self.view_is) in
-    let fits = c.in_ok-cell.ensures.0 in
-    (fits, start ∙ next_part _ _ _ _ (cell_lacks_blank c.self.inside.separator c.in_ok-cell.cell c.if-self-ne32.false fits) c.in_ok-cell.ensures.1 c.if-is_empty.ensures
-    (c.if-rest-ne32.false ∙ sym c.if-self-ne32.false))
+    let fits = c.in_ok-cell.ensures.0 in (
+      fits,
+      start ∙ next_part _ _ _ _ (cell_lacks_blank c.self.inside.separator c.in_ok-cell.cell c.if-self-ne32.false fits) c.in_ok-cell.ensures.1 c.if-is_empty.ensures
+          (c.if-rest-ne32.false ∙ sym c.if-self-ne32.false),
+    )
