@@ -2,8 +2,8 @@
 use crate::verdict::{says, says_with};
 use cell_base::Memory;
 
-// The worked history of one session, in version 2. Event N stands in line N + 1.
-const WORKED: &[u8] =
+/// The worked history of one session, in version 2. Event N stands in line N + 1.
+pub const WORKED: &[u8] =
     b"monkey-log 2 rc\nopen 1\ndefine 1 x74\nlook 1 1\nbegin 1 rc\nread 1 p.0.1 0 1 0 false\nwrite 1 p.0.1 true\nwrite 1 f.0.1.1 10\ncommit 1\nlook 1 1\nbegin 1 rc\nread 1 p.0.1 1 2 1 true\nread 1 f.0.1.1 1 1 7 10\ncommit 1\nclose 1\norder 0 1 2\nend\n";
 
 // The same, in version 1.
@@ -100,8 +100,8 @@ fn orders(rt: HostRuntime) -> Result<(), Memory> {
     Ok(())
 }
 
-// A transaction reads from one of another session.
-const READ: &[u8] =
+/// A transaction reads from one of another session.
+pub const READ: &[u8] =
     b"monkey-log 2 cc\nopen 1\nopen 2\ndefine 1 x74\nbegin 1 cc\nwrite 1 p.0.1 true\ncommit 1\nbegin 2 cc\nread 2 p.0.1 1 2 1 true\ncommit 2\norder 0 1 2\nend\n";
 
 #[test]
