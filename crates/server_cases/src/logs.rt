@@ -1,4 +1,5 @@
-// Logs that are written whole: those of servers as written by hand, and those of simulations, and what a check says of them.
+// Logs that are written whole: those of servers as written by hand, and those of simulations, and what a check says of them. The words of the
+// reads are those of the seed's first stream, as a second program has them.
 use crate::commands::is_told;
 use crate::entries::{Entry, Replies, Visit};
 use crate::hosts::{Done, run, with_file};
