@@ -30,8 +30,8 @@ fn a_later_read_sees_what_was_read_from(rt: HostRuntime) -> Result<(), Memory> {
     Ok(())
 }
 
-// Transaction 2 first reads the second row from the initial transaction, and then the first row from transaction 1.
-const FRACTURED: &[u8] =
+/// Transaction 2 first reads the second row from the initial transaction, and then the first row from transaction 1.
+pub const FRACTURED: &[u8] =
     b"monkey-log 2 rc\nopen 1\nopen 2\ndefine 1 x74\nbegin 1 rc\nwrite 1 p.0.1 true\nwrite 1 p.0.2 true\ncommit 1\nbegin 2 rc\nread 2 p.0.2 0 2 0 false\nread 2 p.0.1 1 2 1 true\ncommit 2\norder 0 1 2\nend\n";
 
 #[test]

@@ -54,3 +54,13 @@ fn an_initial_state(rt: HostRuntime) -> Result<(), Memory> {
     assert_eq!(&rt; prints(rt.alloc(), ROWS, ROWS), true);
     Ok(())
 }
+
+// Numbers, keys and values on both sides of where they get a digit more, or a number of 32 bits ends.
+const LIMITS: &[u8] =
+    b"monkey-log 2 rc\nopen 4294967295\nopen 4294967290\nopen 999999999\nopen 1000000000\nlook 429496729 429496730\nread 4294967295 f.4294967295.4294967296.429496730 4294967290 429496729 1000000000 4294967296\nwrite 0 p.9.99 -9\nwrite 10 f.10.-4294967296.9 -9223372036854775808\nwrite 99 f.99.9223372036854775807.10 9223372036854775807\nscan 100 0 -10 -9 -1 0 9 10 99 100 999999999 1000000000 4294967295 4294967296 9999999999 10000000000\nshow 9 4294967295\norder 0 9 10 999999999 1000000000 4294967290 4294967295\nend\n";
+
+#[test]
+fn numbers_near_their_limits(rt: HostRuntime) -> Result<(), Memory> {
+    assert_eq!(&rt; prints(rt.alloc(), LIMITS, LIMITS), true);
+    Ok(())
+}

@@ -24,8 +24,8 @@ fn beside_log<R: Threads + Wait + Eprint + Sync>(
     )
 }
 
-// Whether a command ended with this status, printed this line, and took no link.
-fn is_told(done: &Done, code: u8, line: &[u8]) -> bool {
+/// Whether a command ended with this status, printed this line, and took no link.
+pub fn is_told(done: &Done, code: u8, line: &[u8]) -> bool {
     done.code == code && done.printed.as_slice() == line && done.sent.is_none()
 }
 

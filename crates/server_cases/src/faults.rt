@@ -108,6 +108,16 @@ const SERVERS: &[Server<'static>] = &[
         failing: &[1],
         code: 4,
         printed: BOTH,
+        log: Some(""),
+        ..TWO_WORKERS
+    },
+    Server {
+        name: "it writes the log and prints its line where a door's accept failed",
+        line: "serve/--quiet/--seed/7/--listen/here/--workers/2/--accept/1/--log/l",
+        entries: &[SHUT, DOOR],
+        code: 6,
+        printed: ONE,
+        log: Some("monkey-log 2 rc\nopen 1\nclose 1\norder 0\nend\n"),
         ..TWO_WORKERS
     },
 ];

@@ -53,12 +53,14 @@ pub fn with_file<'a>(path: &'a str, file: &'a str) -> Setting<'a> {
     }
 }
 
-/// What a command came to: its status, what it printed, and what it sent over the standard link, or nothing where it took none.
+/// What a command came to: its status, what it printed, what it sent over the standard link, or nothing where it took none, and what it wrote to
+/// the one file that it made, or nothing where it made none.
 #[derive(Drop)]
 pub struct Done {
     pub code: u8,
     pub printed: Vec<u8>,
     pub sent: Option<Vec<u8>>,
+    pub file: Option<Vec<u8>>,
 }
 
 /// A side whose calls move at most so many bytes, and at least one. The calls of these numbers, from 1 on, fail.
@@ -119,20 +121,56 @@ fn words_of(alloc: Global, line: &[u8]) -> Result<Vec<Text>, Memory> {
     Ok(words)
 }
 
+// What went over a link.
+fn of_link(returned: &MemReturned) -> Option<&[u8]> {
+    match returned {
+        MemReturned::Link(link) => Some(link.written()),
+        _ => None,
+    }
+}
+
+// What was written to a file that was made.
+fn of_file(returned: &MemReturned) -> Option<&[u8]> {
+    match returned {
+        MemReturned::NewFile(file) => Some(file.written()),
+        _ => None,
+    }
+}
+
+// The bytes, where there are any.
+fn copied(alloc: Global, bytes: Option<&[u8]>) -> Result<Option<Vec<u8>>, Memory> {
+    match bytes {
+        Some(bytes) => Ok(Some(Vec::from_slice(alloc, bytes)?)),
+        None => Ok(None),
+    }
+}
+
+// What was sent over the one link that came back.
 fn sent(alloc: Global, host: &MemHost) -> Result<Option<Vec<u8>>, Memory> {
-    match host.back() {
-        [MemReturned::Link(link)] => Ok(Some(Vec::from_slice(alloc, link.written())?)),
+    let mut links = host.back().iter().filter_map(of_link);
+    match (links.next(), links.next()) {
+        (bytes, None) => copied(alloc, bytes),
+        _ => Ok(None),
+    }
+}
+
+// What was written to the one file that was made and came back.
+fn file(alloc: Global, host: &MemHost) -> Result<Option<Vec<u8>>, Memory> {
+    let mut files = host.back().iter().filter_map(of_file);
+    match (files.next(), files.next()) {
+        (bytes, None) => copied(alloc, bytes),
         _ => Ok(None),
     }
 }
 
 fn done_in(alloc: Global, code: u8, host: &MemHost) -> Result<Done, Memory> {
-    let sent = sent(alloc, host)?;
+    let (sent, file) = (sent(alloc, host)?, file(alloc, host)?);
     match host.output() {
         Some(out) => Ok(Done {
             code,
             printed: Vec::from_slice(alloc, out.written())?,
             sent,
+            file,
         }),
         None => Err(Memory),
     }

@@ -1,7 +1,7 @@
 //! Tests of the program in a host in memory: whole sessions over the standard link, byte by byte, links that fail, and lists of choice words; servers
 //! at doors in memory and over the loopback, over one history, which begins empty or with what a setup left, and what fails among them; simulations,
-//! and the clients that they have; the check of a log; and words that are no command. Two sessions that meet stand here too, since all these tests are
-//! made into one program.
+//! and the clients that they have; the logs that both write, and the check of a log; and words that are no command. Two sessions that meet stand here
+//! too, since all these tests are made into one program.
 //!
 //! The contracts of `monkey_server` say what a session is told and what a command does. No clause says that a call with ample memory succeeds:
 //! these tests compare what is sent and printed with sessions written out as text by hand. The crate has nothing but tests. Those of the program
@@ -20,6 +20,8 @@ mod entries;
 mod faults;
 #[cfg(test)]
 mod hosts;
+#[cfg(test)]
+mod logs;
 #[cfg(test)]
 mod loopback;
 #[cfg(test)]

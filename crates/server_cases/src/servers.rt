@@ -22,6 +22,8 @@ pub struct Server<'a> {
     pub opens: bool,
     pub code: u8,
     pub printed: &'a str,
+    /// What stands in the log's file in the end, or nothing where no file is made.
+    pub log: Option<&'a str>,
 }
 
 /// One worker at Read Committed that accepts two links, without a log and a setup.
@@ -34,6 +36,7 @@ pub const ONE_WORKER: Server<'static> = Server {
     opens: true,
     code: 0,
     printed: "",
+    log: None,
 };
 
 // The host that a server has.
@@ -44,9 +47,20 @@ fn setting_of<'a>(server: &Server<'a>) -> Setting<'a> {
     }
 }
 
-// Whether a server came to its status, and printed its line.
+// Whether this was written to the file of a log, or none was made where nothing is wanted.
+fn is_log(file: &Option<Vec<u8>>, log: Option<&str>) -> bool {
+    match (file, log) {
+        (Some(bytes), Some(text)) => bytes.as_slice() == text.as_bytes(),
+        (None, None) => true,
+        _ => false,
+    }
+}
+
+// Whether a server came to its status, printed its line, and wrote its log.
 fn is_told(done: &Done, server: &Server<'_>) -> bool {
-    done.code == server.code && done.printed.as_slice() == server.printed.as_bytes()
+    done.code == server.code
+        && done.printed.as_slice() == server.printed.as_bytes()
+        && is_log(&done.file, server.log)
 }
 
 // Whether the network was asked for doors where it was to be, and each link was sent what is told of it.
