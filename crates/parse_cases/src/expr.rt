@@ -1,7 +1,7 @@
 // Expressions with all their parentheses.
-use cell_base::Text;
+use cell_base::Boxed;
 use sql_tree::{Expr, Op};
-use std::alloc::{AllocError, Global};
+use std::alloc::AllocError;
 
 fn sign(op: Op) -> &'static str {
     match op {
@@ -21,84 +21,69 @@ fn sign(op: Op) -> &'static str {
     }
 }
 
-pub fn show_text(out: &mut String, text: &Text) -> Result<(), AllocError> {
-    out.push_str(text.as_str())
+/// The words, one after another.
+pub fn words(out: &mut String, words: &[&str]) -> Result<(), AllocError> {
+    for word in words {
+        out.push_str(word)?;
+    }
+    Ok(())
 }
 
-pub fn show_number(alloc: Global, out: &mut String, n: i64) -> Result<(), AllocError> {
-    out.push_str(format!(in alloc; "{n}")?.as_str())
+/// An expression that holds no other one.
+fn show_leaf(out: &mut String, e: &Expr) -> Result<(), AllocError> {
+    match e {
+        Expr::Int(n) => write!(out, "{n}"),
+        Expr::Str(s) => words(out, &["'", s.as_str(), "'"]),
+        Expr::Flag(flag) => out.push_str(if *flag { "TRUE" } else { "FALSE" }),
+        Expr::Column(None, name) => out.push_str(name.as_str()),
+        Expr::Column(Some(table), name) => words(out, &[table.as_str(), ".", name.as_str()]),
+        Expr::Call(name, None) => words(out, &[name.as_str(), "(*)"]),
+        Expr::Null => out.push_str("NULL"),
+        _ => Ok(()),
+    }
 }
 
 /// The expression, with all its parentheses.
 #[cycle(show)]
-pub fn show(alloc: Global, out: &mut String, e: &Expr) -> Result<(), AllocError> {
+pub fn show(out: &mut String, e: &Expr) -> Result<(), AllocError> {
     match e {
-        Expr::Int(n) => show_number(alloc, out, *n),
-        Expr::Str(s) => {
-            out.push_str("'")?;
-            show_text(out, s)?;
-            out.push_str("'")
-        }
-        Expr::Flag(true) => out.push_str("TRUE"),
-        Expr::Flag(false) => out.push_str("FALSE"),
-        Expr::Null => out.push_str("NULL"),
-        Expr::Column(None, name) => show_text(out, name),
-        Expr::Column(Some(table), name) => {
-            show_text(out, table)?;
-            out.push_str(".")?;
-            show_text(out, name)
-        }
-        Expr::Call(name, None) => {
-            show_text(out, name)?;
-            out.push_str("(*)")
-        }
         Expr::Call(name, Some(a)) => {
-            show_text(out, name)?;
-            out.push_str("(")?;
-            show(alloc, out, a.get())?;
-            out.push_str(")")
+            out.push_str(name.as_str())?;
+            show_between(out, "(", a, ")")
         }
-        Expr::Neg(a) => {
-            out.push_str("(-")?;
-            show(alloc, out, a.get())?;
-            out.push_str(")")
-        }
-        Expr::Not(a) => {
-            out.push_str("(NOT ")?;
-            show(alloc, out, a.get())?;
-            out.push_str(")")
-        }
-        Expr::IsNull(a, negated) => {
-            out.push_str("(")?;
-            show(alloc, out, a.get())?;
-            out.push_str(if *negated {
-                " IS NOT NULL)"
-            } else {
-                " IS NULL)"
-            })
-        }
+        Expr::Neg(a) => show_between(out, "(-", a, ")"),
+        Expr::Not(a) => show_between(out, "(NOT ", a, ")"),
+        Expr::IsNull(a, true) => show_between(out, "(", a, " IS NOT NULL)"),
+        Expr::IsNull(a, false) => show_between(out, "(", a, " IS NULL)"),
         Expr::Binary(op, a, b) => {
-            out.push_str("(")?;
-            show(alloc, out, a.get())?;
-            out.push_str(sign(*op))?;
-            show(alloc, out, b.get())?;
-            out.push_str(")")
+            show_between(out, "(", a, sign(*op))?;
+            show_between(out, "", b, ")")
         }
         Expr::In(a, among, negated) => {
-            out.push_str("(")?;
-            show(alloc, out, a.get())?;
-            out.push_str(if *negated { " NOT IN" } else { " IN" })?;
-            show_all(alloc, out, among.as_slice())?;
-            out.push_str(")")
+            show_between(out, "(", a, if *negated { " NOT IN" } else { " IN" })?;
+            show_members(out, among.as_slice())
         }
+        _ => show_leaf(out, e),
     }
 }
 
 #[cycle(show)]
-fn show_all(alloc: Global, out: &mut String, among: &[Expr]) -> Result<(), AllocError> {
+fn show_between(
+    out: &mut String,
+    before: &str,
+    e: &Boxed<Expr>,
+    after: &str,
+) -> Result<(), AllocError> {
+    out.push_str(before)?;
+    show(out, e.get())?;
+    out.push_str(after)
+}
+
+#[cycle(show)]
+fn show_members(out: &mut String, among: &[Expr]) -> Result<(), AllocError> {
     for e in among {
         out.push_str(" ")?;
-        show(alloc, out, e)?;
+        show(out, e)?;
     }
-    Ok(())
+    out.push_str(")")
 }

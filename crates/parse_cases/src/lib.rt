@@ -7,16 +7,28 @@
 #![tactic(auto)]
 
 #[cfg(test)]
+mod answers;
+#[cfg(test)]
 mod cases;
 #[cfg(test)]
+mod compared;
+#[cfg(test)]
 mod expr;
+#[cfg(test)]
+mod held;
 #[cfg(test)]
 mod lexemes;
 #[cfg(test)]
 mod long_texts;
 #[cfg(test)]
+mod parts;
+#[cfg(test)]
 mod statement;
 #[cfg(test)]
+mod tables;
+#[cfg(test)]
 mod tests;
+#[cfg(test)]
+mod texts;
 #[cfg(test)]
 mod tokens;

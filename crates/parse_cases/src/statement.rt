@@ -1,214 +1,195 @@
 // Statements as one line each.
-use crate::expr::{show, show_number, show_text};
-use cell_base::{Items, SqlType, Text};
+use crate::expr::{show, words};
+use crate::parts::Part::{Kind, Mark, Name, NameAfter, NumberAfter, Tree, TreeAfter, Word};
+use crate::parts::parts;
+use cell_base::{Items, Text};
 use sql_tree::{
     ColumnDef, CreateTable, Delete, Expr, Insert, Item, OrderTerm, Select, Statement, TableRef,
     Update,
 };
-use std::alloc::{AllocError, Global};
+use std::alloc::AllocError;
 
-fn names(out: &mut String, names: &Items<Text>) -> Result<(), AllocError> {
-    for name in names.as_slice() {
-        out.push_str(" ")?;
-        show_text(out, name)?;
+/// What has a text.
+pub trait Shown {
+    /// Writes the text after the line so far.
+    fn push(&self, out: &mut String) -> Result<(), AllocError>;
+}
+
+/// Each of them, after the word.
+pub fn each<T: Shown>(out: &mut String, word: &str, all: &Items<T>) -> Result<(), AllocError> {
+    for one in all.as_slice() {
+        out.push_str(word)?;
+        one.push(out)?;
     }
     Ok(())
 }
 
-fn word_and_expr(
-    alloc: Global,
-    out: &mut String,
-    word: &str,
-    expr: &Option<Expr>,
-) -> Result<(), AllocError> {
-    match expr {
-        Some(expr) => {
-            out.push_str(word)?;
-            show(alloc, out, expr)
-        }
-        None => Ok(()),
+impl Shown for Text {
+    fn push(&self, out: &mut String) -> Result<(), AllocError> {
+        out.push_str(self.as_str())
     }
 }
 
-fn alias(out: &mut String, alias: &Option<Text>) -> Result<(), AllocError> {
-    match alias {
-        Some(alias) => {
-            out.push_str(" as ")?;
-            show_text(out, alias)
-        }
-        None => Ok(()),
+impl Shown for Expr {
+    fn push(&self, out: &mut String) -> Result<(), AllocError> {
+        show(out, self)
     }
 }
 
-fn item(alloc: Global, out: &mut String, item: &Item) -> Result<(), AllocError> {
-    match item {
-        Item::Star => out.push_str(" *"),
-        Item::Expr(expr, name) => {
-            out.push_str(" ")?;
-            show(alloc, out, expr)?;
-            alias(out, name)
+/// A cell of a row, or what a column is set to.
+impl Shown for Option<Expr> {
+    fn push(&self, out: &mut String) -> Result<(), AllocError> {
+        match self {
+            Some(expr) => show(out, expr),
+            None => out.push_str("default"),
         }
     }
 }
 
-fn entry(alloc: Global, out: &mut String, entry: &TableRef) -> Result<(), AllocError> {
-    out.push_str(" from ")?;
-    show_text(out, &entry.name)?;
-    alias(out, &entry.alias)?;
-    word_and_expr(alloc, out, " on ", &entry.on)
-}
+// ---- queries
 
-fn term(alloc: Global, out: &mut String, term: &OrderTerm) -> Result<(), AllocError> {
-    out.push_str(" by ")?;
-    show(alloc, out, &term.expr)?;
-    if term.descending {
-        out.push_str(" desc")?;
-    }
-    Ok(())
-}
-
-fn count(
-    alloc: Global,
-    out: &mut String,
-    word: &str,
-    number: Option<i64>,
-) -> Result<(), AllocError> {
-    match number {
-        Some(number) => {
-            out.push_str(word)?;
-            show_number(alloc, out, number)
+impl Shown for Item {
+    fn push(&self, out: &mut String) -> Result<(), AllocError> {
+        match self {
+            Item::Star => out.push_str("*"),
+            Item::Expr(expr, name) => parts(out, &[Tree(expr), NameAfter(" as ", name)]),
         }
-        None => Ok(()),
     }
 }
 
-fn select(alloc: Global, out: &mut String, select: &Select) -> Result<(), AllocError> {
+impl Shown for TableRef {
+    fn push(&self, out: &mut String) -> Result<(), AllocError> {
+        parts(
+            out,
+            &[
+                Name(&self.name),
+                NameAfter(" as ", &self.alias),
+                TreeAfter(" on ", &self.on),
+            ],
+        )
+    }
+}
+
+impl Shown for OrderTerm {
+    fn push(&self, out: &mut String) -> Result<(), AllocError> {
+        parts(out, &[Tree(&self.expr), Mark(" desc", self.descending)])
+    }
+}
+
+fn select(out: &mut String, select: &Select) -> Result<(), AllocError> {
     out.push_str("select")?;
-    for one in select.items.as_slice() {
-        item(alloc, out, one)?;
-    }
-    for one in select.from.as_slice() {
-        entry(alloc, out, one)?;
-    }
-    word_and_expr(alloc, out, " where ", &select.filter)?;
-    for one in select.order.as_slice() {
-        term(alloc, out, one)?;
-    }
-    count(alloc, out, " limit ", select.limit)?;
-    count(alloc, out, " offset ", select.offset)
+    each(out, " ", &select.items)?;
+    each(out, " from ", &select.from)?;
+    parts(out, &[TreeAfter(" where ", &select.filter)])?;
+    each(out, " by ", &select.order)?;
+    parts(
+        out,
+        &[
+            NumberAfter(" limit ", select.limit),
+            NumberAfter(" offset ", select.offset),
+        ],
+    )
 }
 
-fn cell(alloc: Global, out: &mut String, cell: &Option<Expr>) -> Result<(), AllocError> {
-    match cell {
-        Some(expr) => show(alloc, out, expr),
-        None => out.push_str("default"),
-    }
-}
+// ---- changes
 
-fn row(alloc: Global, out: &mut String, row: &Items<Option<Expr>>) -> Result<(), AllocError> {
-    out.push_str(" row")?;
-    for one in row.as_slice() {
-        out.push_str(" ")?;
-        cell(alloc, out, one)?;
-    }
-    Ok(())
-}
-
-fn insert(alloc: Global, out: &mut String, insert: &Insert) -> Result<(), AllocError> {
-    out.push_str("insert ")?;
-    show_text(out, &insert.table)?;
-    names(out, &insert.columns)?;
-    for one in insert.rows.as_slice() {
-        row(alloc, out, one)?;
-    }
-    Ok(())
-}
-
-fn update(alloc: Global, out: &mut String, update: &Update) -> Result<(), AllocError> {
-    out.push_str("update ")?;
-    show_text(out, &update.table)?;
-    for one in update.set.as_slice() {
-        out.push_str(" set ")?;
-        show_text(out, &one.0)?;
-        out.push_str(" = ")?;
-        cell(alloc, out, &one.1)?;
-    }
-    word_and_expr(alloc, out, " where ", &update.filter)
-}
-
-fn delete(alloc: Global, out: &mut String, delete: &Delete) -> Result<(), AllocError> {
-    out.push_str("delete ")?;
-    show_text(out, &delete.table)?;
-    word_and_expr(alloc, out, " where ", &delete.filter)
-}
-
-fn kind(alloc: Global, out: &mut String, kind: SqlType) -> Result<(), AllocError> {
-    match kind {
-        SqlType::Boolean => out.push_str(" boolean"),
-        SqlType::Integer => out.push_str(" integer"),
-        SqlType::Bigint => out.push_str(" bigint"),
-        SqlType::Text => out.push_str(" text"),
-        SqlType::Numeric => out.push_str(" numeric"),
-        SqlType::Varchar(length) => {
-            out.push_str(" varchar ")?;
-            out.push_str(format!(in alloc; "{length}")?.as_str())
-        }
+impl Shown for Items<Option<Expr>> {
+    fn push(&self, out: &mut String) -> Result<(), AllocError> {
+        each(out, " ", self)
     }
 }
 
-fn column(alloc: Global, out: &mut String, column: &ColumnDef) -> Result<(), AllocError> {
-    out.push_str(" column ")?;
-    show_text(out, &column.name)?;
-    kind(alloc, out, column.kind)?;
-    if column.not_null {
-        out.push_str(" not null")?;
-    }
-    word_and_expr(alloc, out, " default ", &column.default)?;
-    if column.key {
-        out.push_str(" key")?;
-    }
-    Ok(())
+fn insert(out: &mut String, insert: &Insert) -> Result<(), AllocError> {
+    words(out, &["insert ", insert.table.as_str()])?;
+    each(out, " ", &insert.columns)?;
+    each(out, " row", &insert.rows)
 }
 
-fn create(alloc: Global, out: &mut String, create: &CreateTable) -> Result<(), AllocError> {
-    out.push_str("create ")?;
-    show_text(out, &create.name)?;
-    for one in create.columns.as_slice() {
-        column(alloc, out, one)?;
+/// A column that is set, and to what.
+impl Shown for (Text, Option<Expr>) {
+    fn push(&self, out: &mut String) -> Result<(), AllocError> {
+        words(out, &[self.0.as_str(), " = "])?;
+        self.1.push(out)
     }
-    for one in create.keys.as_slice() {
-        out.push_str(" key ")?;
-        show_text(out, one)?;
-    }
-    for one in create.checks.as_slice() {
-        out.push_str(" check ")?;
-        show(alloc, out, one)?;
-    }
-    Ok(())
 }
 
-/// The statement as one line.
-pub fn line(alloc: Global, out: &mut String, statement: &Statement) -> Result<(), AllocError> {
+fn update(out: &mut String, update: &Update) -> Result<(), AllocError> {
+    words(out, &["update ", update.table.as_str()])?;
+    each(out, " set ", &update.set)?;
+    parts(out, &[TreeAfter(" where ", &update.filter)])
+}
+
+fn delete(out: &mut String, delete: &Delete) -> Result<(), AllocError> {
+    parts(
+        out,
+        &[
+            Word("delete "),
+            Name(&delete.table),
+            TreeAfter(" where ", &delete.filter),
+        ],
+    )
+}
+
+// ---- tables
+
+impl Shown for ColumnDef {
+    fn push(&self, out: &mut String) -> Result<(), AllocError> {
+        parts(
+            out,
+            &[
+                Name(&self.name),
+                Kind(self.kind),
+                Mark(" not null", self.not_null),
+                TreeAfter(" default ", &self.default),
+                Mark(" key", self.key),
+            ],
+        )
+    }
+}
+
+fn create(out: &mut String, create: &CreateTable) -> Result<(), AllocError> {
+    words(out, &["create ", create.name.as_str()])?;
+    each(out, " column ", &create.columns)?;
+    each(out, " key ", &create.keys)?;
+    each(out, " check ", &create.checks)
+}
+
+// ---- settings
+
+fn set(out: &mut String, name: &Text, values: &Items<Text>) -> Result<(), AllocError> {
+    words(out, &["set ", name.as_str(), " ="])?;
+    each(out, " ", values)
+}
+
+fn setting(out: &mut String, statement: &Statement) -> Result<(), AllocError> {
     match statement {
-        Statement::Select(tree) => select(alloc, out, tree),
-        Statement::Insert(tree) => insert(alloc, out, tree),
-        Statement::Update(tree) => update(alloc, out, tree),
-        Statement::Delete(tree) => delete(alloc, out, tree),
-        Statement::Create(tree) => create(alloc, out, tree),
         Statement::Begin(true) => out.push_str("start"),
         Statement::Begin(false) => out.push_str("begin"),
         Statement::Commit => out.push_str("commit"),
         Statement::Rollback => out.push_str("rollback"),
         Statement::SetModes => out.push_str("modes"),
-        Statement::Set(name, values) => {
-            out.push_str("set ")?;
-            show_text(out, name)?;
-            out.push_str(" =")?;
-            names(out, values)
-        }
-        Statement::Show(name) => {
-            out.push_str("show ")?;
-            show_text(out, name)
-        }
+        Statement::Set(name, values) => set(out, name, values),
+        Statement::Show(name) => words(out, &["show ", name.as_str()]),
+        _ => Ok(()),
+    }
+}
+
+/// The statement as one line.
+fn line(out: &mut String, statement: &Statement) -> Result<(), AllocError> {
+    match statement {
+        Statement::Select(tree) => select(out, tree),
+        Statement::Insert(tree) => insert(out, tree),
+        Statement::Update(tree) => update(out, tree),
+        Statement::Delete(tree) => delete(out, tree),
+        Statement::Create(tree) => create(out, tree),
+        _ => setting(out, statement),
+    }
+}
+
+/// The line, with a semicolon after it.
+impl Shown for Statement {
+    fn push(&self, out: &mut String) -> Result<(), AllocError> {
+        line(out, self)?;
+        out.push_str(";")
     }
 }

@@ -1,83 +1,78 @@
 // What no clause says of `assign`: that a call with ample memory succeeds, and values worked out by hand.
-use crate::cases::{ASSIGNED, Lit};
-use crate::samples::{shown, value_of};
-use cell_base::{SqlType, Text, Value};
+use crate::cases::{ASSIGNED, Lit, LongCase, OF_BYTES, WITHOUT_SPACES};
+use crate::compared::is;
+use crate::held::{alone, kept};
+use crate::samples::{shown, text_of, value_of};
+use cell_base::{Memory, SqlFault, SqlType, Value};
 use expr_eval::assign;
-use std::alloc::Global;
+use std::alloc::{AllocError, Global};
 use std::test::Fail;
 
-fn converted(alloc: Global, kind: SqlType, lit: Lit) -> Result<String, Fail> {
+fn converted(alloc: Global, kind: SqlType, lit: Lit) -> Result<String, Memory> {
     let value = value_of(alloc, lit)?;
-    Ok(shown(alloc, assign(alloc, value, kind))?)
-}
-
-fn first_misassigned(alloc: Global, cases: &[(SqlType, Lit, &str)]) -> Result<Option<usize>, Fail> {
-    for (place, (kind, lit, want)) in cases.iter().enumerate() {
-        if converted(alloc, *kind, *lit)?.as_str() != *want {
-            return Ok(Some(place));
-        }
-    }
-    Ok(None)
+    shown(alloc, assign(alloc, value, kind))
 }
 
 #[test]
 fn assigns(rt: HostRuntime) -> Result<(), Fail> {
-    assert_eq!(rt; first_misassigned(rt.alloc(), &ASSIGNED)?, None);
+    for (place, (kind, lit, want)) in ASSIGNED.iter().enumerate() {
+        is("assigned", place, converted(rt.alloc(), *kind, *lit), want)?;
+    }
     Ok(())
 }
 
-/// The bytes of a text, so many times, as a column's type stores them: their number, or the code.
-fn stored(
-    alloc: Global,
-    kind: SqlType,
-    text: &str,
-    times: usize,
-    end: &str,
-) -> Result<String, Fail> {
-    let mut bytes = Vec::new(alloc);
+fn push_times(bytes: &mut Vec<u8>, piece: &str, times: usize) -> Result<(), AllocError> {
     for _ in 0..times {
-        bytes.extend_from_slice(text.as_bytes())?;
+        bytes.extend_from_slice(piece.as_bytes())?;
     }
-    bytes.extend_from_slice(end.as_bytes())?;
-    let text = Text::from_bytes(alloc, &bytes)?;
-    match assign(alloc, Value::Text(text), kind) {
+    Ok(())
+}
+
+fn push_all(bytes: &mut Vec<u8>, case: &LongCase) -> Result<(), Memory> {
+    let (_, piece, times, end, _) = *case;
+    push_times(bytes, piece, times)?;
+    Ok(bytes.extend_from_slice(end.as_bytes())?)
+}
+
+fn bytes_of(alloc: Global, case: &LongCase) -> Result<Vec<u8>, Memory> {
+    let mut bytes = Vec::new(alloc);
+    let pushed = push_all(&mut bytes, case);
+    kept(bytes, pushed)
+}
+
+fn long_text(alloc: Global, case: &LongCase) -> Result<Value, Memory> {
+    let bytes = bytes_of(alloc, case)?;
+    let text = text_of(alloc, &bytes);
+    alone(bytes, text)
+}
+
+/// The number of the text's bytes, or the code.
+fn length_shown(alloc: Global, answer: Result<Value, SqlFault>) -> Result<String, Memory> {
+    match answer {
         Ok(Value::Text(text)) => Ok(format!(in alloc; "{}", text.bytes().len())?),
-        answer => Ok(shown(alloc, answer)?),
+        answer => shown(alloc, answer),
     }
+}
+
+/// The bytes of a text as a column's type stores them: their number, or the code.
+fn stored(alloc: Global, case: &LongCase) -> Result<String, Memory> {
+    let text = long_text(alloc, case)?;
+    length_shown(alloc, assign(alloc, text, case.0))
+}
+
+fn are_stored(alloc: Global, table: &str, cases: &[LongCase]) -> Result<(), Fail> {
+    for (place, case) in cases.iter().enumerate() {
+        is(table, place, stored(alloc, case), case.4)?;
+    }
+    Ok(())
 }
 
 #[test]
 fn bounds_the_bytes_of_a_text(rt: HostRuntime) -> Result<(), Fail> {
-    let alloc = rt.alloc();
-    assert_eq!(rt;
-        stored(alloc, SqlType::Text, "a", 65_536, "")?.as_str(),
-        "65536"
-    );
-    assert_eq!(rt;
-        stored(alloc, SqlType::Text, "a", 65_537, "")?.as_str(),
-        "S54000"
-    );
-    Ok(())
+    are_stored(rt.alloc(), "bytes", OF_BYTES)
 }
 
 #[test]
 fn bounds_what_is_left_without_spaces(rt: HostRuntime) -> Result<(), Fail> {
-    let alloc = rt.alloc();
-    assert_eq!(rt;
-        stored(alloc, SqlType::Varchar(65_536), "a", 65_536, " ")?.as_str(),
-        "65536"
-    );
-    assert_eq!(rt;
-        stored(alloc, SqlType::Varchar(65_536), "é", 40_000, "")?.as_str(),
-        "S54000"
-    );
-    assert_eq!(rt;
-        stored(alloc, SqlType::Varchar(40_000), "é", 40_000, "  ")?.as_str(),
-        "S54000"
-    );
-    assert_eq!(rt;
-        stored(alloc, SqlType::Varchar(30_000), "é", 40_000, "")?.as_str(),
-        "S22001"
-    );
-    Ok(())
+    are_stored(rt.alloc(), "without spaces", WITHOUT_SPACES)
 }

@@ -13,8 +13,23 @@ pub enum Lit {
     Str(&'static str),
 }
 
+/// An operator, the type of its operands, and its operands.
+pub type Operation = (Op, SqlType, Lit, Lit);
+
 /// An operator, the type of its operands, its operands, and what is given.
 pub type Case = (Op, SqlType, Lit, Lit, &'static str);
+
+/// What is asked of one operand.
+#[derive(Clone, Copy)]
+pub enum Form {
+    Neg,
+    Not,
+    /// True for IS NOT NULL.
+    IsNull(bool),
+}
+
+/// A form with one operand, the type of the operand, the operand, and what is given.
+pub type OneCase = (Form, SqlType, Lit, &'static str);
 
 const NULL: Lit = Lit::Null;
 
@@ -23,7 +38,7 @@ const YES: Lit = Lit::Flag(true);
 const NO: Lit = Lit::Flag(false);
 
 /// Arithmetic of 32 bits.
-pub const OF_INTEGER: [Case; 17] = [
+pub const OF_INTEGER: &[Case] = &[
     (Add, Integer, Lit::Int(1), Lit::Int(2), "3"),
     (Add, Integer, Lit::Int(2147483647), Lit::Int(1), "S22003"),
     (
@@ -62,7 +77,7 @@ pub const OF_INTEGER: [Case; 17] = [
 ];
 
 /// Arithmetic of 64 bits.
-pub const OF_BIGINT: [Case; 10] = [
+pub const OF_BIGINT: &[Case] = &[
     (Add, Bigint, Lit::Int(2147483648), Lit::Int(1), "2147483649"),
     (Add, Bigint, Lit::Int(2147483647), Lit::Int(1), "2147483648"),
     (
@@ -106,7 +121,7 @@ pub const OF_BIGINT: [Case; 10] = [
 ];
 
 /// An operand that is null.
-pub const OF_NULL: [Case; 12] = [
+pub const OF_NULL: &[Case] = &[
     (Add, Integer, NULL, Lit::Int(1), "null"),
     (Sub, Integer, Lit::Int(1), NULL, "null"),
     (Mul, Integer, NULL, NULL, "null"),
@@ -122,7 +137,7 @@ pub const OF_NULL: [Case; 12] = [
 ];
 
 /// Comparisons of numbers.
-pub const OF_NUMBERS: [Case; 13] = [
+pub const OF_NUMBERS: &[Case] = &[
     (Eq, Integer, Lit::Int(1), Lit::Int(1), "t"),
     (Eq, Integer, Lit::Int(1), Lit::Int(2), "f"),
     (Ne, Integer, Lit::Int(1), Lit::Int(2), "t"),
@@ -139,7 +154,7 @@ pub const OF_NUMBERS: [Case; 13] = [
 ];
 
 /// Comparisons of texts, by bytes.
-pub const OF_TEXTS: [Case; 10] = [
+pub const OF_TEXTS: &[Case] = &[
     (Eq, Text, Lit::Str("a"), Lit::Str("a"), "t"),
     (Eq, Text, Lit::Str("a"), Lit::Str("A"), "f"),
     (Lt, Text, Lit::Str("Z"), Lit::Str("a"), "t"),
@@ -153,7 +168,7 @@ pub const OF_TEXTS: [Case; 10] = [
 ];
 
 /// Comparisons of booleans: false is below true.
-pub const OF_FLAGS: [Case; 5] = [
+pub const OF_FLAGS: &[Case] = &[
     (Lt, Boolean, NO, YES, "t"),
     (Gt, Boolean, NO, YES, "f"),
     (Eq, Boolean, YES, YES, "t"),
@@ -162,7 +177,7 @@ pub const OF_FLAGS: [Case; 5] = [
 ];
 
 /// AND.
-pub const CONJUNCTIONS: [Case; 9] = [
+pub const CONJUNCTIONS: &[Case] = &[
     (And, Boolean, YES, YES, "t"),
     (And, Boolean, YES, NO, "f"),
     (And, Boolean, YES, NULL, "null"),
@@ -175,7 +190,7 @@ pub const CONJUNCTIONS: [Case; 9] = [
 ];
 
 /// OR.
-pub const DISJUNCTIONS: [Case; 9] = [
+pub const DISJUNCTIONS: &[Case] = &[
     (Or, Boolean, YES, YES, "t"),
     (Or, Boolean, YES, NO, "t"),
     (Or, Boolean, YES, NULL, "t"),
@@ -188,7 +203,7 @@ pub const DISJUNCTIONS: [Case; 9] = [
 ];
 
 /// A column's type, a value that is assigned to it, and what is given.
-pub const ASSIGNED: [(SqlType, Lit, &str); 25] = [
+pub const ASSIGNED: &[(SqlType, Lit, &str)] = &[
     (Integer, Lit::Int(2147483647), "2147483647"),
     (Integer, Lit::Int(2147483648), "S22003"),
     (Integer, Lit::Int(-2147483648), "-2147483648"),
@@ -214,4 +229,94 @@ pub const ASSIGNED: [(SqlType, Lit, &str); 25] = [
     (Varchar(1), Lit::Str("   "), " "),
     (Varchar(3), NULL, "null"),
     (Text, Lit::Str(""), ""),
+];
+
+/// A type, the text of so many pieces and an end, and how many bytes of it are stored, or the code.
+pub type LongCase = (SqlType, &'static str, usize, &'static str, &'static str);
+
+/// The bytes of a text.
+pub const OF_BYTES: &[LongCase] = &[
+    (Text, "a", 65_536, "", "65536"),
+    (Text, "a", 65_537, "", "S54000"),
+];
+
+/// What is left without spaces.
+pub const WITHOUT_SPACES: &[LongCase] = &[
+    (Varchar(65_536), "a", 65_536, " ", "65536"),
+    (Varchar(65_536), "é", 40_000, "", "S54000"),
+    (Varchar(40_000), "é", 40_000, "  ", "S54000"),
+    (Varchar(30_000), "é", 40_000, "", "S22001"),
+];
+
+/// `FLAG AND 1 / 0 = 1`, and the same with OR.
+pub const GUARDED: &[(bool, Op, &str)] = &[(false, And, "S22012"), (true, Or, "S22012")];
+
+/// Two operations of which each fails, compared.
+pub const OF_FAULTS: &[(Operation, Operation, &str)] = &[
+    // `1 / 0 = 2147483647 + 1`
+    (
+        (Div, Integer, Lit::Int(1), Lit::Int(0)),
+        (Add, Integer, Lit::Int(2147483647), Lit::Int(1)),
+        "S22012",
+    ),
+    // `2147483647 + 1 = 1 / 0`
+    (
+        (Add, Integer, Lit::Int(2147483647), Lit::Int(1)),
+        (Div, Integer, Lit::Int(1), Lit::Int(0)),
+        "S22003",
+    ),
+];
+
+/// Numbers with a sign.
+pub const SIGNED: &[OneCase] = &[
+    (Form::Neg, Integer, Lit::Int(7), "-7"),
+    (Form::Neg, Integer, Lit::Int(-2147483648), "S22003"),
+    (Form::Neg, Bigint, Lit::Int(-2147483648), "2147483648"),
+    (Form::Neg, Bigint, Lit::Int(i64::MIN), "S22003"),
+    (Form::Neg, Integer, NULL, "null"),
+];
+
+/// NOT.
+pub const DENIED: &[OneCase] = &[
+    (Form::Not, Boolean, YES, "f"),
+    (Form::Not, Boolean, NO, "t"),
+    (Form::Not, Boolean, NULL, "null"),
+];
+
+/// IS NULL and IS NOT NULL.
+pub const NULL_TESTS: &[OneCase] = &[
+    (Form::IsNull(false), Text, NULL, "t"),
+    (Form::IsNull(true), Text, NULL, "f"),
+    (Form::IsNull(false), Text, Lit::Str(""), "f"),
+    (Form::IsNull(true), Text, Lit::Str(""), "t"),
+];
+
+/// An integer, members, whether it is NOT IN, and what is given.
+pub const AMONG: &[(Lit, &[Lit], bool, &str)] = &[
+    (Lit::Int(1), &[Lit::Int(1), Lit::Int(2)], false, "t"),
+    (Lit::Int(1), &[Lit::Int(2), Lit::Int(1)], false, "t"),
+    (Lit::Int(1), &[Lit::Int(2), Lit::Int(3)], false, "f"),
+    (Lit::Int(1), &[Lit::Int(2), NULL], false, "null"),
+    (Lit::Int(1), &[NULL, Lit::Int(1)], false, "t"),
+    (NULL, &[Lit::Int(1), NULL], false, "null"),
+    (Lit::Int(1), &[Lit::Int(2), Lit::Int(1)], true, "f"),
+    (Lit::Int(1), &[Lit::Int(2), Lit::Int(3)], true, "t"),
+    (Lit::Int(1), &[NULL, Lit::Int(3)], true, "null"),
+    (Lit::Int(1), &[NULL, Lit::Int(1)], true, "f"),
+];
+
+/// A column's type, the number of its entry and its number in it, and what is given.
+pub const COLUMNS: &[(SqlType, u32, u32, &str)] = &[
+    (Integer, 0, 0, "7"),
+    (Bigint, 0, 0, "7"),
+    (Text, 0, 1, "ab"),
+    (Varchar(1), 0, 1, "ab"),
+    (Boolean, 1, 1, "t"),
+    (Bigint, 1, 0, "3000000000"),
+    (Integer, 1, 0, "null"),
+    (Integer, 0, 1, "null"),
+    (Text, 0, 0, "null"),
+    (Text, 0, 2, "null"),
+    (Text, 0, 3, "null"),
+    (Text, 2, 0, "null"),
 ];

@@ -1,358 +1,212 @@
 // What no clause says of `eval`: that a call with ample memory succeeds, and values worked out by hand.
 use crate::cases::{
-    CONJUNCTIONS, Case, DISJUNCTIONS, Lit, OF_BIGINT, OF_FLAGS, OF_INTEGER, OF_NULL, OF_NUMBERS,
-    OF_TEXTS,
+    AMONG, COLUMNS, CONJUNCTIONS, Case, DENIED, DISJUNCTIONS, GUARDED, Lit, NULL_TESTS, OF_BIGINT,
+    OF_FAULTS, OF_FLAGS, OF_INTEGER, OF_NULL, OF_NUMBERS, OF_TEXTS, OneCase, Operation, SIGNED,
 };
-use crate::samples::{shown, value_of};
-use cell_base::{Boxed, Items, Memory, SqlType, Text, TextFault, Value};
+use crate::compared::is;
+use crate::held::{alone, both, kept};
+use crate::samples::{shown, text_of};
+use crate::trees::{
+    among, among_failing, binary, constant, equality, failing, integer, of_one, operation,
+};
+use cell_base::{Items, Memory, SqlType, Value};
 use expr_eval::eval;
 use sql_tree::{Op, TypedExpr, TypedNode};
-use std::alloc::{AllocError, Global};
+use std::alloc::Global;
 use std::test::Fail;
 
-fn constant(alloc: Global, kind: SqlType, lit: Lit) -> Result<TypedExpr, TextFault> {
-    Ok(TypedExpr {
-        kind,
-        node: TypedNode::Constant(value_of(alloc, lit)?),
-    })
+/// What the expression gives over no row.
+fn given(alloc: Global, expr: Result<TypedExpr, Memory>) -> Result<String, Memory> {
+    let expr = expr?;
+    let answer = eval(alloc, &expr, &[]);
+    alone(expr, shown(alloc, answer))
 }
 
-fn binary(
-    alloc: Global,
-    kind: SqlType,
-    op: Op,
-    left: TypedExpr,
-    right: TypedExpr,
-) -> Result<TypedExpr, Memory> {
-    let left = Boxed::new(alloc, left)?;
-    let right = Boxed::new(alloc, right)?;
-    Ok(TypedExpr {
-        kind,
-        node: TypedNode::Binary(op, left, right),
-    })
-}
-
-/// The type of a result, given the operands'.
-fn result_type(op: Op, kind: SqlType) -> SqlType {
-    match op {
-        Op::Add | Op::Sub | Op::Mul | Op::Div | Op::Rem => kind,
-        _ => SqlType::Boolean,
-    }
-}
-
-/// What the expression gives over no row. It takes the expression whole, so that each test lets it go at one place.
-fn given(alloc: Global, expr: TypedExpr) -> Result<String, AllocError> {
-    shown(alloc, eval(alloc, &expr, &[]))
-}
-
-fn operation(alloc: Global, case: &Case) -> Result<TypedExpr, Fail> {
+fn operation_given(alloc: Global, case: &Case) -> Result<String, Memory> {
     let (op, kind, left, right, _) = *case;
-    let left = constant(alloc, kind, left)?;
-    let right = constant(alloc, kind, right)?;
-    Ok(binary(alloc, result_type(op, kind), op, left, right)?)
+    given(alloc, operation(alloc, (op, kind, left, right)))
 }
 
-fn answer(alloc: Global, case: &Case) -> Result<String, Fail> {
-    Ok(given(alloc, operation(alloc, case)?)?)
-}
-
-fn agrees(alloc: Global, case: &Case) -> Result<bool, Fail> {
-    Ok(answer(alloc, case)?.as_str() == case.4)
-}
-
-fn first_wrong(alloc: Global, cases: &[Case]) -> Result<Option<usize>, Fail> {
+fn are_given(alloc: Global, table: &str, cases: &[Case]) -> Result<(), Fail> {
     for (place, case) in cases.iter().enumerate() {
-        if !agrees(alloc, case)? {
-            return Ok(Some(place));
-        }
+        is(table, place, operation_given(alloc, case), case.4)?;
     }
-    Ok(None)
+    Ok(())
 }
 
 #[test]
 fn computes(rt: HostRuntime) -> Result<(), Fail> {
-    assert_eq!(rt; first_wrong(rt.alloc(), &OF_INTEGER)?, None);
-    assert_eq!(rt; first_wrong(rt.alloc(), &OF_BIGINT)?, None);
-    assert_eq!(rt; first_wrong(rt.alloc(), &OF_NULL)?, None);
-    Ok(())
+    are_given(rt.alloc(), "integer", OF_INTEGER)?;
+    are_given(rt.alloc(), "bigint", OF_BIGINT)?;
+    are_given(rt.alloc(), "null", OF_NULL)
 }
 
 #[test]
 fn compares(rt: HostRuntime) -> Result<(), Fail> {
-    assert_eq!(rt; first_wrong(rt.alloc(), &OF_NUMBERS)?, None);
-    assert_eq!(rt; first_wrong(rt.alloc(), &OF_TEXTS)?, None);
-    assert_eq!(rt; first_wrong(rt.alloc(), &OF_FLAGS)?, None);
-    Ok(())
+    are_given(rt.alloc(), "numbers", OF_NUMBERS)?;
+    are_given(rt.alloc(), "texts", OF_TEXTS)?;
+    are_given(rt.alloc(), "flags", OF_FLAGS)
 }
 
 #[test]
 fn joins_conditions(rt: HostRuntime) -> Result<(), Fail> {
-    assert_eq!(rt; first_wrong(rt.alloc(), &CONJUNCTIONS)?, None);
-    assert_eq!(rt; first_wrong(rt.alloc(), &DISJUNCTIONS)?, None);
-    Ok(())
-}
-
-fn integer(n: i64) -> TypedExpr {
-    TypedExpr {
-        kind: SqlType::Integer,
-        node: TypedNode::Constant(Value::Int(n)),
-    }
-}
-
-fn boolean(node: TypedNode) -> TypedExpr {
-    TypedExpr {
-        kind: SqlType::Boolean,
-        node,
-    }
-}
-
-fn quotient(alloc: Global, left: i64, right: i64) -> Result<TypedExpr, Memory> {
-    binary(
-        alloc,
-        SqlType::Integer,
-        Op::Div,
-        integer(left),
-        integer(right),
-    )
-}
-
-fn sum(alloc: Global, left: i64, right: i64) -> Result<TypedExpr, Memory> {
-    binary(
-        alloc,
-        SqlType::Integer,
-        Op::Add,
-        integer(left),
-        integer(right),
-    )
-}
-
-fn equality(alloc: Global, left: TypedExpr, right: TypedExpr) -> Result<TypedExpr, Memory> {
-    binary(alloc, SqlType::Boolean, Op::Eq, left, right)
-}
-
-/// `1 / 0 = 1`.
-fn failing(alloc: Global) -> Result<TypedExpr, Memory> {
-    equality(alloc, quotient(alloc, 1, 0)?, integer(1))
+    are_given(rt.alloc(), "AND", CONJUNCTIONS)?;
+    are_given(rt.alloc(), "OR", DISJUNCTIONS)
 }
 
 /// `FLAG AND 1 / 0 = 1`, and the same with another operator.
-fn guarded(alloc: Global, flag: bool, op: Op) -> Result<String, Fail> {
-    let guard = boolean(TypedNode::Constant(Value::Flag(flag)));
-    let expr = binary(alloc, SqlType::Boolean, op, guard, failing(alloc)?)?;
-    Ok(given(alloc, expr)?)
+fn guarded(alloc: Global, flag: bool, op: Op) -> Result<String, Memory> {
+    let guard = constant(alloc, SqlType::Boolean, Lit::Flag(flag));
+    given(
+        alloc,
+        binary(alloc, SqlType::Boolean, op, guard, failing(alloc)),
+    )
 }
 
 #[test]
 fn evaluates_both_operands(rt: HostRuntime) -> Result<(), Fail> {
-    assert_eq!(rt; guarded(rt.alloc(), false, Op::And)?.as_str(), "S22012");
-    assert_eq!(rt; guarded(rt.alloc(), true, Op::Or)?.as_str(), "S22012");
+    for (place, (flag, op, want)) in GUARDED.iter().enumerate() {
+        is("guarded", place, guarded(rt.alloc(), *flag, *op), want)?;
+    }
     Ok(())
 }
 
-fn compared(alloc: Global, left: TypedExpr, right: TypedExpr) -> Result<String, Fail> {
-    Ok(given(alloc, equality(alloc, left, right)?)?)
-}
-
-/// `1 / 0 = 2147483647 + 1`
-fn zero_first(alloc: Global) -> Result<String, Fail> {
-    compared(alloc, quotient(alloc, 1, 0)?, sum(alloc, 2147483647, 1)?)
-}
-
-/// `2147483647 + 1 = 1 / 0`
-fn range_first(alloc: Global) -> Result<String, Fail> {
-    compared(alloc, sum(alloc, 2147483647, 1)?, quotient(alloc, 1, 0)?)
+fn compared(alloc: Global, left: Operation, right: Operation) -> Result<String, Memory> {
+    let left = operation(alloc, left);
+    given(alloc, equality(alloc, left, operation(alloc, right)))
 }
 
 #[test]
 fn evaluates_the_left_operand_first(rt: HostRuntime) -> Result<(), Fail> {
-    let alloc = rt.alloc();
-    assert_eq!(rt; zero_first(alloc)?.as_str(), "S22012");
-    assert_eq!(rt; range_first(alloc)?.as_str(), "S22003");
+    for (place, (left, right, want)) in OF_FAULTS.iter().enumerate() {
+        is("faults", place, compared(rt.alloc(), *left, *right), want)?;
+    }
     Ok(())
+}
+
+/// `5 = 5000000000`, of an integer and a bigint.
+fn mixed(alloc: Global) -> Result<String, Memory> {
+    let big = constant(alloc, SqlType::Bigint, Lit::Int(5_000_000_000));
+    given(alloc, equality(alloc, integer(alloc, 5), big))
 }
 
 /// An integer and a bigint.
 #[test]
 fn takes_two_types_of_number(rt: HostRuntime) -> Result<(), Fail> {
-    let alloc = rt.alloc();
-    let big = constant(alloc, SqlType::Bigint, Lit::Int(5_000_000_000))?;
-    assert_eq!(rt; compared(alloc, integer(5), big)?.as_str(), "f");
-    Ok(())
+    is("mixed", 0, mixed(rt.alloc()), "f")
 }
 
-fn negative(alloc: Global, kind: SqlType, lit: Lit) -> Result<String, Fail> {
-    let operand = Boxed::new(alloc, constant(alloc, kind, lit)?)?;
-    let expr = TypedExpr {
-        kind,
-        node: TypedNode::Neg(operand),
-    };
-    Ok(given(alloc, expr)?)
+fn one_given(alloc: Global, case: &OneCase) -> Result<String, Memory> {
+    let (form, kind, lit, _) = *case;
+    given(alloc, of_one(alloc, form, kind, lit))
+}
+
+fn are_given_of_one(alloc: Global, table: &str, cases: &[OneCase]) -> Result<(), Fail> {
+    for (place, case) in cases.iter().enumerate() {
+        is(table, place, one_given(alloc, case), case.3)?;
+    }
+    Ok(())
 }
 
 #[test]
 fn takes_a_sign(rt: HostRuntime) -> Result<(), Fail> {
-    let alloc = rt.alloc();
-    assert_eq!(rt;
-        negative(alloc, SqlType::Integer, Lit::Int(7))?.as_str(),
-        "-7"
-    );
-    assert_eq!(rt;
-        negative(alloc, SqlType::Integer, Lit::Int(-2147483648))?.as_str(),
-        "S22003"
-    );
-    assert_eq!(rt;
-        negative(alloc, SqlType::Bigint, Lit::Int(-2147483648))?.as_str(),
-        "2147483648"
-    );
-    assert_eq!(rt;
-        negative(alloc, SqlType::Bigint, Lit::Int(i64::MIN))?.as_str(),
-        "S22003"
-    );
-    assert_eq!(rt;
-        negative(alloc, SqlType::Integer, Lit::Null)?.as_str(),
-        "null"
-    );
-    Ok(())
-}
-
-fn denied(alloc: Global, lit: Lit) -> Result<String, Fail> {
-    let operand = Boxed::new(alloc, constant(alloc, SqlType::Boolean, lit)?)?;
-    Ok(given(alloc, boolean(TypedNode::Not(operand)))?)
+    are_given_of_one(rt.alloc(), "signed", SIGNED)
 }
 
 #[test]
 fn denies(rt: HostRuntime) -> Result<(), Fail> {
-    let alloc = rt.alloc();
-    assert_eq!(rt; denied(alloc, Lit::Flag(true))?.as_str(), "f");
-    assert_eq!(rt; denied(alloc, Lit::Flag(false))?.as_str(), "t");
-    assert_eq!(rt; denied(alloc, Lit::Null)?.as_str(), "null");
-    Ok(())
-}
-
-fn null_test(alloc: Global, lit: Lit, negated: bool) -> Result<String, Fail> {
-    let operand = Boxed::new(alloc, constant(alloc, SqlType::Text, lit)?)?;
-    Ok(given(alloc, boolean(TypedNode::IsNull(operand, negated)))?)
+    are_given_of_one(rt.alloc(), "NOT", DENIED)
 }
 
 #[test]
 fn tests_for_null(rt: HostRuntime) -> Result<(), Fail> {
-    let alloc = rt.alloc();
-    assert_eq!(rt; null_test(alloc, Lit::Null, false)?.as_str(), "t");
-    assert_eq!(rt; null_test(alloc, Lit::Null, true)?.as_str(), "f");
-    assert_eq!(rt; null_test(alloc, Lit::Str(""), false)?.as_str(), "f");
-    assert_eq!(rt; null_test(alloc, Lit::Str(""), true)?.as_str(), "t");
-    Ok(())
+    are_given_of_one(rt.alloc(), "IS NULL", NULL_TESTS)
 }
 
-fn constants(alloc: Global, kind: SqlType, lits: &[Lit]) -> Result<Items<TypedExpr>, Fail> {
-    let mut exprs = Items::new(alloc);
-    for lit in lits {
-        exprs.push(constant(alloc, kind, *lit)?)?;
-    }
-    Ok(exprs)
-}
-
-fn among(
-    alloc: Global,
-    kind: SqlType,
-    left: Lit,
-    members: &[Lit],
-    negated: bool,
-) -> Result<String, Fail> {
-    let left = Boxed::new(alloc, constant(alloc, kind, left)?)?;
-    let members = constants(alloc, kind, members)?;
-    Ok(given(alloc, boolean(TypedNode::In(left, members, negated)))?)
+fn found_among(alloc: Global, left: Lit, members: &[Lit], negated: bool) -> Result<String, Memory> {
+    given(alloc, among(alloc, left, members, negated))
 }
 
 #[test]
 fn looks_among_members(rt: HostRuntime) -> Result<(), Fail> {
-    for (left, members, negated, want) in [
-        (Lit::Int(1), [Lit::Int(1), Lit::Int(2)], false, "t"),
-        (Lit::Int(1), [Lit::Int(2), Lit::Int(1)], false, "t"),
-        (Lit::Int(1), [Lit::Int(2), Lit::Int(3)], false, "f"),
-        (Lit::Int(1), [Lit::Int(2), Lit::Null], false, "null"),
-        (Lit::Int(1), [Lit::Null, Lit::Int(1)], false, "t"),
-        (Lit::Null, [Lit::Int(1), Lit::Null], false, "null"),
-        (Lit::Int(1), [Lit::Int(2), Lit::Int(1)], true, "f"),
-        (Lit::Int(1), [Lit::Int(2), Lit::Int(3)], true, "t"),
-        (Lit::Int(1), [Lit::Null, Lit::Int(3)], true, "null"),
-        (Lit::Int(1), [Lit::Null, Lit::Int(1)], true, "f"),
-    ] {
-        let found = among(rt.alloc(), SqlType::Integer, left, &members, negated)?;
-        assert_eq!(rt; found.as_str(), want);
+    for (place, (left, members, negated, want)) in AMONG.iter().enumerate() {
+        let found = found_among(rt.alloc(), *left, members, *negated);
+        is("among", place, found, want)?;
     }
     Ok(())
 }
 
 /// `1 IN (1, 1 / 0)`: the member after one that is equal is evaluated too.
-fn among_failing(alloc: Global) -> Result<String, Fail> {
-    let mut members = Items::new(alloc);
-    members.push(integer(1))?;
-    members.push(quotient(alloc, 1, 0)?)?;
-    let left = Boxed::new(alloc, integer(1))?;
-    Ok(given(alloc, boolean(TypedNode::In(left, members, false)))?)
-}
-
 #[test]
 fn evaluates_all_members(rt: HostRuntime) -> Result<(), Fail> {
-    assert_eq!(rt; among_failing(rt.alloc())?.as_str(), "S22012");
-    Ok(())
-}
-
-/// 7, a text and an unset value.
-fn first_entry(alloc: Global) -> Result<Items<Value>, Fail> {
-    let mut entry = Items::new(alloc);
-    entry.push(Value::Int(7))?;
-    entry.push(Value::Text(Text::from_bytes(alloc, b"ab")?))?;
-    entry.push(Value::Unset)?;
-    Ok(entry)
-}
-
-/// 3000000000 and true.
-fn second_entry(alloc: Global) -> Result<Items<Value>, Fail> {
-    let mut entry = Items::new(alloc);
-    entry.push(Value::Int(3_000_000_000))?;
-    entry.push(Value::Flag(true))?;
-    Ok(entry)
-}
-
-/// The value over two entries of FROM.
-fn given_over(
-    alloc: Global,
-    expr: TypedExpr,
-    first: Items<Value>,
-    second: Items<Value>,
-) -> Result<String, AllocError> {
-    shown(
-        alloc,
-        eval(alloc, &expr, &[first.as_slice(), second.as_slice()]),
+    is(
+        "among",
+        0,
+        given(rt.alloc(), among_failing(rt.alloc())),
+        "S22012",
     )
 }
 
-fn column(alloc: Global, kind: SqlType, entry: u32, place: u32) -> Result<String, Fail> {
+// ---- columns
+
+fn push_first(entry: &mut Items<Value>, alloc: Global) -> Result<(), Memory> {
+    entry.push(Value::Int(7))?;
+    entry.push(text_of(alloc, b"ab")?)?;
+    entry.push(Value::Unset)
+}
+
+/// 7, a text and an unset value.
+fn first_entry(alloc: Global) -> Result<Items<Value>, Memory> {
+    let mut entry = Items::new(alloc);
+    let pushed = push_first(&mut entry, alloc);
+    kept(entry, pushed)
+}
+
+fn push_second(entry: &mut Items<Value>) -> Result<(), Memory> {
+    entry.push(Value::Int(3_000_000_000))?;
+    entry.push(Value::Flag(true))
+}
+
+/// 3000000000 and true.
+fn second_entry(alloc: Global) -> Result<Items<Value>, Memory> {
+    let mut entry = Items::new(alloc);
+    let pushed = push_second(&mut entry);
+    kept(entry, pushed)
+}
+
+/// The value of a column over these entries of FROM.
+fn column_over(
+    alloc: Global,
+    kind: SqlType,
+    entry: u32,
+    place: u32,
+    entries: &[&[Value]],
+) -> Result<String, Memory> {
     let node = TypedNode::Column(entry, place);
-    let first = first_entry(alloc)?;
-    let second = second_entry(alloc)?;
-    Ok(given_over(alloc, TypedExpr { kind, node }, first, second)?)
+    given_over(alloc, TypedExpr { kind, node }, entries)
+}
+
+fn given_over(alloc: Global, expr: TypedExpr, entries: &[&[Value]]) -> Result<String, Memory> {
+    let answer = eval(alloc, &expr, entries);
+    alone(expr, shown(alloc, answer))
+}
+
+fn column(alloc: Global, kind: SqlType, entry: u32, place: u32) -> Result<String, Memory> {
+    let (first, second) = both(first_entry(alloc), second_entry(alloc))?;
+    let entries = [first.as_slice(), second.as_slice()];
+    let given = column_over(alloc, kind, entry, place, &entries);
+    alone((first, second), given)
 }
 
 #[test]
 fn reads_columns(rt: HostRuntime) -> Result<(), Fail> {
-    for (kind, entry, place, want) in [
-        (SqlType::Integer, 0, 0, "7"),
-        (SqlType::Bigint, 0, 0, "7"),
-        (SqlType::Text, 0, 1, "ab"),
-        (SqlType::Varchar(1), 0, 1, "ab"),
-        (SqlType::Boolean, 1, 1, "t"),
-        (SqlType::Bigint, 1, 0, "3000000000"),
-        (SqlType::Integer, 1, 0, "null"),
-        (SqlType::Integer, 0, 1, "null"),
-        (SqlType::Text, 0, 0, "null"),
-        (SqlType::Text, 0, 2, "null"),
-        (SqlType::Text, 0, 3, "null"),
-        (SqlType::Text, 2, 0, "null"),
-    ] {
-        assert_eq!(rt; column(rt.alloc(), kind, entry, place)?.as_str(), want);
+    for (place, (kind, entry, number, want)) in COLUMNS.iter().enumerate() {
+        is(
+            "columns",
+            place,
+            column(rt.alloc(), *kind, *entry, *number),
+            want,
+        )?;
     }
     Ok(())
 }
