@@ -11,7 +11,7 @@ mod queries;
 
 pub(crate) use changes::CHANGES;
 pub(crate) use conditions::CONDITIONS;
-pub(crate) use definitions::{DEFINITIONS, LONG};
+pub(crate) use definitions::{DEFINITIONS, LONG, Long};
 pub(crate) use inserts::INSERTS;
 pub(crate) use names::NAMES;
 pub(crate) use operators::OPERATORS;

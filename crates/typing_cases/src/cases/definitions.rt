@@ -147,9 +147,11 @@ pub(crate) const DEFINITIONS: &[(&str, &str)] = &[
     ),
 ];
 
-/// The first part of a text, a part that is repeated, how many times, the last part, and what the text comes to. Where the code is
-/// that of a name after the part, the part is accepted.
-pub(crate) const LONG: &[(&str, &str, u32, &str, &str)] = &[
+/// The first part of a text, a part that is repeated, how many times, the last part, and what the text comes to.
+pub(crate) type Long = (&'static str, &'static str, u32, &'static str, &'static str);
+
+/// Long texts. Where the code is that of a name after the part, the part is accepted.
+pub(crate) const LONG: &[Long] = &[
     // 32 columns and no more, before their names.
     ("CREATE TABLE z (", "a int, ", 31, "a int)", "S42701"),
     ("CREATE TABLE z (", "a int, ", 32, "a int)", "S54000"),
