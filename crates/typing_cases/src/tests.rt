@@ -4,7 +4,7 @@ ghost use Rattle.typing_parts.specs.Narrow.{AreFewAndNarrow};
 
 use crate::cases::{
     CHANGES, CONDITIONS, DEFINITIONS, INSERTS, LONG, Long, NAMES, OPERATORS, ORDERS, POINTS,
-    QUERIES, TABLES,
+    QUERIES, SPACED, TABLES,
 };
 use crate::compared::{is, is_of_long};
 use crate::held::{alone, kept};
@@ -140,15 +140,30 @@ fn outcome(alloc: Global, spelled: &str, tables: &[Table]) -> Result<String, Mem
 
 // ---- the cases
 
-fn are_typed_over(alloc: Global, tables: &[Table], cases: &[(&str, &str)]) -> Result<(), Fail> {
-    for (spelled, want) in cases {
-        is(spelled, outcome(alloc, spelled, tables), want)?;
+/// Ends the test at a line that is no case and tells nothing of cases.
+fn is_remark(line: &str) -> Result<(), Fail> {
+    if line.is_empty() || line.starts_with("#") {
+        return Ok(());
+    }
+    Err(Fail::new(format_args!("no case: {line}")))
+}
+
+fn is_typed(alloc: Global, tables: &[Table], line: &str) -> Result<(), Fail> {
+    match line.split_once(" => ") {
+        Some((spelled, want)) => is(spelled, outcome(alloc, spelled, tables), want),
+        None => is_remark(line),
+    }
+}
+
+fn are_typed_over(alloc: Global, tables: &[Table], cases: &str) -> Result<(), Fail> {
+    for line in cases.lines() {
+        is_typed(alloc, tables, line)?;
     }
     Ok(())
 }
 
-/// Whether each text of the list comes to what the list says.
-fn are_typed(alloc: Global, cases: &[(&str, &str)]) -> Result<(), Fail> {
+/// Whether each text of the table comes to what the table says.
+fn are_typed(alloc: Global, cases: &str) -> Result<(), Fail> {
     let tables = tables_of(alloc)?;
     let are_typed = are_typed_over(alloc, tables.as_slice(), cases);
     alone(tables, are_typed)
@@ -167,6 +182,20 @@ fn finds_names(rt: HostRuntime) -> Result<(), Fail> {
 #[test]
 fn types_operators(rt: HostRuntime) -> Result<(), Fail> {
     are_typed(rt.alloc(), OPERATORS)
+}
+
+fn spaced_are_typed(alloc: Global, tables: &[Table]) -> Result<(), Fail> {
+    for (spelled, want) in SPACED {
+        is(spelled, outcome(alloc, spelled, tables), want)?;
+    }
+    Ok(())
+}
+
+#[test]
+fn types_spaced_texts(rt: HostRuntime) -> Result<(), Fail> {
+    let tables = tables_of(rt.alloc())?;
+    let are_typed = spaced_are_typed(rt.alloc(), tables.as_slice());
+    alone(tables, are_typed)
 }
 
 #[test]
