@@ -1,7 +1,9 @@
 // Statements and rows made by chance.
 use crate::chance::Chance;
-use crate::world::text_value;
-use cell_base::{Items, Key, Memory, Value};
+use crate::line::Line;
+use crate::list::List;
+use crate::world::{of_table, text_value, with_key};
+use cell_base::{Items, Key, SqlFault, Value};
 use row_meaning::TableRows;
 use std::alloc::{AllocError, Global};
 
@@ -29,89 +31,114 @@ fn one_of<'a>(chance: &mut Chance, names: &'a [&'a str]) -> &'a str {
     name_at(names, place)
 }
 
+fn push_one_of(chance: &mut Chance, line: &mut Line, names: &[&str]) {
+    line.word(one_of(chance, names));
+}
+
 // ---- expressions
 
-fn column_name(chance: &mut Chance, form: &[bool], entry: usize) -> &'static str {
-    match (form.get(entry), chance.below(2)) {
-        (Some(true), 0) => "id",
-        (Some(true), _) => "n",
-        (_, 0) => "k",
-        _ => "v",
+fn column_name(chance: &mut Chance, is_u: bool) -> &'static str {
+    match (is_u, chance.below(2)) {
+        (true, 0) => "id",
+        (true, _) => "n",
+        (false, 0) => "k",
+        (false, _) => "v",
     }
 }
 
 /// A column that holds numbers.
-fn push_column(chance: &mut Chance, out: &mut String, form: &[bool]) -> Result<(), AllocError> {
+fn push_column(chance: &mut Chance, line: &mut Line, form: &[bool]) {
     let entry = chance.below(form.len());
-    out.push_str(name_at(ALIASES, entry))?;
-    out.push_str(".")?;
-    out.push_str(column_name(chance, form, entry))
+    line.word(name_at(ALIASES, entry));
+    line.word(".");
+    line.word(column_name(chance, form.get(entry) == Some(&true)));
 }
 
-fn push_number(chance: &mut Chance, out: &mut String, form: &[bool]) -> Result<(), AllocError> {
-    match chance.below(12) {
-        0 => out.push_str("0"),
-        1 => out.push_str("1"),
-        2 => out.push_str("2"),
-        3 => {
-            out.push_str("6 / ")?;
-            push_column(chance, out, form)
-        }
-        4 | 5 => {
-            push_column(chance, out, form)?;
-            out.push_str(" + 1")
-        }
-        6 => {
-            push_column(chance, out, form)?;
-            out.push_str(" % 2")
-        }
-        _ => push_column(chance, out, form),
+/// How a number is written: what stands before a column, whether there is one, and what stands after it.
+const NUMBERS: &[(&str, bool, &str)] = &[
+    ("0", false, ""),
+    ("1", false, ""),
+    ("2", false, ""),
+    ("6 / ", true, ""),
+    ("", true, " + 1"),
+    ("", true, " + 1"),
+    ("", true, " % 2"),
+    ("", true, ""),
+    ("", true, ""),
+    ("", true, ""),
+    ("", true, ""),
+    ("", true, ""),
+];
+
+fn number_at(place: usize) -> (&'static str, bool, &'static str) {
+    match NUMBERS.get(place) {
+        Some(number) => *number,
+        None => ("0", false, ""),
     }
 }
 
-fn push_test(chance: &mut Chance, out: &mut String, form: &[bool]) -> Result<(), AllocError> {
-    push_number(chance, out, form)?;
-    match chance.below(8) {
-        0 => out.push_str(" IS NULL"),
-        1 => out.push_str(" IS NOT NULL"),
-        2 => out.push_str(" IN (1, NULL, 2)"),
-        3 => out.push_str(" NOT IN (0, 3)"),
-        _ => {
-            out.push_str(one_of(chance, &[" = ", " <> ", " < ", " <= ", " > ", " >= "]))?;
-            push_number(chance, out, form)
+fn push_number(chance: &mut Chance, line: &mut Line, form: &[bool]) {
+    let (before, has_column, after) = number_at(chance.below(NUMBERS.len()));
+    line.word(before);
+    if has_column {
+        push_column(chance, line, form);
+    }
+    line.word(after);
+}
+
+/// What may stand after a number. As often another number is compared with it.
+const TESTS: &[&str] = &[
+    " IS NULL",
+    " IS NOT NULL",
+    " IN (1, NULL, 2)",
+    " NOT IN (0, 3)",
+];
+
+const COMPARISONS: &[&str] = &[" = ", " <> ", " < ", " <= ", " > ", " >= "];
+
+fn push_test(chance: &mut Chance, line: &mut Line, form: &[bool]) {
+    push_number(chance, line, form);
+    match TESTS.get(chance.below(8)) {
+        Some(test) => line.word(test),
+        None => {
+            push_one_of(chance, line, COMPARISONS);
+            push_number(chance, line, form);
         }
     }
 }
 
-fn push_condition(chance: &mut Chance, out: &mut String, form: &[bool]) -> Result<(), AllocError> {
-    let tests = chance.below(3);
-    for _ in 0..tests {
-        out.push_str(one_of(chance, &["", "NOT "]))?;
-        push_test(chance, out, form)?;
-        out.push_str(one_of(chance, &[" AND ", " OR "]))?;
+const NEGATIONS: &[&str] = &["", "NOT "];
+
+const CONNECTIVES: &[&str] = &[" AND ", " OR "];
+
+fn push_condition(chance: &mut Chance, line: &mut Line, form: &[bool]) {
+    for _ in 0..chance.below(3) {
+        push_one_of(chance, line, NEGATIONS);
+        push_test(chance, line, form);
+        push_one_of(chance, line, CONNECTIVES);
     }
-    push_test(chance, out, form)
+    push_test(chance, line, form);
 }
 
 // ---- statements
 
-fn push_items(chance: &mut Chance, out: &mut String, form: &[bool]) -> Result<(), AllocError> {
-    let more = chance.below(3);
-    for _ in 0..more {
-        push_number(chance, out, form)?;
-        out.push_str(", ")?;
+fn push_items(chance: &mut Chance, line: &mut Line, form: &[bool]) {
+    for _ in 0..chance.below(3) {
+        push_number(chance, line, form);
+        line.word(", ");
     }
-    push_number(chance, out, form)
+    push_number(chance, line, form);
 }
 
-fn push_aggregates(chance: &mut Chance, out: &mut String, form: &[bool]) -> Result<(), AllocError> {
-    let more = chance.below(3);
-    for _ in 0..more {
-        out.push_str(one_of(chance, &["count(", "sum(", "min(", "max("]))?;
-        push_number(chance, out, form)?;
-        out.push_str("), ")?;
+const FUNCTIONS: &[&str] = &["count(", "sum(", "min(", "max("];
+
+fn push_aggregates(chance: &mut Chance, line: &mut Line, form: &[bool]) {
+    for _ in 0..chance.below(3) {
+        push_one_of(chance, line, FUNCTIONS);
+        push_number(chance, line, form);
+        line.word("), ");
     }
-    out.push_str("count(*)")
+    line.word("count(*)");
 }
 
 fn table_name(is_u: bool) -> &'static str {
@@ -127,78 +154,81 @@ fn seen(form: &[bool], entry: usize) -> &[bool] {
     }
 }
 
-fn push_entry(
-    chance: &mut Chance,
-    out: &mut String,
-    form: &[bool],
-    entry: usize,
-) -> Result<(), AllocError> {
-    if entry > 0 {
-        out.push_str(" JOIN ")?;
-    }
-    out.push_str(table_name(form.get(entry) == Some(&true)))?;
-    out.push_str(name_at(ALIASES, entry))?;
-    if entry > 0 {
-        out.push_str(" ON ")?;
-        push_condition(chance, out, seen(form, entry))?;
-    }
-    Ok(())
+fn push_table(line: &mut Line, form: &[bool], entry: usize) {
+    line.word(table_name(form.get(entry) == Some(&true)));
+    line.word(name_at(ALIASES, entry));
 }
 
-fn push_from(chance: &mut Chance, out: &mut String, form: &[bool]) -> Result<(), AllocError> {
-    out.push_str(" FROM ")?;
+fn push_entry(chance: &mut Chance, line: &mut Line, form: &[bool], entry: usize) {
+    line.word(if entry > 0 { " JOIN " } else { " FROM " });
+    push_table(line, form, entry);
+    if entry > 0 {
+        line.word(" ON ");
+        push_condition(chance, line, seen(form, entry));
+    }
+}
+
+fn push_from(chance: &mut Chance, line: &mut Line, form: &[bool]) {
     for entry in 0..form.len() {
-        push_entry(chance, out, form, entry)?;
+        push_entry(chance, line, form, entry);
     }
     if chance.below(3) > 0 {
-        out.push_str(" WHERE ")?;
-        push_condition(chance, out, form)?;
+        line.word(" WHERE ");
+        push_condition(chance, line, form);
     }
-    Ok(())
 }
 
-fn push_order(chance: &mut Chance, out: &mut String, form: &[bool]) -> Result<(), AllocError> {
-    out.push_str(" ORDER BY ")?;
+const DIRECTIONS: &[&str] = &["", " DESC"];
+
+fn push_order(chance: &mut Chance, line: &mut Line, form: &[bool]) {
+    line.word(" ORDER BY ");
     if chance.below(2) > 0 {
-        push_column(chance, out, form)?;
-        out.push_str(one_of(chance, &["", " DESC"]))?;
-        out.push_str(", ")?;
+        push_column(chance, line, form);
+        push_one_of(chance, line, DIRECTIONS);
+        line.word(", ");
     }
-    push_column(chance, out, form)?;
-    out.push_str(" + 0")?;
-    out.push_str(one_of(chance, &["", " DESC"]))
+    push_column(chance, line, form);
+    line.word(" + 0");
+    push_one_of(chance, line, DIRECTIONS);
 }
 
-fn push_cut(chance: &mut Chance, out: &mut String) -> Result<(), AllocError> {
-    out.push_str(one_of(chance, &["", "", " LIMIT 0", " LIMIT 1", " LIMIT 3"]))?;
-    out.push_str(one_of(chance, &["", "", " OFFSET 1", " OFFSET 2"]))
-}
+const LIMITS: &[&str] = &["", "", " LIMIT 0", " LIMIT 1", " LIMIT 3"];
 
-fn push_select(chance: &mut Chance, out: &mut String, form: &[bool]) -> Result<(), AllocError> {
-    out.push_str("SELECT ")?;
+const OFFSETS: &[&str] = &["", "", " OFFSET 1", " OFFSET 2"];
+
+fn push_body(chance: &mut Chance, line: &mut Line, form: &[bool]) {
     if chance.below(4) == 0 {
-        push_aggregates(chance, out, form)?;
-        push_from(chance, out, form)?;
+        push_aggregates(chance, line, form);
+        push_from(chance, line, form);
     } else {
-        push_items(chance, out, form)?;
-        push_from(chance, out, form)?;
+        push_items(chance, line, form);
+        push_from(chance, line, form);
         if chance.below(2) == 0 {
-            push_order(chance, out, form)?;
+            push_order(chance, line, form);
         }
     }
-    push_cut(chance, out)
+}
+
+fn push_select(chance: &mut Chance, line: &mut Line, form: &[bool]) {
+    line.word("SELECT ");
+    push_body(chance, line, form);
+    push_one_of(chance, line, LIMITS);
+    push_one_of(chance, line, OFFSETS);
+}
+
+fn form_at(place: usize) -> &'static [bool] {
+    match FORMS.get(place) {
+        Some(form) => form,
+        None => &[false],
+    }
 }
 
 /// The text of a SELECT over t and u.
 pub fn statement(alloc: Global, chance: &mut Chance) -> Result<String, AllocError> {
-    let place = chance.below(FORMS.len());
-    let form: &[bool] = match FORMS.get(place) {
-        Some(form) => form,
-        None => &[false],
-    };
-    let mut out = String::new(alloc);
-    push_select(chance, &mut out, form)?;
-    Ok(out)
+    let form = form_at(chance.below(FORMS.len()));
+    let mut line = Line::new(alloc);
+    push_select(chance, &mut line, form);
+    line.whole()
 }
 
 // ---- rows
@@ -213,41 +243,42 @@ fn number(chance: &mut Chance) -> Value {
     }
 }
 
+const NAMES: &[&str] = &["a", "b", "ab"];
+
 fn row(
     alloc: Global,
     chance: &mut Chance,
     key: i64,
     is_u: bool,
-) -> Result<(Key, Items<Value>), Memory> {
-    let mut values = Items::new(alloc);
-    values.push(Value::Int(key))?;
+) -> Result<(Key, Items<Value>), SqlFault> {
+    let mut values = List::new(alloc);
+    values.add(Value::Int(key));
     if is_u {
-        values.push(text_value(alloc, one_of(chance, &["a", "b", "ab"]).as_bytes())?)?;
+        values.push(text_value(alloc, one_of(chance, NAMES).as_bytes()));
     }
-    values.push(number(chance))?;
-    Ok((Key::Int(key), values))
+    values.add(number(chance));
+    with_key(Key::Int(key), values)
 }
 
 fn some_rows(
     alloc: Global,
     chance: &mut Chance,
+    table: u32,
     is_u: bool,
-) -> Result<Items<(Key, Items<Value>)>, Memory> {
-    let mut rows = Items::new(alloc);
+) -> Result<TableRows, SqlFault> {
+    let mut rows = List::new(alloc);
     for key in 0..5 {
         if chance.below(3) > 0 {
-            rows.push(row(alloc, chance, key, is_u)?)?;
+            rows.push(row(alloc, chance, key, is_u));
         }
     }
-    Ok(rows)
+    of_table(table, rows)
 }
 
 /// Rows of t and u, keys ascending.
-pub fn picture(alloc: Global, chance: &mut Chance) -> Result<Items<TableRows>, Memory> {
-    let mut picture = Items::new(alloc);
-    for (table, is_u) in [(1, true), (0, false)] {
-        let rows = some_rows(alloc, chance, is_u)?;
-        picture.push(TableRows { table, rows })?;
-    }
-    Ok(picture)
+pub fn picture(alloc: Global, chance: &mut Chance) -> Result<Items<TableRows>, SqlFault> {
+    let mut picture = List::new(alloc);
+    picture.push(some_rows(alloc, chance, 1, true));
+    picture.push(some_rows(alloc, chance, 0, false));
+    picture.whole()
 }

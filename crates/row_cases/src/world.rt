@@ -1,7 +1,9 @@
 // The tables that the cases stand over, and rows of them.
-use cell_base::{Items, Key, Memory, Text, Value};
+use crate::held::both;
+use crate::list::List;
+use cell_base::{Items, Key, SqlFault, Text, Value};
 use row_meaning::TableRows;
-use sql_statements::statements;
+use sql_statements::{ParseFault, statements};
 use sql_tree::{Statement, Table};
 use std::alloc::Global;
 use table_schema::build;
@@ -27,53 +29,57 @@ pub const MAX_TEXT: usize = 100_000;
 
 // ---- tables
 
-fn built(alloc: Global, found: &[Statement]) -> Option<Table> {
+fn built(alloc: Global, found: &[Statement]) -> Result<Table, SqlFault> {
     match found {
-        [Statement::Create(create)] => build(alloc, create).ok(),
-        _ => None,
+        [Statement::Create(create)] => build(alloc, create),
+        _ => Err(SqlFault::Memory),
     }
 }
 
-fn table_of(alloc: Global, spelled: &str) -> Option<Table> {
-    let Ok(text) = Text::from_bytes(alloc, spelled.as_bytes()) else {
-        return None;
-    };
-    if text.bytes().len() > MAX_TEXT {
-        return None;
-    }
-    match statements(alloc, &text) {
+fn built_of(
+    alloc: Global,
+    reading: Result<Items<Statement>, ParseFault>,
+) -> Result<Table, SqlFault> {
+    match reading {
         Ok(found) => built(alloc, found.as_slice()),
-        Err(_) => None,
+        Err(_) => Err(SqlFault::Memory),
     }
 }
 
-fn push_table(alloc: Global, tables: &mut Items<Table>, spelled: &str) -> Result<(), Memory> {
-    match table_of(alloc, spelled) {
-        Some(table) => tables.push(table),
-        None => Err(Memory),
+fn table_of(alloc: Global, text: Text) -> Result<Table, SqlFault> {
+    if text.bytes().len() > MAX_TEXT {
+        return Err(SqlFault::Memory);
+    }
+    built_of(alloc, statements(alloc, &text))
+}
+
+fn spelled_table(alloc: Global, spelled: &str) -> Result<Table, SqlFault> {
+    match Text::from_bytes(alloc, spelled.as_bytes()) {
+        Ok(text) => table_of(alloc, text),
+        Err(_) => Err(SqlFault::Memory),
     }
 }
 
 /// The tables that all cases stand over.
-pub fn tables_of(alloc: Global) -> Result<Items<Table>, Memory> {
-    let mut tables = Items::new(alloc);
+pub fn tables_of(alloc: Global) -> Result<Items<Table>, SqlFault> {
+    let mut tables = List::new(alloc);
     for spelled in TABLES {
-        push_table(alloc, &mut tables, spelled)?;
+        tables.push(spelled_table(alloc, spelled));
     }
-    Ok(tables)
+    tables.whole()
 }
 
 // ---- rows
 
 /// The value of a text.
-pub fn text_value(alloc: Global, bytes: &[u8]) -> Result<Value, Memory> {
+pub fn text_value(alloc: Global, bytes: &[u8]) -> Result<Value, SqlFault> {
     match Text::from_bytes(alloc, bytes) {
         Ok(text) => Ok(Value::Text(text)),
-        Err(_) => Err(Memory),
+        Err(_) => Err(SqlFault::Memory),
     }
 }
 
-fn value_of(alloc: Global, lit: Lit) -> Result<Value, Memory> {
+fn value_of(alloc: Global, lit: Lit) -> Result<Value, SqlFault> {
     match lit {
         Lit::Null => Ok(Value::Null),
         Lit::Int(n) => Ok(Value::Int(n)),
@@ -88,21 +94,31 @@ fn key_of(row: &[Lit]) -> Key {
     }
 }
 
-fn values_of(alloc: Global, row: &[Lit]) -> Result<Items<Value>, Memory> {
-    let mut values = Items::new(alloc);
+fn row_of(alloc: Global, row: &[Lit]) -> Result<(Key, Items<Value>), SqlFault> {
+    let mut values = List::new(alloc);
     for lit in row {
-        values.push(value_of(alloc, *lit)?)?;
+        values.push(value_of(alloc, *lit));
     }
-    Ok(values)
+    with_key(key_of(row), values)
 }
 
-/// The rows of a table, of which each begins with its key.
-pub fn table_rows(alloc: Global, table: u32, rows: &[&[Lit]]) -> Result<TableRows, Memory> {
-    let mut found = Items::new(alloc);
-    for row in rows {
-        found.push((key_of(row), values_of(alloc, row)?))?;
+/// A row, if its values could be made.
+pub fn with_key(key: Key, values: List<Value>) -> Result<(Key, Items<Value>), SqlFault> {
+    both(Ok(key), values.whole())
+}
+
+/// The rows of a table, if they could be made.
+pub fn of_table(table: u32, rows: List<(Key, Items<Value>)>) -> Result<TableRows, SqlFault> {
+    let rows = rows.whole()?;
+    Ok(TableRows { table, rows })
+}
+
+fn table_rows(alloc: Global, table: u32, all: &[&[Lit]]) -> Result<TableRows, SqlFault> {
+    let mut rows = List::new(alloc);
+    for row in all {
+        rows.push(row_of(alloc, row));
     }
-    Ok(TableRows { table, rows: found })
+    of_table(table, rows)
 }
 
 const T: &[&[Lit]] = &[
@@ -118,40 +134,47 @@ const U: &[&[Lit]] = &[
     &[Lit::Int(4), Lit::Str("a"), Lit::Int(2)],
 ];
 
-/// The rows that the cases stand over. They stand in no order of tables.
-pub fn picture_of(alloc: Global) -> Result<Items<TableRows>, Memory> {
-    let mut picture = Items::new(alloc);
-    picture.push(table_rows(alloc, 1, U)?)?;
-    picture.push(table_rows(alloc, 2, &[])?)?;
-    picture.push(table_rows(alloc, 0, T)?)?;
-    Ok(picture)
+/// The numbers of tables with their rows, of which each begins with its key. They stand in no order of tables.
+const PICTURE: &[(u32, &[&[Lit]])] = &[(1, U), (2, &[]), (0, T)];
+
+/// The rows that the cases stand over.
+pub fn picture_of(alloc: Global) -> Result<Items<TableRows>, SqlFault> {
+    let mut picture = List::new(alloc);
+    for (table, rows) in PICTURE {
+        picture.push(table_rows(alloc, *table, rows));
+    }
+    picture.whole()
 }
 
-fn long_value(alloc: Global, length: usize) -> Result<Value, Memory> {
-    let bytes = vec![in alloc; b'x'; length]?;
-    text_value(alloc, &bytes)
+// ---- long rows
+
+fn long_value(alloc: Global, length: usize) -> Result<Value, SqlFault> {
+    match vec![in alloc; b'x'; length] {
+        Ok(bytes) => text_value(alloc, &bytes),
+        Err(_) => Err(SqlFault::Memory),
+    }
 }
 
-fn push_long(
-    alloc: Global,
-    rows: &mut Items<(Key, Items<Value>)>,
-    key: i64,
-    length: usize,
-) -> Result<(), Memory> {
-    let mut values = Items::new(alloc);
-    values.push(Value::Int(key))?;
-    values.push(long_value(alloc, length)?)?;
-    rows.push((Key::Int(key), values))
+fn long_row(alloc: Global, key: u32, length: usize) -> Result<(Key, Items<Value>), SqlFault> {
+    let key = i64::from(key);
+    let mut values = List::new(alloc);
+    values.add(Value::Int(key));
+    values.push(long_value(alloc, length));
+    with_key(Key::Int(key), values)
+}
+
+fn long_rows(alloc: Global, count: u32, last: usize) -> Result<TableRows, SqlFault> {
+    let mut rows = List::new(alloc);
+    for key in 0..count {
+        rows.push(long_row(alloc, key, 65_536));
+    }
+    rows.push(long_row(alloc, count, last));
+    of_table(3, rows)
 }
 
 /// So many rows of `w` with texts of 65,536 bytes, and one with a text of this length after them.
-pub fn long_picture(alloc: Global, count: u32, last: usize) -> Result<Items<TableRows>, Memory> {
-    let mut rows = Items::new(alloc);
-    for key in 0..count {
-        push_long(alloc, &mut rows, i64::from(key), 65_536)?;
-    }
-    push_long(alloc, &mut rows, i64::from(count), last)?;
-    let mut picture = Items::new(alloc);
-    picture.push(TableRows { table: 3, rows })?;
-    Ok(picture)
+pub fn long_picture(alloc: Global, count: u32, last: usize) -> Result<Items<TableRows>, SqlFault> {
+    let mut picture = List::new(alloc);
+    picture.push(long_rows(alloc, count, last));
+    picture.whole()
 }

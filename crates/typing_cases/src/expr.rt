@@ -2,28 +2,26 @@
 //
 // Types are `b` boolean, `i` integer, `l` bigint, `t` text, `v` varchar, `v3` varchar(3) and `n` numeric. A column is the number
 // of its entry, a point and its number in its table: `=(0.0:l 1:i):b` is k = 1 with a bigint k.
+use crate::line::{Line, Shown};
 use cell_base::{SqlType, Text, Value};
 use sql_tree::{Aggregate, Op, TypedExpr, TypedNode};
-use std::alloc::{AllocError, Global};
 
-fn push_length(alloc: Global, out: &mut String, length: u32) -> Result<(), AllocError> {
-    out.push_str("v")?;
+fn push_varchar(line: &mut Line, length: u32) {
+    line.word(":v");
     if length > 0 {
-        out.push_str(format!(in alloc; "{length}")?.as_str())?;
+        line.number(i64::from(length));
     }
-    Ok(())
 }
 
 /// The type, after a colon.
-pub fn push_kind(alloc: Global, out: &mut String, kind: SqlType) -> Result<(), AllocError> {
-    out.push_str(":")?;
+pub fn push_kind(line: &mut Line, kind: SqlType) {
     match kind {
-        SqlType::Boolean => out.push_str("b"),
-        SqlType::Integer => out.push_str("i"),
-        SqlType::Bigint => out.push_str("l"),
-        SqlType::Text => out.push_str("t"),
-        SqlType::Varchar(length) => push_length(alloc, out, length),
-        SqlType::Numeric => out.push_str("n"),
+        SqlType::Boolean => line.word(":b"),
+        SqlType::Integer => line.word(":i"),
+        SqlType::Bigint => line.word(":l"),
+        SqlType::Text => line.word(":t"),
+        SqlType::Varchar(length) => push_varchar(line, length),
+        SqlType::Numeric => line.word(":n"),
     }
 }
 
@@ -55,91 +53,102 @@ fn word(function: Aggregate) -> &'static str {
 }
 
 /// The text between quotes.
-pub fn push_quoted(out: &mut String, text: &Text) -> Result<(), AllocError> {
-    out.push_str("'")?;
-    out.push_str(text.as_str())?;
-    out.push_str("'")
-}
-
-/// The number.
-pub fn push_number(alloc: Global, out: &mut String, number: i64) -> Result<(), AllocError> {
-    out.push_str(format!(in alloc; "{number}")?.as_str())
+pub fn push_quoted(line: &mut Line, text: &Text) {
+    line.word("'");
+    line.word(text.as_str());
+    line.word("'");
 }
 
 /// The value.
-pub fn push_value(alloc: Global, out: &mut String, value: &Value) -> Result<(), AllocError> {
+pub fn push_value(line: &mut Line, value: &Value) {
     match value {
-        Value::Unset => out.push_str("unset"),
-        Value::Null => out.push_str("null"),
-        Value::Flag(true) => out.push_str("true"),
-        Value::Flag(false) => out.push_str("false"),
-        Value::Int(number) => push_number(alloc, out, *number),
-        Value::Wide(_) => out.push_str("wide"),
-        Value::Text(text) => push_quoted(out, text),
+        Value::Unset => line.word("unset"),
+        Value::Null => line.word("null"),
+        Value::Flag(flag) => line.word(if *flag { "true" } else { "false" }),
+        Value::Int(number) => line.number(*number),
+        Value::Wide(_) => line.word("wide"),
+        Value::Text(text) => push_quoted(line, text),
     }
 }
 
 /// The expression with its type.
 #[cycle(show)]
-pub fn push_expr(alloc: Global, out: &mut String, expr: &TypedExpr) -> Result<(), AllocError> {
-    push_node(alloc, out, &expr.node)?;
-    push_kind(alloc, out, expr.kind)
+pub fn push_expr(line: &mut Line, expr: &TypedExpr) {
+    push_node(line, &expr.node);
+    push_kind(line, expr.kind);
 }
 
-#[cycle(show)]
-fn push_node(alloc: Global, out: &mut String, node: &TypedNode) -> Result<(), AllocError> {
+fn push_column(line: &mut Line, entry: u32, column: u32) {
+    line.number(i64::from(entry));
+    line.word(".");
+    line.number(i64::from(column));
+}
+
+/// A node that holds no other one.
+fn push_leaf(line: &mut Line, node: &TypedNode) {
     match node {
-        TypedNode::Constant(value) => push_value(alloc, out, value),
-        TypedNode::Column(entry, column) => {
-            out.push_str(format!(in alloc; "{entry}.{column}")?.as_str())
-        }
+        TypedNode::Constant(value) => push_value(line, value),
+        TypedNode::Column(entry, column) => push_column(line, *entry, *column),
         TypedNode::Aggregate(function, None) => {
-            out.push_str(word(*function))?;
-            out.push_str("(*)")
+            line.word(word(*function));
+            line.word("(*)");
         }
-        TypedNode::Aggregate(function, Some(operand)) => {
-            push_one(alloc, out, word(*function), operand.get())
-        }
-        TypedNode::Neg(operand) => push_one(alloc, out, "neg", operand.get()),
-        TypedNode::Not(operand) => push_one(alloc, out, "not", operand.get()),
-        TypedNode::IsNull(operand, false) => push_one(alloc, out, "isnull", operand.get()),
-        TypedNode::IsNull(operand, true) => push_one(alloc, out, "isnotnull", operand.get()),
-        TypedNode::Binary(op, left, right) => {
-            out.push_str(sign(*op))?;
-            out.push_str("(")?;
-            push_expr(alloc, out, left.get())?;
-            out.push_str(" ")?;
-            push_expr(alloc, out, right.get())?;
-            out.push_str(")")
-        }
-        TypedNode::In(left, members, negated) => {
-            out.push_str(if *negated { "notin(" } else { "in(" })?;
-            push_expr(alloc, out, left.get())?;
-            push_each(alloc, out, members.as_slice())?;
-            out.push_str(")")
-        }
+        _ => (),
     }
 }
 
 #[cycle(show)]
-fn push_one(
-    alloc: Global,
-    out: &mut String,
-    word: &str,
-    operand: &TypedExpr,
-) -> Result<(), AllocError> {
-    out.push_str(word)?;
-    out.push_str("(")?;
-    push_expr(alloc, out, operand)?;
-    out.push_str(")")
+fn push_node(line: &mut Line, node: &TypedNode) {
+    match node {
+        TypedNode::Aggregate(function, Some(operand)) => {
+            push_one(line, word(*function), operand.get())
+        }
+        TypedNode::Neg(operand) => push_one(line, "neg", operand.get()),
+        TypedNode::Not(operand) => push_one(line, "not", operand.get()),
+        TypedNode::IsNull(operand, negated) => {
+            push_one(
+                line,
+                if *negated { "isnotnull" } else { "isnull" },
+                operand.get(),
+            )
+        }
+        TypedNode::Binary(op, left, right) => {
+            line.word(sign(*op));
+            line.word("(");
+            push_expr(line, left.get());
+            line.word(" ");
+            push_expr(line, right.get());
+            line.word(")");
+        }
+        TypedNode::In(left, members, negated) => {
+            line.word(if *negated { "notin(" } else { "in(" });
+            push_expr(line, left.get());
+            push_each(line, members.as_slice());
+            line.word(")");
+        }
+        _ => push_leaf(line, node),
+    }
+}
+
+#[cycle(show)]
+fn push_one(line: &mut Line, word: &str, operand: &TypedExpr) {
+    line.word(word);
+    line.word("(");
+    push_expr(line, operand);
+    line.word(")");
 }
 
 /// The expressions, each after a blank.
 #[cycle(show)]
-pub fn push_each(alloc: Global, out: &mut String, exprs: &[TypedExpr]) -> Result<(), AllocError> {
+fn push_each(line: &mut Line, exprs: &[TypedExpr]) {
     for expr in exprs {
-        out.push_str(" ")?;
-        push_expr(alloc, out, expr)?;
+        line.word(" ");
+        push_expr(line, expr);
     }
-    Ok(())
+}
+
+impl Shown for TypedExpr {
+    fn push(&self, line: &mut Line) {
+        push_expr(line, self);
+    }
 }

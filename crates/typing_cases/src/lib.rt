@@ -9,7 +9,13 @@
 #[cfg(test)]
 mod cases;
 #[cfg(test)]
+mod compared;
+#[cfg(test)]
 mod expr;
+#[cfg(test)]
+mod held;
+#[cfg(test)]
+mod line;
 #[cfg(test)]
 mod statement;
 #[cfg(test)]

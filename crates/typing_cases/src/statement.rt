@@ -4,175 +4,143 @@
 // columns of each entry, `at` the key of each entry (`-` where it is scanned), `where` the conditions, `by` the terms of ORDER BY,
 // `limit`, `offset`, and `grouped` where an aggregate stands in it. An INSERT is `into` its table and its rows; an UPDATE and a
 // DELETE have the same words, and `set` a column's number `=` its value.
-use crate::expr::{push_each, push_expr, push_kind, push_number, push_quoted};
+use crate::expr::{push_expr, push_kind, push_quoted};
+use crate::line::{Line, Shown, each, listed};
 use cell_base::{Items, Key};
 use sql_tree::{OutField, Typed, TypedChange, TypedExpr, TypedInsert, TypedSelect};
-use std::alloc::{AllocError, Global};
 
-fn push_index(alloc: Global, out: &mut String, number: u32) -> Result<(), AllocError> {
-    out.push_str(format!(in alloc; "{number}")?.as_str())
-}
-
-fn fields(alloc: Global, out: &mut String, fields: &[OutField]) -> Result<(), AllocError> {
-    for field in fields {
-        out.push_str(field.name.as_str())?;
-        push_kind(alloc, out, field.kind)?;
-        out.push_str(" ")?;
-    }
-    Ok(())
-}
-
-fn tables(alloc: Global, out: &mut String, tables: &[u32]) -> Result<(), AllocError> {
-    for number in tables {
-        out.push_str(" ")?;
-        push_index(alloc, out, *number)?;
-    }
-    Ok(())
-}
-
-fn columns(alloc: Global, out: &mut String, columns: &[u32]) -> Result<(), AllocError> {
-    out.push_str(" (")?;
+fn push_columns(line: &mut Line, columns: &[u32]) {
+    line.word("(");
     for (i, number) in columns.iter().enumerate() {
-        if i > 0 {
-            out.push_str(",")?;
-        }
-        push_index(alloc, out, *number)?;
+        line.word(if i > 0 { "," } else { "" });
+        line.number(i64::from(*number));
     }
-    out.push_str(")")
+    line.word(")");
 }
 
-fn all_columns(alloc: Global, out: &mut String, all: &[Items<u32>]) -> Result<(), AllocError> {
-    for one in all {
-        columns(alloc, out, one.as_slice())?;
-    }
-    Ok(())
-}
-
-fn point(alloc: Global, out: &mut String, point: &Option<Key>) -> Result<(), AllocError> {
-    out.push_str(" ")?;
+fn push_point(line: &mut Line, point: &Option<Key>) {
     match point {
-        Some(Key::Int(number)) => push_number(alloc, out, *number),
-        Some(Key::Text(text)) => push_quoted(out, text),
-        None => out.push_str("-"),
+        Some(Key::Int(number)) => line.number(*number),
+        Some(Key::Text(text)) => push_quoted(line, text),
+        None => line.word("-"),
     }
 }
 
-fn points(alloc: Global, out: &mut String, all: &[Option<Key>]) -> Result<(), AllocError> {
-    for one in all {
-        point(alloc, out, one)?;
+// ---- queries
+
+impl Shown for OutField {
+    fn push(&self, line: &mut Line) {
+        line.word(self.name.as_str());
+        push_kind(line, self.kind);
+        line.word(" ");
     }
-    Ok(())
 }
 
-fn from(alloc: Global, out: &mut String, select: &TypedSelect) -> Result<(), AllocError> {
-    if select.tables.len() > 0 {
-        out.push_str(" from")?;
-        tables(alloc, out, select.tables.as_slice())?;
+/// The number of a table.
+impl Shown for u32 {
+    fn push(&self, line: &mut Line) {
+        line.number(i64::from(*self));
     }
-    if select.mentioned.len() > 0 {
-        out.push_str(" reads")?;
-        all_columns(alloc, out, select.mentioned.as_slice())?;
-    }
-    if select.points.len() > 0 {
-        out.push_str(" at")?;
-        points(alloc, out, select.points.as_slice())?;
-    }
-    Ok(())
 }
 
-fn conditions(alloc: Global, out: &mut String, conditions: &[TypedExpr]) -> Result<(), AllocError> {
-    if conditions.len() > 0 {
-        out.push_str(" where")?;
+/// The mentioned columns of an entry.
+impl Shown for Items<u32> {
+    fn push(&self, line: &mut Line) {
+        push_columns(line, self.as_slice());
     }
-    push_each(alloc, out, conditions)
 }
 
-fn order(alloc: Global, out: &mut String, terms: &[(TypedExpr, bool)]) -> Result<(), AllocError> {
-    if terms.len() > 0 {
-        out.push_str(" by")?;
+impl Shown for Option<Key> {
+    fn push(&self, line: &mut Line) {
+        push_point(line, self);
     }
-    for (expr, descending) in terms {
-        out.push_str(" ")?;
-        push_expr(alloc, out, expr)?;
-        if *descending {
-            out.push_str(" desc")?;
+}
+
+/// A term of ORDER BY.
+impl Shown for (TypedExpr, bool) {
+    fn push(&self, line: &mut Line) {
+        push_expr(line, &self.0);
+        if self.1 {
+            line.word(" desc");
         }
     }
-    Ok(())
 }
 
-fn cut(alloc: Global, out: &mut String, limit: Option<i64>, offset: i64) -> Result<(), AllocError> {
-    if let Some(number) = limit {
-        out.push_str(" limit ")?;
-        push_number(alloc, out, number)?;
-    }
-    if offset != 0 {
-        out.push_str(" offset ")?;
-        push_number(alloc, out, offset)?;
-    }
-    Ok(())
+fn push_from(line: &mut Line, select: &TypedSelect) {
+    listed(line, " from", &select.tables);
+    listed(line, " reads", &select.mentioned);
+    listed(line, " at", &select.points);
 }
 
-fn select(alloc: Global, out: &mut String, select: &TypedSelect) -> Result<(), AllocError> {
-    fields(alloc, out, select.fields.as_slice())?;
-    out.push_str("<-")?;
-    push_each(alloc, out, select.items.as_slice())?;
-    from(alloc, out, select)?;
-    conditions(alloc, out, select.conditions.as_slice())?;
-    order(alloc, out, select.order.as_slice())?;
-    cut(alloc, out, select.limit, select.offset)?;
+fn push_cut(line: &mut Line, select: &TypedSelect) {
+    if let Some(number) = select.limit {
+        line.word(" limit ");
+        line.number(number);
+    }
+    if select.offset != 0 {
+        line.word(" offset ");
+        line.number(select.offset);
+    }
+}
+
+fn push_select(line: &mut Line, select: &TypedSelect) {
+    each(line, "", &select.fields);
+    line.word("<-");
+    each(line, " ", &select.items);
+    push_from(line, select);
+    listed(line, " where", &select.conditions);
+    listed(line, " by", &select.order);
+    push_cut(line, select);
     if select.aggregate {
-        out.push_str(" grouped")?;
+        line.word(" grouped");
     }
-    Ok(())
 }
 
-fn insert(alloc: Global, out: &mut String, insert: &TypedInsert) -> Result<(), AllocError> {
-    out.push_str("into ")?;
-    push_index(alloc, out, insert.table)?;
+// ---- changes
+
+fn push_insert(line: &mut Line, insert: &TypedInsert) {
+    line.word("into ");
+    line.number(i64::from(insert.table));
     for row in insert.rows.as_slice() {
-        out.push_str(" row")?;
-        push_each(alloc, out, row.as_slice())?;
-    }
-    Ok(())
-}
-
-fn set(alloc: Global, out: &mut String, set: &[(u32, TypedExpr)]) -> Result<(), AllocError> {
-    for (column, expr) in set {
-        out.push_str(" set ")?;
-        push_index(alloc, out, *column)?;
-        out.push_str(" = ")?;
-        push_expr(alloc, out, expr)?;
-    }
-    Ok(())
-}
-
-fn filter(alloc: Global, out: &mut String, filter: &Option<TypedExpr>) -> Result<(), AllocError> {
-    match filter {
-        Some(expr) => {
-            out.push_str(" where ")?;
-            push_expr(alloc, out, expr)
-        }
-        None => Ok(()),
+        line.word(" row");
+        each(line, " ", row);
     }
 }
 
-fn change(alloc: Global, out: &mut String, change: &TypedChange) -> Result<(), AllocError> {
-    out.push_str(if change.delete { "delete " } else { "update " })?;
-    push_index(alloc, out, change.table)?;
-    out.push_str(" reads")?;
-    columns(alloc, out, change.mentioned.as_slice())?;
-    out.push_str(" at")?;
-    point(alloc, out, &change.point)?;
-    set(alloc, out, change.set.as_slice())?;
-    filter(alloc, out, &change.filter)
+/// A column that is set, and to what.
+impl Shown for (u32, TypedExpr) {
+    fn push(&self, line: &mut Line) {
+        line.number(i64::from(self.0));
+        line.word(" = ");
+        push_expr(line, &self.1);
+    }
+}
+
+fn push_filter(line: &mut Line, filter: &Option<TypedExpr>) {
+    if let Some(expr) = filter {
+        line.word(" where ");
+        push_expr(line, expr);
+    }
+}
+
+fn push_change(line: &mut Line, change: &TypedChange) {
+    line.word(if change.delete { "delete " } else { "update " });
+    line.number(i64::from(change.table));
+    line.word(" reads ");
+    push_columns(line, change.mentioned.as_slice());
+    line.word(" at ");
+    push_point(line, &change.point);
+    each(line, " set ", &change.set);
+    push_filter(line, &change.filter);
 }
 
 /// The typed statement as one line.
-pub fn line(alloc: Global, out: &mut String, typed: &Typed) -> Result<(), AllocError> {
-    match typed {
-        Typed::Select(typed) => select(alloc, out, typed),
-        Typed::Insert(typed) => insert(alloc, out, typed),
-        Typed::Change(typed) => change(alloc, out, typed),
+impl Shown for Typed {
+    fn push(&self, line: &mut Line) {
+        match self {
+            Typed::Select(typed) => push_select(line, typed),
+            Typed::Insert(typed) => push_insert(line, typed),
+            Typed::Change(typed) => push_change(line, typed),
+        }
     }
 }
