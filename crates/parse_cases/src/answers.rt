@@ -1,8 +1,8 @@
 // What the readers make of a text.
 ghost use Rattle.std.specs.Prelude.{◌<◌, ◌^◌, length};
 
-use crate::held::{alone, kept};
-use crate::statement::each;
+use crate::held::alone;
+use crate::line::{Line, each};
 use crate::tokens::push_tokens;
 use cell_base::{Items, Memory, Text};
 use sql_lexer::{LexFault, tokens};
@@ -33,9 +33,9 @@ const MAX_TEXT: usize = 2_000_000;
 // ---- tokens
 
 fn tokens_line(alloc: Global, found: &[Token]) -> Result<String, AllocError> {
-    let mut out = String::new(alloc);
-    let pushed = push_tokens(&mut out, found);
-    kept(out, pushed)
+    let mut line = Line::new(alloc);
+    push_tokens(&mut line, found);
+    line.whole()
 }
 
 fn tokens_shown(alloc: Global, answer: Result<Vec<Token>, LexFault>) -> Result<String, AllocError> {
@@ -67,9 +67,9 @@ fn count_of_million(alloc: Global, text: &Text) -> Result<String, Memory>
 // ---- statements
 
 fn lines(alloc: Global, found: &Items<Statement>) -> Result<String, AllocError> {
-    let mut out = String::new(alloc);
-    let pushed = each(&mut out, "", found);
-    kept(out, pushed)
+    let mut line = Line::new(alloc);
+    each(&mut line, "", found);
+    line.whole()
 }
 
 fn read(alloc: Global, found: &Items<Statement>, ask: Ask) -> Result<String, AllocError> {

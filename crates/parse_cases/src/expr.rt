@@ -1,7 +1,6 @@
 // Expressions with all their parentheses.
-use cell_base::Boxed;
+use crate::line::{Line, Shown};
 use sql_tree::{Expr, Op};
-use std::alloc::AllocError;
 
 fn sign(op: Op) -> &'static str {
     match op {
@@ -21,69 +20,81 @@ fn sign(op: Op) -> &'static str {
     }
 }
 
-/// The words, one after another.
-pub fn words(out: &mut String, words: &[&str]) -> Result<(), AllocError> {
-    for word in words {
-        out.push_str(word)?;
-    }
-    Ok(())
-}
-
 /// An expression that holds no other one.
-fn show_leaf(out: &mut String, e: &Expr) -> Result<(), AllocError> {
+fn show_leaf(line: &mut Line, e: &Expr) {
     match e {
-        Expr::Int(n) => write!(out, "{n}"),
-        Expr::Str(s) => words(out, &["'", s.as_str(), "'"]),
-        Expr::Flag(flag) => out.push_str(if *flag { "TRUE" } else { "FALSE" }),
-        Expr::Column(None, name) => out.push_str(name.as_str()),
-        Expr::Column(Some(table), name) => words(out, &[table.as_str(), ".", name.as_str()]),
-        Expr::Call(name, None) => words(out, &[name.as_str(), "(*)"]),
-        Expr::Null => out.push_str("NULL"),
-        _ => Ok(()),
+        Expr::Int(n) => line.number(*n),
+        Expr::Str(s) => {
+            line.word("'");
+            line.word(s.as_str());
+            line.word("'");
+        }
+        Expr::Flag(flag) => line.word(if *flag { "TRUE" } else { "FALSE" }),
+        Expr::Null => line.word("NULL"),
+        Expr::Column(None, name) => line.word(name.as_str()),
+        Expr::Column(Some(table), name) => {
+            line.word(table.as_str());
+            line.word(".");
+            line.word(name.as_str());
+        }
+        Expr::Call(name, None) => {
+            line.word(name.as_str());
+            line.word("(*)");
+        }
+        _ => (),
     }
 }
 
 /// The expression, with all its parentheses.
 #[cycle(show)]
-pub fn show(out: &mut String, e: &Expr) -> Result<(), AllocError> {
+pub fn show(line: &mut Line, e: &Expr) {
     match e {
         Expr::Call(name, Some(a)) => {
-            out.push_str(name.as_str())?;
-            show_between(out, "(", a, ")")
+            line.word(name.as_str());
+            show_between(line, "(", a.get(), ")");
         }
-        Expr::Neg(a) => show_between(out, "(-", a, ")"),
-        Expr::Not(a) => show_between(out, "(NOT ", a, ")"),
-        Expr::IsNull(a, true) => show_between(out, "(", a, " IS NOT NULL)"),
-        Expr::IsNull(a, false) => show_between(out, "(", a, " IS NULL)"),
+        Expr::Neg(a) => show_between(line, "(-", a.get(), ")"),
+        Expr::Not(a) => show_between(line, "(NOT ", a.get(), ")"),
+        Expr::IsNull(a, negated) => {
+            let test = if *negated {
+                " IS NOT NULL)"
+            } else {
+                " IS NULL)"
+            };
+            show_between(line, "(", a.get(), test);
+        }
         Expr::Binary(op, a, b) => {
-            show_between(out, "(", a, sign(*op))?;
-            show_between(out, "", b, ")")
+            show_between(line, "(", a.get(), sign(*op));
+            show(line, b.get());
+            line.word(")");
         }
         Expr::In(a, among, negated) => {
-            show_between(out, "(", a, if *negated { " NOT IN" } else { " IN" })?;
-            show_members(out, among.as_slice())
+            let test = if *negated { " NOT IN" } else { " IN" };
+            show_between(line, "(", a.get(), test);
+            show_all(line, among.as_slice());
+            line.word(")");
         }
-        _ => show_leaf(out, e),
+        _ => show_leaf(line, e),
     }
 }
 
 #[cycle(show)]
-fn show_between(
-    out: &mut String,
-    before: &str,
-    e: &Boxed<Expr>,
-    after: &str,
-) -> Result<(), AllocError> {
-    out.push_str(before)?;
-    show(out, e.get())?;
-    out.push_str(after)
+fn show_between(line: &mut Line, before: &str, e: &Expr, after: &str) {
+    line.word(before);
+    show(line, e);
+    line.word(after);
 }
 
 #[cycle(show)]
-fn show_members(out: &mut String, among: &[Expr]) -> Result<(), AllocError> {
+fn show_all(line: &mut Line, among: &[Expr]) {
     for e in among {
-        out.push_str(" ")?;
-        show(out, e)?;
+        line.word(" ");
+        show(line, e);
     }
-    out.push_str(")")
+}
+
+impl Shown for Expr {
+    fn push(&self, line: &mut Line) {
+        show(line, self);
+    }
 }

@@ -19,9 +19,9 @@ mod held;
 #[cfg(test)]
 mod lexemes;
 #[cfg(test)]
-mod long_texts;
+mod line;
 #[cfg(test)]
-mod parts;
+mod long_texts;
 #[cfg(test)]
 mod statement;
 #[cfg(test)]

@@ -1,47 +1,38 @@
 // Statements as one line each.
-use crate::expr::{show, words};
-use crate::parts::Part::{Kind, Mark, Name, NameAfter, NumberAfter, Tree, TreeAfter, Word};
-use crate::parts::parts;
-use cell_base::{Items, Text};
+use crate::expr::show;
+use crate::line::{Line, Shown, each};
+use cell_base::{Items, SqlType, Text};
 use sql_tree::{
     ColumnDef, CreateTable, Delete, Expr, Insert, Item, OrderTerm, Select, Statement, TableRef,
     Update,
 };
-use std::alloc::AllocError;
-
-/// What has a text.
-pub trait Shown {
-    /// Writes the text after the line so far.
-    fn push(&self, out: &mut String) -> Result<(), AllocError>;
-}
-
-/// Each of them, after the word.
-pub fn each<T: Shown>(out: &mut String, word: &str, all: &Items<T>) -> Result<(), AllocError> {
-    for one in all.as_slice() {
-        out.push_str(word)?;
-        one.push(out)?;
-    }
-    Ok(())
-}
 
 impl Shown for Text {
-    fn push(&self, out: &mut String) -> Result<(), AllocError> {
-        out.push_str(self.as_str())
+    fn push(&self, line: &mut Line) {
+        line.word(self.as_str());
     }
 }
 
-impl Shown for Expr {
-    fn push(&self, out: &mut String) -> Result<(), AllocError> {
-        show(out, self)
+fn push_alias(line: &mut Line, alias: &Option<Text>) {
+    if let Some(alias) = alias {
+        line.word(" as ");
+        line.word(alias.as_str());
+    }
+}
+
+fn push_after(line: &mut Line, word: &str, expr: &Option<Expr>) {
+    if let Some(expr) = expr {
+        line.word(word);
+        show(line, expr);
     }
 }
 
 /// A cell of a row, or what a column is set to.
 impl Shown for Option<Expr> {
-    fn push(&self, out: &mut String) -> Result<(), AllocError> {
+    fn push(&self, line: &mut Line) {
         match self {
-            Some(expr) => show(out, expr),
-            None => out.push_str("default"),
+            Some(expr) => show(line, expr),
+            None => line.word("default"),
         }
     }
 }
@@ -49,147 +40,170 @@ impl Shown for Option<Expr> {
 // ---- queries
 
 impl Shown for Item {
-    fn push(&self, out: &mut String) -> Result<(), AllocError> {
+    fn push(&self, line: &mut Line) {
         match self {
-            Item::Star => out.push_str("*"),
-            Item::Expr(expr, name) => parts(out, &[Tree(expr), NameAfter(" as ", name)]),
+            Item::Star => line.word("*"),
+            Item::Expr(expr, name) => {
+                show(line, expr);
+                push_alias(line, name);
+            }
         }
     }
 }
 
 impl Shown for TableRef {
-    fn push(&self, out: &mut String) -> Result<(), AllocError> {
-        parts(
-            out,
-            &[
-                Name(&self.name),
-                NameAfter(" as ", &self.alias),
-                TreeAfter(" on ", &self.on),
-            ],
-        )
+    fn push(&self, line: &mut Line) {
+        line.word(self.name.as_str());
+        push_alias(line, &self.alias);
+        push_after(line, " on ", &self.on);
     }
 }
 
 impl Shown for OrderTerm {
-    fn push(&self, out: &mut String) -> Result<(), AllocError> {
-        parts(out, &[Tree(&self.expr), Mark(" desc", self.descending)])
+    fn push(&self, line: &mut Line) {
+        show(line, &self.expr);
+        if self.descending {
+            line.word(" desc");
+        }
     }
 }
 
-fn select(out: &mut String, select: &Select) -> Result<(), AllocError> {
-    out.push_str("select")?;
-    each(out, " ", &select.items)?;
-    each(out, " from ", &select.from)?;
-    parts(out, &[TreeAfter(" where ", &select.filter)])?;
-    each(out, " by ", &select.order)?;
-    parts(
-        out,
-        &[
-            NumberAfter(" limit ", select.limit),
-            NumberAfter(" offset ", select.offset),
-        ],
-    )
+fn push_count(line: &mut Line, word: &str, number: Option<i64>) {
+    if let Some(number) = number {
+        line.word(word);
+        line.number(number);
+    }
+}
+
+fn push_select(line: &mut Line, select: &Select) {
+    line.word("select");
+    each(line, " ", &select.items);
+    each(line, " from ", &select.from);
+    push_after(line, " where ", &select.filter);
+    each(line, " by ", &select.order);
+    push_count(line, " limit ", select.limit);
+    push_count(line, " offset ", select.offset);
 }
 
 // ---- changes
 
 impl Shown for Items<Option<Expr>> {
-    fn push(&self, out: &mut String) -> Result<(), AllocError> {
-        each(out, " ", self)
+    fn push(&self, line: &mut Line) {
+        each(line, " ", self);
     }
 }
 
-fn insert(out: &mut String, insert: &Insert) -> Result<(), AllocError> {
-    words(out, &["insert ", insert.table.as_str()])?;
-    each(out, " ", &insert.columns)?;
-    each(out, " row", &insert.rows)
+fn push_insert(line: &mut Line, insert: &Insert) {
+    line.word("insert ");
+    line.word(insert.table.as_str());
+    each(line, " ", &insert.columns);
+    each(line, " row", &insert.rows);
 }
 
 /// A column that is set, and to what.
 impl Shown for (Text, Option<Expr>) {
-    fn push(&self, out: &mut String) -> Result<(), AllocError> {
-        words(out, &[self.0.as_str(), " = "])?;
-        self.1.push(out)
+    fn push(&self, line: &mut Line) {
+        line.word(self.0.as_str());
+        line.word(" = ");
+        self.1.push(line);
     }
 }
 
-fn update(out: &mut String, update: &Update) -> Result<(), AllocError> {
-    words(out, &["update ", update.table.as_str()])?;
-    each(out, " set ", &update.set)?;
-    parts(out, &[TreeAfter(" where ", &update.filter)])
+fn push_update(line: &mut Line, update: &Update) {
+    line.word("update ");
+    line.word(update.table.as_str());
+    each(line, " set ", &update.set);
+    push_after(line, " where ", &update.filter);
 }
 
-fn delete(out: &mut String, delete: &Delete) -> Result<(), AllocError> {
-    parts(
-        out,
-        &[
-            Word("delete "),
-            Name(&delete.table),
-            TreeAfter(" where ", &delete.filter),
-        ],
-    )
+fn push_delete(line: &mut Line, delete: &Delete) {
+    line.word("delete ");
+    line.word(delete.table.as_str());
+    push_after(line, " where ", &delete.filter);
 }
 
 // ---- tables
 
-impl Shown for ColumnDef {
-    fn push(&self, out: &mut String) -> Result<(), AllocError> {
-        parts(
-            out,
-            &[
-                Name(&self.name),
-                Kind(self.kind),
-                Mark(" not null", self.not_null),
-                TreeAfter(" default ", &self.default),
-                Mark(" key", self.key),
-            ],
-        )
+fn push_varchar(line: &mut Line, length: u32) {
+    line.word(" varchar ");
+    line.number(i64::from(length));
+}
+
+fn push_kind(line: &mut Line, kind: SqlType) {
+    match kind {
+        SqlType::Boolean => line.word(" boolean"),
+        SqlType::Integer => line.word(" integer"),
+        SqlType::Bigint => line.word(" bigint"),
+        SqlType::Text => line.word(" text"),
+        SqlType::Numeric => line.word(" numeric"),
+        SqlType::Varchar(length) => push_varchar(line, length),
     }
 }
 
-fn create(out: &mut String, create: &CreateTable) -> Result<(), AllocError> {
-    words(out, &["create ", create.name.as_str()])?;
-    each(out, " column ", &create.columns)?;
-    each(out, " key ", &create.keys)?;
-    each(out, " check ", &create.checks)
+impl Shown for ColumnDef {
+    fn push(&self, line: &mut Line) {
+        line.word(self.name.as_str());
+        push_kind(line, self.kind);
+        if self.not_null {
+            line.word(" not null");
+        }
+        push_after(line, " default ", &self.default);
+        if self.key {
+            line.word(" key");
+        }
+    }
+}
+
+fn push_create(line: &mut Line, create: &CreateTable) {
+    line.word("create ");
+    line.word(create.name.as_str());
+    each(line, " column ", &create.columns);
+    each(line, " key ", &create.keys);
+    each(line, " check ", &create.checks);
 }
 
 // ---- settings
 
-fn set(out: &mut String, name: &Text, values: &Items<Text>) -> Result<(), AllocError> {
-    words(out, &["set ", name.as_str(), " ="])?;
-    each(out, " ", values)
+fn push_set(line: &mut Line, name: &Text, values: &Items<Text>) {
+    line.word("set ");
+    line.word(name.as_str());
+    line.word(" =");
+    each(line, " ", values);
 }
 
-fn setting(out: &mut String, statement: &Statement) -> Result<(), AllocError> {
+fn push_show(line: &mut Line, name: &Text) {
+    line.word("show ");
+    line.word(name.as_str());
+}
+
+fn push_setting(line: &mut Line, statement: &Statement) {
     match statement {
-        Statement::Begin(true) => out.push_str("start"),
-        Statement::Begin(false) => out.push_str("begin"),
-        Statement::Commit => out.push_str("commit"),
-        Statement::Rollback => out.push_str("rollback"),
-        Statement::SetModes => out.push_str("modes"),
-        Statement::Set(name, values) => set(out, name, values),
-        Statement::Show(name) => words(out, &["show ", name.as_str()]),
-        _ => Ok(()),
+        Statement::Begin(true) => line.word("start"),
+        Statement::Begin(false) => line.word("begin"),
+        Statement::Commit => line.word("commit"),
+        Statement::Rollback => line.word("rollback"),
+        Statement::SetModes => line.word("modes"),
+        Statement::Set(name, values) => push_set(line, name, values),
+        Statement::Show(name) => push_show(line, name),
+        _ => (),
     }
 }
 
-/// The statement as one line.
-fn line(out: &mut String, statement: &Statement) -> Result<(), AllocError> {
+fn push_statement(line: &mut Line, statement: &Statement) {
     match statement {
-        Statement::Select(tree) => select(out, tree),
-        Statement::Insert(tree) => insert(out, tree),
-        Statement::Update(tree) => update(out, tree),
-        Statement::Delete(tree) => delete(out, tree),
-        Statement::Create(tree) => create(out, tree),
-        _ => setting(out, statement),
+        Statement::Select(tree) => push_select(line, tree),
+        Statement::Insert(tree) => push_insert(line, tree),
+        Statement::Update(tree) => push_update(line, tree),
+        Statement::Delete(tree) => push_delete(line, tree),
+        Statement::Create(tree) => push_create(line, tree),
+        _ => push_setting(line, statement),
     }
 }
 
-/// The line, with a semicolon after it.
+/// The statement as one line, with a semicolon after it.
 impl Shown for Statement {
-    fn push(&self, out: &mut String) -> Result<(), AllocError> {
-        line(out, self)?;
-        out.push_str(";")
+    fn push(&self, line: &mut Line) {
+        push_statement(line, self);
+        line.word(";");
     }
 }

@@ -5,8 +5,31 @@ use crate::texts::{Long, long_text};
 use std::alloc::Global;
 use std::test::Fail;
 
+/// Ends the test at a line that is no case and tells nothing of cases.
+fn is_remark(line: &str) -> Result<(), Fail> {
+    if line.is_empty() || line.starts_with("#") {
+        return Ok(());
+    }
+    Err(Fail::new(format_args!("no case: {line}")))
+}
+
+fn is_read(alloc: Global, ask: Ask, line: &str) -> Result<(), Fail> {
+    match line.split_once(" => ") {
+        Some((spelled, want)) => is(spelled, answer(alloc, spelled, ask), want),
+        None => is_remark(line),
+    }
+}
+
 /// Whether each text of the table comes to what the table says.
-pub fn are_read(alloc: Global, ask: Ask, table: &[(&str, &str)]) -> Result<(), Fail> {
+pub fn are_read(alloc: Global, ask: Ask, table: &str) -> Result<(), Fail> {
+    for line in table.lines() {
+        is_read(alloc, ask, line)?;
+    }
+    Ok(())
+}
+
+/// Whether each text of the list comes to what the list says.
+pub fn are_pairs_read(alloc: Global, ask: Ask, table: &[(&str, &str)]) -> Result<(), Fail> {
     for (spelled, want) in table {
         is(spelled, answer(alloc, spelled, ask), want)?;
     }

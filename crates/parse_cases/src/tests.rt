@@ -1,9 +1,12 @@
 // What no clause says: that the lexemes and the grammar are those that are meant, by texts read by hand.
 use crate::answers::{Ask, answer_to};
-use crate::cases::{CHANGES, EXPRESSIONS, FAULTS, LONG, RESERVED, SELECTS, SESSIONS, UNSUPPORTED};
+use crate::cases::{
+    CHANGES, EXPRESSIONS, FAULTS, LONG, RESERVED, SELECTS, SESSIONS, SPACED_EXPRESSIONS,
+    SPACED_FAULTS, SPACED_SELECTS, UNSUPPORTED,
+};
 use crate::compared::{is, is_code, is_no_text, is_not};
-use crate::lexemes::LEXEMES;
-use crate::tables::{are_answered, are_read};
+use crate::lexemes::{LEXEMES, SPACED_LEXEMES};
+use crate::tables::{are_answered, are_pairs_read, are_read};
 use crate::texts::joined;
 use cell_base::{Memory, SqlState, Text};
 use sql_lexer::LexFault;
@@ -13,17 +16,20 @@ use std::test::Fail;
 
 #[test]
 fn reads_each_lexeme(rt: HostRuntime) -> Result<(), Fail> {
-    are_read(rt.alloc(), Ask::Tokens, LEXEMES)
+    are_read(rt.alloc(), Ask::Tokens, LEXEMES)?;
+    are_pairs_read(rt.alloc(), Ask::Tokens, SPACED_LEXEMES)
 }
 
 #[test]
 fn reads_expressions(rt: HostRuntime) -> Result<(), Fail> {
-    are_read(rt.alloc(), Ask::Statements, EXPRESSIONS)
+    are_read(rt.alloc(), Ask::Statements, EXPRESSIONS)?;
+    are_pairs_read(rt.alloc(), Ask::Statements, SPACED_EXPRESSIONS)
 }
 
 #[test]
 fn reads_queries(rt: HostRuntime) -> Result<(), Fail> {
-    are_read(rt.alloc(), Ask::Statements, SELECTS)
+    are_read(rt.alloc(), Ask::Statements, SELECTS)?;
+    are_pairs_read(rt.alloc(), Ask::Statements, SPACED_SELECTS)
 }
 
 #[test]
@@ -38,7 +44,8 @@ fn reads_transactions_and_settings(rt: HostRuntime) -> Result<(), Fail> {
 
 #[test]
 fn finds_faults(rt: HostRuntime) -> Result<(), Fail> {
-    are_read(rt.alloc(), Ask::Statements, FAULTS)
+    are_read(rt.alloc(), Ask::Statements, FAULTS)?;
+    are_pairs_read(rt.alloc(), Ask::Statements, SPACED_FAULTS)
 }
 
 #[test]
@@ -90,7 +97,7 @@ const CODES: &[(&str, &str)] = &[
 
 #[test]
 fn answers_a_code(rt: HostRuntime) -> Result<(), Fail> {
-    are_read(rt.alloc(), Ask::Code, CODES)
+    are_pairs_read(rt.alloc(), Ask::Code, CODES)
 }
 
 const PARSE_FAULTS: &[(ParseFault, SqlState)] = &[
@@ -147,5 +154,5 @@ const COUNTS: &[(&str, &str)] = &[(";", "0"), ("", "0"), (";;COMMIT;", "1")];
 
 #[test]
 fn reads_no_statement_between_semicolons(rt: HostRuntime) -> Result<(), Fail> {
-    are_read(rt.alloc(), Ask::Count, COUNTS)
+    are_pairs_read(rt.alloc(), Ask::Count, COUNTS)
 }

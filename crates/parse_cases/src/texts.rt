@@ -1,6 +1,5 @@
 // Texts that are made.
-use crate::expr::words;
-use crate::held::kept;
+use crate::line::Line;
 use std::alloc::{AllocError, Global};
 
 /// A long text: how it begins, what opens so many times, what stands inside, and what closes as often; and what it comes to.
@@ -13,31 +12,32 @@ pub type Long = (
     &'static str,
 );
 
-fn push_times(out: &mut String, part: &str, times: u32) -> Result<(), AllocError> {
+fn push_times(line: &mut Line, part: &str, times: u32) {
     for _ in 0..times {
-        out.push_str(part)?;
+        line.word(part);
     }
-    Ok(())
 }
 
-fn push_long(out: &mut String, long: &Long) -> Result<(), AllocError> {
+fn push_long(line: &mut Line, long: &Long) {
     let (first, open, times, inner, close, _) = *long;
-    out.push_str(first)?;
-    push_times(out, open, times)?;
-    out.push_str(inner)?;
-    push_times(out, close, times)
+    line.word(first);
+    push_times(line, open, times);
+    line.word(inner);
+    push_times(line, close, times);
 }
 
 /// The text.
 pub fn long_text(alloc: Global, long: &Long) -> Result<String, AllocError> {
-    let mut out = String::new(alloc);
-    let pushed = push_long(&mut out, long);
-    kept(out, pushed)
+    let mut line = Line::new(alloc);
+    push_long(&mut line, long);
+    line.whole()
 }
 
 /// The text of these parts.
 pub fn joined(alloc: Global, parts: &[&str]) -> Result<String, AllocError> {
-    let mut out = String::new(alloc);
-    let pushed = words(&mut out, parts);
-    kept(out, pushed)
+    let mut line = Line::new(alloc);
+    for part in parts {
+        line.word(part);
+    }
+    line.whole()
 }

@@ -2,85 +2,71 @@
 // of their own.
 
 /// Each text with its fault, or its statements where it is just not at fault.
-pub(crate) const FAULTS: &[(&str, &str)] = &[
-    ("SELECT 'a", "Lex(UnclosedString(7))"),
-    ("'", "Lex(UnclosedString(0))"),
-    ("SELECT 'a''", "Lex(UnclosedString(7))"),
-    ("/*", "Lex(UnclosedComment(0))"),
-    ("SELECT 1 /* a /* b */", "Lex(UnclosedComment(9))"),
-    ("SELECT 1 /*/", "Lex(UnclosedComment(9))"),
-    ("SELECT /* a /* b */ c */ 1", "select 1;"),
-    ("SELECT \"a", "Lex(UnclosedName(7))"),
-    ("\"", "Lex(UnclosedName(0))"),
-    ("SELECT \"a\"\"", "Lex(UnclosedName(7))"),
-    ("SELECT \"\"", "Lex(EmptyName(7))"),
-    ("\"\"", "Lex(EmptyName(0))"),
-    ("SELECT a.\"\"", "Lex(EmptyName(9))"),
-    ("SELECT a & b", "Lex(BadCharacter(9))"),
-    ("SELECT !", "Lex(BadCharacter(7))"),
-    ("SELECT $", "Lex(BadCharacter(7))"),
-    ("SELECT a : b", "Lex(BadCharacter(9))"),
-    ("SELECT 1a", "Lex(Junk(7))"),
-    ("SELECT 12_3", "Lex(Junk(7))"),
-    ("SELECT 1é", "Lex(Junk(7))"),
-    ("SELECT 1e+5", "Lex(Junk(7))"),
-    ("SELECT 99999999999999999999a", "Lex(Junk(7))"),
-    ("SELECT 9223372036854775808", "Lex(TooWide(7))"),
-    ("SELECT 99999999999999999999.5", "Lex(TooWide(7))"),
-    ("SHOW 18446744073709551616", "Lex(TooWide(5))"),
-    (
-        "SELECT aaaaaaaaaaaaaaaaaaaaaaaaaaaaaaaaaaaaaaaaaaaaaaaaaaaaaaaaaaaaaaab",
-        "Lex(NameTooLong(7))",
-    ),
-    (
-        "SELECT \"aaaaaaaaaaaaaaaaaaaaaaaaaaaaaaaaaaaaaaaaaaaaaaaaaaaaaaaaaaaaaaab\"",
-        "Lex(NameTooLong(7))",
-    ),
-    ("éééééééééééééééééééééééééééééééé", "Lex(NameTooLong(0))"),
-    ("SELECT 1.5", "Lex(Unsupported(7))"),
-    ("SELECT 1.", "Lex(Unsupported(7))"),
-    ("SELECT 1e5", "Lex(Unsupported(7))"),
-    ("SELECT a .5", "Lex(Unsupported(9))"),
-    ("SELECT e'a'", "Lex(Unsupported(7))"),
-    ("SELECT 1, X'1F'", "Lex(Unsupported(10))"),
-    ("SELECT DISTINCT 'a", "Lex(UnclosedString(16))"),
-    ("SELECT ; FOO 1.5", "Lex(Unsupported(13))"),
-    ("SELECT 'a'.5", "Lex(Unsupported(10))"),
-    ("SELECT a.5", "Syntax"),
-    ("SELECT \"a\".5", "Syntax"),
-    ("SELECT (a).5", "Syntax"),
-    ("SELECT ae'x'", "Syntax"),
-    ("SELECT \0", "Lex(BadCharacter(7))"),
-    (
-        "SELECT \"aaaaaaaaaaaaaaaaaaaaaaaaaaaaaaaaaaaaaaaaaaaaaaaaaaaaaaaaaaaaaa\"\"\"",
-        "select aaaaaaaaaaaaaaaaaaaaaaaaaaaaaaaaaaaaaaaaaaaaaaaaaaaaaaaaaaaaaa\";",
-    ),
-    (
-        "SELECT \"aaaaaaaaaaaaaaaaaaaaaaaaaaaaaaaaaaaaaaaaaaaaaaaaaaaaaaaaaaaaaaaaaaaaaa",
-        "Lex(UnclosedName(7))",
-    ),
-    ("SELECT 1 -- /*\n", "select 1;"),
-    ("SELECT 1 /* -- */", "select 1;"),
-    ("SELECT $123456", "Unsupported"),
-    ("SELECT $1abc", "Unsupported"),
-    // unsupported words and signs, which count only unquoted, and only where the limited grammar doesn't read them
-    ("SELECT DISTINCT FROM", "Unsupported"),
-    ("SELECT \"distinct\" FROM", "Syntax"),
-    ("SELECT 'union' FROM", "Syntax"),
-    ("FOO $1", "Unsupported"),
-    ("FOO :: BAR", "Unsupported"),
-    ("FOO || BAR", "Unsupported"),
-    ("FOO; VACUUM", "Unsupported"),
-    ("FOO; SELECT 1", "Syntax"),
-    ("FOO SELECT", "Unsupported"),
-    ("FOO VALUES", "Syntax"),
-    ("CREATE ; TABLE t", "Unsupported"),
-    ("CREATE TABLE TABLE", "Unsupported"),
-    ("FOO ON CONFLICT", "Unsupported"),
-    ("FOO ON; CONFLICT", "Syntax"),
-    ("FOO CONFLICT", "Syntax"),
-    ("SELECT 1; SELEC 2", "Syntax"),
-];
+pub(crate) const FAULTS: &str = r#"
+SELECT 'a => Lex(UnclosedString(7))
+' => Lex(UnclosedString(0))
+SELECT 'a'' => Lex(UnclosedString(7))
+/* => Lex(UnclosedComment(0))
+SELECT 1 /* a /* b */ => Lex(UnclosedComment(9))
+SELECT 1 /*/ => Lex(UnclosedComment(9))
+SELECT /* a /* b */ c */ 1 => select 1;
+SELECT "a => Lex(UnclosedName(7))
+" => Lex(UnclosedName(0))
+SELECT "a"" => Lex(UnclosedName(7))
+SELECT "" => Lex(EmptyName(7))
+"" => Lex(EmptyName(0))
+SELECT a."" => Lex(EmptyName(9))
+SELECT a & b => Lex(BadCharacter(9))
+SELECT ! => Lex(BadCharacter(7))
+SELECT $ => Lex(BadCharacter(7))
+SELECT a : b => Lex(BadCharacter(9))
+SELECT 1a => Lex(Junk(7))
+SELECT 12_3 => Lex(Junk(7))
+SELECT 1é => Lex(Junk(7))
+SELECT 1e+5 => Lex(Junk(7))
+SELECT 99999999999999999999a => Lex(Junk(7))
+SELECT 9223372036854775808 => Lex(TooWide(7))
+SELECT 99999999999999999999.5 => Lex(TooWide(7))
+SHOW 18446744073709551616 => Lex(TooWide(5))
+SELECT aaaaaaaaaaaaaaaaaaaaaaaaaaaaaaaaaaaaaaaaaaaaaaaaaaaaaaaaaaaaaaab => Lex(NameTooLong(7))
+SELECT "aaaaaaaaaaaaaaaaaaaaaaaaaaaaaaaaaaaaaaaaaaaaaaaaaaaaaaaaaaaaaaab" => Lex(NameTooLong(7))
+éééééééééééééééééééééééééééééééé => Lex(NameTooLong(0))
+SELECT 1.5 => Lex(Unsupported(7))
+SELECT 1. => Lex(Unsupported(7))
+SELECT 1e5 => Lex(Unsupported(7))
+SELECT a .5 => Lex(Unsupported(9))
+SELECT e'a' => Lex(Unsupported(7))
+SELECT 1, X'1F' => Lex(Unsupported(10))
+SELECT DISTINCT 'a => Lex(UnclosedString(16))
+SELECT ; FOO 1.5 => Lex(Unsupported(13))
+SELECT 'a'.5 => Lex(Unsupported(10))
+SELECT a.5 => Syntax
+SELECT "a".5 => Syntax
+SELECT (a).5 => Syntax
+SELECT ae'x' => Syntax
+SELECT "aaaaaaaaaaaaaaaaaaaaaaaaaaaaaaaaaaaaaaaaaaaaaaaaaaaaaaaaaaaaaa""" => select aaaaaaaaaaaaaaaaaaaaaaaaaaaaaaaaaaaaaaaaaaaaaaaaaaaaaaaaaaaaaa";
+SELECT "aaaaaaaaaaaaaaaaaaaaaaaaaaaaaaaaaaaaaaaaaaaaaaaaaaaaaaaaaaaaaaaaaaaaaa => Lex(UnclosedName(7))
+SELECT 1 /* -- */ => select 1;
+SELECT $123456 => Unsupported
+SELECT $1abc => Unsupported
+# unsupported words and signs, which count only unquoted, and only where the limited grammar doesn't read them
+SELECT DISTINCT FROM => Unsupported
+SELECT "distinct" FROM => Syntax
+SELECT 'union' FROM => Syntax
+FOO $1 => Unsupported
+FOO :: BAR => Unsupported
+FOO || BAR => Unsupported
+FOO; VACUUM => Unsupported
+FOO; SELECT 1 => Syntax
+FOO SELECT => Unsupported
+FOO VALUES => Syntax
+CREATE ; TABLE t => Unsupported
+CREATE TABLE TABLE => Unsupported
+FOO ON CONFLICT => Unsupported
+FOO ON; CONFLICT => Syntax
+FOO CONFLICT => Syntax
+SELECT 1; SELEC 2 => Syntax
+"#;
 
 /// Long texts on both sides of each limit: how a text begins, what opens so many times, what stands inside, what closes as
 /// often, and the fault, or `read` where there is none.
@@ -282,4 +268,10 @@ pub(crate) const UNSUPPORTED: &[&str] = &[
     "window",
     "with",
     "without",
+];
+
+/// Such texts that aren't plain lines.
+pub(crate) const SPACED_FAULTS: &[(&str, &str)] = &[
+    ("SELECT \0", "Lex(BadCharacter(7))"),
+    ("SELECT 1 -- /*\n", "select 1;"),
 ];
