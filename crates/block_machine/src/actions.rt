@@ -23,6 +23,7 @@ use crate::blocks::{commit, refuse, roll_back, start, words_of};
 use crate::courses::conclude;
 use crate::kept::Kept;
 use crate::known::Known;
+use crate::let_go::without;
 use crate::replies::shown;
 use crate::reply::{Fixed, StatementReply};
 use crate::settings::{HISTORY, LEVEL, chosen_level, is_own, value_of};
@@ -97,7 +98,8 @@ fn answer_typed(
     ensures some { IfOk result (λ stage. HasReply stage built.new.items) }
 {
     let plan = Plan::new(alloc, alone, &[])?;
-    conclude_demand(alloc, plan.demand(), description, block, built)
+    let stage = conclude_demand(alloc, plan.demand(), description, block, built);
+    without(plan, stage)
 }
 
 // The stage of a SELECT without FROM.
@@ -354,7 +356,7 @@ fn perform(
     ensures some { HasReply result.stage built.new.items }
 {
     match act(alloc, &statement, description, block, known, built) {
-        Some(step) => step,
+        Some(step) => without(statement, step),
         None => or_short(keep(alloc, statement, description, block), block),
     }
 }
@@ -381,7 +383,10 @@ pub fn take(
     ensures some { HasReply result.stage built.new.items }
 {
     match block {
-        Block::Failed => at_rest(refuse(&statement)),
+        Block::Failed => {
+            let stage = refuse(&statement);
+            without(statement, at_rest(stage))
+        }
         Block::Implicit(_) | Block::Regular => perform(
             alloc,
             statement,

@@ -1,8 +1,9 @@
 // The ErrorResponse of each code, for statements that fail.
-ghost use Rattle.std.specs.Prelude.{◌≡◌};
+ghost use Rattle.std.specs.Prelude.{◌≡◌, IfOk};
 ghost use Rattle.block_machine.specs.Replies.{error_reply};
 ghost use Rattle.cell_base.specs.declared.sql_state.SqlState.TheVariants as states;
 
+use crate::let_go::beside;
 use crate::replies::error;
 use cell_base::{Memory, SqlState};
 use std::alloc::Global;
@@ -64,36 +65,141 @@ pub struct Errors {
     ghost s54000_is: { s54000.items ≡ error_reply states.S54000 },
 }
 
+// Two ErrorResponses.
+type Two = (Vec<u8>, Vec<u8>);
+
+// Four of them.
+type Four = (Two, Two);
+
+// Eight of them.
+type Eight = (Four, Four);
+
+// The ErrorResponses of two codes.
+fn two(alloc: Global, first: SqlState, second: SqlState) -> Result<Two, Memory>
+    ensures first { IfOk result (λ made. made.0.items ≡ error_reply first) }
+    ensures second { IfOk result (λ made. made.1.items ≡ error_reply second) }
+{
+    let made = error(alloc, first)?;
+    beside(made, error(alloc, second))
+}
+
+// The ErrorResponses of four codes.
+fn four(
+    alloc: Global,
+    first: SqlState,
+    second: SqlState,
+    third: SqlState,
+    fourth: SqlState,
+) -> Result<Four, Memory>
+    ensures first { IfOk result (λ made. made.0.0.items ≡ error_reply first) }
+    ensures second { IfOk result (λ made. made.0.1.items ≡ error_reply second) }
+    ensures third { IfOk result (λ made. made.1.0.items ≡ error_reply third) }
+    ensures fourth { IfOk result (λ made. made.1.1.items ≡ error_reply fourth) }
+{
+    let made = two(alloc, first, second)?;
+    beside(made, two(alloc, third, fourth))
+}
+
+// The ErrorResponses of eight codes.
+fn eight(
+    alloc: Global,
+    first: SqlState,
+    second: SqlState,
+    third: SqlState,
+    fourth: SqlState,
+    fifth: SqlState,
+    sixth: SqlState,
+    seventh: SqlState,
+    eighth: SqlState,
+) -> Result<Eight, Memory>
+    ensures first { IfOk result (λ made. made.0.0.0.items ≡ error_reply first) }
+    ensures second { IfOk result (λ made. made.0.0.1.items ≡ error_reply second) }
+    ensures third { IfOk result (λ made. made.0.1.0.items ≡ error_reply third) }
+    ensures fourth { IfOk result (λ made. made.0.1.1.items ≡ error_reply fourth) }
+    ensures fifth { IfOk result (λ made. made.1.0.0.items ≡ error_reply fifth) }
+    ensures sixth { IfOk result (λ made. made.1.0.1.items ≡ error_reply sixth) }
+    ensures seventh { IfOk result (λ made. made.1.1.0.items ≡ error_reply seventh) }
+    ensures eighth { IfOk result (λ made. made.1.1.1.items ≡ error_reply eighth) }
+{
+    let made = four(alloc, first, second, third, fourth)?;
+    beside(made, four(alloc, fifth, sixth, seventh, eighth))
+}
+
 impl Errors {
     /// Makes all of them.
     pub fn new(alloc: Global) -> Result<Errors, Memory> {
+        let made = eight(
+            alloc,
+            SqlState::S08P01,
+            SqlState::S0A000,
+            SqlState::S22001,
+            SqlState::S22003,
+            SqlState::S22012,
+            SqlState::S22021,
+            SqlState::S22P02,
+            SqlState::S23502,
+        )?;
+        let made = beside(
+            made,
+            eight(
+                alloc,
+                SqlState::S23505,
+                SqlState::S23514,
+                SqlState::S25001,
+                SqlState::S25P01,
+                SqlState::S25P02,
+                SqlState::S28000,
+                SqlState::S42601,
+                SqlState::S42701,
+            ),
+        )?;
+        let made = beside(
+            made,
+            eight(
+                alloc,
+                SqlState::S42702,
+                SqlState::S42703,
+                SqlState::S42712,
+                SqlState::S42803,
+                SqlState::S42804,
+                SqlState::S42883,
+                SqlState::S42P01,
+                SqlState::S42P07,
+            ),
+        )?;
+        let made = beside(made, two(alloc, SqlState::S53200, SqlState::S54000))?;
+        let (((first, second), third), last) = made;
+        let (((s08p01, s0a000), (s22001, s22003)), ((s22012, s22021), (s22p02, s23502))) = first;
+        let (((s23505, s23514), (s25001, s25p01)), ((s25p02, s28000), (s42601, s42701))) = second;
+        let (((s42702, s42703), (s42712, s42803)), ((s42804, s42883), (s42p01, s42p07))) = third;
+        let (s53200, s54000) = last;
         Ok(Errors {
-            s08p01: error(alloc, SqlState::S08P01)?,
-            s0a000: error(alloc, SqlState::S0A000)?,
-            s22001: error(alloc, SqlState::S22001)?,
-            s22003: error(alloc, SqlState::S22003)?,
-            s22012: error(alloc, SqlState::S22012)?,
-            s22021: error(alloc, SqlState::S22021)?,
-            s22p02: error(alloc, SqlState::S22P02)?,
-            s23502: error(alloc, SqlState::S23502)?,
-            s23505: error(alloc, SqlState::S23505)?,
-            s23514: error(alloc, SqlState::S23514)?,
-            s25001: error(alloc, SqlState::S25001)?,
-            s25p01: error(alloc, SqlState::S25P01)?,
-            s25p02: error(alloc, SqlState::S25P02)?,
-            s28000: error(alloc, SqlState::S28000)?,
-            s42601: error(alloc, SqlState::S42601)?,
-            s42701: error(alloc, SqlState::S42701)?,
-            s42702: error(alloc, SqlState::S42702)?,
-            s42703: error(alloc, SqlState::S42703)?,
-            s42712: error(alloc, SqlState::S42712)?,
-            s42803: error(alloc, SqlState::S42803)?,
-            s42804: error(alloc, SqlState::S42804)?,
-            s42883: error(alloc, SqlState::S42883)?,
-            s42p01: error(alloc, SqlState::S42P01)?,
-            s42p07: error(alloc, SqlState::S42P07)?,
-            s53200: error(alloc, SqlState::S53200)?,
-            s54000: error(alloc, SqlState::S54000)?,
+            s08p01,
+            s0a000,
+            s22001,
+            s22003,
+            s22012,
+            s22021,
+            s22p02,
+            s23502,
+            s23505,
+            s23514,
+            s25001,
+            s25p01,
+            s25p02,
+            s28000,
+            s42601,
+            s42701,
+            s42702,
+            s42703,
+            s42712,
+            s42803,
+            s42804,
+            s42883,
+            s42p01,
+            s42p07,
+            s53200,
+            s54000,
         })
     }
 

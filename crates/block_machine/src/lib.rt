@@ -19,6 +19,7 @@ mod ending;
 mod errors;
 mod kept;
 mod known;
+mod let_go;
 mod message;
 mod message_runner;
 pub mod parameters;

@@ -4,6 +4,7 @@ ghost use Rattle.std.specs.Prelude.{◌≡◌, codes, true, false};
 ghost use Rattle.block_machine.specs.Replies.{ready_reply, error_reply, empty_reply, created_reply, set_reply, start_reply, needless_start_reply, commit_reply, needless_commit_reply, rollback_reply, needless_rollback_reply, fixed_reply, bytes_of};
 
 use crate::errors::Errors;
+use crate::let_go::beside;
 use crate::ready::ReadyReplies;
 use crate::replies::{done, empty, warned};
 use crate::reply::{Fixed, StatementReply};
@@ -93,12 +94,18 @@ impl Stops {
 impl StatementReplies {
     /// Makes all of them.
     pub fn new(alloc: Global) -> Result<StatementReplies, Memory> {
+        let made = ReadyReplies::new(alloc)?;
+        let made = beside(made, Plain::new(alloc))?;
+        let made = beside(made, Starts::new(alloc))?;
+        let made = beside(made, Stops::new(alloc))?;
+        let made = beside(made, Errors::new(alloc))?;
+        let ((((states, plain), starts), stops), errors) = made;
         Ok(StatementReplies {
-            states: ReadyReplies::new(alloc)?,
-            plain: Plain::new(alloc)?,
-            starts: Starts::new(alloc)?,
-            stops: Stops::new(alloc)?,
-            errors: Errors::new(alloc)?,
+            states,
+            plain,
+            starts,
+            stops,
+            errors,
         })
     }
 

@@ -2,6 +2,8 @@
 ghost use Rattle.std.specs.Prelude.{◌≡◌, ◌≤◌, ◌++◌, ◌∷◌, [], length, IfOk, OnOk};
 ghost use Rattle.outcome_replies.specs.Replies.{columns_reply};
 ghost use Rattle.cell_base.specs.Texts.{HasNoZero};
+ghost use Rattle.cell_base.specs.declared.value.Value.TheVariants as values;
+ghost use Rattle.pg_framing.specs.Replies.{data_row};
 ghost use Rattle.block_machine.specs.Settings.{IsShown};
 ghost use Rattle.block_machine.specs.Replies.{ready_reply, error_reply, empty_reply, done_reply, warned_reply, show_reply};
 
@@ -112,6 +114,15 @@ fn append_column(
     }
 }
 
+// The row of a SHOW.
+fn append_text(alloc: Global, reply: &mut Vec<u8>, text: &str) -> Result<(), Memory>
+    requires { length text.now ≤ 64 }
+    ensures { OnOk result (reply.new.items ≡ reply.old.items ++ data_row (values.Text text.now ∷ [])) }
+{
+    let text = text_of(alloc, text)?;
+    append_data_row(alloc, reply, &[Value::Text(text)])
+}
+
 /// The reply to a SHOW: RowDescription with the name that was asked for, where it is told, DataRow with the value, and CommandComplete.
 #[tactic(auto, unfolding(crate::specs::Replies::show_reply))]
 pub fn shown(
@@ -124,10 +135,9 @@ pub fn shown(
     requires value { length value.now ≤ 64 }
     ensures { IfOk result (λ reply. reply.items ≡ show_reply description name.now value.now) }
 {
-    let value = text_of(alloc, value)?;
     let mut reply = Vec::new(alloc);
     append_column(alloc, &mut reply, name, description)?;
-    append_data_row(alloc, &mut reply, &[Value::Text(value)])?;
+    append_text(alloc, &mut reply, value)?;
     append_command_complete(alloc, &mut reply, b"SHOW")?;
     Ok(reply)
 }

@@ -1,5 +1,6 @@
 // The settings that SET and SHOW name.
 ghost use Rattle.std.specs.Prelude.{◌≡◌, ◌≤◌, length, Some, None, IfSome, IsNone};
+ghost use Rattle.std.specs.Str.{bytes_eq};
 ghost use Rattle.block_machine.specs.Settings.{IsShown, is_own, level_word, level_named, chosen_level, parameter_value, value_of};
 
 use crate::parameters::{
@@ -21,6 +22,13 @@ pub fn is_own(name: &str) -> bool
     name.starts_with("monkey.")
 }
 
+// Whether two texts are the same.
+fn is_same(text: &str, other: &str) -> bool
+    ensures { result ≡ bytes_eq text.now other.now }
+{
+    text == other
+}
+
 // The word of a level.
 fn level_word(level: Level) -> &'static str
     ensures word { result.now ≡ level_word level }
@@ -37,11 +45,11 @@ fn level_word(level: Level) -> &'static str
 pub fn level_named(word: &str) -> Option<Level>
     ensures { result ≡ level_named word.now }
 {
-    if word == "rc" {
+    if is_same(word, "rc") {
         Some(Level::Rc)
-    } else if word == "ra" {
+    } else if is_same(word, "ra") {
         Some(Level::Ra)
-    } else if word == "cc" {
+    } else if is_same(word, "cc") {
         Some(Level::Cc)
     } else {
         None
@@ -54,7 +62,7 @@ pub fn chosen_level(served: Level, values: &[Text]) -> Option<Level>
 {
     match values {
         [value] => {
-            if value.as_str() == "default" {
+            if is_same(value.as_str(), "default") {
                 Some(served)
             } else {
                 level_named(value.as_str())
@@ -70,17 +78,17 @@ fn parameter_value(name: &str) -> Option<&'static str>
     ensures none { IsNone result → parameter_value name.now ≡ None }
     ensures shown { IfSome result (λ value. IsShown name.now × (length value.now ≤ 64)) }
 {
-    if name == SERVER_VERSION.name {
+    if is_same(name, SERVER_VERSION.name) {
         Some(SERVER_VERSION.value)
-    } else if name == SERVER_ENCODING.name {
+    } else if is_same(name, SERVER_ENCODING.name) {
         Some(SERVER_ENCODING.value)
-    } else if name == CLIENT_ENCODING.name {
+    } else if is_same(name, CLIENT_ENCODING.name) {
         Some(CLIENT_ENCODING.value)
-    } else if name == DATE_STYLE.name || name == "datestyle" {
+    } else if is_same(name, DATE_STYLE.name) || is_same(name, "datestyle") {
         Some(DATE_STYLE.value)
-    } else if name == INTEGER_DATETIMES.name {
+    } else if is_same(name, INTEGER_DATETIMES.name) {
         Some(INTEGER_DATETIMES.value)
-    } else if name == STANDARD_CONFORMING_STRINGS.name {
+    } else if is_same(name, STANDARD_CONFORMING_STRINGS.name) {
         Some(STANDARD_CONFORMING_STRINGS.value)
     } else {
         None
@@ -93,7 +101,7 @@ pub fn value_of(level: Level, name: &str) -> Option<&'static str>
     ensures none { IsNone result → value_of level name.now ≡ None }
     ensures shown { IfSome result (λ value. IsShown name.now × (length value.now ≤ 64)) }
 {
-    if name == LEVEL {
+    if is_same(name, LEVEL) {
         Some(level_word(level))
     } else {
         parameter_value(name)

@@ -1,23 +1,26 @@
 // What follows an answer.
-ghost use Rattle.std.specs.Prelude.{◌≡◌, ◌<◌, true, IfOk};
+ghost use Rattle.std.specs.Prelude.{◌≡◌, ◌+◌, ◌^◌, ◌<◌, true, IfOk};
 ghost use Rattle.cell_base.specs.declared.cell.Cell as cells;
 ghost use Rattle.cell_base.specs.declared.value.Value as values;
 ghost use Rattle.statement_course.specs.declared.demand.Demand.TheVariants as demands;
 ghost use Rattle.statement_course.specs.declared.demand.Outcome as outcomes;
 ghost use Rattle.statement_course.specs.declared.demand.PlanAnswer.TheVariants as answers;
 ghost use Rattle.statement_course.specs.Course.{FitsDemand, following};
+ghost use Rattle.table_reading.specs.Left.{step_answers, step_course};
 ghost use Rattle.cell_compile.specs.declared.next.Next.TheVariants as nexts;
-ghost use Rattle.cell_compile.specs.Plans.{left_of, next_answers, next_course, rest_of};
+ghost use Rattle.cell_compile.specs.declared.next.Purpose.{Purpose};
+ghost use Rattle.cell_compile.specs.Plans.{ending, left_of, next_answers, next_course, rest_of};
 ghost use Rattle.cell_compile.specs.Together.{go_together};
 
 use crate::Plan;
 use crate::ending::{after_step, writes_left};
+use crate::handing::{beside, without};
 use crate::inserting::after_presence;
 use crate::next::{Insertion, Next, Purpose};
 use cell_base::{Cell, Items, Key, Memory, Value};
 use statement_course::{Demand, Outcome};
 use std::alloc::Global;
-use table_reading::Reading;
+use table_reading::{Reading, Step};
 
 /// Goes on with the keys of a table.
 pub fn with_keys(
@@ -33,7 +36,8 @@ pub fn with_keys(
 {
     match (demand, next) {
         (Demand::Scan(_), Next::Reads(reading, purpose)) => {
-            after_step(alloc, reading.with_keys(keys)?, purpose)
+            let (purpose, step) = beside(purpose, reading.with_keys(keys))?;
+            after_step(alloc, step, purpose)
         }
         _ => unreachable!(),
     }
@@ -66,13 +70,25 @@ fn read_value(
     ensures less { IfOk result (λ plan. left_of plan < next_answers demand (nexts.Reads reading purpose)) }
 {
     match demand {
-        Demand::Touch(Cell::Presence(_, key)) => {
-            after_step(alloc, reading.with_presence(key, &value)?, purpose)
-        }
-        Demand::Touch(Cell::Field(_, key, column)) => {
-            after_step(alloc, reading.with_field(key, column, value)?, purpose)
+        Demand::Touch(cell) => {
+            let (purpose, step) = beside(purpose, with_cell(reading, cell, value))?;
+            after_step(alloc, step, purpose)
         }
         _ => unreachable!(),
+    }
+}
+
+/// What a reading asks for after the value of a cell.
+fn with_cell(reading: Reading, cell: Cell, value: Value) -> Result<Step, Memory>
+    ensures course { IfOk result (λ step. (purpose : Purpose) → step_course step (ending purpose) ≡ following (next_course (demands.Touch cell) (nexts.Reads reading purpose)) (answers.Value value)) }
+    ensures less { IfOk result (λ step. (purpose : Purpose) → 2 ^ 64 + step_answers step < next_answers (demands.Touch cell) (nexts.Reads reading purpose)) }
+{
+    match cell {
+        Cell::Presence(_, key) => {
+            let step = reading.with_presence(key, &value);
+            without(value, step)
+        }
+        Cell::Field(_, key, column) => reading.with_field(key, column, value),
     }
 }
 

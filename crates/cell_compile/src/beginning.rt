@@ -1,13 +1,19 @@
 // How a plan begins.
-ghost use Rattle.std.specs.Prelude.{◌≡◌, map, length, slice_get, IfOk, Ok, Some};
+ghost use Rattle.std.specs.Prelude.{◌≡◌, [], ◌∷◌, List, map, length, slice_get, IfOk, Ok, Some};
 ghost use Rattle.row_meaning.specs.Pictures.{TableRow};
+ghost use Rattle.row_meaning.specs.declared.picture.TableRows.{TableRows};
 ghost use Rattle.row_writes.specs.Widths.{AreWithin};
 ghost use Rattle.cell_compile.specs.Narrow.{AreNarrow, IsNarrow};
 ghost use Rattle.cell_compile.specs.Plans.{rest_of};
-ghost use Rattle.statement_course.specs.Statements.{course_of_change, course_of_insert, course_of_rows, course_of_select};
+ghost use Rattle.statement_course.specs.Statements.{course_of_change, course_of_insert, course_of_rows, course_of_select, part_of_change};
+ghost use Rattle.statement_course.specs.Statements as course;
+ghost use Rattle.statement_course.specs.Course.{Course};
+ghost use Rattle.statement_course.specs.Reading.{read_parts};
+ghost use Rattle.table_reading.specs.Left.{step_course};
 
 use crate::Plan;
 use crate::ending::{after_step, counted, reply};
+use crate::handing::{beside, without};
 use crate::inserting::next_presence;
 use crate::next::{Insertion, Purpose};
 use crate::parts::{part_of, parts_of_select};
@@ -16,14 +22,22 @@ use row_writes::{insert_writes, rows_to_insert};
 use sql_tree::{Table, TypedChange, TypedInsert, TypedSelect};
 use statement_course::Outcome;
 use std::alloc::Global;
-use table_reading::{Queue, begin};
+use table_reading::{Queue, Step, begin};
 
 /// The plan of a SELECT.
 pub fn select_plan(alloc: Global, select: TypedSelect, tables: &[Table]) -> Result<Plan, Memory>
     ensures { IfOk result (λ plan. rest_of plan ≡ course_of_select tables.now select) }
 {
-    let step = begin(alloc, parts_of_select(alloc, tables, &select)?)?;
+    let first = select_step(alloc, &select, tables);
+    let (select, step) = beside(select, first)?;
     after_step(alloc, step, Purpose::Selects(select))
+}
+
+/// What the reading of a SELECT begins with.
+fn select_step(alloc: Global, select: &TypedSelect, tables: &[Table]) -> Result<Step, Memory>
+    ensures { IfOk result (λ step. (rest : List TableRows → Course) → step_course step rest ≡ read_parts (course.parts_of_select tables.now select.now) [] rest) }
+{
+    begin(alloc, parts_of_select(alloc, tables, select)?)
 }
 
 /// The plan of an UPDATE or a DELETE.
@@ -32,17 +46,26 @@ pub fn change_plan(alloc: Global, change: TypedChange, tables: &[Table]) -> Resu
 {
     match tables.get(change.table as usize) {
         Some(table) => change_of(alloc, change, table),
-        None => Ok(reply(alloc, Outcome::Failed(SqlState::S42P01))),
+        None => Ok(without(change, reply(alloc, Outcome::Failed(SqlState::S42P01)))),
     }
 }
 
 fn change_of(alloc: Global, change: TypedChange, table: &Table) -> Result<Plan, Memory>
     ensures { IfOk result (λ plan. rest_of plan ≡ course_of_change change (Some table.now)) }
 {
+    let first = change_step(alloc, &change, table);
+    let (change, step) = beside(change, first)?;
+    let ((change, step), copy) = beside((change, step), table.copy(alloc))?;
+    after_step(alloc, step, Purpose::Changes(change, copy))
+}
+
+/// What the reading of the table of a change begins with.
+fn change_step(alloc: Global, change: &TypedChange, table: &Table) -> Result<Step, Memory>
+    ensures { IfOk result (λ step. (rest : List TableRows → Course) → step_course step rest ≡ read_parts (part_of_change table.now change.now ∷ []) [] rest) }
+{
     let mut parts = Items::new(alloc);
     parts.push(part_of(alloc, change.table, table, &change.mentioned, &change.point)?)?;
-    let copy = table.copy(alloc)?;
-    after_step(alloc, begin(alloc, parts)?, Purpose::Changes(change, copy))
+    begin(alloc, parts)
 }
 
 /// The plan of an INSERT.

@@ -1,5 +1,9 @@
 // What is made of the tables that were read, and what is written.
-ghost use Rattle.std.specs.Prelude.{◌≡◌, ◌+◌, ◌^◌, ◌<◌, ◌≤◌, length, IfOk, Ok};
+ghost use Rattle.std.specs.Prelude.{◌≡◌, ◌+◌, ◌^◌, ◌<◌, ◌≤◌, List, length, IfOk, Ok};
+ghost use Rattle.cell_base.specs.declared.value.Value as values;
+ghost use Rattle.sql_tree.specs.declared.typed.TypedSelect.{TypedSelect};
+ghost use Rattle.typing_rules.specs.Gives.{Gives};
+ghost use Rattle.typing_rules.specs.Outcome.{Outcome as Answer};
 ghost use Rattle.row_meaning.specs.Changes.{changes_of as all_changes};
 ghost use Rattle.row_meaning.specs.Pictures.{shown_of};
 ghost use Rattle.row_meaning.specs.Selection.{selected};
@@ -11,12 +15,13 @@ ghost use Rattle.table_reading.specs.Left.{step_answers, step_course};
 ghost use Rattle.cell_compile.specs.Plans.{demanded, ending, left_of, rest_of};
 
 use crate::Plan;
+use crate::handing::without;
 use crate::next::{Next, Purpose};
 use cell_base::{Cell, Items, Key, Memory, SqlFault, Value};
 use row_assembly::rows_of;
 use row_meaning::TableRows;
 use row_writes::{RowChange, changes_of, delete_writes, update_writes};
-use sql_tree::{Table, TypedChange, TypedSelect};
+use sql_tree::{OutField, Table, TypedChange, TypedSelect};
 use statement_course::{Demand, Outcome};
 use std::alloc::Global;
 use table_reading::{Question, Queue, Step};
@@ -69,8 +74,18 @@ fn selection(
 ) -> Result<Outcome, Memory>
     ensures { IfOk result (λ outcome. outcome ≡ rows_outcome select (selected select picture)) }
 {
-    match rows_of(alloc, &select, picture.as_slice()) {
-        Ok(rows) => Ok(Outcome::Rows(select.fields, rows)),
+    let rows = rows_of(alloc, &select, picture.as_slice());
+    rows_or_code(select.fields, without(picture, rows))
+}
+
+fn rows_or_code(
+    fields: Items<OutField>,
+    rows: Result<Items<Items<Value>>, SqlFault>,
+) -> Result<Outcome, Memory>
+    ensures { (select : TypedSelect) (whole : Answer (List (List values.Value))) → fields ≡ select.fields → Gives whole rows → IfOk result (λ outcome. outcome ≡ rows_outcome select whole) }
+{
+    match rows {
+        Ok(rows) => Ok(Outcome::Rows(fields, rows)),
         Err(SqlFault::State(code)) => Ok(Outcome::Failed(code)),
         Err(SqlFault::Memory) => Err(Memory),
     }
@@ -85,13 +100,21 @@ fn changed(
     ensures course { IfOk result (λ plan. rest_of plan ≡ course_of_changes change (all_changes table change (shown_of change.table picture))) }
     ensures few { IfOk result (λ plan. left_of plan ≤ 2 ^ 64) }
 {
-    match changes_of(
-        alloc,
-        &table,
-        &change,
-        shown(picture.as_slice(), change.table),
-    ) {
-        Ok(made) => changes_made(alloc, &change, made),
+    let plan = changed_in(alloc, &change, &table, picture.as_slice());
+    without((change, table, picture), plan)
+}
+
+fn changed_in(
+    alloc: Global,
+    change: &TypedChange,
+    table: &Table,
+    picture: &[TableRows],
+) -> Result<Plan, Memory>
+    ensures course { IfOk result (λ plan. rest_of plan ≡ course_of_changes change.now (all_changes table.now change.now (shown_of (change.now).table picture.now))) }
+    ensures few { IfOk result (λ plan. left_of plan ≤ 2 ^ 64) }
+{
+    match changes_of(alloc, table, change, shown(picture, change.table)) {
+        Ok(made) => changes_made(alloc, change, made),
         Err(SqlFault::State(code)) => Ok(reply(alloc, Outcome::Failed(code))),
         Err(SqlFault::Memory) => Err(Memory),
     }

@@ -4,6 +4,7 @@
 mod answers;
 mod beginning;
 mod ending;
+mod handing;
 mod inserting;
 mod next;
 mod parts;

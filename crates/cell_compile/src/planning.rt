@@ -2,6 +2,7 @@
 use crate::Plan;
 use crate::answers::{replied, take_write, with_keys, with_value, with_written};
 use crate::beginning::{change_plan, insert_plan, select_plan};
+use crate::handing::{put, without};
 use crate::next::Next;
 use cell_base::{Cell, Memory, SqlState, Value};
 use sql_tree::{Table, Typed};
@@ -48,16 +49,8 @@ impl Plan {
         ensures course { OnOk result (rest_of self.new ≡ following (rest_of self.old) answer) }
         ensures less { OnOk result (left_of self.new < left_of self.old) }
     {
-        let alloc = self.alloc;
-        let plan = mem::replace(
-            self,
-            Plan::of(
-                alloc,
-                Demand::Reply(Outcome::Failed(SqlState::S53200)),
-                Next::Nothing,
-            ),
-        );
-        *self = plan.answered(answer)?;
+        let plan = self.taken();
+        put(self, plan.answered(answer)?);
         Ok(())
     }
 
@@ -68,17 +61,8 @@ impl Plan {
         ensures course { rest_of self.new ≡ following (rest_of self.old) answers.Written }
         ensures less { left_of self.new < left_of self.old }
     {
-        let alloc = self.alloc;
-        let plan = mem::replace(
-            self,
-            Plan::of(
-                alloc,
-                Demand::Reply(Outcome::Failed(SqlState::S53200)),
-                Next::Nothing,
-            ),
-        );
-        let (cell, value, plan) = plan.without_write();
-        *self = plan;
+        let (cell, value, plan) = self.taken().without_write();
+        put(self, plan);
         (cell, value)
     }
 
@@ -90,9 +74,9 @@ impl Plan {
         let Plan {
             alloc: _,
             demand,
-            next: _,
+            next,
         } = self;
-        replied(demand)
+        without(next, replied(demand))
     }
 
     #[tactic(auto, unfolding(crate::specs::Plans::rest_of, crate::specs::Plans::left_of))]
@@ -106,6 +90,18 @@ impl Plan {
             demand,
             next,
         }
+    }
+
+    /// Takes the plan out; a spent one stands in its place.
+    fn taken(&mut self) -> Plan
+        ensures { result ≡ self.old }
+    {
+        let spent = Plan::of(
+            self.alloc,
+            Demand::Reply(Outcome::Failed(SqlState::S53200)),
+            Next::Nothing,
+        );
+        mem::replace(self, spent)
     }
 
     #[tactic(auto, unfolding(crate::specs::Plans::rest_of, crate::specs::Plans::left_of))]

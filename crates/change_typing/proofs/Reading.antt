@@ -3,9 +3,11 @@ use Rattle.std.proofs.Common.{◌≡◌, ℕ, ◌<◌, ◌==◌, Bool, false, �
 use Rattle.std.specs.Prelude.{Result, IfOk}
 use Rattle.std.specs.List.{list_any}
 use Rattle.cell_base.specs.declared.memory.Memory.{Memory}
+use Rattle.cell_base.specs.declared.sql_fault.SqlFault.{SqlFault}
 use Rattle.sql_tree.specs.declared.expr.Expr.{Expr}
 use Rattle.sql_tree.specs.declared.table.Table.{Table}
 use Rattle.sql_tree.specs.declared.typed_expr.TypedExpr.{TypedExpr}
+use Rattle.typing_rules.specs.Gives.{Gives}
 use Rattle.typing_rules.specs.Outcome.{Outcome, and_then}
 use Rattle.typing_rules.specs.Names.{Source}
 use Rattle.typing_rules.specs.Given.{cell}
@@ -63,3 +65,8 @@ set_within sources n (t ∷ ts) [] set are e = let none : [] ≡ set = cc in rw 
 set_within sources n (t ∷ ts) (a ∷ more) set are e =
     value_within n t.number (cell sources t.column a.1) (set_values sources ts more) set are.0
     (λ rest h. set_within sources n ts more rest are.1.1 h) e
+
+pub all_within : (sources : List Source) (n : ℕ) (ts : List Target) (assignments : List (List ℕ × Option Expr)) (r : Result (List (ℕ × TypedExpr)) SqlFault)
+    → AreColumns n ts → Gives (set_values sources ts assignments) r → IfOk r (λ set. AreWithin n set)
+all_within sources n ts assignments (Ok set) are e = set_within sources n ts assignments set are e
+all_within sources n ts assignments (Err why) are e = tt

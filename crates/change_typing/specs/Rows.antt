@@ -1,5 +1,5 @@
 -- The row of an INSERT: a slot for each column, which takes its expression.
-use Rattle.std.specs.Prelude.{List, [], ◌∷◌, map, set, Option, Some, None, Ok}
+use Rattle.std.specs.Prelude.{◌≡◌, ℕ, List, [], ◌∷◌, map, set, Option, Some, None, Result, Ok, Err}
 use Rattle.sql_tree.specs.declared.expr.Expr.{Expr}
 use Rattle.sql_tree.specs.declared.table.Column.{Column}
 use Rattle.sql_tree.specs.declared.typed_expr.TypedExpr.{TypedExpr}
@@ -14,6 +14,11 @@ abbrev pub put : List (Option TypedExpr) → List Target → List TypedExpr → 
 put slots [] es = slots
 put slots (t ∷ ts) [] = slots
 put slots (t ∷ ts) (e ∷ es) = put (set slots t.number (Some e)) ts es
+
+-- the slots with the value that was made in the one of this number
+abbrev pub IsPlaced : {A E : Type 0} → Result A E → ℕ → List (Option A) → List (Option A) → Type 0
+IsPlaced (Ok x) number before after = after ≡ set before number (Some x)
+IsPlaced (Err why) number before after = ⊥
 
 abbrev pub default_value : Column → TypedExpr
 default_value c = typed_node c.kind (node.Constant c.default)

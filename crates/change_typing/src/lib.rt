@@ -4,6 +4,7 @@
 mod cell;
 mod change;
 mod insert;
+mod kept;
 mod lengths;
 mod reads;
 mod row;

@@ -1,10 +1,11 @@
 // The rows of an INSERT.
-ghost use Rattle.std.specs.Prelude.{◌≡◌, List, Option, None, length, map, replicate, IfOk, Ok};
+ghost use Rattle.std.specs.Prelude.{◌≡◌, List, Option, None, length, map, replicate, IfOk, IfErr, Ok, Err};
 ghost use Rattle.sql_tree.specs.declared.typed_expr.TypedExpr.{TypedExpr};
 ghost use Rattle.typing_rules.specs.Insert.{cells};
 ghost use Rattle.typing_rules.specs.Outcome.{all_of, and_then};
 ghost use Rattle.typing_rules.specs.Gives.{Gives};
 ghost use Rattle.change_typing.specs.Rows as spec;
+ghost use Rattle.change_typing.specs.Rows.{IsPlaced};
 ghost use Rattle.change_typing.specs.Targets.{AreColumns, targets};
 
 use crate::cell::{cell, default_value};
@@ -25,6 +26,27 @@ fn empty_slots(alloc: Global, count: usize) -> Result<Vec<Option<TypedExpr>>, Me
     Ok(slots)
 }
 
+/// The slots with a value in the one of this number, where it was made.
+fn with_value<T: Drop, E>(
+    slots: Vec<Option<T>>,
+    number: u32,
+    made: Result<T, E>,
+) -> Result<Vec<Option<T>>, E>
+    ensures placed { IfOk result (λ after. IsPlaced made number slots.items after.items) }
+    ensures refused { IfErr result (λ why. made ≡ Err why) }
+{
+    match made {
+        Ok(value) => {
+            let mut slots = slots;
+            if let Some(slot) = slots.get_mut(number as usize) {
+                *slot = Some(value);
+            }
+            Ok(slots)
+        }
+        Err(why) => Err(why),
+    }
+}
+
 /// A slot for each column of the table, in which the expressions of these columns stand. Expressions of an INSERT see no column.
 fn slots_of(
     alloc: Global,
@@ -32,14 +54,13 @@ fn slots_of(
     columns: &[ColumnAt<'_>],
     row: &[Option<Expr>],
 ) -> Result<Items<Option<TypedExpr>>, SqlFault>
-    requires { AreColumns count (targets columns.now) }
     ensures { Gives (and_then (cells (targets columns.now) row.now)
         (λ es. Ok (spec.put (replicate {A = Option TypedExpr} count None) (targets columns.now) es))) result }
 {
     let scope: [Entry<'_>; 0] = [];
     let mut slots = empty_slots(alloc, count)?;
     for (at, expr) in columns.iter().zip(row) {
-        slots[at.number as usize] = Some(cell(alloc, at.column, expr, &scope)?);
+        slots = with_value(slots, at.number, cell(alloc, at.column, expr, &scope))?;
     }
     Ok(Items::from_vec(slots))
 }
@@ -65,7 +86,8 @@ fn filled(
     let mut row = Items::new(alloc);
     for slot in slots.into_vec() {
         let column = &columns[row.len()];
-        row.push(value_or(alloc, column, slot)?)?;
+        let value = value_or(alloc, column, slot)?;
+        row.push(value)?;
     }
     Ok(row)
 }
@@ -95,7 +117,8 @@ pub fn typed_rows(
 {
     let mut typed = Items::new(alloc);
     for row in rows {
-        typed.push(typed_row(alloc, columns, given, row.as_slice())?)?;
+        let made = typed_row(alloc, columns, given, row.as_slice())?;
+        typed.push(made)?;
     }
     Ok(typed)
 }

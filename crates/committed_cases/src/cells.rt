@@ -4,14 +4,14 @@ use history_core::BookFault;
 use std::alloc::Global;
 
 /// A key.
-#[derive(Clone, Copy, Debug)]
+#[derive(Clone, Copy)]
 pub enum Row {
     Number(i64),
     Name(&'static [u8]),
 }
 
 /// What stands in a cell.
-#[derive(Clone, Copy, Debug)]
+#[derive(Clone, Copy)]
 pub enum Put {
     /// Whether the table has the row.
     Row(u32, Row, bool),
@@ -47,10 +47,14 @@ pub fn value_of(put: Put) -> Value {
     }
 }
 
+fn are_same(entry: &(Cell, Value), cell: &Cell, value: &Value) -> bool {
+    entry.0.is_same(cell) && entry.1.is_same(value)
+}
+
 /// Whether this is the cell with this value.
 fn is_put(alloc: Global, entry: &(Cell, Value), put: Put) -> Result<bool, BookFault> {
     let cell = cell_of(alloc, put)?;
-    Ok(entry.0.is_same(&cell) && entry.1.is_same(&value_of(put)))
+    Ok(are_same(entry, &cell, &value_of(put)))
 }
 
 /// Whether these are the cells, in this order.

@@ -1,11 +1,15 @@
 // A history that has as many tables as it may.
 ghost use Rattle.std.specs.Prelude.{◌≡◌, IfOk, OnOk};
+ghost use Rattle.sound_table.specs.Sound.{IsSound};
 ghost use Rattle.history_core.specs.Book.{no_session, IsIdle};
 
+use crate::held::{alone, right};
 use crate::tables::table_of;
 use cell_base::{Level, Memory};
-use history_core::{Book, BookFault, DefineAnswer, Event, InitialState, Limit};
+use history_core::{Book, BookFault, DefineAnswer, Event, History, InitialState, Limit};
+use sql_tree::Table;
 use std::alloc::Global;
+use std::test::Fail;
 use valid_writes::{SeatBook, Store};
 
 /// What comes of further definitions once the tables `t0` to `t63` are there: of a 65th, of a name that is taken, and of the 65th again.
@@ -14,17 +18,6 @@ const FURTHER: &[(u32, Result<DefineAnswer, BookFault>)] = &[
     (0, Ok(DefineAnswer::Taken(64))),
     (64, Err(BookFault::Full(Limit::Tables))),
 ];
-
-/// How many tables were defined at first, how many of the further definitions were answered as expected, and how many tables and events there are
-/// then.
-#[derive(Clone, Copy, Debug, PartialEq, Eq)]
-struct Came {
-    defined: u32,
-    further: u32,
-    tables: usize,
-    events: usize,
-    ends_with_a_look: bool,
-}
 
 /// The book of a new history without a row.
 fn new_book(alloc: Global) -> Result<SeatBook, Memory>
@@ -42,13 +35,20 @@ fn open(book: &mut SeatBook) -> Result<(), BookFault>
     Ok(())
 }
 
-/// What comes of a definition of the table `t` with this number after the letter.
+/// The table `t` with this number after the letter.
+fn numbered(alloc: Global, number: u32) -> Result<Table, BookFault>
+    ensures { IfOk result IsSound }
+{
+    let text = format!(in alloc; "CREATE TABLE t{number} (k bigint PRIMARY KEY)")?;
+    table_of(alloc, text.as_bytes())
+}
+
+/// What comes of a definition of that table.
 fn define(alloc: Global, book: &mut SeatBook, number: u32) -> Result<DefineAnswer, BookFault>
     requires { IsIdle book.old.state }
     ensures { IsIdle book.new.state }
 {
-    let text = format!(in alloc; "CREATE TABLE t{number} (k bigint PRIMARY KEY)")?;
-    let table = table_of(alloc, text.as_bytes())?;
+    let table = numbered(alloc, number)?;
     book.define(&table)
 }
 
@@ -93,33 +93,28 @@ fn ends_with_a_look(events: &[Event]) -> bool {
     )
 }
 
-fn tried(alloc: Global) -> Result<Came, BookFault> {
-    let mut book = new_book(alloc)?;
-    open(&mut book)?;
-    let defined = define_many(alloc, &mut book, 64);
-    let further = define_further(alloc, &mut book);
-    let history = book.history();
-    Ok(Came {
-        defined,
-        further,
-        tables: history.tables().len(),
-        events: history.events().len(),
-        ends_with_a_look: ends_with_a_look(history.events()),
-    })
+/// Whether the history has 64 tables, and an Open, 64 Defines and a Look.
+fn is_full(history: &History) -> bool {
+    history.tables().len() == 64
+        && history.events().len() == 66
+        && ends_with_a_look(history.events())
 }
 
-/// An Open, 64 Defines and a Look.
+/// Whether all definitions are answered as expected.
+fn defines_all(alloc: Global, book: &mut SeatBook) -> Result<bool, BookFault>
+    requires { book.old.state ≡ no_session }
+{
+    open(book)?;
+    Ok(
+        define_many(alloc, book, 64) == 64
+            && define_further(alloc, book) == 3
+            && is_full(book.history()),
+    )
+}
+
 #[test]
-fn refuses_a_table_beyond_the_last(rt: HostRuntime) -> Result<(), BookFault> {
-    assert_eq!(&rt;
-        tried(rt.alloc())?,
-        Came {
-            defined: 64,
-            further: 3,
-            tables: 64,
-            events: 66,
-            ends_with_a_look: true,
-        }
-    );
-    Ok(())
+fn refuses_a_table_beyond_the_last(rt: HostRuntime) -> Result<(), Fail> {
+    let mut book = new_book(rt.alloc())?;
+    let defines_all = defines_all(rt.alloc(), &mut book);
+    right("definitions", alone(book, defines_all)?)
 }

@@ -9,6 +9,8 @@ mod cells;
 #[cfg(test)]
 mod full;
 #[cfg(test)]
+mod held;
+#[cfg(test)]
 mod play;
 #[cfg(test)]
 mod tables;

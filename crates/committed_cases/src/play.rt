@@ -5,6 +5,7 @@ ghost use Rattle.history_core.specs.Initial.{IsStorable};
 ghost use Rattle.history_core.specs.Book.{no_session, IsIdle, IsInTransaction, HasTable};
 
 use crate::cells::{Put, cell_of, value_of};
+use crate::held::{alone, kept, refused};
 use crate::tables::table_of;
 use cell_base::{Cell, Level, Value};
 use history_core::{Book, BookFault, InitialState};
@@ -12,7 +13,7 @@ use std::alloc::Global;
 use valid_writes::{SeatBook, Store};
 
 /// What a transaction writes, in order, and whether it commits. Otherwise it is rolled back.
-#[derive(Clone, Copy, Debug)]
+#[derive(Clone, Copy)]
 pub struct Transaction {
     pub writes: &'static [Put],
     pub commits: bool,
@@ -22,8 +23,8 @@ pub struct Transaction {
 pub fn played(alloc: Global, transactions: &[Transaction]) -> Result<Store, BookFault> {
     let store = Store::new(alloc, Level::Cc, InitialState::empty(alloc))?;
     let mut book = store.seat(None);
-    play_all(alloc, &mut book, transactions)?;
-    Ok(book.into_store())
+    let played = play_all(alloc, &mut book, transactions);
+    kept(book.into_store(), played)
 }
 
 /// Opens the session, defines the tables, and plays the transactions.
@@ -65,7 +66,8 @@ fn define(alloc: Global, book: &mut SeatBook, text: &[u8]) -> Result<(), BookFau
     ensures { OnOk result (IsIdle book.new.state) }
 {
     let table = table_of(alloc, text)?;
-    book.define(&table)?;
+    let answer = book.define(&table);
+    alone(table, answer)?;
     Ok(())
 }
 
@@ -76,8 +78,7 @@ fn play(alloc: Global, book: &mut SeatBook, transaction: &Transaction) -> Result
 {
     book.begin(Level::Cc)?;
     for put in transaction.writes {
-        let cell = cell_of(alloc, *put)?;
-        write(book, cell, value_of(*put))?;
+        write_put(alloc, book, *put)?;
     }
     if transaction.commits {
         book.commit();
@@ -87,13 +88,22 @@ fn play(alloc: Global, book: &mut SeatBook, transaction: &Transaction) -> Result
     Ok(())
 }
 
+/// Writes what is put.
+fn write_put(alloc: Global, book: &mut SeatBook, put: Put) -> Result<(), BookFault>
+    requires { IsInTransaction book.old.state }
+    ensures { OnOk result (IsInTransaction book.new.state) }
+{
+    let cell = cell_of(alloc, put)?;
+    write(book, cell, value_of(put))
+}
+
 /// Writes a cell of a table that is there.
 fn write(book: &mut SeatBook, cell: Cell, value: Value) -> Result<(), BookFault>
     requires { IsInTransaction book.old.state }
     ensures { OnOk result (IsInTransaction book.new.state) }
 {
     if !has_table(book, table(&cell)) || !is_storable(&value) {
-        return Err(BookFault::Memory);
+        return refused((cell, value));
     }
     book.write(cell, value)
 }

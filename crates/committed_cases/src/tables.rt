@@ -1,5 +1,7 @@
 // The tables of the tests.
-ghost use Rattle.std.specs.Prelude.{IfOk};
+ghost use Rattle.std.specs.Prelude.{◌<◌, ◌^◌, length, IfOk};
+ghost use Rattle.cell_base.specs.Texts.{HasNoZero};
+ghost use Rattle.sql_statements.specs.Faults.{AreStatementsOf};
 ghost use Rattle.sound_table.specs.Sound.{IsSound};
 
 use cell_base::Text;
@@ -14,17 +16,34 @@ use table_schema::build;
 pub fn table_of(alloc: Global, text: &[u8]) -> Result<Table, BookFault>
     ensures { IfOk result IsSound }
 {
-    built_is_sound();
     if text.len() > 255 || text.contains(&0) {
         return Err(BookFault::Memory);
     }
     let Ok(text) = Text::from_bytes(alloc, text) else {
         return Err(BookFault::Memory);
     };
-    let Ok(list) = statements(alloc, &text) else {
+    table_of_text(alloc, &text)
+}
+
+fn table_of_text(alloc: Global, text: &Text) -> Result<Table, BookFault>
+    requires short { length text.now < 2 ^ 32 }
+    requires plain { HasNoZero text.now }
+    ensures { IfOk result IsSound }
+{
+    let Ok(list) = statements(alloc, text) else {
         return Err(BookFault::Memory);
     };
-    let Some(Statement::Create(create)) = list.as_slice().first() else {
+    first_table(alloc, text, list.as_slice())
+}
+
+/// The table that the first of the text's statements creates.
+fn first_table(alloc: Global, _text: &Text, list: &[Statement]) -> Result<Table, BookFault>
+    requires plain { HasNoZero _text.now }
+    requires list { AreStatementsOf _text.now list.now }
+    ensures { IfOk result IsSound }
+{
+    built_is_sound();
+    let Some(Statement::Create(create)) = list.first() else {
         return Err(BookFault::Memory);
     };
     let Ok(table) = build(alloc, create) else {

@@ -1,15 +1,18 @@
 // What is committed at the end, and what starts with it.
 use crate::cells::{Put, Row, are_cells};
+use crate::held::{alone, none, right, some};
 use crate::play::{Transaction, played};
-use cell_base::Level;
+use cell_base::{Cell, Level, Value};
 use committed_rows::{committed_rows, start_after};
 use history_core::{BookFault, Event, History};
 use std::alloc::Global;
+use std::test::Fail;
+use valid_writes::Store;
 
 /// Transaction 1 inserts rows 1 and 2 of the first table, and row `b` of the second one. Transaction 2 updates row 1, twice. Transaction 3
 /// deletes row 2, and inserts row -5. Transaction 4 updates row 1, deletes row -5, inserts row 3, and is rolled back. Transaction 5 inserts row
 /// `a` of the second table. Transaction 6 deletes row `b`, and 7 inserts it once more.
-const TRANSACTIONS: [Transaction; 7] = [
+const TRANSACTIONS: &[Transaction] = &[
     Transaction {
         writes: &[
             Put::Row(0, Row::Number(1), true),
@@ -66,7 +69,7 @@ const TRANSACTIONS: [Transaction; 7] = [
 ];
 
 /// The rows at the end of these.
-const ROWS: [Put; 8] = [
+const ROWS: &[Put] = &[
     Put::Row(0, Row::Number(-5), true),
     Put::Row(0, Row::Number(1), true),
     Put::Row(1, Row::Name(b"a"), true),
@@ -78,21 +81,33 @@ const ROWS: [Put; 8] = [
 ];
 
 /// A row without its field.
-const HALF: [Transaction; 1] = [Transaction {
+const HALF: &[Transaction] = &[Transaction {
     writes: &[Put::Row(0, Row::Number(1), true)],
     commits: true,
 }];
 
+/// The store at the end of these.
+fn all_played(alloc: Global) -> Result<Store, BookFault> {
+    played(alloc, TRANSACTIONS)
+}
+
+/// Whether these are the rows.
+fn are_rows(alloc: Global, cells: &[(Cell, Value)]) -> Result<bool, BookFault> {
+    are_cells(alloc, cells, ROWS)
+}
+
 /// Whether these are the rows at the end of the history.
 fn ends_with_rows(alloc: Global, history: &History) -> Result<bool, BookFault> {
     let cells = committed_rows(alloc, history)?;
-    are_cells(alloc, cells.as_slice(), &ROWS)
+    let are_rows = are_rows(alloc, cells.as_slice());
+    alone(cells, are_rows)
 }
 
 /// Whether the rows are found at the end.
 fn finds_rows(alloc: Global) -> Result<bool, BookFault> {
-    let store = played(alloc, &TRANSACTIONS)?;
-    ends_with_rows(alloc, store.history())
+    let store = all_played(alloc)?;
+    let ends_with_rows = ends_with_rows(alloc, store.history());
+    alone(store, ends_with_rows)
 }
 
 /// Whether the event opens session 1, defines the table of the name in it, or closes it.
@@ -118,18 +133,22 @@ fn has_begun(history: &History) -> bool {
     }
 }
 
+/// A store of the level that starts after the history.
+fn started(alloc: Global, level: Level, setup: &History) -> Result<Store, BookFault> {
+    some(start_after(alloc, level, setup))
+}
+
 /// Whether a store of the level that starts after the history has the rows and the tables.
 fn starts_with_rows(alloc: Global, level: Level, setup: &History) -> Result<bool, BookFault> {
-    match start_after(alloc, level, setup)? {
-        Some(store) => has_rows(alloc, level, store.history()),
-        None => Ok(false),
-    }
+    let store = started(alloc, level, setup)?;
+    let has_rows = has_rows(alloc, level, store.history());
+    alone(store, has_rows)
 }
 
 /// Whether the history begins with the rows and the tables.
 fn has_rows(alloc: Global, level: Level, history: &History) -> Result<bool, BookFault> {
     Ok(
-        are_cells(alloc, history.initial().cells(), &ROWS)?
+        are_rows(alloc, history.initial().cells())?
             && has_begun(history)
             && history.tables().len() == 2
             && history.level() == level,
@@ -143,41 +162,36 @@ fn has_rows_twice(alloc: Global, level: Level, history: &History) -> Result<bool
 
 /// Whether a store that starts after the history has the rows, and one that starts after that.
 fn starts_from(alloc: Global, setup: &History) -> Result<bool, BookFault> {
-    match start_after(alloc, Level::Ra, setup)? {
-        Some(store) => has_rows_twice(alloc, Level::Ra, store.history()),
-        None => Ok(false),
-    }
+    let store = started(alloc, Level::Ra, setup)?;
+    let has_rows = has_rows_twice(alloc, Level::Ra, store.history());
+    alone(store, has_rows)
 }
 
 /// Whether what starts after what was played has the rows, and what starts after that.
 fn starts_twice(alloc: Global) -> Result<bool, BookFault> {
-    let setup = played(alloc, &TRANSACTIONS)?;
-    starts_from(alloc, setup.history())
+    let setup = all_played(alloc)?;
+    let starts = starts_from(alloc, setup.history());
+    alone(setup, starts)
 }
 
 /// Whether nothing starts after a row without its field.
 fn half_a_row_is_refused(alloc: Global) -> Result<bool, BookFault> {
-    let setup = played(alloc, &HALF)?;
-    match start_after(alloc, Level::Cc, setup.history())? {
-        Some(_) => Ok(false),
-        None => Ok(true),
-    }
+    let setup = played(alloc, HALF)?;
+    let refused = none(start_after(alloc, Level::Cc, setup.history()));
+    alone(setup, refused)
 }
 
 #[test]
-fn the_rows_at_the_end(rt: HostRuntime) -> Result<(), BookFault> {
-    assert_eq!(&rt; finds_rows(rt.alloc())?, true);
-    Ok(())
+fn the_rows_at_the_end(rt: HostRuntime) -> Result<(), Fail> {
+    right("rows", finds_rows(rt.alloc())?)
 }
 
 #[test]
-fn a_store_that_starts_with_them(rt: HostRuntime) -> Result<(), BookFault> {
-    assert_eq!(&rt; starts_twice(rt.alloc())?, true);
-    Ok(())
+fn a_store_that_starts_with_them(rt: HostRuntime) -> Result<(), Fail> {
+    right("starts", starts_twice(rt.alloc())?)
 }
 
 #[test]
-fn a_row_that_lacks_a_field(rt: HostRuntime) -> Result<(), BookFault> {
-    assert_eq!(&rt; half_a_row_is_refused(rt.alloc())?, true);
-    Ok(())
+fn a_row_that_lacks_a_field(rt: HostRuntime) -> Result<(), Fail> {
+    right("half a row", half_a_row_is_refused(rt.alloc())?)
 }

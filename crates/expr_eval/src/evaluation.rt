@@ -3,9 +3,11 @@ ghost use Rattle.std.specs.Prelude.{◌≡◌, true, Ok, IfOk};
 ghost use Rattle.typing_rules.specs.Kinds.{is_null_or_of};
 ghost use Rattle.typing_rules.specs.WellTyped.{ColumnTypes, IsWellTyped};
 ghost use Rattle.expr_eval.specs.Operators as operators;
+ghost use Rattle.expr_eval.specs.Operators.{Outcome};
 ghost use Rattle.expr_eval.specs.Answers.{Answers};
 ghost use Rattle.expr_eval.specs.Lent.{owned, seen, Lends};
-ghost use Rattle.expr_eval.specs.Values.{value_of, values_of, among};
+ghost use Rattle.expr_eval.specs.Values as values;
+ghost use Rattle.expr_eval.specs.Values.{value_of, values_of, of_one};
 
 use crate::compare::compared;
 use crate::compute::{arithmetic, negated};
@@ -35,22 +37,75 @@ pub fn datum_of<'a>(expr: &'a TypedExpr, row: &'a [&'a [Value]]) -> Result<Datum
         TypedNode::Constant(value) => Ok(of_kind(expr.kind, value)),
         TypedNode::Column(entry, place) => Ok(column(expr.kind, row, *entry, *place)),
         TypedNode::Aggregate(_, _) => Ok(Datum::Null),
-        TypedNode::Neg(operand) => negated(expr.kind, datum_of(operand.get(), row)?),
-        TypedNode::Not(operand) => Ok(denied(datum_of(operand.get(), row)?)),
-        TypedNode::IsNull(operand, denies) => {
-            let tested = null_test(datum_of(operand.get(), row)?);
-            Ok(if *denies { denied(tested) } else { tested })
+        TypedNode::Neg(operand) => minus(expr.kind, datum_of(operand.get(), row)),
+        TypedNode::Not(operand) => not(datum_of(operand.get(), row)),
+        TypedNode::IsNull(operand, denies) => tested(datum_of(operand.get(), row), *denies),
+        TypedNode::Binary(op, left, right) => match datum_of(left.get(), row) {
+            Ok(left) => two(expr.kind, *op, left, datum_of(right.get(), row)),
+            Err(code) => Err(code),
+        },
+        TypedNode::In(left, members, denies) => match datum_of(left.get(), row) {
+            Ok(left) => among(any_equal(left, members.as_slice(), row), *denies),
+            Err(code) => Err(code),
+        },
+    }
+}
+
+/// Minus what the operand comes to.
+fn minus<'a>(kind: SqlType, operand: Result<Datum<'a>, SqlState>) -> Result<Datum<'a>, SqlState>
+    ensures { (outcome : Outcome) → Lends operand.entry outcome → Lends result (of_one (operators.negated kind) outcome) }
+{
+    match operand {
+        Ok(operand) => negated(kind, operand),
+        Err(code) => Err(code),
+    }
+}
+
+/// NOT of what the operand comes to.
+fn not<'a>(operand: Result<Datum<'a>, SqlState>) -> Result<Datum<'a>, SqlState>
+    ensures { (outcome : Outcome) → Lends operand.entry outcome → Lends result (of_one (λ v. Ok (operators.denied v)) outcome) }
+{
+    match operand {
+        Ok(operand) => Ok(denied(operand)),
+        Err(code) => Err(code),
+    }
+}
+
+/// IS NULL of what the operand comes to, or IS NOT NULL.
+fn tested<'a>(operand: Result<Datum<'a>, SqlState>, denies: bool) -> Result<Datum<'a>, SqlState>
+    ensures { (outcome : Outcome) → Lends operand.entry outcome → Lends result (of_one (λ v. Ok (values.null_test denies v)) outcome) }
+{
+    match operand {
+        Ok(operand) => {
+            let tested = null_test(operand);
+            Ok(if denies { denied(tested) } else { tested })
         }
-        TypedNode::Binary(op, left, right) => {
-            let left = datum_of(left.get(), row)?;
-            let right = datum_of(right.get(), row)?;
-            binary(expr.kind, *op, left, right)
-        }
-        TypedNode::In(left, members, denies) => {
-            let left = datum_of(left.get(), row)?;
-            let found = any_equal(left, members.as_slice(), row)?;
-            Ok(if *denies { denied(found) } else { found })
-        }
+        Err(code) => Err(code),
+    }
+}
+
+/// IN, given what is found among the members, or NOT IN.
+fn among<'a>(found: Result<Datum<'a>, SqlState>, denies: bool) -> Result<Datum<'a>, SqlState>
+    ensures { (outcome : Outcome) → Lends found.entry outcome → Lends result (of_one (λ v. Ok (values.denied_if denies v)) outcome) }
+{
+    match found {
+        Ok(found) => Ok(if denies { denied(found) } else { found }),
+        Err(code) => Err(code),
+    }
+}
+
+/// An operator of two operands, given what the second comes to.
+fn two<'a>(
+    kind: SqlType,
+    op: Op,
+    left: Datum<'a>,
+    right: Result<Datum<'a>, SqlState>,
+) -> Result<Datum<'a>, SqlState>
+    ensures { (outcome : Outcome) → Lends right.entry outcome → Lends result (of_one (operators.binary kind op (owned left.entry)) outcome) }
+{
+    match right {
+        Ok(right) => binary(kind, op, left, right),
+        Err(code) => Err(code),
     }
 }
 
@@ -60,7 +115,7 @@ fn any_equal<'a>(
     members: &'a [TypedExpr],
     row: &'a [&'a [Value]],
 ) -> Result<Datum<'a>, SqlState>
-    ensures { Lends result (among (Ok (owned left.entry)) (values_of members.now (seen row.now))) }
+    ensures { Lends result (values.among (Ok (owned left.entry)) (values_of members.now (seen row.now))) }
 {
     let mut found = Datum::Flag(false);
     for member in members {

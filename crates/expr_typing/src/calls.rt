@@ -21,19 +21,19 @@ pub fn inside(function: Option<Aggregate>, place: Place) -> Place
 }
 
 /// A call with `*`.
-pub fn starred(place: Place, function: Option<Aggregate>) -> Result<Form, SqlState>
-    ensures { result ≡ spec.starred place function }
+pub fn starred(place: Place, function: Option<Aggregate>) -> Result<Form, SqlFault>
+    ensures { Gives (spec.starred place function) result }
 {
     match function {
-        None => Err(SqlState::S0A000),
+        None => Err(SqlFault::State(SqlState::S0A000)),
         Some(Aggregate::Count) => match place {
-            Place::Row => Err(SqlState::S42803),
+            Place::Row => Err(SqlFault::State(SqlState::S42803)),
             Place::Group => Ok(Form::Typed(TypedExpr {
                 kind: SqlType::Bigint,
                 node: TypedNode::Aggregate(Aggregate::Count, None),
             })),
         },
-        Some(_) => Err(SqlState::S42883),
+        Some(_) => Err(SqlFault::State(SqlState::S42883)),
     }
 }
 
@@ -46,7 +46,10 @@ fn aggregate(alloc: Global, function: Aggregate, argument: Form) -> Result<Form,
             kind,
             node: TypedNode::Aggregate(function, Some(Boxed::new(alloc, argument)?)),
         })),
-        None => Err(SqlFault::State(SqlState::S42883)),
+        None => {
+            drop(argument);
+            Err(SqlFault::State(SqlState::S42883))
+        }
     }
 }
 
@@ -60,9 +63,15 @@ pub fn aggregated(
     ensures { Gives (spec.aggregated place function argument) result }
 {
     match function {
-        None => Err(SqlFault::State(SqlState::S0A000)),
+        None => {
+            drop(argument);
+            Err(SqlFault::State(SqlState::S0A000))
+        }
         Some(function) => match place {
-            Place::Row => Err(SqlFault::State(SqlState::S42803)),
+            Place::Row => {
+                drop(argument);
+                Err(SqlFault::State(SqlState::S42803))
+            }
             Place::Group => aggregate(alloc, function, argument),
         },
     }

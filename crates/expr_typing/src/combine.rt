@@ -5,6 +5,7 @@ ghost use Rattle.typing_rules.specs.Outcome.{all_of};
 ghost use Rattle.typing_rules.specs.Gives.{Gives};
 ghost use Rattle.sql_tree.specs.declared.typed_expr.TypedNode.TheVariants as node;
 
+use crate::kept::{beside, boxed};
 use crate::operands::{common_kind, condition, kind_of, settled};
 use crate::operators::{
     are_comparable, is_arithmetic, is_connective, is_number, is_numeric, wider,
@@ -23,9 +24,10 @@ fn binary(
 ) -> Result<Form, Memory>
     ensures { IfOk result (λ form. spec.typed_form kind (node.Binary op left right) ≡ Ok form) }
 {
+    let (left, right) = boxed(alloc, left, right)?;
     Ok(Form::Typed(TypedExpr {
         kind,
-        node: TypedNode::Binary(op, Boxed::new(alloc, left)?, Boxed::new(alloc, right)?),
+        node: TypedNode::Binary(op, left, right),
     }))
 }
 
@@ -34,11 +36,13 @@ fn compared(alloc: Global, op: Op, left: Form, right: Form) -> Result<Form, SqlF
     ensures { Gives (spec.compared op left right) result }
 {
     let kind = common_kind(&left, &right);
-    let a = settled(kind, left)?;
-    let b = settled(kind, right)?;
+    let (right, a) = beside(right, settled(kind, left))?;
+    let (a, b) = beside(a, settled(kind, right))?;
     if are_comparable(a.kind, b.kind) {
         Ok(binary(alloc, SqlType::Boolean, op, a, b)?)
     } else {
+        drop(a);
+        drop(b);
         Err(SqlFault::State(SqlState::S42883))
     }
 }
@@ -61,11 +65,13 @@ fn whole_operands(
 ) -> Result<Form, SqlFault>
     ensures { Gives (spec.whole_operands op kind left right) result }
 {
-    let a = settled(kind, left)?;
-    let b = settled(kind, right)?;
+    let (right, a) = beside(right, settled(kind, left))?;
+    let (a, b) = beside(a, settled(kind, right))?;
     if is_number(a.kind) && is_number(b.kind) {
         Ok(binary(alloc, wider(a.kind, b.kind), op, a, b)?)
     } else {
+        drop(a);
+        drop(b);
         Err(SqlFault::State(SqlState::S42883))
     }
 }
@@ -75,12 +81,16 @@ fn calculated(alloc: Global, op: Op, left: Form, right: Form) -> Result<Form, Sq
     ensures { Gives (spec.calculated op left right) result }
 {
     if is_numeric_form(&left) || is_numeric_form(&right) {
+        drop(left);
+        drop(right);
         return Err(SqlFault::State(SqlState::S0A000));
     }
     let kind = common_kind(&left, &right);
     if is_number(kind) {
         whole_operands(alloc, op, kind, left, right)
     } else {
+        drop(left);
+        drop(right);
         Err(SqlFault::State(SqlState::S42883))
     }
 }
@@ -89,8 +99,8 @@ fn calculated(alloc: Global, op: Op, left: Form, right: Form) -> Result<Form, Sq
 fn joined(alloc: Global, op: Op, left: Form, right: Form) -> Result<Form, SqlFault>
     ensures { Gives (spec.joined op left right) result }
 {
-    let a = condition(left)?;
-    let b = condition(right)?;
+    let (right, a) = beside(right, condition(left))?;
+    let (a, b) = beside(a, condition(right))?;
     Ok(binary(alloc, SqlType::Boolean, op, a, b)?)
 }
 
@@ -128,6 +138,7 @@ fn member(kind: SqlType, form: Form) -> Result<TypedExpr, SqlState>
     if are_comparable(kind, expr.kind) {
         Ok(expr)
     } else {
+        drop(expr);
         Err(SqlState::S42883)
     }
 }
@@ -159,7 +170,8 @@ fn among_members(
         None => first_kind(forms.as_slice()),
     };
     let value = settled(kind, left)?;
-    let members = members_of(alloc, value.kind, forms)?;
+    let members = members_of(alloc, value.kind, forms);
+    let (value, members) = beside(value, members)?;
     Ok(Form::Typed(TypedExpr {
         kind: SqlType::Boolean,
         node: TypedNode::In(Boxed::new(alloc, value)?, members, negated),
@@ -171,7 +183,10 @@ pub fn among(alloc: Global, left: Form, forms: Items<Form>, negated: bool) -> Re
     ensures { Gives (spec.among left forms negated) result }
 {
     match forms.as_slice() {
-        [] => Err(SqlFault::State(SqlState::S42601)),
+        [] => {
+            drop(left);
+            Err(SqlFault::State(SqlState::S42601))
+        }
         [_, ..] => among_members(alloc, left, forms, negated),
     }
 }

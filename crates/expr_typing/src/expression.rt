@@ -1,14 +1,17 @@
 // The types of expressions.
-ghost use Rattle.std.specs.Prelude.{◌≡◌, List, IfOk, map};
+ghost use Rattle.std.specs.Prelude.{◌≡◌, List, Ok, IfOk, map};
 ghost use Rattle.std.specs.Option.{option_map};
 ghost use Rattle.typing_rules.specs.Expressions as spec;
 ghost use Rattle.typing_rules.specs.Operators as operators;
+ghost use Rattle.sql_tree.specs.declared.typed_expr.TypedNode.TheVariants.{Constant};
+ghost use Rattle.typing_rules.specs.declared.form.Form.TheVariants.{Quoted};
 ghost use Rattle.typing_rules.specs.Gives.{Gives};
 ghost use Rattle.expr_typing.specs.Scope.{IsNarrow, sources};
 
 use crate::Entry;
 use crate::calls::{aggregated, inside, starred};
 use crate::combine::{among, combined};
+use crate::kept::beside;
 use crate::names::resolved;
 use crate::operands::{condition, settled};
 use crate::operators::{aggregate_named, is_number, is_numeric};
@@ -17,10 +20,24 @@ use sql_tree::{Expr, TypedExpr, TypedNode};
 use std::alloc::Global;
 use typing_rules::{Form, Place};
 
+/// A constant of a type.
+fn constant(kind: SqlType, value: Value) -> Form
+    ensures { spec.typed_form kind (Constant value) ≡ Ok result }
+{
+    of_kind(kind, TypedNode::Constant(value))
+}
+
 fn of_kind(kind: SqlType, node: TypedNode) -> Form
     ensures { spec.typed_form kind node ≡ Ok result }
 {
     Form::Typed(TypedExpr { kind, node })
+}
+
+/// A quoted literal, whose type its place gives.
+fn quoted(alloc: Global, text: &Text) -> Result<Form, SqlFault>
+    ensures { Gives (Ok (Quoted text.now)) result }
+{
+    Ok(Form::Quoted(text.copy(alloc)?))
 }
 
 /// Integer where the number fits one, else bigint.
@@ -40,14 +57,14 @@ fn column(
     place: Place,
     qualifier: Option<&Text>,
     name: &Text,
-) -> Result<Form, SqlState>
+) -> Result<Form, SqlFault>
     requires { IsNarrow scope.now }
-    ensures { result ≡ spec.column (sources scope.now) place (option_map (λ q. q.now) qualifier.entry) name.now }
+    ensures { Gives (spec.column (sources scope.now) place (option_map (λ q. q.now) qualifier.entry) name.now) result }
 {
     let found = resolved(scope, qualifier, name)?;
     match place {
         Place::Row => Ok(of_kind(found.kind, TypedNode::Column(found.entry, found.column))),
-        Place::Group => Err(SqlState::S42803),
+        Place::Group => Err(SqlFault::State(SqlState::S42803)),
     }
 }
 
@@ -59,8 +76,10 @@ fn negated(alloc: Global, form: Form) -> Result<Form, SqlFault>
             if is_number(expr.kind) {
                 Ok(of_kind(expr.kind, TypedNode::Neg(Boxed::new(alloc, expr)?)))
             } else if is_numeric(expr.kind) {
+                drop(expr);
                 Err(SqlFault::State(SqlState::S0A000))
             } else {
+                drop(expr);
                 Err(SqlFault::State(SqlState::S42883))
             }
         }
@@ -92,16 +111,13 @@ pub fn form(alloc: Global, expr: &Expr, scope: &[Entry<'_>], place: Place) -> Re
     ensures { Gives (spec.typing (sources scope.now) expr.now place) result }
 {
     match expr {
-        Expr::Int(number) => Ok(of_kind(
-            literal_kind(*number),
-            TypedNode::Constant(Value::Int(*number)),
-        )),
-        Expr::Str(text) => Ok(Form::Quoted(text.copy(alloc)?)),
-        Expr::Flag(flag) => Ok(of_kind(SqlType::Boolean, TypedNode::Constant(Value::Flag(*flag)))),
+        Expr::Int(number) => Ok(constant(literal_kind(*number), Value::Int(*number))),
+        Expr::Str(text) => quoted(alloc, text),
+        Expr::Flag(flag) => Ok(constant(SqlType::Boolean, Value::Flag(*flag))),
         Expr::Null => Ok(Form::Null),
-        Expr::Column(None, name) => Ok(column(scope, place, None, name)?),
-        Expr::Column(Some(qualifier), name) => Ok(column(scope, place, Some(qualifier), name)?),
-        Expr::Call(name, None) => Ok(starred(place, aggregate_named(name))?),
+        Expr::Column(None, name) => column(scope, place, None, name),
+        Expr::Column(Some(qualifier), name) => column(scope, place, Some(qualifier), name),
+        Expr::Call(name, None) => starred(place, aggregate_named(name)),
         Expr::Call(name, Some(argument)) => {
             let function = aggregate_named(name);
             let argument = form(alloc, argument.get(), scope, inside(function, place))?;
@@ -116,12 +132,13 @@ pub fn form(alloc: Global, expr: &Expr, scope: &[Entry<'_>], place: Place) -> Re
         ),
         Expr::Binary(op, left, right) => {
             let left = form(alloc, left.get(), scope, place)?;
-            let right = form(alloc, right.get(), scope, place)?;
+            let (left, right) = beside(left, form(alloc, right.get(), scope, place))?;
             combined(alloc, *op, left, right)
         }
         Expr::In(left, members, negated) => {
             let left = form(alloc, left.get(), scope, place)?;
-            let members = forms(alloc, members.as_slice(), scope, place)?;
+            let members = forms(alloc, members.as_slice(), scope, place);
+            let (left, members) = beside(left, members)?;
             among(alloc, left, members, *negated)
         }
     }

@@ -12,6 +12,7 @@ mod combine;
 mod constant;
 mod entry;
 mod expression;
+mod kept;
 mod literal;
 mod names;
 mod operands;

@@ -37,6 +37,7 @@ fn operand(expr: TypedExpr) -> Result<TypedExpr, SqlState>
     ensures { result ≡ spec.operand expr }
 {
     if is_numeric(expr.kind) {
+        drop(expr);
         Err(SqlState::S0A000)
     } else {
         Ok(expr)
@@ -94,8 +95,10 @@ fn condition_of(expr: TypedExpr) -> Result<TypedExpr, SqlState>
     if is_boolean(expr.kind) {
         Ok(expr)
     } else if is_numeric(expr.kind) {
+        drop(expr);
         Err(SqlState::S0A000)
     } else {
+        drop(expr);
         Err(SqlState::S42804)
     }
 }

@@ -32,10 +32,12 @@ fn assigned_expr(kind: SqlType, expr: TypedExpr) -> Result<TypedExpr, SqlState>
     ensures { result ≡ given.assigned_expr kind expr }
 {
     if is_numeric(expr.kind) {
+        drop(expr);
         Err(SqlState::S0A000)
     } else if are_comparable(expr.kind, kind) {
         Ok(expr)
     } else {
+        drop(expr);
         Err(SqlState::S42804)
     }
 }

@@ -1,6 +1,6 @@
 -- Transactions that begin and commit, one after another.
-use Rattle.std.proofs.Common.{◌≡◌, ℕ, List, [], ◌∷◌, ◌++◌, Some, true, refl, sym, inl, inr, zero, suc}
-use Rattle.std.specs.List.{slice_get, Contains}
+use Rattle.std.proofs.Common.{◌≡◌, ℕ, List, [], ◌∷◌, ◌++◌, Some, refl, sym, inl, inr, zero, suc}
+use Rattle.std.specs.List.{slice_get}
 use Rattle.std.proofs.lemmas.Bool.{false≢true}
 use Rattle.txn_buffer.proofs.Lists.{contains_at, at_contains}
 use Rattle.cell_base.specs.declared.level.Level.{Level}

@@ -9,6 +9,10 @@
 #[cfg(test)]
 mod buffer;
 #[cfg(test)]
+mod cells;
+#[cfg(test)]
+mod held;
+#[cfg(test)]
 mod history;
 #[cfg(test)]
 mod limit;

@@ -1,25 +1,33 @@
 // How many transactions a history takes.
-ghost use Rattle.std.specs.Prelude.{◌≡◌, OnOk};
+ghost use Rattle.std.specs.Prelude.{◌≡◌, [], OnOk};
 ghost use Rattle.history_cases.specs.Pairs.{IsBetween};
 ghost use Rattle.history_core.specs.declared.event.Event.{Event};
 ghost use Rattle.cell_base.specs.declared.level.Level.{Level};
 
+use crate::held::{alone, right};
 use cell_base::Level;
 use history_core::{BookFault, Event, History, InitialState, Limit};
+use std::test::Fail;
 
 /// A session begins and commits 65,535 transactions. A further one is refused.
-#[test]
-fn begins_and_commits_65535_transactions(rt: HostRuntime) -> Result<(), BookFault> {
-    let mut history = History::new(rt.alloc(), Level::Rc, InitialState::empty(rt.alloc()));
+fn fill(history: &mut History) -> Result<(), Fail>
+    requires { history.old.events ≡ [] }
+{
     history.push(Event::Open { session: 1 })?;
-    commit_many(&mut history, 65_535)?;
-    assert_eq!(&rt; history.begun(), 65_535);
-    assert_eq!(&rt; history.load(), 131_071);
-    assert_eq!(&rt;
-        history.push(begin()),
-        Err(BookFault::Full(Limit::Transactions))
-    );
-    Ok(())
+    commit_many(history, 65_535)?;
+    let is_full = history.begun() == 65_535 && history.load() == 131_071;
+    let pushed = history.push(begin());
+    right(
+        "full",
+        is_full && pushed == Err(BookFault::Full(Limit::Transactions)),
+    )
+}
+
+#[test]
+fn begins_and_commits_65535_transactions(rt: HostRuntime) -> Result<(), Fail> {
+    let mut history = History::new(rt.alloc(), Level::Rc, InitialState::empty(rt.alloc()));
+    let fill = fill(&mut history);
+    alone(history, fill)
 }
 
 /// Begins and commits so many transactions.

@@ -14,7 +14,9 @@ use Rattle.history_core.specs.Transactions.{IsPending}
 use Rattle.history_core.specs.Legal.{IsFormed}
 use Rattle.history_core.proofs.Prefixes.{start_positive}
 use Rattle.history_core.specs.declared.kept.SessionRecord.{SessionRecord}
-use Rattle.history_core.specs.Kept.{IsSessionOf, StandsForSessions}
+use Rattle.history_core.specs.declared.txn.Txn.{Txn}
+use Rattle.history_core.specs.Records.{IsRecordOf}
+use Rattle.history_core.specs.Kept.{IsSessionOf, StandsForTxns, StandsForSessions}
 use Rattle.txn_buffer.proofs.Lists.{at_contains}
 
 pub Contains-take : {X : Type 0} (xs : List X) (n : ℕ) (x : X) → Contains (take n xs) x → Contains xs x
@@ -42,6 +44,12 @@ pub session_read :
     i + 1 ≡ s → i < length sessions → r ≡ get_or sessions i r → IsSessionOf events s r
 session_read events sessions stands i s r number within is =
     subst (λ (n : ℕ). IsSessionOf events n r) number (stands.each i r (slice_get_read sessions (length sessions) i r refl within is))
+
+pub txn_read :
+    (events : List Event) (txns : List Txn) → StandsForTxns events txns → (i n : ℕ) (t : Txn) →
+    i + 1 ≡ n → i < length txns → t ≡ get_or txns i t → IsRecordOf events n t
+txn_read events txns stands i n t number within is =
+    subst (λ (k : ℕ). IsRecordOf events k t) number (stands.each i t (slice_get_read txns (length txns) i t refl within is))
 
 pub pending_positive : (events : List Event) (k s : ℕ) → IsPending events k s → 0 < k
 pending_positive events k s pending = start_positive events k s pending.start pending.starts

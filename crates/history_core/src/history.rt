@@ -13,6 +13,7 @@ ghost use Rattle.history_core.specs.Records.{IsNoDefinition, IsRecordOf, is_any_
 use crate::ends::end_event;
 use crate::kept::{self, Kept, count_begun, next_number, pending_of, txn_of};
 use crate::limits::{define_limit, limit_for};
+use crate::notes::without;
 use crate::pushes::{push_event, push_table};
 use crate::{BookFault, Event, InitialState, Limit, Txn};
 use cell_base::Level;
@@ -64,7 +65,7 @@ impl History {
         ensures err { OnErr result (self.new ≡ self.old) }
     {
         if let Some(limit) = limit_for(&self.kept, &event) {
-            return Err(BookFault::Full(limit));
+            return without(event, Err(BookFault::Full(limit)));
         }
         match push_event(&mut self.kept, event) {
             Ok(()) => Ok(()),
@@ -82,7 +83,7 @@ impl History {
         ensures err { OnErr result (self.new ≡ self.old) }
     {
         if let Some(limit) = define_limit(&self.kept, session, &table) {
-            return Err(BookFault::Full(limit));
+            return without(table, Err(BookFault::Full(limit)));
         }
         match push_table(&mut self.kept, session, table) {
             Ok(()) => Ok(()),

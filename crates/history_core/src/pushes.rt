@@ -10,8 +10,11 @@ ghost use Rattle.history_core.specs.Kept.{IsKept, Grows, Stays, IsUnnoted, Defin
 
 use crate::ends::{end_session, end_txn};
 use crate::kept::{Kept, SessionRecord, count_begun, next_number, pending_index, session_index};
-use crate::notes::{append, copy_keys, make_room, note_seen, note_write, set_pending};
-use crate::weight::weight;
+use crate::notes::{
+    append, copy_keys, make_room, make_room_for, make_table_room, note_seen, note_write,
+    set_pending, without,
+};
+use crate::weight::text_weight;
 use crate::{Event, Seen, Txn, TxnState};
 use cell_base::{Cell, Items, Key, Level, Memory, Value};
 use sql_tree::Table;
@@ -96,12 +99,21 @@ pub fn push_table(kept: &mut Kept, session: u32, table: Table) -> Result<(), Mem
     ensures ok { OnOk result (Defines kept.old kept.new session table) }
     ensures err { OnErr result (Stays kept.old kept.new) }
 {
-    let name = table.name.copy(kept.alloc)?;
-    make_room(&mut kept.events, kept.owed)?;
-    kept.tables.push(table)?;
-    append(&mut kept.events, Event::Define { session, name });
-    kept.load += 1;
-    Ok(())
+    match make_table_room(
+        kept.alloc,
+        &mut kept.events,
+        &mut kept.tables,
+        kept.owed,
+        &table.name,
+    ) {
+        Ok(name) => {
+            kept.tables.push_reserved(table);
+            append(&mut kept.events, Event::Define { session, name });
+            kept.load += 1;
+            Ok(())
+        }
+        Err(memory) => without(table, Err(memory)),
+    }
 }
 
 /// The start of a session. The room for its end is taken now.
@@ -223,12 +235,17 @@ fn push_seen(kept: &mut Kept, event: Event, session: u32, seen: Seen) -> Result<
     ensures err { OnErr result (Stays kept.old kept.new) }
 {
     let at = pending_index(kept, session);
-    let weight = weight(&event)?;
-    make_room(&mut kept.events, kept.owed)?;
-    note_seen(&mut kept.txns, at, seen)?;
-    append(&mut kept.events, event);
-    kept.load += weight;
-    Ok(())
+    match make_room_for(&mut kept.events, &event, kept.owed) {
+        Ok(weight) => match note_seen(&mut kept.txns, at, seen) {
+            Ok(()) => {
+                append(&mut kept.events, event);
+                kept.load += weight;
+                Ok(())
+            }
+            Err(memory) => without(event, Err(memory)),
+        },
+        Err(memory) => without((event, seen), Err(memory)),
+    }
 }
 
 /// A write of the pending transaction.
@@ -240,19 +257,25 @@ fn push_write(kept: &mut Kept, session: u32, cell: Cell, value: Value) -> Result
     ensures err { OnErr result (Stays kept.old kept.new) }
 {
     let at = pending_index(kept, session);
-    let cell_noted = cell.copy(kept.alloc)?;
-    let value_noted = value.copy(kept.alloc)?;
-    let event = Event::Write {
-        session,
-        cell,
-        value,
-    };
-    let weight = weight(&event)?;
-    make_room(&mut kept.events, kept.owed)?;
-    note_write(&mut kept.txns, at, cell_noted, value_noted)?;
-    append(&mut kept.events, event);
-    kept.load += weight;
-    Ok(())
+    let weight = text_weight(&cell, &value);
+    match make_room(&mut kept.events, kept.owed) {
+        Ok(()) => match note_write(kept.alloc, &mut kept.txns, at, &cell, &value) {
+            Ok(()) => {
+                append(
+                    &mut kept.events,
+                    Event::Write {
+                        session,
+                        cell,
+                        value,
+                    },
+                );
+                kept.load += weight;
+                Ok(())
+            }
+            Err(memory) => without((cell, value), Err(memory)),
+        },
+        Err(memory) => without((cell, value), Err(memory)),
+    }
 }
 
 /// An event of which the records note nothing.
@@ -264,9 +287,12 @@ fn push_unnoted(kept: &mut Kept, event: Event) -> Result<(), Memory>
     ensures ok { OnOk result (Grows kept.old kept.new event) }
     ensures err { OnErr result (Stays kept.old kept.new) }
 {
-    let weight = weight(&event)?;
-    make_room(&mut kept.events, kept.owed)?;
-    append(&mut kept.events, event);
-    kept.load += weight;
-    Ok(())
+    match make_room_for(&mut kept.events, &event, kept.owed) {
+        Ok(weight) => {
+            append(&mut kept.events, event);
+            kept.load += weight;
+            Ok(())
+        }
+        Err(memory) => without(event, Err(memory)),
+    }
 }

@@ -1,5 +1,6 @@
 pub mod Ascending
 pub mod Cells
+pub mod FirstWrites
 pub mod Forgotten
 pub mod Indexes
 pub mod KeyLists

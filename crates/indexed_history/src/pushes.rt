@@ -1,5 +1,5 @@
 // What each event changes in the indexes.
-ghost use Rattle.std.specs.Prelude.{◌≡◌, ◌↔◌, ◌≤◌, ◌<◌, [], ◌∷◌, ◌++◌, Some, Err, OnOk, OnErr, IsTrue};
+ghost use Rattle.std.specs.Prelude.{◌≡◌, ◌↔◌, ◌≤◌, ◌<◌, [], ◌∷◌, ◌++◌, Some, Err, IfOk, OnOk, OnErr, IsTrue};
 ghost use Rattle.sound_table.specs.Sound.{IsSound};
 ghost use Rattle.history_core.specs.declared.event.Event.{Event};
 ghost use Rattle.history_core.specs.declared.fault.Limit.{Limit};
@@ -7,8 +7,9 @@ ghost use Rattle.history_core.specs.Initial.{load_of};
 ghost use Rattle.history_core.specs.Transactions.{HasPending};
 ghost use Rattle.history_core.specs.Legal.{Follows, WroteItself, full_for};
 ghost use Rattle.history_core.specs.Chronicle.{followed_by, with_table};
-ghost use Rattle.history_core.specs.Records.{is_any_end};
-ghost use Rattle.indexed_history.specs.Index.{IsIndex};
+ghost use Rattle.history_core.specs.Records.{IsNoDefinition, is_any_end};
+ghost use Rattle.indexed_history.specs.Index.{IsIndex, AreAscending, GainsWriter, LosesWriter, ListsSame};
+ghost use Rattle.indexed_history.specs.Keys.{IsKept, KeepsKeys};
 ghost use Rattle.indexed_history.specs.Parts.{AreIndexed, IsTheTxn};
 ghost use Rattle.indexed_history.specs.Writers.{IsPlain};
 
@@ -16,7 +17,7 @@ use crate::index::{Index, forget_writer, forget_writes, note_writer};
 use crate::keys::note_key;
 use crate::parts::Parts;
 use crate::records::wrote_itself;
-use cell_base::{Cell, Value};
+use cell_base::{Cell, Memory, Value};
 use history_core::{BookFault, Event, History, Limit};
 use sql_tree::Table;
 
@@ -46,6 +47,51 @@ pub fn push_table(parts: &mut Parts, session: u32, table: Table) -> Result<(), B
     parts.history.push_define(session, table)
 }
 
+/// Takes the places of a cell that the transaction is about to write in both indexes, and gives a copy of the cell. Out of
+/// memory the lists of transactions stay.
+fn note_write(parts: &mut Parts, cell: &Cell, number: u32) -> Result<Cell, Memory>
+    requires { AreAscending parts.old.index }
+    ensures history { parts.new.history ≡ parts.old.history }
+    ensures keys { KeepsKeys parts.old.keys parts.new.keys }
+    ensures noted { OnOk result (IsKept parts.new.keys cell.now) }
+    ensures ascending { AreAscending parts.new.index }
+    ensures ok { OnOk result (GainsWriter parts.old.index cell.now number parts.new.index) }
+    ensures copied { IfOk result (λ copy. copy ≡ cell.now) }
+    ensures err { OnErr result (ListsSame parts.old.index parts.new.index) }
+{
+    note_key(&mut parts.keys, cell)?;
+    let copy = cell.copy(parts.alloc)?;
+    note_writer(&mut parts.index, cell, number)?;
+    Ok(copy)
+}
+
+/// Appends an event. Where it is refused, the transaction is taken out of the list of the cell.
+fn push_or_forget(
+    parts: &mut Parts,
+    event: Event,
+    cell: &Cell,
+    number: u32,
+) -> Result<(), BookFault>
+    requires ascending { AreAscending parts.old.index }
+    requires follows { Follows parts.old.history.initial parts.old.history.events event }
+    requires pushed { IsNoDefinition event }
+    ensures keys { parts.new.keys ≡ parts.old.keys }
+    ensures ascending { AreAscending parts.new.index }
+    ensures ok { OnOk result (parts.new.history ≡ followed_by parts.old.history event) }
+    ensures listed { OnOk result (parts.new.index ≡ parts.old.index) }
+    ensures full { (limit : Limit) → (result ≡ Err (BookFault.Full limit)) ↔ (full_for parts.old.history.initial parts.old.history.events event ≡ Some limit) }
+    ensures err { OnErr result (parts.new.history ≡ parts.old.history) }
+    ensures loses { OnErr result (LosesWriter parts.old.index cell.now number parts.new.index) }
+{
+    match parts.history.push(event) {
+        Ok(()) => Ok(()),
+        Err(fault) => {
+            forget_writer(&mut parts.index, cell, number);
+            Err(fault)
+        }
+    }
+}
+
 /// Appends the first write of a cell by the transaction, which is pending in the session. Its places in both indexes are taken
 /// first; where the event is refused, the transaction is taken out again.
 fn push_first_write(
@@ -65,21 +111,13 @@ fn push_first_write(
     ensures memory { OnErr result (result ≡ Err BookFault.Memory) }
     ensures err { OnErr result (parts.new.history ≡ parts.old.history) }
 {
-    let written = cell.copy(parts.alloc)?;
-    note_key(&mut parts.keys, &cell)?;
-    note_writer(&mut parts.index, &cell, number)?;
+    let written = note_write(parts, &cell, number)?;
     let event = Event::Write {
         session,
         cell,
         value,
     };
-    match parts.history.push(event) {
-        Ok(()) => Ok(()),
-        Err(fault) => {
-            forget_writer(&mut parts.index, &written, number);
-            Err(fault)
-        }
-    }
+    push_or_forget(parts, event, &written, number)
 }
 
 /// Appends a further write of a cell that the pending transaction has written.

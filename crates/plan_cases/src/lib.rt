@@ -4,17 +4,27 @@
 //! What a plan demands is shown as text, so that text is compared with text. The contracts of `cell_compile` say that a plan
 //! demands what the definitions of a statement's course say; these cases show that the definitions are SQL's, and that plans
 //! with ample memory don't give up. The crate has nothing but tests.
+//!
+//! A tree or a plan that is held where a step may fail costs much to check, so each is handed on whole (`held`).
 #![tactic(auto)]
 
 #[cfg(test)]
 mod changes;
 #[cfg(test)]
+mod compared;
+#[cfg(test)]
 mod courses;
 #[cfg(test)]
+mod held;
+#[cfg(test)]
 mod inserts;
+#[cfg(test)]
+mod line;
 #[cfg(test)]
 mod selects;
 #[cfg(test)]
 mod shown;
+#[cfg(test)]
+mod statements;
 #[cfg(test)]
 mod trees;

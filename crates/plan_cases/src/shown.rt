@@ -1,77 +1,92 @@
 // Demands as text.
+use crate::line::Line;
 use cell_base::{Cell, Items, Key, Value};
 use statement_course::{Demand, Outcome};
-use std::alloc::{AllocError, Global};
 
-fn push_value(alloc: Global, out: &mut String, value: &Value) -> Result<(), AllocError> {
+fn push_value(line: &mut Line, value: &Value) {
     match value {
-        Value::Null => out.push_str("-"),
-        Value::Flag(true) => out.push_str("t"),
-        Value::Flag(false) => out.push_str("f"),
-        Value::Int(n) => out.push_str(format!(in alloc; "{n}")?.as_str()),
-        _ => out.push_str("other"),
+        Value::Null => line.word("-"),
+        Value::Flag(flag) => line.word(if *flag { "t" } else { "f" }),
+        Value::Int(n) => line.number(*n),
+        _ => line.word("other"),
     }
 }
 
-fn push_key(alloc: Global, out: &mut String, key: &Key) -> Result<(), AllocError> {
+fn push_key(line: &mut Line, key: &Key) {
     match key {
-        Key::Int(n) => out.push_str(format!(in alloc; "{n}")?.as_str()),
-        Key::Text(text) => out.push_str(text.as_str()),
+        Key::Int(n) => line.number(*n),
+        Key::Text(text) => line.word(text.as_str()),
     }
 }
 
-fn push_cell(alloc: Global, out: &mut String, cell: &Cell) -> Result<(), AllocError> {
+fn push_row(line: &mut Line, table: u32, key: &Key) {
+    line.number(i64::from(table));
+    line.word(".");
+    push_key(line, key);
+}
+
+fn push_cell(line: &mut Line, cell: &Cell) {
     match cell {
-        Cell::Presence(table, key) => {
-            out.push_str(format!(in alloc; "{table}.")?.as_str())?;
-            push_key(alloc, out, key)
-        }
+        Cell::Presence(table, key) => push_row(line, *table, key),
         Cell::Field(table, key, column) => {
-            out.push_str(format!(in alloc; "{table}.")?.as_str())?;
-            push_key(alloc, out, key)?;
-            out.push_str(format!(in alloc; ".{column}")?.as_str())
+            push_row(line, *table, key);
+            push_count(line, ".", *column);
         }
     }
 }
 
-fn push_rows(alloc: Global, out: &mut String, rows: &[Items<Value>]) -> Result<(), AllocError> {
+fn push_rows(line: &mut Line, rows: &[Items<Value>]) {
     for row in rows {
         for value in row.as_slice() {
-            out.push_str(" ")?;
-            push_value(alloc, out, value)?;
+            line.word(" ");
+            push_value(line, value);
         }
-        out.push_str(";")?;
+        line.word(";");
     }
-    Ok(())
 }
 
-fn push_outcome(alloc: Global, out: &mut String, outcome: &Outcome) -> Result<(), AllocError> {
+fn push_count(line: &mut Line, word: &str, count: u32) {
+    line.word(word);
+    line.number(i64::from(count));
+}
+
+fn push_outcome(line: &mut Line, outcome: &Outcome) {
     match outcome {
         Outcome::Rows(_, rows) => {
-            out.push_str("rows")?;
-            push_rows(alloc, out, rows.as_slice())
+            line.word("rows");
+            push_rows(line, rows.as_slice());
         }
-        Outcome::Inserted(n) => out.push_str(format!(in alloc; "inserted {n}")?.as_str()),
-        Outcome::Updated(n) => out.push_str(format!(in alloc; "updated {n}")?.as_str()),
-        Outcome::Deleted(n) => out.push_str(format!(in alloc; "deleted {n}")?.as_str()),
-        Outcome::Failed(code) => out.push_str(format!(in alloc; "failed {code:?}")?.as_str()),
+        Outcome::Inserted(n) => push_count(line, "inserted ", *n),
+        Outcome::Updated(n) => push_count(line, "updated ", *n),
+        Outcome::Deleted(n) => push_count(line, "deleted ", *n),
+        Outcome::Failed(code) => {
+            line.word("failed ");
+            line.name(code);
+        }
     }
+}
+
+fn push_touch(line: &mut Line, cell: &Cell) {
+    push_cell(line, cell);
+    line.word("?, ");
+}
+
+fn push_write(line: &mut Line, cell: &Cell, value: &Value) {
+    push_cell(line, cell);
+    line.word("=");
+    push_value(line, value);
+    line.word(", ");
 }
 
 /// Puts a demand after others.
-pub fn push_demand(alloc: Global, out: &mut String, demand: &Demand) -> Result<(), AllocError> {
+pub fn push_demand(line: &mut Line, demand: &Demand) {
     match demand {
-        Demand::Scan(table) => out.push_str(format!(in alloc; "scan {table}, ")?.as_str()),
-        Demand::Touch(cell) => {
-            push_cell(alloc, out, cell)?;
-            out.push_str("?, ")
+        Demand::Scan(table) => {
+            push_count(line, "scan ", *table);
+            line.word(", ");
         }
-        Demand::Write(cell, value) => {
-            push_cell(alloc, out, cell)?;
-            out.push_str("=")?;
-            push_value(alloc, out, value)?;
-            out.push_str(", ")
-        }
-        Demand::Reply(outcome) => push_outcome(alloc, out, outcome),
+        Demand::Touch(cell) => push_touch(line, cell),
+        Demand::Write(cell, value) => push_write(line, cell, value),
+        Demand::Reply(outcome) => push_outcome(line, outcome),
     }
 }

@@ -1,33 +1,62 @@
-// The table of all cases, and expressions over it.
-use cell_base::{Boxed, Items, Key, Memory, SqlType, Text, Value};
-use sql_tree::{Column, Op, OutField, Table, TypedExpr, TypedNode, TypedSelect};
+// The tables of all cases, and expressions over them.
+use crate::held::{both, kept};
+use cell_base::{Boxed, Items, Memory, SqlType, Text, Value};
+use sql_tree::{Column, Op, Table, TypedExpr, TypedNode};
 use std::alloc::Global;
-use std::test::Fail;
 
-fn column_of(alloc: Global, name: &[u8], not_null: bool) -> Result<Column, Fail> {
-    Ok(Column {
-        name: Text::from_bytes(alloc, name)?,
+pub fn text_of(alloc: Global, bytes: &[u8]) -> Result<Text, Memory> {
+    match Text::from_bytes(alloc, bytes) {
+        Ok(text) => Ok(text),
+        Err(_) => Err(Memory),
+    }
+}
+
+fn push_column(
+    columns: &mut Items<Column>,
+    alloc: Global,
+    name: &[u8],
+    not_null: bool,
+) -> Result<(), Memory> {
+    columns.push(Column {
+        name: text_of(alloc, name)?,
         kind: SqlType::Bigint,
         not_null,
         default: Value::Null,
     })
 }
 
-fn columns(alloc: Global) -> Result<Items<Column>, Fail> {
+fn push_columns(columns: &mut Items<Column>, alloc: Global) -> Result<(), Memory> {
+    push_column(columns, alloc, b"k", true)?;
+    push_column(columns, alloc, b"v", false)
+}
+
+fn columns(alloc: Global) -> Result<Items<Column>, Memory> {
     let mut columns = Items::new(alloc);
-    columns.push(column_of(alloc, b"k", true)?)?;
-    columns.push(column_of(alloc, b"v", false)?)?;
-    Ok(columns)
+    let pushed = push_columns(&mut columns, alloc);
+    kept(columns, pushed)
 }
 
 /// `CREATE TABLE t (k bigint PRIMARY KEY, v bigint)`.
-pub fn table(alloc: Global) -> Result<Table, Fail> {
+fn table(alloc: Global) -> Result<Table, Memory> {
+    let (columns, name) = both(columns(alloc), text_of(alloc, b"t"))?;
     Ok(Table {
-        name: Text::from_bytes(alloc, b"t")?,
-        columns: columns(alloc)?,
+        name,
+        columns,
         key: 0,
         checks: Items::new(alloc),
     })
+}
+
+fn push_tables(tables: &mut Items<Table>, alloc: Global) -> Result<(), Memory> {
+    tables.push(table(alloc)?)?;
+    tables.push(table(alloc)?)
+}
+
+/// Two tables.
+pub fn two_tables(alloc: Global) -> Result<Items<Table>, Memory> {
+    let mut tables = Items::new(alloc);
+    let pushed = push_tables(&mut tables, alloc);
+    kept(tables, pushed)
 }
 
 /// A column of an entry of FROM.
@@ -50,11 +79,9 @@ fn binary(
     alloc: Global,
     kind: SqlType,
     op: Op,
-    left: TypedExpr,
-    right: TypedExpr,
+    (left, right): (TypedExpr, TypedExpr),
 ) -> Result<TypedExpr, Memory> {
-    let left = Boxed::new(alloc, left)?;
-    let right = Boxed::new(alloc, right)?;
+    let (left, right) = both(Boxed::new(alloc, left), Boxed::new(alloc, right))?;
     Ok(TypedExpr {
         kind,
         node: TypedNode::Binary(op, left, right),
@@ -63,57 +90,10 @@ fn binary(
 
 /// `left = right`.
 pub fn equal(alloc: Global, left: TypedExpr, right: TypedExpr) -> Result<TypedExpr, Memory> {
-    binary(alloc, SqlType::Boolean, Op::Eq, left, right)
+    binary(alloc, SqlType::Boolean, Op::Eq, (left, right))
 }
 
 /// `left + right`.
 pub fn sum(alloc: Global, left: TypedExpr, right: TypedExpr) -> Result<TypedExpr, Memory> {
-    binary(alloc, SqlType::Bigint, Op::Add, left, right)
-}
-
-fn fields(alloc: Global) -> Result<Items<OutField>, Fail> {
-    let mut fields = Items::new(alloc);
-    fields.push(OutField {
-        name: Text::from_bytes(alloc, b"v")?,
-        kind: SqlType::Bigint,
-    })?;
-    Ok(fields)
-}
-
-/// Adds an entry of FROM whose column v is mentioned.
-fn add_entry(
-    alloc: Global,
-    select: &mut TypedSelect,
-    number: u32,
-    point: Option<i64>,
-) -> Result<(), Fail> {
-    let mut mentioned = Items::new(alloc);
-    mentioned.push(1)?;
-    select.tables.push(number)?;
-    select.mentioned.push(mentioned)?;
-    select.points.push(point.map(|n| Key::Int(n)))?;
-    Ok(())
-}
-
-/// `SELECT a.v, b.v, .. FROM ..` over entries of these tables, each scanned or read at a key.
-pub fn select(alloc: Global, entries: &[(u32, Option<i64>)]) -> Result<TypedSelect, Fail> {
-    let mut select = TypedSelect {
-        fields: fields(alloc)?,
-        tables: Items::new(alloc),
-        mentioned: Items::new(alloc),
-        points: Items::new(alloc),
-        conditions: Items::new(alloc),
-        items: Items::new(alloc),
-        order: Items::new(alloc),
-        aggregate: false,
-        limit: None,
-        offset: 0,
-    };
-    let mut entry: u32 = 0;
-    for (number, point) in entries {
-        add_entry(alloc, &mut select, *number, *point)?;
-        select.items.push(column(entry, 1))?;
-        entry = entry.saturating_add(1);
-    }
-    Ok(select)
+    binary(alloc, SqlType::Bigint, Op::Add, (left, right))
 }

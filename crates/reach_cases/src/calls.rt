@@ -1,13 +1,14 @@
 //! The calls of a `Reach` with tests in the place of their conditions: out of range or closing a cycle is an answer.
 
-ghost use Rattle.std.specs.Prelude.{◌≡◌, ◌<◌, ◌≤◌, ◌+◌, ◌↔◌, All, IfOk, OnOk, IsTrue};
+ghost use Rattle.std.specs.Prelude.{◌≡◌, ◌<◌, ◌≤◌, ◌+◌, ◌↔◌, [], All, OnOk, IsTrue};
 ghost use Rattle.graph_base.specs.Walk.{IsInRange};
 ghost use Rattle.graph_base.specs.Trial.{AllTouch};
 ghost use Rattle.bit_rows.specs.declared.TheConstants.{ROW_BITS};
 ghost use Rattle.reach_rows.specs.Ancestry.{IsLast};
 ghost use Rattle.reach_rows.specs.Stars.{IsStarInRange};
 
-use bit_rows::Row;
+use crate::held::kept;
+use bit_rows::{ROW_BITS, Row};
 use graph_base::Edge;
 use reach_rows::{Reach, Star};
 use std::alloc::{AllocError, Global};
@@ -16,13 +17,40 @@ use std::alloc::{AllocError, Global};
 pub(crate) fn grown(alloc: Global, size: u32) -> Result<Reach, AllocError>
     requires some { 1 ≤ size }
     requires few { size ≤ ROW_BITS }
-    ensures { IfOk result (λ reach. reach.size ≡ size) }
 {
     let mut reach = Reach::new(alloc)?;
+    let done = grow_to(&mut reach, size);
+    kept(reach, done)
+}
+
+/// Adds numbers until there are so many.
+fn grow_to(reach: &mut Reach, size: u32) -> Result<(), AllocError>
+    requires one { reach.old.size ≡ 1 }
+    requires some { 1 ≤ size }
+    requires few { size ≤ ROW_BITS }
+{
     for _number in 1..size {
         reach.grow()?;
     }
-    Ok(reach)
+    Ok(())
+}
+
+/// Adds a number where there is room for one. Whether there is.
+pub(crate) fn try_grow(reach: &mut Reach) -> Result<bool, AllocError> {
+    if reach.size() >= ROW_BITS {
+        return Ok(false);
+    }
+    reach.grow()?;
+    Ok(true)
+}
+
+/// Adds a number to the only one and takes it back.
+pub(crate) fn grow_and_take_back(reach: &mut Reach) -> Result<(), AllocError>
+    requires { reach.old ≡ record { size = 1; pairs = [] } }
+{
+    reach.grow()?;
+    reach.take_back();
+    Ok(())
 }
 
 /// A begin: one number more, after another one. Nothing comes after it.
@@ -167,57 +195,68 @@ pub(crate) fn try_stars(reach: &mut Reach, stars: &[Star]) -> Result<bool, Alloc
     Ok(true)
 }
 
-/// The answer of `closes_cycle`; none where the trial is out of range.
-pub(crate) fn closes(reach: &Reach, trial: &[Edge]) -> Result<Option<bool>, AllocError> {
+/// Whether the answer of `closes_cycle` is this; no where the trial is out of range.
+pub(crate) fn closes(reach: &Reach, trial: &[Edge], want: bool) -> Result<bool, AllocError> {
     if !edges_below(reach.size(), trial) {
-        return Ok(None);
+        return Ok(false);
     }
-    Ok(Some(reach.closes_cycle(trial)?))
+    Ok(reach.closes_cycle(trial)? == want)
 }
 
-/// The answer of `would_cycle`; none where the trial is out of range or misses the hub.
-pub(crate) fn would(reach: &Reach, trial: &[Edge], hub: u32) -> Option<bool> {
+/// Whether the answer of `would_cycle` is this; no where the trial is out of range or misses the
+/// hub.
+pub(crate) fn would(reach: &Reach, trial: &[Edge], hub: u32, want: bool) -> bool {
     if !edges_below(reach.size(), trial) {
-        return None;
+        return false;
     }
     if all_touch(hub, trial) {
-        return Some(reach.would_cycle(trial));
+        return reach.would_cycle(trial) == want;
     }
-    None
+    false
 }
 
-/// How many numbers come before two others, by one union and by two; none where they are out of
-/// range.
-pub(crate) fn union_sizes(
+/// Whether so many numbers come before the members, by one union; no where they are out of range.
+pub(crate) fn unites(reach: &Reach, members: &[u32], want: u32) -> Result<bool, AllocError> {
+    if !all_below(reach.size(), members) {
+        return Ok(false);
+    }
+    Ok(reach.union_of(members)?.count() == want)
+}
+
+/// Whether so many numbers come before two others, by two unions; no where they are out of range.
+pub(crate) fn adds_up(
     alloc: Global,
     reach: &Reach,
     first: u32,
     second: u32,
-) -> Result<Option<(u32, u32)>, AllocError> {
+    want: u32,
+) -> Result<bool, AllocError> {
     let size = reach.size();
-    let members = [first, second];
-    if !all_below(size, &members) {
-        return Ok(None);
+    if first >= size {
+        return Ok(false);
     }
-    let at_once = reach.union_of(&members)?;
-    let mut one_by_one = Row::new(alloc)?;
-    reach.add_ancestors(&mut one_by_one, first);
-    reach.add_ancestors(&mut one_by_one, second);
-    Ok(Some((at_once.count(), one_by_one.count())))
+    if second >= size {
+        return Ok(false);
+    }
+    let mut row = Row::new(alloc)?;
+    reach.add_ancestors(&mut row, first);
+    reach.add_ancestors(&mut row, second);
+    Ok(row.count() == want)
 }
 
-/// How many numbers come before one; none where it is out of range.
-pub(crate) fn ancestor_count(
+/// Whether so many numbers come before one; no where it is out of range.
+pub(crate) fn has_ancestors(
     alloc: Global,
     reach: &Reach,
     number: u32,
-) -> Result<Option<u32>, AllocError> {
+    want: u32,
+) -> Result<bool, AllocError> {
     if number >= reach.size() {
-        return Ok(None);
+        return Ok(false);
     }
     let mut row = Row::new(alloc)?;
     reach.ancestors_of(number, &mut row);
-    Ok(Some(row.count()))
+    Ok(row.count() == want)
 }
 
 /// An edge.

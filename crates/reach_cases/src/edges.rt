@@ -1,156 +1,246 @@
 //! Edges and trials: worked graphs with answers found by hand, and pseudo-random graphs beside a closure computed by lists.
 
-ghost use Rattle.std.specs.Prelude.{◌≤◌};
+ghost use Rattle.std.specs.Prelude.{◌≡◌, ◌≤◌, []};
 
-use crate::calls::{closes, edge, grown, has_pair, try_add, would};
-use crate::plain::{MOST, Numbers, joined, leads_back, reached};
+use crate::calls::{closes, edge, grow_and_take_back, grown, try_add, would};
+use crate::held::alone;
+use crate::pairs::compare_pairs;
+use crate::plain::{MOST, Numbers, lead_back};
+use crate::steps::Step::{Add, Closes, Grow, Pair, Size, Would};
+use crate::steps::{Step, go_on, play};
+use crate::stop::{Stop, agree};
 use graph_base::Edge;
 use reach_rows::Reach;
-use std::alloc::{AllocError, Global};
-use std::process::Abort;
+use std::alloc::Global;
 use std::test::Fail;
 
 /// How many pseudo-random graphs are tried.
 const GRAPHS: u32 = 120;
 
+const FROM_2_TO_3: Edge = Edge {
+    before: 2,
+    after: 3,
+};
+
+const FROM_3_TO_1: Edge = Edge {
+    before: 3,
+    after: 1,
+};
+
+const FROM_4_TO_1: Edge = Edge {
+    before: 4,
+    after: 1,
+};
+
+const WORKED_GRAPH: &[Step] = &[
+    Add(0, 1, true),
+    Add(1, 2, true),
+    Add(0, 3, true),
+    Pair(0, 2, true),
+    Pair(2, 0, false),
+    Would(&[FROM_2_TO_3], 3, false),
+    Would(&[FROM_3_TO_1], 3, false),
+    Would(&[FROM_2_TO_3, FROM_3_TO_1], 3, true),
+    Closes(&[FROM_2_TO_3], false),
+    Closes(&[FROM_2_TO_3, FROM_3_TO_1], true),
+];
+
 /// The worked graph of four numbers: a cycle through two new edges at once, which neither closes
 /// alone.
 #[test]
-fn worked_graph(rt: HostRuntime) -> Result<(), Fail> {
-    let mut reach = grown(rt.alloc(), 4)?;
-    for added in [edge(0, 1), edge(1, 2), edge(0, 3)] {
-        assert!(&rt; try_add(&mut reach, added));
-    }
-    assert!(&rt; has_pair(&reach, 0, 2));
-    assert!(&rt; !has_pair(&reach, 2, 0));
-    let one = [edge(2, 3)];
-    let two = [edge(2, 3), edge(3, 1)];
-    let other = [edge(3, 1)];
-    assert_eq!(&rt; would(&reach, &one, 3), Some(false));
-    assert_eq!(&rt; would(&reach, &other, 3), Some(false));
-    assert_eq!(&rt; would(&reach, &two, 3), Some(true));
-    assert_eq!(&rt; closes(&reach, &one)?, Some(false));
-    assert_eq!(&rt; closes(&reach, &two)?, Some(true));
-    Ok(())
+fn worked_graph(rt: HostRuntime) -> Result<(), Stop> {
+    play(rt.alloc(), 4, WORKED_GRAPH)
 }
+
+const TRIALS_OF_ANY_SHAPE: &[Step] = &[
+    Add(0, 1, true),
+    Add(0, 2, true),
+    Add(0, 3, true),
+    Add(0, 4, true),
+    Add(1, 2, true),
+    Add(3, 4, true),
+    Closes(&[FROM_2_TO_3], false),
+    Closes(&[FROM_2_TO_3, FROM_4_TO_1], true),
+    Closes(&[], false),
+];
 
 /// The worked graph of five numbers: a cycle through two new edges without a common number.
 #[test]
-fn worked_trials_of_any_shape(rt: HostRuntime) -> Result<(), Fail> {
-    let mut reach = grown(rt.alloc(), 5)?;
-    for added in [
-        edge(0, 1),
-        edge(0, 2),
-        edge(0, 3),
-        edge(0, 4),
-        edge(1, 2),
-        edge(3, 4),
-    ] {
-        assert!(&rt; try_add(&mut reach, added));
+fn worked_trials_of_any_shape(rt: HostRuntime) -> Result<(), Stop> {
+    play(rt.alloc(), 5, TRIALS_OF_ANY_SHAPE)
+}
+
+/// What a trial comes to by the list of all edges; that of the `Reach` has to be the same.
+fn compare_trial(
+    alloc: Global,
+    edges: &[Edge],
+    reach: &Reach,
+    trial: &[Edge],
+) -> Result<bool, Stop> {
+    let is_back = lead_back(alloc, edges, trial)?;
+    agree(closes(reach, trial, is_back)?, Stop::At(edges.len()))?;
+    Ok(is_back)
+}
+
+/// The same of a trial that touches the hub.
+fn compare_star(
+    alloc: Global,
+    edges: &[Edge],
+    reach: &Reach,
+    trial: &[Edge],
+    hub: u32,
+) -> Result<bool, Stop> {
+    let is_back = compare_trial(alloc, edges, reach, trial)?;
+    agree(would(reach, trial, hub, is_back), Stop::At(edges.len()))?;
+    Ok(is_back)
+}
+
+/// Adds any edge where the list of all edges says that it closes no cycle.
+fn add_any(
+    alloc: Global,
+    numbers: &mut Numbers,
+    size: u32,
+    edges: &mut Vec<Edge>,
+    reach: &mut Reach,
+) -> Result<(), Stop>
+    requires { 1 ≤ size }
+{
+    let new = edge(numbers.below(size), numbers.below(size));
+    let is_back = compare_trial(alloc, edges, reach, &[new])?;
+    let is_added = try_add(reach, new);
+    agree(is_added != is_back, Stop::Between(new.before, new.after))?;
+    if is_added {
+        edges.push(new)?;
     }
-    let one = [edge(2, 3)];
-    let two = [edge(2, 3), edge(4, 1)];
-    assert_eq!(&rt; closes(&reach, &one)?, Some(false));
-    assert_eq!(&rt; closes(&reach, &two)?, Some(true));
-    assert_eq!(&rt; closes(&reach, &[])?, Some(false));
     Ok(())
 }
 
 /// A graph, built edge by edge: the list of its edges and the Reach that has kept them.
-fn random_graph(
-    rt: &impl Abort,
+fn add_edges(
     alloc: Global,
     numbers: &mut Numbers,
     size: u32,
-) -> Result<(Vec<Edge>, Reach), AllocError>
+    edges: &mut Vec<Edge>,
+    reach: &mut Reach,
+) -> Result<(), Stop>
     requires some { 1 ≤ size }
     requires few { size ≤ MOST }
 {
-    let mut reach = grown(alloc, size)?;
-    let mut edges = Vec::new(alloc);
     for _ in 0..2 * size {
-        let new = edge(numbers.below(size), numbers.below(size));
-        let is_back = leads_back(alloc, &joined(alloc, &edges, &[new])?)?;
-        assert_eq!(rt; closes(&reach, &[new])?, Some(is_back));
-        assert_eq!(rt; try_add(&mut reach, new), !is_back);
-        if !is_back {
-            edges.push(new)?;
-        }
+        add_any(alloc, numbers, size, edges, reach)?;
     }
-    Ok((edges, reach))
+    Ok(())
 }
 
-/// One trial of the graph, beside the list of all edges.
-fn compare_trial(
-    rt: &impl Abort,
+/// An edge from or to the hub.
+fn touching(hub: u32, number: u32, other: u32) -> Edge {
+    if number < other {
+        edge(hub, number)
+    } else {
+        edge(number, hub)
+    }
+}
+
+/// Two trials of the graph, of which one touches a hub. Whether they come to different answers.
+fn trials_differ(
     alloc: Global,
     numbers: &mut Numbers,
     size: u32,
     edges: &[Edge],
     reach: &Reach,
-) -> Result<bool, AllocError>
+) -> Result<bool, Stop>
     requires { 1 ≤ size }
 {
     let hub = numbers.below(size);
-    let mut star = Vec::new(alloc);
-    let mut any = Vec::new(alloc);
-    for _ in 0..4 {
+    let mut star = [edge(hub, hub); 4];
+    let mut any = [edge(hub, hub); 4];
+    for place in 0..4 {
         let number = numbers.below(size);
         let other = numbers.below(size);
-        let new = if number < other {
-            edge(hub, number)
-        } else {
-            edge(number, hub)
-        };
-        star.push(new)?;
-        any.push(edge(number, other))?;
+        star[place] = touching(hub, number, other);
+        any[place] = edge(number, other);
     }
-    let star_back = leads_back(alloc, &joined(alloc, edges, &star)?)?;
-    assert_eq!(rt; would(reach, &star, hub), Some(star_back));
-    assert_eq!(rt; closes(reach, &star)?, Some(star_back));
-    let any_back = leads_back(alloc, &joined(alloc, edges, &any)?)?;
-    assert_eq!(rt; closes(reach, &any)?, Some(any_back));
-    Ok(any_back != star_back)
+    let star_back = compare_star(alloc, edges, reach, &star, hub)?;
+    Ok(compare_trial(alloc, edges, reach, &any)? != star_back)
+}
+
+/// How often two trials of the graph come to different answers.
+fn compare_trials(
+    alloc: Global,
+    numbers: &mut Numbers,
+    size: u32,
+    edges: &[Edge],
+    reach: &Reach,
+) -> Result<u32, Stop>
+    requires { 1 ≤ size }
+{
+    let mut differ = 0u32;
+    for _ in 0..8 {
+        if trials_differ(alloc, numbers, size, edges, reach)? {
+            differ = differ.saturating_add(1);
+        }
+    }
+    Ok(differ)
+}
+
+fn compare_graph(
+    alloc: Global,
+    numbers: &mut Numbers,
+    size: u32,
+    edges: &mut Vec<Edge>,
+    reach: &mut Reach,
+) -> Result<u32, Stop>
+    requires some { 1 ≤ size }
+    requires few { size ≤ MOST }
+{
+    add_edges(alloc, numbers, size, edges, reach)?;
+    compare_pairs(alloc, size, edges, reach)?;
+    compare_trials(alloc, numbers, size, edges, reach)
+}
+
+/// A graph of so many numbers: how often two trials of it come to different answers.
+fn random_graph(alloc: Global, numbers: &mut Numbers, size: u32) -> Result<u32, Stop>
+    requires some { 1 ≤ size }
+    requires few { size ≤ MOST }
+{
+    let mut reach = grown(alloc, size)?;
+    let mut edges = Vec::new(alloc);
+    let compared = compare_graph(alloc, numbers, size, &mut edges, &mut reach);
+    alone((edges, reach), compared)
+}
+
+/// How often two trials of a graph come to different answers, in all graphs.
+fn random_graphs(alloc: Global, numbers: &mut Numbers) -> Result<u32, Stop> {
+    let mut differ = 0u32;
+    for _ in 0..GRAPHS {
+        let size = 2 + numbers.below(MOST - 1);
+        differ = differ.saturating_add(random_graph(alloc, numbers, size)?);
+    }
+    Ok(differ)
 }
 
 /// Pseudo-random graphs of up to 40 numbers: each pair, and trials of both kinds.
 #[test]
 fn random_graphs_beside_lists(rt: HostRuntime) -> Result<(), Fail> {
     let mut numbers = Numbers { state: 2019 };
-    let mut differ = 0u32;
-    for _ in 0..GRAPHS {
-        let size = 2 + numbers.below(MOST - 1);
-        let (edges, reach) = random_graph(&rt, rt.alloc(), &mut numbers, size)?;
-        for from in 0..size {
-            let by_lists = reached(rt.alloc(), &edges, from)?;
-            for to in 0..size {
-                assert_eq!(&rt;
-                    has_pair(&reach, from, to),
-                    by_lists.contains(&to),
-                    "{from} to {to}"
-                );
-            }
-        }
-        for _ in 0..8 {
-            if compare_trial(&rt, rt.alloc(), &mut numbers, size, &edges, &reach)? {
-                differ = differ.saturating_add(1);
-            }
-        }
-    }
+    let differ = random_graphs(rt.alloc(), &mut numbers)?;
     assert!(&rt; differ > 0);
     Ok(())
 }
 
+const TAKEN_BACK: &[Step] = &[Size(1), Grow, Add(1, 0, true), Pair(1, 0, true), Size(2)];
+
+fn take_back_and_go_on(alloc: Global, reach: &mut Reach) -> Result<(), Stop>
+    requires { reach.old ≡ record { size = 1; pairs = [] } }
+{
+    grow_and_take_back(reach)?;
+    go_on(alloc, reach, TAKEN_BACK)
+}
+
 /// A number that was added is taken back, and another comes in its place.
 #[test]
-fn takes_back(rt: HostRuntime) -> Result<(), Fail> {
+fn takes_back(rt: HostRuntime) -> Result<(), Stop> {
     let mut reach = Reach::new(rt.alloc())?;
-    reach.grow()?;
-    reach.take_back();
-    assert_eq!(&rt; reach.size(), 1);
-    reach.grow()?;
-    assert!(&rt; try_add(&mut reach, edge(1, 0)));
-    assert!(&rt; has_pair(&reach, 1, 0));
-    assert_eq!(&rt; reach.size(), 2);
-    Ok(())
+    let played = take_back_and_go_on(rt.alloc(), &mut reach);
+    alone(reach, played)
 }

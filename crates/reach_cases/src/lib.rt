@@ -3,6 +3,8 @@
 //!
 //! The contracts of `reach_rows` say what each call does. No clause says that memory is left, and a definition could say something
 //! else than its reader thinks. The crate has nothing but tests, so that `reach_rows` is proved once.
+//!
+//! A `Reach` or a list that is held where a step may fail costs much to check, so each is handed on whole (`held`).
 #![tactic(auto)]
 
 #[cfg(test)]
@@ -10,6 +12,14 @@ mod calls;
 #[cfg(test)]
 mod edges;
 #[cfg(test)]
+mod held;
+#[cfg(test)]
+mod pairs;
+#[cfg(test)]
 mod plain;
 #[cfg(test)]
 mod stars;
+#[cfg(test)]
+mod steps;
+#[cfg(test)]
+mod stop;

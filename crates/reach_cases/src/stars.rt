@@ -1,63 +1,86 @@
 //! Stars: worked stars with answers found by hand, pseudo-random stars beside a closure computed by lists, and unions of
 //! ancestors. And that a caller can keep what `add_into_last` asks.
 
-ghost use Rattle.std.specs.Prelude.{◌<◌};
+ghost use Rattle.std.specs.Prelude.{◌≡◌, ◌<◌, ◌≤◌};
 
-use crate::calls::{
-    ancestor_count, begin, begin_and_read, grown, has_pair, star, try_star, try_stars, union_sizes,
-};
-use crate::plain::{MOST, Numbers, leads_back, list_star, reached};
+use crate::calls::{begin, begin_and_read, grown, try_stars};
+use crate::held::{alone, kept};
+use crate::pairs::compare_pairs;
+use crate::plain::{MOST, Numbers, lead_back, listed};
+use crate::steps::Step::{Ancestors, AtOnce, OneByOne, Pair, Stars};
+use crate::steps::{Step, go_on, play};
+use crate::stop::{Stop, agree};
 use graph_base::Edge;
 use reach_rows::{Reach, Star};
 use std::alloc::{AllocError, Global};
-use std::process::Abort;
 use std::test::Fail;
 
 /// How many pseudo-random graphs are tried.
 const GRAPHS: u32 = 60;
 
+const WORKED_STAR: &[Step] = &[
+    Step::Star(&[1, 2], 3, true),
+    Step::Star(&[3], 4, true),
+    Pair(1, 4, true),
+    Pair(4, 1, false),
+    Step::Star(&[0, 4], 2, false),
+    Step::Star(&[1, 2], 4, true),
+    Step::Star(&[0], 0, false),
+];
+
 /// Two writers before a third, and a star back that closes a cycle.
 #[test]
-fn worked_star(rt: HostRuntime) -> Result<(), Fail> {
-    let mut reach = grown(rt.alloc(), 5)?;
-    assert!(&rt; try_star(&mut reach, &[1, 2], 3));
-    assert!(&rt; try_star(&mut reach, &[3], 4));
-    assert!(&rt; has_pair(&reach, 1, 4));
-    assert!(&rt; !has_pair(&reach, 4, 1));
-    assert!(&rt; !try_star(&mut reach, &[0, 4], 2));
-    assert!(&rt; try_star(&mut reach, &[1, 2], 4));
-    assert!(&rt; !try_star(&mut reach, &[0], 0));
-    Ok(())
+fn worked_star(rt: HostRuntime) -> Result<(), Stop> {
+    play(rt.alloc(), 5, WORKED_STAR)
 }
+
+const WORKED_STARS: &[Step] = &[
+    Step::Star(&[0], 1, true),
+    Stars(&[(&[2, 3], 0), (&[1, 4], 3)], false),
+    Stars(&[(&[2, 3], 0)], true),
+    Pair(3, 1, true),
+    Stars(&[], true),
+];
 
 /// Two stars that close a cycle together, and neither alone.
 #[test]
-fn worked_stars(rt: HostRuntime) -> Result<(), Fail> {
-    let mut reach = grown(rt.alloc(), 6)?;
-    assert!(&rt; try_star(&mut reach, &[0], 1));
-    let first = star(rt.alloc(), &[2, 3], 0)?;
-    let second = star(rt.alloc(), &[1, 4], 3)?;
-    let mut stars = Vec::new(rt.alloc());
-    stars.push(first)?;
-    stars.push(second)?;
-    assert!(&rt; !try_stars(&mut reach, &stars)?);
-    let _ = stars.pop();
-    assert!(&rt; try_stars(&mut reach, &stars)?);
-    assert!(&rt; has_pair(&reach, 3, 1));
-    assert!(&rt; try_stars(&mut reach, &[])?);
-    Ok(())
+fn worked_stars(rt: HostRuntime) -> Result<(), Stop> {
+    play(rt.alloc(), 6, WORKED_STARS)
+}
+
+const AFTER_READS: &[Step] = &[Pair(1, 2, true), Pair(2, 3, true), Pair(3, 0, false)];
+
+/// Two begins, and a third with two reads. Whether the condition holds each time.
+fn begin_three(reach: &mut Reach) -> Result<bool, AllocError>
+    requires { reach.old.size ≡ 1 }
+{
+    begin(reach, 0)?;
+    begin(reach, 0)?;
+    begin_and_read(reach, 1, 2)
+}
+
+fn read_and_go_on(alloc: Global, reach: &mut Reach) -> Result<(), Stop>
+    requires { reach.old.size ≡ 1 }
+{
+    let holds = begin_three(reach)?;
+    agree(holds, Stop::Between(1, 2))?;
+    go_on(alloc, reach, AFTER_READS)
 }
 
 /// Begins and reads of a number that nothing comes after.
 #[test]
-fn worked_reads(rt: HostRuntime) -> Result<(), Fail> {
+fn worked_reads(rt: HostRuntime) -> Result<(), Stop> {
     let mut reach = Reach::new(rt.alloc())?;
-    begin(&mut reach, 0)?;
-    begin(&mut reach, 0)?;
-    assert!(&rt; begin_and_read(&mut reach, 1, 2)?);
-    assert!(&rt; has_pair(&reach, 1, 2));
-    assert!(&rt; has_pair(&reach, 2, 3));
-    assert!(&rt; !has_pair(&reach, 3, 0));
+    let played = read_and_go_on(rt.alloc(), &mut reach);
+    alone(reach, played)
+}
+
+fn push_members(members: &mut Vec<u32>, numbers: &mut Numbers, size: u32) -> Result<(), AllocError>
+    requires { 0 < size }
+{
+    for _ in 0..numbers.below(4) {
+        members.push(numbers.below(size))?;
+    }
     Ok(())
 }
 
@@ -66,77 +89,145 @@ fn random_star(alloc: Global, numbers: &mut Numbers, size: u32) -> Result<Star, 
     requires { 0 < size }
 {
     let mut members = Vec::new(alloc);
-    for _ in 0..numbers.below(4) {
-        members.push(numbers.below(size))?;
-    }
+    let pushed = push_members(&mut members, numbers, size);
+    let members = kept(members, pushed)?;
     Ok(Star {
         members,
         target: numbers.below(size),
     })
 }
 
-/// One or two stars, added where the list says that they close no cycle. Whether they were.
-fn compare_stars(
-    rt: &impl Abort,
+fn push_stars(
+    stars: &mut Vec<Star>,
     alloc: Global,
     numbers: &mut Numbers,
-    edges: &mut Vec<Edge>,
-    reach: &mut Reach,
     size: u32,
-) -> Result<bool, AllocError>
+) -> Result<(), AllocError>
     requires { 0 < size }
 {
-    let mut stars = Vec::new(alloc);
     for _ in 0..=numbers.below(2) {
         stars.push(random_star(alloc, numbers, size)?)?;
     }
-    let mut all = edges.clone()?;
-    for star in &stars {
-        list_star(&mut all, star)?;
-    }
-    let is_back = leads_back(alloc, &all)?;
-    let added = try_stars(reach, &stars)?;
-    assert_eq!(rt; added, !is_back);
+    Ok(())
+}
+
+/// One or two stars.
+fn random_stars(alloc: Global, numbers: &mut Numbers, size: u32) -> Result<Vec<Star>, AllocError>
+    requires { 0 < size }
+{
+    let mut stars = Vec::new(alloc);
+    let pushed = push_stars(&mut stars, alloc, numbers, size);
+    kept(stars, pushed)
+}
+
+/// Adds stars of which these are the edges, where the list of all edges says that they close no
+/// cycle. Whether they were added.
+fn add_listed(
+    alloc: Global,
+    edges: &mut Vec<Edge>,
+    reach: &mut Reach,
+    stars: &[Star],
+    trial: &[Edge],
+) -> Result<bool, Stop> {
+    let is_back = lead_back(alloc, edges, trial)?;
+    let added = try_stars(reach, stars)?;
+    agree(added != is_back, Stop::At(edges.len()))?;
     if added {
-        *edges = all;
+        edges.extend_from_slice(trial)?;
     }
     Ok(added)
 }
 
-/// Pseudo-random graphs of up to 24 numbers, star by star, and then each pair.
-#[test]
-fn random_stars_beside_lists(rt: HostRuntime) -> Result<(), Fail> {
-    let mut numbers = Numbers { state: 2019 };
+fn add_stars(
+    alloc: Global,
+    edges: &mut Vec<Edge>,
+    reach: &mut Reach,
+    stars: &[Star],
+) -> Result<bool, Stop> {
+    let trial = listed(alloc, stars)?;
+    let added = add_listed(alloc, edges, reach, stars, &trial);
+    alone(trial, added)
+}
+
+/// One or two stars, added where the list of all edges says that they close no cycle. Whether they
+/// were.
+fn add_any(
+    alloc: Global,
+    numbers: &mut Numbers,
+    size: u32,
+    edges: &mut Vec<Edge>,
+    reach: &mut Reach,
+) -> Result<bool, Stop>
+    requires { 0 < size }
+{
+    let stars = random_stars(alloc, numbers, size)?;
+    let added = add_stars(alloc, edges, reach, &stars);
+    alone(stars, added)
+}
+
+/// A graph, built star by star, and then each pair. How many times no stars were added.
+fn compare_graph(
+    alloc: Global,
+    numbers: &mut Numbers,
+    size: u32,
+    edges: &mut Vec<Edge>,
+    reach: &mut Reach,
+) -> Result<u32, Stop>
+    requires { 0 < size }
+{
+    let mut refused = 0u32;
+    for _ in 0..size {
+        if !add_any(alloc, numbers, size, edges, reach)? {
+            refused = refused.saturating_add(1);
+        }
+    }
+    compare_pairs(alloc, size, edges, reach)?;
+    Ok(refused)
+}
+
+/// A graph of so many numbers: how many times no stars were added.
+fn random_graph(alloc: Global, numbers: &mut Numbers, size: u32) -> Result<u32, Stop>
+    requires some { 1 ≤ size }
+    requires few { size ≤ MOST }
+{
+    let mut reach = grown(alloc, size)?;
+    let mut edges = Vec::new(alloc);
+    let compared = compare_graph(alloc, numbers, size, &mut edges, &mut reach);
+    alone((edges, reach), compared)
+}
+
+/// How many times no stars were added, in all graphs.
+fn random_graphs(alloc: Global, numbers: &mut Numbers) -> Result<u32, Stop> {
     let mut refused = 0u32;
     for _ in 0..GRAPHS {
         let size = 2 + numbers.below(MOST - 1);
-        let mut reach = grown(rt.alloc(), size)?;
-        let mut edges = Vec::new(rt.alloc());
-        for _ in 0..size {
-            if !compare_stars(&rt, rt.alloc(), &mut numbers, &mut edges, &mut reach, size)? {
-                refused = refused.saturating_add(1);
-            }
-        }
-        for from in 0..size {
-            let by_lists = reached(rt.alloc(), &edges, from)?;
-            for to in 0..size {
-                assert_eq!(&rt; has_pair(&reach, from, to), by_lists.contains(&to));
-            }
-        }
+        refused = refused.saturating_add(random_graph(alloc, numbers, size)?);
     }
+    Ok(refused)
+}
+
+/// Pseudo-random graphs of up to 40 numbers, star by star, and then each pair.
+#[test]
+fn random_stars_beside_lists(rt: HostRuntime) -> Result<(), Fail> {
+    let mut numbers = Numbers { state: 2019 };
+    let refused = random_graphs(rt.alloc(), &mut numbers)?;
     assert!(&rt; refused > 0);
     Ok(())
 }
 
+const UNIONS: &[Step] = &[
+    Step::Star(&[0, 1], 2, true),
+    Step::Star(&[2, 4], 3, true),
+    AtOnce(&[3, 2], 4),
+    OneByOne(3, 2, 4),
+    AtOnce(&[2, 5], 2),
+    OneByOne(2, 5, 2),
+    Ancestors(3, 4),
+    Ancestors(0, 0),
+];
+
 /// The union of what comes before some numbers, at once and one by one.
 #[test]
-fn unions(rt: HostRuntime) -> Result<(), Fail> {
-    let mut reach = grown(rt.alloc(), 6)?;
-    assert!(&rt; try_star(&mut reach, &[0, 1], 2));
-    assert!(&rt; try_star(&mut reach, &[2, 4], 3));
-    assert_eq!(&rt; union_sizes(rt.alloc(), &reach, 3, 2)?, Some((4, 4)));
-    assert_eq!(&rt; union_sizes(rt.alloc(), &reach, 2, 5)?, Some((2, 2)));
-    assert_eq!(&rt; ancestor_count(rt.alloc(), &reach, 3)?, Some(4));
-    assert_eq!(&rt; ancestor_count(rt.alloc(), &reach, 0)?, Some(0));
-    Ok(())
+fn unions(rt: HostRuntime) -> Result<(), Stop> {
+    play(rt.alloc(), 6, UNIONS)
 }

@@ -14,12 +14,8 @@ use Rattle.expr_eval.specs.Operators.{negated, compared, either, denied, binary}
 use Rattle.expr_eval.specs.Values.{Row, of_kind, of_one, of_both, among, denied_if, null_test}
 use Rattle.expr_eval.proofs.Members.{go_on, go_on_failed, among_failed, among_from_false}
 use Rattle.row_meaning.specs.Groups.{Call, Meaning, meaning, call_value, node_meaning, expr_meaning, group_value, calls_of}
-use Rattle.row_totals.specs.Filling.{Filled, filled, node_filled, expr_filled, members_filled, all_filled}
+use Rattle.row_totals.specs.Filling.{Got, Filled, filled, node_filled, expr_filled, members_filled, all_filled}
 use Rattle.row_totals.proofs.Meanings.{meaning_of, layer_twice}
-
--- a value, and what is left
-abbrev pub Got : Type 0
-Got = Value × List (Outcome Value)
 
 abbrev pub leaving : List (Outcome Value) → Value → Outcome Got
 leaving rest v = Ok (v, rest)

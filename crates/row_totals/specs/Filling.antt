@@ -15,19 +15,27 @@ use Rattle.expr_eval.specs.Lent.{owned}
 use Rattle.expr_eval.specs.Operators.{negated, compared, either, denied, binary}
 use Rattle.expr_eval.specs.Values.{of_kind, denied_if, null_test}
 
+-- a value, and what is left of some values or codes
+abbrev pub Got : Type 0
+Got = Value × List (Outcome Value)
+
 -- given values or codes, a value, and what is left of them
 abbrev pub Filled : Type 0
-Filled = List (Outcome Value) → Outcome (Value × List (Outcome Value))
+Filled = List (Outcome Value) → Outcome Got
+
+-- an operator of one operand, given what the operand comes to
+abbrev pub of_got : (Value → Outcome Value) → Outcome Got → Outcome Got
+of_got f a = and_then a (λ x. and_then (f x.0) (λ v. Ok (v, x.1)))
 
 abbrev pub first_of : SqlType → Filled
 first_of kind [] = Ok (Null, [])
 first_of kind (total ∷ totals) = and_then total (λ v. Ok (of_kind kind v, totals))
 
 abbrev pub one_filled : (Value → Outcome Value) → Filled → Filled
-one_filled f a totals = and_then (a totals) (λ x. and_then (f x.0) (λ v. Ok (v, x.1)))
+one_filled f a totals = of_got f (a totals)
 
 abbrev pub both_filled : (Value → Value → Outcome Value) → Filled → Filled → Filled
-both_filled f a b totals = and_then (a totals) (λ x. and_then (b x.1) (λ y. and_then (f x.0 y.0) (λ v. Ok (v, y.1))))
+both_filled f a b totals = and_then (a totals) (λ x. of_got (f x.0) (b x.1))
 
 abbrev pub members_filled : Value → Value → List Filled → Filled
 members_filled x found [] totals = Ok (found, totals)
@@ -35,7 +43,7 @@ members_filled x found (m ∷ members) totals = and_then (m totals) (λ y. membe
 
 abbrev pub in_filled : Bool → Filled → List Filled → Filled
 in_filled denies a members totals =
-    and_then (a totals) (λ x. and_then (members_filled x.0 (Flag false) members x.1) (λ found. Ok (denied_if denies found.0, found.1)))
+    and_then (a totals) (λ x. of_got (λ found. Ok (denied_if denies found)) (members_filled x.0 (Flag false) members x.1))
 
 abbrev pub node_filled : TypedNode-F (SqlType → Filled) Filled → SqlType → Filled
 node_filled (TypedNode-F.Constant v) kind totals = Ok (of_kind kind v, totals)
@@ -58,6 +66,6 @@ all_filled [] totals = Ok []
 all_filled (e ∷ exprs) totals = and_then (filled e totals) (λ x. and_then (all_filled exprs x.1) (λ values. Ok (x.0 ∷ values)))
 
 -- a borrowed value and what is left, or a code, as this outcome says
-abbrev pub Fills : Result (Datum × Bor (List Value)) SqlState → Outcome (Value × List (Outcome Value)) → Type 0
+abbrev pub Fills : Result (Datum × Bor (List Value)) SqlState → Outcome Got → Type 0
 Fills (Ok x) outcome = outcome ≡ Ok (owned x.0, map Ok x.1.now)
 Fills (Err code) outcome = outcome ≡ Err code

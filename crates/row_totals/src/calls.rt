@@ -98,12 +98,19 @@ fn next_tally(alloc: Global, call: &Call, row: &[&[Value]]) -> Result<Option<Tal
 }
 
 /// The values of the aggregates, in order, or the first code.
-pub fn totals(alloc: Global, calls: Vec<Call>) -> Result<Items<Value>, SqlFault>
+pub fn totals(alloc: Global, mut calls: Vec<Call>) -> Result<Items<Value>, SqlFault>
     ensures { Gives (all_of (map (λ call. tallies.told call.tally) calls.items)) result }
 {
+    tell_each(alloc, &mut calls)
+}
+
+/// The same, with the values taken out of the calls.
+fn tell_each(alloc: Global, calls: &mut Vec<Call>) -> Result<Items<Value>, SqlFault>
+    ensures { Gives (all_of (map (λ call. tallies.told call.tally) calls.old.items)) result }
+{
     let mut values = Items::new(alloc);
-    for call in calls {
-        values.push(told(call.tally)?)?;
+    for call in calls.iter_mut() {
+        values.push(told(&mut call.tally)?)?;
     }
     Ok(values)
 }

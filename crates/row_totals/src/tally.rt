@@ -162,15 +162,23 @@ fn number_in(kind: SqlType, n: i128) -> Result<Value, SqlState>
     }
 }
 
-/// The value of the aggregate.
-pub fn told(tally: Tally) -> Result<Value, SqlState>
-    ensures { result ≡ tallies.told tally }
+/// The value of the aggregate. What min or max found is taken out.
+pub fn told(tally: &mut Tally) -> Result<Value, SqlState>
+    ensures { result ≡ tallies.told tally.old }
 {
     match tally {
-        Tally::Count(count) => number_in(SqlType::Bigint, count as i128),
-        Tally::Sum(_, Partial::Nothing) => Ok(Value::Null),
-        Tally::Sum(kind, Partial::Number(n)) => number_in(kind, n),
-        Tally::Sum(_, Partial::Outside) => Err(SqlState::S22003),
-        Tally::Best(_, found) => Ok(found.unwrap_or(Value::Null)),
+        Tally::Count(count) => number_in(SqlType::Bigint, *count as i128),
+        Tally::Sum(kind, so_far) => told_sum(*kind, so_far),
+        Tally::Best(_, found) => Ok(found.take().unwrap_or(Value::Null)),
+    }
+}
+
+fn told_sum(kind: SqlType, so_far: &Partial) -> Result<Value, SqlState>
+    ensures { result ≡ tallies.told_sum kind so_far.now }
+{
+    match so_far {
+        Partial::Nothing => Ok(Value::Null),
+        Partial::Number(n) => number_in(kind, *n),
+        Partial::Outside => Err(SqlState::S22003),
     }
 }

@@ -1,5 +1,6 @@
 -- The CHECKs of a row one by one, and those that mention an assigned column.
-use Rattle.std.proofs.Common.{◌≡◌, ℕ, ◌+◌, ◌<◌, Bool, true, false, cond, List, [], ◌∷◌, ◌++◌, length, drop, get_or, Ok, Err, refl, sym, ap, ◌∙◌, append_assoc}
+use Rattle.std.proofs.Common.{◌≡◌, ℕ, ◌+◌, ◌<◌, Bool, true, false, cond, List, [], ◌∷◌, ◌++◌, length, drop, map, get_or, Ok, Err, sym, ap, ◌∙◌, append_assoc}
+use Rattle.std.specs.Borrow.{Bor}
 use Rattle.std.specs.List.{list_any}
 use Rattle.cell_base.specs.declared.sql_state.SqlState.{SqlState}
 use Rattle.cell_base.specs.declared.sql_state.SqlState.TheVariants.{S23514}
@@ -23,6 +24,15 @@ pub checked_fault : (checks : List TypedExpr) (i : ℕ) (check : TypedExpr) (row
 checked_fault checks i check row code o within is fault so_far =
     sym so_far ∙ ap (λ l. checked l row) (cut_at checks i check within is)
     ∙ ap (λ v. and_then v (λ v. cond (is_false v) (Err S23514) (checked (drop (i + 1) checks) row))) (value_fault (value_of check (row ∷ [])) code fault)
+
+-- the same of CHECKs that are lent
+pub some_fault : (checks : List (Bor TypedExpr)) (i : ℕ) (check : Bor TypedExpr) (row : List Value) (code : SqlState) (o : Outcome (List Value))
+    → i < length checks → check ≡ get_or checks i check → Err code ≡ and_then (value_of check.now (row ∷ [])) (λ v. Ok (is_false v))
+    → checked (map (λ (c : Bor TypedExpr). c.now) (drop i checks)) row ≡ o → o ≡ Err code
+some_fault checks i check row code o within is fault so_far =
+    sym so_far ∙ ap (λ l. checked (map (λ (c : Bor TypedExpr). c.now) l) row) (cut_at checks i check within is)
+    ∙ ap (λ v. and_then v (λ v. cond (is_false v) (Err S23514) (checked (map (λ (c : Bor TypedExpr). c.now) (drop (i + 1) checks)) row)))
+    (value_fault (value_of check.now (row ∷ [])) code fault)
 
 -- ---- those that mention an assigned column
 

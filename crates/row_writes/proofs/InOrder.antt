@@ -1,6 +1,6 @@
 -- Rows in the order of their keys: by one sort, and a key stands twice where it stands twice beside itself.
 use Rattle.std.proofs.Common.{◌≡◌, Bool, true, false, ◌||◌, cond, List, [], ◌∷◌, Ok, Err, refl, sym, ap, ◌∙◌}
-use Rattle.std.specs.Cmp.{IsStrictWeakOrder, eq_by_cmp_equiv, alike_right, Equal-is}
+use Rattle.std.specs.Cmp.{IsStrictWeakOrder, eq_by_cmp_equiv, Equal-is}
 use Rattle.std.specs.List.{list_any}
 use Rattle.std.specs.Ordering.{is_lt, is_eq, ordering_reverse}
 use Rattle.std.specs.declared.cmp.Ordering.{Ordering}

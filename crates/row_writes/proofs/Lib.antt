@@ -4,3 +4,4 @@ pub mod Ending
 pub mod InOrder
 pub mod Mentioning
 pub mod Narrow
+pub mod Steps

@@ -1,6 +1,5 @@
 -- The rows that an INSERT makes have no more values than the table has columns.
-use Rattle.std.proofs.Common.{◌≡◌, ℕ, ◌≤◌, Bool, true, false, cond, List, [], ◌∷◌, length, map, Ok, Err, refl, sym, ap, ◌∙◌, arith}
-use Rattle.cell_base.specs.declared.key.Key.{Key}
+use Rattle.std.proofs.Common.{◌≡◌, ℕ, ◌≤◌, Bool, true, false, cond, List, [], ◌∷◌, length, map, Ok, Err, refl, ap, arith}
 use Rattle.cell_base.specs.declared.sql_state.SqlState.TheVariants.{S23502, S23514}
 use Rattle.cell_base.specs.declared.value.Value.{Value}
 use Rattle.cell_base.specs.declared.value.Value.TheVariants as value

@@ -48,7 +48,8 @@ pub fn assignments(
 {
     let mut values = Items::new(alloc);
     for assignment in set {
-        values.push(assigned_value(alloc, columns, assignment, row)?)?;
+        let value = assigned_value(alloc, columns, assignment, row)?;
+        values.push(value)?;
     }
     Ok(values)
 }

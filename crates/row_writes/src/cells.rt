@@ -1,13 +1,28 @@
 // The cells that are written.
 ghost use Rattle.std.specs.Prelude.{◌≡◌, ◌<◌, ◌^◌, true, [], ◌∷◌, ◌++◌, length, IfOk, OnOk};
 ghost use Rattle.statement_course.specs.Writing as spec;
-ghost use Rattle.row_writes.specs.Seen.{change_seen, changes_seen};
+ghost use Rattle.row_writes.specs.Seen.{changes_seen};
 ghost use Rattle.row_writes.specs.Widths.{AreWithin};
 
 use crate::RowChange;
 use cell_base::{Cell, Items, Key, Memory, Value};
 use sql_tree::Table;
 use std::alloc::Global;
+
+/// One more field of a row.
+fn push_field(
+    alloc: Global,
+    writes: &mut Items<(Cell, Value)>,
+    number: u32,
+    key: &Key,
+    column: u32,
+    value: Value,
+) -> Result<(), Memory>
+    ensures { OnOk result (writes.new ≡ writes.old ++ (Cell.Field number key.now column, value) ∷ []) }
+{
+    let key = key.copy(alloc)?;
+    writes.push((Cell::Field(number, key, column), value))
+}
 
 /// One more field of a row, unless it is the key's.
 fn add_field(
@@ -24,7 +39,20 @@ fn add_field(
     if column == key_column {
         return Ok(());
     }
-    writes.push((Cell::Field(number, key.copy(alloc)?, column), value))
+    push_field(alloc, writes, number, key, column, value)
+}
+
+/// The presence of a row.
+fn push_presence(
+    alloc: Global,
+    writes: &mut Items<(Cell, Value)>,
+    number: u32,
+    key: &Key,
+) -> Result<(), Memory>
+    ensures { OnOk result (writes.new ≡ writes.old ++ (Cell.Presence number key.now, Value.Flag true) ∷ []) }
+{
+    let key = key.copy(alloc)?;
+    writes.push((Cell::Presence(number, key), Value::Flag(true)))
 }
 
 /// The presence of a row, and then its fields.
@@ -40,7 +68,7 @@ fn add_row(
     ensures { OnOk result (writes.new ≡ writes.old
         ++ (Cell.Presence number key.now, Value.Flag true) ∷ spec.fields_of number key.now key_column 0 values) }
 {
-    writes.push((Cell::Presence(number, key.copy(alloc)?), Value::Flag(true)))?;
+    push_presence(alloc, writes, number, key)?;
     let mut column = 0u32;
     for value in values.into_vec() {
         add_field(alloc, writes, number, key, key_column, column, value)?;
@@ -72,13 +100,13 @@ fn add_fields(
     alloc: Global,
     writes: &mut Items<(Cell, Value)>,
     number: u32,
-    change: RowChange,
+    key: &Key,
+    fields: Items<(u32, Value)>,
 ) -> Result<(), Memory>
-    ensures { OnOk result (writes.new ≡ writes.old ++ spec.updates_of number (change_seen change)) }
+    ensures { OnOk result (writes.new ≡ writes.old ++ spec.updates_of number (record { key = key.now; fields = fields })) }
 {
-    let RowChange { key, fields } = change;
     for (column, value) in fields.into_vec() {
-        writes.push((Cell::Field(number, key.copy(alloc)?, column), value))?;
+        push_field(alloc, writes, number, key, column, value)?;
     }
     Ok(())
 }
@@ -93,7 +121,8 @@ pub fn update_writes(
 {
     let mut writes = Items::new(alloc);
     for change in changes.into_vec() {
-        add_fields(alloc, &mut writes, number, change)?;
+        let RowChange { key, fields } = change;
+        add_fields(alloc, &mut writes, number, &key, fields)?;
     }
     Ok(writes)
 }

@@ -1,7 +1,8 @@
 // The changes that an UPDATE or a DELETE makes.
 ghost use Rattle.std.specs.Prelude.{◌≡◌, map};
+ghost use Rattle.typing_rules.specs.Outcome.{all_of};
 ghost use Rattle.row_meaning.specs.Changes as spec;
-ghost use Rattle.row_writes.specs.Seen.{GivesChange, GivesChanges};
+ghost use Rattle.row_writes.specs.Seen.{rows_seen, GivesChange, GivesChanges};
 
 use crate::kept::kept_rows;
 use crate::mentions::checks_on;
@@ -37,6 +38,25 @@ fn change_of(
     }
 }
 
+/// The changes of rows, in order.
+fn change_each(
+    alloc: Global,
+    table: &Table,
+    change: &TypedChange,
+    checks: &[&TypedExpr],
+    rows: &[&(Key, Items<Value>)],
+) -> Result<Items<RowChange>, SqlFault>
+    requires { map (λ c. c.now) checks.now ≡ spec.checks_on (change.now).set (table.now).checks }
+    ensures { GivesChanges result (all_of (map (spec.change_of table.now change.now) (rows_seen rows.now))) }
+{
+    let mut changes = Items::new(alloc);
+    for row in rows {
+        let made = change_of(alloc, table, change, checks, row)?;
+        changes.push(made)?;
+    }
+    Ok(changes)
+}
+
 /// The changes of the rows that WHERE keeps, keys ascending where the rows stand so.
 ///
 /// WHERE is evaluated for all rows first. Then, row by row: what the assignments give, in text order; `S23502` where an
@@ -53,9 +73,5 @@ pub fn changes_of(
 {
     let kept = kept_rows(alloc, change.filter.as_ref(), rows)?;
     let checks = checks_on(alloc, change.set.as_slice(), table.checks.as_slice())?;
-    let mut changes = Items::new(alloc);
-    for row in kept.as_slice() {
-        changes.push(change_of(alloc, table, change, checks.as_slice(), row)?)?;
-    }
-    Ok(changes)
+    change_each(alloc, table, change, checks.as_slice(), kept.as_slice())
 }

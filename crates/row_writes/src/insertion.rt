@@ -27,7 +27,8 @@ fn row_of(alloc: Global, columns: &[Column], exprs: &[TypedExpr]) -> Result<Item
 {
     let mut row = Items::new(alloc);
     for (column, expr) in columns.iter().zip(exprs) {
-        row.push(value_for(alloc, column, expr)?)?;
+        let value = value_for(alloc, column, expr)?;
+        row.push(value)?;
     }
     Ok(row)
 }

@@ -28,7 +28,8 @@ pub fn kept_rows<'a>(
 {
     let mut kept = Items::new(alloc);
     for row in rows {
-        if passes(filter, row.1.as_slice())? {
+        let is_kept = passes(filter, row.1.as_slice())?;
+        if is_kept {
             kept.push(row)?;
         }
     }

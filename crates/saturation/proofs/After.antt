@@ -1,26 +1,19 @@
 -- What a further read of a pending transaction changes.
-use Rattle.std.proofs.Common.{◌≡◌, ℕ, ◌+◌, ◌<◌, ◌≤◌, List, [], ◌∷◌, ◌++◌, Some, Bool, cond, false, length, get_or, take, arith, refl, ap, sym, ◌∙◌, subst, inl, inr, ◌⊎◌}
-use Rattle.std.specs.List.{slice_get}
-use Rattle.std.proofs.lemmas.List.{length_push, take-append-le, take_all}
+use Rattle.std.proofs.Common.{◌≡◌, ℕ, ◌<◌, ◌≤◌, List, [], ◌∷◌, ◌++◌, length, arith, refl, sym, subst, inl, inr, ◌⊎◌}
 use Rattle.std.proofs.lemmas.Option.{slice_get_within}
 use Rattle.std.proofs.lemmas.Bool.{cases_eq}
-use Rattle.graph_base.specs.Chain.{IsChain, Chained}
+use Rattle.graph_base.specs.Chain.{IsChain}
 use Rattle.cell_base.specs.declared.level.Level.{Level}
 use Rattle.cell_base.specs.declared.level.Level.TheVariants.{Rc, Ra, Cc}
 use Rattle.cell_base.specs.declared.cell.Cell.{Cell}
 use Rattle.cell_base.specs.declared.value.Value.{Value}
 use Rattle.history_core.specs.declared.event.Event.{Event}
-use Rattle.history_core.specs.declared.event.Event.TheVariants.{Begin, Read, Write}
-use Rattle.history_core.specs.declared.txn.Seen.{Seen}
-use Rattle.history_core.specs.declared.txn.Seen.TheVariants.{Read as SeenRead, Scan as SeenScan}
+use Rattle.history_core.specs.declared.event.Event.TheVariants.{Read, Write}
 use Rattle.history_core.specs.Events.{begun}
-use Rattle.history_core.specs.Transactions.{IsStart, RunsAt, IsPending, IsCommitted}
-use Rattle.history_core.specs.Relations.{Writes, Reads, ReadsFrom, Precedes, ReadsBefore, IsVisibleAt, IsVisible, Demands}
-use Rattle.history_core.specs.Records.{seen_of, Saw}
+use Rattle.history_core.specs.Transactions.{IsPending, IsCommitted}
+use Rattle.history_core.specs.Relations.{Writes, Reads, Precedes, ReadsBefore, IsVisibleAt, Demands}
 use Rattle.history_core.specs.Forced.{IsForced, IsDemandOf}
-use Rattle.txn_buffer.proofs.Lists.{slice_get_push_cases}
-use Rattle.history_core.proofs.Places.{slice_get-append_left, start_unique}
-use Rattle.history_core.proofs.Grown.{start_kept, runs_kept, of_back, reads_back, writes_back, pending_not_committed}
+use Rattle.history_core.proofs.Grown.{start_kept, runs_kept, reads_back, writes_back, pending_not_committed}
 use Rattle.history_core.proofs.Prefixes.{IsSound, of_kept, committed_kept, begun-push_other, start_positive, pending_first, runs_still}
 use Rattle.history_core.proofs.Offers.{pending_unique, precedes_read}
 use Rattle.history_core.proofs.Next.{of_new}

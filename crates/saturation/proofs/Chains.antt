@@ -1,5 +1,5 @@
 -- Chains, and marks that are closed under what precedes.
-use Rattle.std.proofs.Common.{◌≡◌, ℕ, ◌<◌, List, [], ◌∷◌, ◌++◌, Bool, length, inl, inr, ◌⊎◌}
+use Rattle.std.proofs.Common.{ℕ, ◌<◌, List, [], ◌∷◌, ◌++◌, Bool, length, inl, inr, ◌⊎◌}
 use Rattle.graph_base.specs.Chain.{IsChain, Chained}
 use Rattle.order_witness.specs.Marks.{IsMarked}
 use Rattle.history_core.specs.declared.event.Event.{Event}

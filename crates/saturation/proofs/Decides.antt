@@ -1,5 +1,5 @@
 -- A history is consistent exactly where its forced pairs have no cycle.
-use Rattle.std.proofs.Common.{◌≡◌, ℕ, ◌+◌, ◌<◌, ◌≤◌, List, [], ◌∷◌, ◌++◌, Some, false, length, get_or, arith, refl, ap, sym, ◌∙◌, subst, inl, inr, ◌⊎◌, ◌↔◌}
+use Rattle.std.proofs.Common.{◌≡◌, ℕ, ◌+◌, ◌<◌, ◌≤◌, List, [], ◌∷◌, ◌++◌, Some, length, get_or, arith, refl, ap, sym, ◌∙◌, subst, inl, inr, ◌⊎◌}
 use Rattle.std.proofs.lemmas.List.Elements.{All-contains, Contains-get_or}
 use Rattle.std.proofs.lemmas.Option.{slice_get-get_or}
 use Rattle.std.proofs.lemmas.Bool.{cases_order, cases_lt}
@@ -8,14 +8,13 @@ use Rattle.graph_base.specs.Walk.{HasCycle}
 use Rattle.graph_base.specs.Order.{IsOrder, place_of}
 use Rattle.graph_base.proofs.Ranks.{no_cycle_extended}
 use Rattle.graph_base.proofs.Places.{place_of-first}
-use Rattle.cell_base.specs.declared.level.Level.{Level}
 use Rattle.history_core.specs.declared.event.Event.{Event}
 use Rattle.history_core.specs.declared.event.Event.TheVariants.{Open, Close, Define, Look, Begin, Scan, Read, Own, Write, Commit, Rollback, Show}
 use Rattle.history_core.specs.Events.{begun, session_in}
 use Rattle.cell_base.specs.declared.cell.Cell.{Cell}
 use Rattle.history_core.specs.Transactions.{IsStart, IsCommitted}
-use Rattle.history_core.specs.Relations.{Precedes, Reads, IsSessionOrdered, Meets, IsConsistent, Demands}
-use Rattle.history_core.specs.Forced.{IsForced, IsPairList}
+use Rattle.history_core.specs.Relations.{Precedes, Reads, IsSessionOrdered, Meets, IsConsistent}
+use Rattle.history_core.specs.Forced.{IsForced}
 use Rattle.history_core.proofs.Grown.{start_kept}
 use Rattle.history_core.proofs.Prefixes.{IsSound, along, begun-push_other, begun-push_start, found_once, start_bounded, start_positive}
 use Rattle.history_core.proofs.Offers.{writer_bounded}

@@ -1,11 +1,10 @@
 -- The pairs that the code finds for one reader, and those that the reader demands: in a history, and in it with a further read.
-use Rattle.std.proofs.Common.{◌≡◌, ℕ, ◌+◌, ◌<◌, ◌≤◌, List, [], ◌∷◌, ◌++◌, Some, Bool, true, false, length, get_or, get_or-set_same, get_or-set_other, set, arith, refl, ap, sym, ◌∙◌, subst, inl, inr, ◌⊎◌, ◌↔◌}
-use Rattle.std.specs.List.{Contains, Any}
+use Rattle.std.proofs.Common.{◌≡◌, ℕ, ◌+◌, ◌<◌, ◌≤◌, List, [], ◌∷◌, ◌++◌, Some, Bool, true, false, length, get_or-set_same, get_or-set_other, set, arith, refl, ap, sym, ◌∙◌, subst, inl, inr, ◌⊎◌}
+use Rattle.std.specs.List.{Any}
 use Rattle.std.proofs.lemmas.List.{length_push, length-set, get_or_past}
 use Rattle.std.proofs.lemmas.Option.{slice_get_within}
 use Rattle.std.proofs.lemmas.Bool.{cases_eq, cases_lt, false≢true}
 use Rattle.graph_base.specs.declared.Edge.{Edge}
-use Rattle.graph_base.specs.Chain.{Chained}
 use Rattle.order_witness.specs.Marks.{IsMarked}
 use Rattle.cell_base.specs.declared.level.Level.{Level}
 use Rattle.cell_base.specs.declared.level.Level.TheVariants.{Rc, Ra, Cc}
@@ -18,7 +17,7 @@ use Rattle.history_core.specs.declared.txn.Seen.TheVariants.{Read as SeenRead}
 use Rattle.history_core.specs.declared.txn.Txn.{Txn}
 use Rattle.history_core.specs.Events.{begun}
 use Rattle.history_core.specs.Transactions.{RunsAt, IsOf, IsPending}
-use Rattle.history_core.specs.Relations.{Writes, Gives, Reads, Precedes, ReadsBefore, IsVisibleAt, Demands}
+use Rattle.history_core.specs.Relations.{Writes, Gives, Precedes, ReadsBefore, IsVisibleAt, Demands}
 use Rattle.history_core.specs.Records.{seen_of, Saw, IsRecordOf}
 use Rattle.history_core.specs.Forced.{IsForced, IsPairList, IsDemandOf}
 use Rattle.history_core.proofs.Places.{runs_unique}
@@ -27,13 +26,13 @@ use Rattle.history_core.proofs.Prefixes.{IsSound, of_kept}
 use Rattle.history_core.proofs.Offers.{precedes_read, writer_bounded}
 use Rattle.history_core.proofs.Next.{of_new}
 use Rattle.saturation.specs.Laws.{AreForced, with_read}
-use Rattle.saturation.specs.Views.{number_of, source_of, Shows, IsReadFrom, Sees, IsRival, ArePredecessors, IsPastOf, Widens}
-use Rattle.saturation.specs.Pairs.{AddsPairs, IsSeenDemand, IsDemandIn, IsForcedAt}
-use Rattle.saturation.proofs.Adds.{adds_as, adds_then, list_more}
+use Rattle.saturation.specs.Views.{number_of, IsReadFrom, Sees, ArePredecessors, Widens}
+use Rattle.saturation.specs.Pairs.{AddsPairs, IsSeenDemand, IsDemandIn, IsAddedByRead, IsForcedAt}
+use Rattle.saturation.proofs.Adds.{adds_then, list_more}
 use Rattle.saturation.proofs.Chains.{marked_from_chain, chain_from_marked}
 use Rattle.saturation.proofs.Sights.{gives_from_seen, seen_from_gives, seen_number, before_from_record, record_before}
 use Rattle.saturation.proofs.After.{precedes_kept, before_kept, before_back, read_now, writes_kept, writes_before, forced_after, forced_before}
-use Rattle.saturation.proofs.Decides.{initial_ordered, committed_bounded, reader_bounded, precedes_range, forced_range}
+use Rattle.saturation.proofs.Decides.{initial_ordered, committed_bounded, precedes_range, forced_range}
 
 -- ---- a reader's view: the history `now` has the writers of `events`, and the reads see what the tests say
 
@@ -284,30 +283,31 @@ range_then events sound s k x w n u v pending writes small a b forced =
       ]
     ]
 
-abbrev AddedThen : List Event → ℕ → Cell → ℕ → Level → List Seen → List Bool → ℕ → ℕ → Type 0
-AddedThen events k x w level all marks a b =
-    ((a ≡ w) × (b ≡ k)) ⊎ (IsDemandIn events level all marks a b ⊎ IsSeenDemand events level all marks (SeenRead (length events + 1) x w) a b)
+pub added_then :
+    (events : List Event) (k : ℕ) (x : Cell) (w : ℕ) (level : Level) (all : List Seen) (marks : List Bool) (forced linked seen new : List Edge) →
+    AddsPairs (λ a b. (a ≡ w) × (b ≡ k)) forced linked → AddsPairs (IsDemandIn events level all marks) linked seen →
+    AddsPairs (IsSeenDemand events level all marks (SeenRead (length events + 1) x w)) seen new →
+    AddsPairs (IsAddedByRead events k x w level all marks) forced new
+added_then events k x w level all marks forced linked seen new link demands further =
+    let both : AddsPairs (λ a b. IsDemandIn events level all marks a b ⊎ IsSeenDemand events level all marks (SeenRead (length events + 1) x w) a b) linked new =
+    adds_then (IsDemandIn events level all marks) (IsSeenDemand events level all marks (SeenRead (length events + 1) x w))
+    (λ a b. IsDemandIn events level all marks a b ⊎ IsSeenDemand events level all marks (SeenRead (length events + 1) x w) a b)
+    linked seen new (λ a b d. inl d) (λ a b d. inr d) (λ a b either. either) demands further in
+    adds_then (λ a b. (a ≡ w) × (b ≡ k))
+    (λ a b. IsDemandIn events level all marks a b ⊎ IsSeenDemand events level all marks (SeenRead (length events + 1) x w) a b)
+    (IsAddedByRead events k x w level all marks) forced linked new (λ a b d. inl d) (λ a b d. inr d) (λ a b either. either) link both
 
 pub list_then :
-    (events : List Event) (s k : ℕ) (x : Cell) (w : ℕ) (txn : Txn) (start marks : List Bool) (forced linked seen new : List Edge) →
+    (events : List Event) (s k : ℕ) (x : Cell) (w : ℕ) (txn : Txn) (start marks : List Bool) (forced new : List Edge) →
     IsSound events → IsPending events k s → Writes events w x → k ≤ begun events → IsRecordOf events k txn → ArePredecessors events k start →
-    Widens txn.level events (set start w true) marks → AreForced events forced → AddsPairs (λ a b. (a ≡ w) × (b ≡ k)) forced linked →
-    AddsPairs (IsDemandIn events txn.level txn.seen marks) linked seen →
-    AddsPairs (IsSeenDemand events txn.level txn.seen marks (SeenRead (length events + 1) x w)) seen new →
+    Widens txn.level events (set start w true) marks → AreForced events forced →
+    AddsPairs (IsAddedByRead events k x w txn.level txn.seen marks) forced new →
     (n u : ℕ) (v : Value) → IsPairList (IsForced (with_read events s x w n u v)) (begun events + 1) new
-list_then events s k x w txn start marks forced linked seen new sound pending writes small is are widens list link demands further n u v =
+list_then events s k x w txn start marks forced new sound pending writes small is are widens list all n u v =
     let small_source : w < begun events + 1 = writer_bounded events w x writes in
     let now = with_read events s x w n u v in
     let view = view_then events s k x w n u v txn start marks sound pending small_source is are widens in
-    let both : AddsPairs (λ a b. IsDemandIn events txn.level txn.seen marks a b ⊎ IsSeenDemand events txn.level txn.seen marks (SeenRead (length events + 1) x w) a b) linked new =
-    adds_then (IsDemandIn events txn.level txn.seen marks) (IsSeenDemand events txn.level txn.seen marks (SeenRead (length events + 1) x w))
-    (λ a b. IsDemandIn events txn.level txn.seen marks a b ⊎ IsSeenDemand events txn.level txn.seen marks (SeenRead (length events + 1) x w) a b)
-    linked seen new (λ a b d. inl d) (λ a b d. inr d) (λ a b either. either) demands further in
-    let all : AddsPairs (AddedThen events k x w txn.level txn.seen marks) forced new =
-    adds_then (λ a b. (a ≡ w) × (b ≡ k))
-    (λ a b. IsDemandIn events txn.level txn.seen marks a b ⊎ IsSeenDemand events txn.level txn.seen marks (SeenRead (length events + 1) x w) a b)
-    (AddedThen events k x w txn.level txn.seen marks) forced linked new (λ a b d. inl d) (λ a b d. inr d) (λ a b either. either) link both in
-    list_more (IsForced events) (AddedThen events k x w txn.level txn.seen marks) (IsForced now) (begun events + 1) forced new
+    list_more (IsForced events) (IsAddedByRead events k x w txn.level txn.seen marks) (IsForced now) (begun events + 1) forced new
     (λ a b f. forced_after events s k x w n u v pending a b (inl f))
     (λ a b added. forced_after events s k x w n u v pending a b (elim added [
       | inl first ↦ inr (inl first)

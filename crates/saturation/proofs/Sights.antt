@@ -1,8 +1,7 @@
 -- What the record of a transaction shows of its reads, and the reads themselves.
-use Rattle.std.proofs.Common.{◌≡◌, ℕ, ◌+◌, ◌<◌, ◌≤◌, List, Some, length, arith, refl, ap, sym, ◌∙◌, subst, inl, inr, ◌⊎◌}
+use Rattle.std.proofs.Common.{◌≡◌, ℕ, ◌+◌, ◌<◌, List, Some, length, arith, refl, ap, sym, subst, inl, inr}
 use Rattle.std.specs.List.{Contains, Any}
 use Rattle.std.proofs.lemmas.Option.{slice_get_within}
-use Rattle.cell_base.specs.declared.level.Level.{Level}
 use Rattle.cell_base.specs.declared.value.Value.{Value}
 use Rattle.cell_base.specs.declared.cell.Cell.{Cell}
 use Rattle.cell_base.specs.declared.cell.Cell.TheVariants.{Presence, Field}
@@ -13,10 +12,10 @@ use Rattle.history_core.specs.declared.txn.Seen.TheVariants.{Read as SeenRead, S
 use Rattle.history_core.specs.declared.txn.Txn.{Txn}
 use Rattle.history_core.specs.declared.txn.TxnState.TheVariants.{Committed}
 use Rattle.history_core.specs.Transactions.{IsOf, IsCommitted}
-use Rattle.history_core.specs.Relations.{HasWritten, LastWrites, Writes, Gives, Reads, ReadsFrom, ReadsBefore}
-use Rattle.history_core.specs.Records.{seen_of, Saw, IsRecordOf}
+use Rattle.history_core.specs.Relations.{HasWritten, LastWrites, Writes, Gives, ReadsFrom, ReadsBefore}
+use Rattle.history_core.specs.Records.{seen_of, IsRecordOf}
 use Rattle.history_core.proofs.Greatest.{greatest}
-use Rattle.saturation.specs.Views.{number_of, source_of, IsUnlisted, Shows, ShowsOneOf, IsReadFrom, IsRival}
+use Rattle.saturation.specs.Views.{number_of, source_of, Shows, ShowsOneOf, IsReadFrom, IsRival}
 
 pub any_from_contains : {X : Type 0} (P : X → Type 0) (xs : List X) (x : X) → Contains xs x → P x → Any P xs
 any_from_contains P xs x (k, within, is) holds = (k, x, within, is, holds)

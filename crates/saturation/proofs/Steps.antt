@@ -1,5 +1,5 @@
 -- The steps of the loops that gather pairs and numbers.
-use Rattle.std.proofs.Common.{◌≡◌, ℕ, ◌+◌, ◌<◌, ◌≤◌, List, [], ◌∷◌, ◌++◌, Bool, true, false, length, get_or, arith, refl, ap, sym, ◌∙◌, subst, inl, inr, ◌⊎◌, ◌↔◌}
+use Rattle.std.proofs.Common.{◌≡◌, ℕ, ◌+◌, ◌<◌, List, [], ◌∷◌, ◌++◌, Bool, length, get_or, arith, refl, ap, sym, ◌∙◌, subst, inl, inr}
 use Rattle.std.specs.List.{Contains}
 use Rattle.std.specs.List.Sorted.{IsStrictlyIncreasing}
 use Rattle.std.proofs.lemmas.List.{length_push, get_or_append_left, get_or_push}
@@ -20,7 +20,7 @@ use Rattle.saturation.specs.Laws.{AreForced}
 use Rattle.saturation.specs.Views.{number_of, source_of, Sees, IsRival}
 use Rattle.saturation.specs.Pairs.{AddsPairs, IsFirstBelow, IsSeenDemand, IsForcedAt, IsForcedBelow}
 use Rattle.saturation.proofs.Adds.{adds_as, first_none, first_whole, forced_none, list_from_adds}
-use Rattle.saturation.proofs.Decides.{initial_ordered, forced_range, forced_initial, precedes_range, reader_bounded, reader_positive}
+use Rattle.saturation.proofs.Decides.{forced_range, forced_initial, precedes_range, reader_bounded, reader_positive}
 
 -- ---- the demands of one read
 

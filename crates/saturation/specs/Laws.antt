@@ -1,17 +1,12 @@
 -- The laws of forced pairs.
-use Rattle.std.specs.Prelude.{◌≡◌, ◌+◌, ◌⊎◌, ◌↔◌, ℕ, List, [], ◌∷◌, ◌++◌}
+use Rattle.std.specs.Prelude.{◌+◌, ℕ, List, [], ◌∷◌, ◌++◌}
 use Rattle.graph_base.specs.declared.Edge.{Edge}
-use Rattle.graph_base.specs.Walk.{HasCycle}
-use Rattle.graph_base.specs.Order.{IsOrder}
 use Rattle.cell_base.specs.declared.cell.Cell.{Cell}
 use Rattle.cell_base.specs.declared.value.Value.{Value}
 use Rattle.history_core.specs.declared.event.Event.{Event}
 use Rattle.history_core.specs.declared.event.Event.TheVariants.{Read}
 use Rattle.history_core.specs.Events.{begun}
-use Rattle.history_core.specs.Transactions.{IsPending}
-use Rattle.history_core.specs.Relations.{Meets, Writes, IsConsistent}
-use Rattle.history_core.specs.Legal.{IsFormed}
-use Rattle.history_core.specs.Forced.{IsForced, IsPairList, IsDemandOf}
+use Rattle.history_core.specs.Forced.{IsForced, IsPairList}
 
 -- the edges are exactly the pairs that the history forces
 abbrev pub AreForced : List Event → List Edge → Type 0

@@ -1,16 +1,13 @@
 -- Lists of pairs that grow, and the pairs that the reads of one transaction demand.
-use Rattle.std.specs.Prelude.{◌≡◌, ◌<◌, ◌⊎◌, ◌+◌, ℕ, Some, Bool, List, [], ◌∷◌, ◌++◌, Contains, slice_get}
+use Rattle.std.specs.Prelude.{◌≡◌, ◌<◌, ◌⊎◌, ◌+◌, ℕ, Some, Bool, List, Contains, length, slice_get}
 use Rattle.graph_base.specs.declared.Edge.{Edge}
-use Rattle.graph_base.specs.declared.Graph.{Graph}
 use Rattle.cell_base.specs.declared.level.Level.{Level}
 use Rattle.cell_base.specs.declared.cell.Cell.{Cell}
-use Rattle.cell_base.specs.declared.value.Value.{Value}
 use Rattle.history_core.specs.declared.event.Event.{Event}
-use Rattle.history_core.specs.declared.event.Event.TheVariants.{Read}
 use Rattle.history_core.specs.declared.txn.Seen.{Seen}
-use Rattle.history_core.specs.Events.{begun}
+use Rattle.history_core.specs.declared.txn.Seen.TheVariants.{Read as SeenRead}
 use Rattle.history_core.specs.Relations.{Precedes}
-use Rattle.history_core.specs.Forced.{IsForced, IsPairList, IsDemandOf}
+use Rattle.history_core.specs.Forced.{IsDemandOf}
 use Rattle.saturation.specs.Views.{source_of, number_of, Sees, IsRival}
 
 -- the new list has the old edges and one for each pair of the relation, and no other
@@ -43,6 +40,13 @@ pub record IsDemandIn (events : List Event) (level : Level) (all : List Seen) (m
   pub seen : Seen
   pub is : Contains all seen
   pub demands : IsSeenDemand events level all marks seen first second
+
+-- What a further read of the cell adds: the reader, the cell, the source, and of the reader the level, the reads so far and the
+-- marks. The source stands before the reader, and the reads so far and this one demand pairs.
+abbrev pub IsAddedByRead : List Event → ℕ → Cell → ℕ → Level → List Seen → List Bool → ℕ → ℕ → Type 0
+IsAddedByRead events reader cell source level all marks first second =
+    ((first ≡ source) × (second ≡ reader))
+    ⊎ (IsDemandIn events level all marks first second ⊎ IsSeenDemand events level all marks (SeenRead (length events + 1) cell source) first second)
 
 -- what comes before the reader, and what the reader demands of another than the initial transaction
 abbrev pub IsForcedAt : List Event → ℕ → ℕ → ℕ → Type 0

@@ -2,6 +2,8 @@
 use Rattle.std.proofs.Common.{◌≡◌, ℕ, ◌+◌, ◌<◌, false, true, List, [], ◌∷◌, ◌++◌, length, drop, get_or, Ok, Err, refl, ap, sym, ◌∙◌, append_assoc}
 use Rattle.std.specs.Prelude.{nat_lt}
 use Rattle.std.proofs.lemmas.List.{map-append, length-map}
+use Rattle.cell_base.specs.declared.sql_fault.SqlFault.{SqlFault}
+use Rattle.cell_base.specs.declared.sql_fault.SqlFault.TheVariants.{State, Memory}
 use Rattle.cell_base.specs.declared.sql_state.SqlState.{SqlState}
 use Rattle.cell_base.specs.declared.sql_state.SqlState.TheVariants.{S54000}
 use Rattle.sql_tree.specs.declared.statement.Item.{Item}
@@ -9,6 +11,7 @@ use Rattle.select_typing.specs.declared.output.Output.{Output}
 use Rattle.select_typing.specs.Outputs.{output, outputs}
 use Rattle.typing_rules.specs.declared.place.Place.{Place}
 use Rattle.typing_rules.specs.Names.{Source}
+use Rattle.typing_rules.specs.Gives.{GivesBy}
 use Rattle.typing_rules.specs.Outcome.{Outcome, and_then}
 use Rattle.typing_rules.specs.Select.{Output as Column, width, outputs_of, items_from}
 use Rattle.typing_rules.proofs.Lists.{cut_at}
@@ -56,3 +59,11 @@ items_wide place sources all i x before o within is wide was =
     let wide' : nat_lt 1664 (length (outputs before) + width sources x) ≡ true = rw (length-map before output) wide in
     let one : items_from place sources (outputs before) (x ∷ drop (i + 1) all) ≡ Err S54000 = rw wide' refl in
     sym was ∙ ap (items_from place sources (outputs before)) (cut_at all i x within is) ∙ one
+
+pub items_failed : (place : Place) (sources : List Source) (all : List Item) (i : ℕ) (x : Item) (before : List Output) (why : SqlFault)
+    (o : Outcome (List Column)) → i < length all → x ≡ get_or all i x
+    → nat_lt 1664 (length before + width sources x) ≡ false
+    → GivesBy outputs (and_then (outputs_of place sources x) (λ more. Ok (outputs before ++ more))) (Err why)
+    → items_from place sources (outputs before) (drop i all) ≡ o → GivesBy outputs o (Err why)
+items_failed place sources all i x before (State code) o within is narrow e was = items_fault place sources all i x before code o within is narrow e was
+items_failed place sources all i x before Memory o within is narrow e was = tt

@@ -7,6 +7,7 @@ ghost use Rattle.expr_typing.specs.Scope.{IsNarrow, sources};
 ghost use Rattle.typing_rules.specs.Gives.{GivesBy};
 ghost use Rattle.select_typing.specs.Outputs.{outputs};
 
+use crate::kept::beside;
 use crate::output::{Output, with_output};
 use crate::star::{width, with_star};
 use cell_base::{Items, Memory, SqlFault, SqlState, Text};
@@ -79,8 +80,10 @@ fn with_item(
     match item {
         Item::Star => with_star(alloc, before, scope, place),
         Item::Expr(expr, alias) => {
-            let typed = typed_item(alloc, expr, scope, place)?;
-            let name = output_name(alloc, expr, alias)?;
+            let typed = typed_item(alloc, expr, scope, place);
+            let (before, typed) = beside(before, typed)?;
+            let name = output_name(alloc, expr, alias);
+            let ((before, typed), name) = beside((before, typed), name)?;
             Ok(with_output(before, Output { name, expr: typed })?)
         }
     }

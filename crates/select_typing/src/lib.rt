@@ -10,6 +10,7 @@ mod aggregates;
 mod from;
 mod items;
 mod joins;
+mod kept;
 mod order;
 mod output;
 mod points;

@@ -84,7 +84,8 @@ fn terms_of(
 {
     let mut typed = Items::new(alloc);
     for term in terms {
-        typed.push(term_of(alloc, term, scope, outputs)?)?;
+        let value = term_of(alloc, term, scope, outputs)?;
+        typed.push(value)?;
     }
     Ok(typed)
 }

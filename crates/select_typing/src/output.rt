@@ -1,9 +1,10 @@
 // The columns of a SELECT's result: their names and values.
-ghost use Rattle.std.specs.Prelude.{◌≡◌, ◌++◌, [], ◌∷◌, IfOk, map};
+ghost use Rattle.std.specs.Prelude.{◌≡◌, ◌++◌, [], ◌∷◌, IfOk, OnOk, map};
 ghost use Rattle.std.specs.Option.{option_map};
 ghost use Rattle.typing_rules.specs.Select as spec;
 ghost use Rattle.select_typing.specs.Outputs.{output, outputs};
 
+use crate::kept::beside;
 use cell_base::{Items, Memory, Text};
 use sql_tree::{OutField, TypedExpr};
 use std::alloc::Global;
@@ -43,6 +44,22 @@ pub fn output_named<'a>(all: &'a [Output], name: &Text) -> Option<&'a Output>
     None
 }
 
+/// The field and the value of one column more.
+fn add_column(
+    fields: &mut Items<OutField>,
+    items: &mut Items<TypedExpr>,
+    last: Output,
+) -> Result<(), Memory>
+    ensures field { OnOk result (fields.new ≡ fields.old ++ spec.field_of (output last) ∷ []) }
+    ensures item { OnOk result (items.new ≡ items.old ++ (output last).expr ∷ []) }
+{
+    let Output { name, expr } = last;
+    let kind = expr.kind;
+    let pushed = fields.push(OutField { name, kind });
+    let (expr, ()) = beside(expr, pushed)?;
+    items.push(expr)
+}
+
 /// The fields and the values of the columns.
 pub fn columns_of(alloc: Global, all: Items<Output>) -> Result<Columns, Memory>
     ensures fields { IfOk result (λ columns. columns.fields ≡ map spec.field_of (outputs all)) }
@@ -51,12 +68,7 @@ pub fn columns_of(alloc: Global, all: Items<Output>) -> Result<Columns, Memory>
     let mut fields = Items::new(alloc);
     let mut items = Items::new(alloc);
     for output in all.into_vec() {
-        let Output { name, expr } = output;
-        fields.push(OutField {
-            name,
-            kind: expr.kind,
-        })?;
-        items.push(expr)?;
+        add_column(&mut fields, &mut items, output)?;
     }
     Ok(Columns { fields, items })
 }

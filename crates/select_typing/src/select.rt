@@ -5,17 +5,19 @@ ghost use Rattle.typing_rules.specs.Gives.{Gives, GivesBy};
 ghost use Rattle.expr_typing.specs.Scope.{IsNarrow, sources};
 ghost use Rattle.typing_parts.specs.Narrow.{AreFewAndNarrow};
 ghost use Rattle.select_typing.specs.Entries as shown;
+ghost use Rattle.select_typing.specs.Lists.{AreLists, listed, typed_of};
 ghost use Rattle.select_typing.specs.Parts.{select_parts, parts_of, whole, is_group};
 
 use crate::aggregates::has_aggregate;
 use crate::from::{FromEntry, entries_of, numbers_of, scope_of};
 use crate::items::outputs_of;
 use crate::joins::ons_of;
+use crate::kept::beside;
 use crate::order::order_of;
 use crate::output::{Columns, Output, columns_of};
 use crate::points::points_of;
 use crate::reads::{Read, mentioned};
-use cell_base::{Items, Memory, SqlFault};
+use cell_base::{Items, Key, Memory, SqlFault};
 use expr_typing::Entry;
 use sql_tree::{Select, Table, TypedExpr, TypedSelect};
 use std::alloc::Global;
@@ -64,15 +66,18 @@ fn parts_of(
     ensures { GivesBy select_parts (parts_of (sources scope.now) select.now place) result }
 {
     let ons = ons_of(alloc, select.from.as_slice(), scope)?;
-    let filter = typed_filter(alloc, select.filter.as_ref(), scope)?;
-    let outputs = outputs_of(alloc, select.items.as_slice(), scope, place)?;
+    let filter = typed_filter(alloc, select.filter.as_ref(), scope);
+    let (ons, filter) = beside(ons, filter)?;
+    let outputs = outputs_of(alloc, select.items.as_slice(), scope, place);
+    let ((ons, filter), outputs) = beside((ons, filter), outputs)?;
     let order = order_of(
         alloc,
         select.order.as_slice(),
         scope,
         outputs.as_slice(),
         place,
-    )?;
+    );
+    let ((ons, filter, outputs), order) = beside((ons, filter, outputs), order)?;
     Ok(Parts {
         ons,
         filter,
@@ -95,6 +100,81 @@ fn conditions_of(
     Ok(all)
 }
 
+/// The expressions of a typed SELECT, and the fields of its result.
+#[derive(Drop)]
+struct Lists {
+    conditions: Items<TypedExpr>,
+    columns: Columns,
+    order: Items<(TypedExpr, bool)>,
+}
+
+fn lists_of(alloc: Global, parts: Parts) -> Result<Lists, Memory>
+    ensures { IfOk result (λ lists. AreLists lists (select_parts parts)) }
+{
+    let Parts {
+        ons,
+        filter,
+        outputs,
+        order,
+    } = parts;
+    let conditions = conditions_of(ons, filter);
+    let ((outputs, order), conditions) = beside((outputs, order), conditions)?;
+    let columns = columns_of(alloc, outputs);
+    let ((conditions, order), columns) = beside((conditions, order), columns)?;
+    Ok(Lists {
+        conditions,
+        columns,
+        order,
+    })
+}
+
+/// The columns of each entry's table that the SELECT mentions.
+fn mentioned_in(
+    alloc: Global,
+    entries: &[FromEntry<'_>],
+    lists: &Lists,
+) -> Result<Items<Items<u32>>, Memory>
+    requires { IsNarrow (map shown.seen entries.now) }
+    ensures { IfOk result (λ all. all
+        ≡ map (spec.mentioned_of (shown.entries entries.now) (listed lists.now)) (shown.entries entries.now)) }
+{
+    let read = Read {
+        conditions: lists.conditions.as_slice(),
+        items: lists.columns.items.as_slice(),
+        order: lists.order.as_slice(),
+    };
+    mentioned(alloc, entries, &read)
+}
+
+fn assembled(
+    select: &Select,
+    lists: Lists,
+    points: Items<Option<Key>>,
+    mentioned: Items<Items<u32>>,
+    tables: Items<u32>,
+    place: Place,
+) -> TypedSelect
+    ensures { result ≡ typed_of select.now lists points mentioned tables (is_group place) }
+{
+    let Lists {
+        conditions,
+        columns: Columns { fields, items },
+        order,
+    } = lists;
+    TypedSelect {
+        fields,
+        tables,
+        mentioned,
+        points,
+        conditions,
+        items,
+        order,
+        aggregate: is_group(place),
+        limit: select.limit,
+        offset: select.offset.unwrap_or(0),
+    }
+}
+
 /// The typed SELECT of its parts.
 fn whole(
     alloc: Global,
@@ -106,33 +186,15 @@ fn whole(
     requires { IsNarrow (map shown.seen entries.now) }
     ensures { IfOk result (λ typed. typed ≡ whole (shown.entries entries.now) select.now (is_group place) (select_parts parts)) }
 {
-    let Parts {
-        ons,
-        filter,
-        outputs,
-        order,
-    } = parts;
-    let points = points_of(alloc, entries, filter.as_ref())?;
-    let conditions = conditions_of(ons, filter)?;
-    let Columns { fields, items } = columns_of(alloc, outputs)?;
-    let read = Read {
-        conditions: conditions.as_slice(),
-        items: items.as_slice(),
-        order: order.as_slice(),
-    };
-    let mentioned = mentioned(alloc, entries, &read)?;
-    Ok(TypedSelect {
-        fields,
-        tables: numbers_of(alloc, entries)?,
-        mentioned,
-        points,
-        conditions,
-        items,
-        order,
-        aggregate: is_group(place),
-        limit: select.limit,
-        offset: select.offset.unwrap_or(0),
-    })
+    let points = points_of(alloc, entries, parts.filter.as_ref());
+    let (parts, points) = beside(parts, points)?;
+    let lists = lists_of(alloc, parts);
+    let (points, lists) = beside(points, lists)?;
+    let mentioned = mentioned_in(alloc, entries, &lists);
+    let ((points, lists), mentioned) = beside((points, lists), mentioned)?;
+    let tables = numbers_of(alloc, entries);
+    let ((points, lists, mentioned), tables) = beside((points, lists, mentioned), tables)?;
+    Ok(assembled(select, lists, points, mentioned, tables, place))
 }
 
 /// The typed tree of a SELECT over these tables, which are numbered from 0, or the code that comes first (PostgreSQL's

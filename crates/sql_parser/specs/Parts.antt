@@ -30,3 +30,10 @@ after_comma {A = A} part ts =
 -- one or more with commas between
 abbrev pub listed_by : {A : Type 0} → Parser A → Parser (List A)
 listed_by part ts = and_then (single_by part ts) (λ xs us. repeat_from (is (sought.Sign s.Comma)) (after_comma part) (length us) xs us)
+
+-- '(' part ')'
+abbrev pub braced_by : {A : Type 0} → Parser A → Parser A
+braced_by {A = A} part ts =
+    and_then {A = Unit {0} × A} (and_then (reading (one (sought.Sign s.Open)) ts) (λ u us. and_then
+    (and_then {A = A × Unit {0}} (and_then (part us) (λ x vs. and_then (reading (one (sought.Sign s.Close)) vs) (λ y ws. Some ((x, y), ws)))) (λ p vs. Some (p.0, vs)))
+    (λ x vs. Some ((u, x), vs)))) (λ p us. Some (p.1, us))

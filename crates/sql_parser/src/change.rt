@@ -6,7 +6,7 @@ ghost use Rattle.sql_parser.specs.Reads.{Reads};
 
 use crate::error::Refusal;
 use crate::expression::expression;
-use crate::parts::{Part, listed};
+use crate::parts::{Part, braced, listed};
 use crate::select::{filter, name};
 use crate::tokens::Tokens;
 use cell_base::{Items, Text};
@@ -34,8 +34,7 @@ impl Part for NamePart {
 fn cell(alloc: Global, tokens: &mut Tokens<'_>) -> Result<Option<Expr>, Refusal>
     ensures { Reads (reading (st.cell max_depth) tokens.old) result tokens.new }
 {
-    if tokens.at_reserved(Word::Default) {
-        tokens.reserved(Word::Default)?;
+    if tokens.takes_reserved(Word::Default) {
         Ok(None)
     } else {
         Ok(Some(expression(alloc, tokens)?))
@@ -65,10 +64,7 @@ impl Part for RowPart {
 
     #[tactic(auto, unfolding(sql_grammar::specs::Statements::row))]
     fn read(&self, alloc: Global, tokens: &mut Tokens<'_>) -> Result<Items<Option<Expr>>, Refusal> {
-        tokens.sign(Sign::Open)?;
-        let cells = listed(&CellPart, alloc, tokens)?;
-        tokens.sign(Sign::Close)?;
-        Ok(cells)
+        braced(&CellPart, alloc, tokens)
     }
 }
 
@@ -79,10 +75,7 @@ fn columns(alloc: Global, tokens: &mut Tokens<'_>) -> Result<Items<Text>, Refusa
     if !tokens.at_sign(Sign::Open) {
         return Ok(Items::new(alloc));
     }
-    tokens.sign(Sign::Open)?;
-    let names = listed(&NamePart, alloc, tokens)?;
-    tokens.sign(Sign::Close)?;
-    Ok(names)
+    braced(&NamePart, alloc, tokens)
 }
 
 #[tactic(auto, unfolding(sql_grammar::specs::Statements::insert))]

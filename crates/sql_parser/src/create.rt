@@ -11,7 +11,7 @@ use crate::change::NamePart;
 use crate::error::Refusal;
 use crate::expression::expression;
 use crate::kept::kept;
-use crate::parts::{Next, Part, listed, repeat};
+use crate::parts::{Next, Part, braced, repeat};
 use crate::select::{at_name, name};
 use crate::table::table_of;
 use crate::tokens::Tokens;
@@ -40,8 +40,7 @@ fn constant_word(tokens: &mut Tokens<'_>) -> Result<Expr, Refusal>
 fn constant(alloc: Global, tokens: &mut Tokens<'_>) -> Result<Expr, Refusal>
     ensures { Reads (reading st.constant tokens.old) result tokens.new }
 {
-    if tokens.at_sign(Sign::Minus) {
-        tokens.sign(Sign::Minus)?;
+    if tokens.takes_sign(Sign::Minus) {
         let number = tokens.integer()?;
         return Ok(Expr::Neg(Boxed::new(alloc, Expr::Int(number))?));
     }
@@ -70,8 +69,7 @@ fn check(alloc: Global, tokens: &mut Tokens<'_>) -> Result<Expr, Refusal>
 fn label(alloc: Global, tokens: &mut Tokens<'_>) -> Result<(), Refusal>
     ensures { Reads (reading st.label tokens.old) result tokens.new }
 {
-    if tokens.at_reserved(Word::Constraint) {
-        tokens.reserved(Word::Constraint)?;
+    if tokens.takes_reserved(Word::Constraint) {
         name(alloc, tokens)?;
     }
     Ok(())
@@ -171,9 +169,7 @@ fn varchar(size: Option<i64>) -> SqlType
 fn sized(tokens: &mut Tokens<'_>) -> Result<SqlType, Refusal>
     ensures { Reads (reading st.sized tokens.old) result tokens.new }
 {
-    if tokens.at_word(Word::Varchar) {
-        tokens.word(Word::Varchar)?;
-    } else {
+    if !tokens.takes_word(Word::Varchar) {
         tokens.word(Word::Character)?;
         tokens.word(Word::Varying)?;
     }
@@ -244,10 +240,7 @@ fn key_list(alloc: Global, tokens: &mut Tokens<'_>) -> Result<Items<Text>, Refus
 {
     tokens.reserved(Word::Primary)?;
     tokens.word(Word::Key)?;
-    tokens.sign(Sign::Open)?;
-    let names = listed(&NamePart, alloc, tokens)?;
-    tokens.sign(Sign::Close)?;
-    Ok(names)
+    braced(&NamePart, alloc, tokens)
 }
 
 #[tactic(auto, unfolding(sql_grammar::specs::Statements::table_constraint, sql_grammar::specs::Statements::key_list))]
@@ -287,8 +280,6 @@ pub fn create(alloc: Global, tokens: &mut Tokens<'_>) -> Result<Statement, Refus
     tokens.reserved(Word::Create)?;
     tokens.reserved(Word::Table)?;
     let table = name(alloc, tokens)?;
-    tokens.sign(Sign::Open)?;
-    let elements = listed(&ElementPart, alloc, tokens)?;
-    tokens.sign(Sign::Close)?;
+    let elements = braced(&ElementPart, alloc, tokens)?;
     Ok(Statement::Create(table_of(alloc, table, elements.as_slice())?))
 }

@@ -7,20 +7,31 @@ ghost use Rattle.sql_parser.specs.Levels.{level_of_start};
 ghost use Rattle.sql_parser.specs.Nests.{Nests};
 ghost use Rattle.sql_parser.specs.Reads.{Reads};
 
+mod chains;
 mod ranges;
 
 use crate::error::Refusal;
+use crate::expr::chains::Links;
 use crate::kept::{beside, kept};
 use crate::levels::{Chain, Start};
 use crate::nodes;
-use crate::nodes::{binary, comparison, leaf, link, made};
+use crate::nodes::{binary, comparison, leaf, made};
 use crate::tokens::Tokens;
 use cell_base::{Items, Text};
 use sql_grammar::{Keyword, Mark, Node};
 use sql_tree::{Expr, Sign};
 use std::alloc::Global;
 
-#[derive(Clone, Copy)]
+/// The tree of the one mark that comes next.
+fn one_mark(tokens: &mut Tokens<'_>, tree: Expr) -> Node
+    ensures value { result ≡ spec.node tree 1 }
+    ensures left { tokens.new ≡ spec.rest tokens.old }
+{
+    tokens.skip();
+    leaf(tree)
+}
+
+#[derive(Drop)]
 pub struct Grammar<F> {
     pub alloc: Global,
     /// How deep a spelling may be, and how deep one inside it.
@@ -91,42 +102,29 @@ impl<F: Fn(Global, &mut Tokens<'_>, u32, Start) -> Result<Node, Refusal>> Gramma
         }
     }
 
+    /// The name that comes next, and what is read after it.
+    fn at_word(&self, tokens: &mut Tokens<'_>, name: &Text) -> Result<Node, Refusal>
+        requires { Nests self.now.inner (F.pre self.now.deep) (F.post self.now.deep) }
+        ensures { Reads (spec.named self.now.room (spec.read self.now.inner) name.now (spec.rest tokens.old)) result tokens.new }
+    {
+        let first = name.copy(self.alloc)?;
+        tokens.skip();
+        self.named(tokens, first)
+    }
+
     #[tactic(auto, unfolding(sql_grammar::specs::Reading::read_atom))]
     fn atom(&self, tokens: &mut Tokens<'_>) -> Result<Node, Refusal>
         requires { Nests self.now.inner (F.pre self.now.deep) (F.post self.now.deep) }
         ensures { Reads (spec.read_atom self.now.room (spec.read self.now.inner) tokens.old) result tokens.new }
     {
         match tokens.peek() {
-            Some(Mark::Number(n)) => {
-                tokens.skip();
-                Ok(leaf(Expr::Int(*n)))
-            }
-            Some(Mark::Str(text)) => {
-                tokens.skip();
-                Ok(leaf(Expr::Str(text.copy(self.alloc)?)))
-            }
-            Some(Mark::Key(Keyword::True)) => {
-                tokens.skip();
-                Ok(leaf(Expr::Flag(true)))
-            }
-            Some(Mark::Key(Keyword::False)) => {
-                tokens.skip();
-                Ok(leaf(Expr::Flag(false)))
-            }
-            Some(Mark::Key(Keyword::Null)) => {
-                tokens.skip();
-                Ok(leaf(Expr::Null))
-            }
-            Some(Mark::Plain(_, name)) => {
-                let first = name.copy(self.alloc)?;
-                tokens.skip();
-                self.named(tokens, first)
-            }
-            Some(Mark::Quoted(name)) => {
-                let first = name.copy(self.alloc)?;
-                tokens.skip();
-                self.named(tokens, first)
-            }
+            Some(Mark::Number(n)) => Ok(one_mark(tokens, Expr::Int(*n))),
+            Some(Mark::Str(text)) => Ok(one_mark(tokens, Expr::Str(text.copy(self.alloc)?))),
+            Some(Mark::Key(Keyword::True)) => Ok(one_mark(tokens, Expr::Flag(true))),
+            Some(Mark::Key(Keyword::False)) => Ok(one_mark(tokens, Expr::Flag(false))),
+            Some(Mark::Key(Keyword::Null)) => Ok(one_mark(tokens, Expr::Null)),
+            Some(Mark::Plain(_, name)) => self.at_word(tokens, name),
+            Some(Mark::Quoted(name)) => self.at_word(tokens, name),
             Some(Mark::Sign(Sign::Open)) => {
                 tokens.skip();
                 self.parens(tokens)
@@ -155,38 +153,30 @@ impl<F: Fn(Global, &mut Tokens<'_>, u32, Start) -> Result<Node, Refusal>> Gramma
         }
     }
 
-    #[tactic(auto, unfolding(sql_grammar::specs::Reading::read_prod, sql_grammar::specs::Reading::chain_from))]
+    #[tactic(auto, unfolding(sql_grammar::specs::Reading::read_prod))]
     fn prod(&self, tokens: &mut Tokens<'_>) -> Result<Node, Refusal>
         requires { Nests self.now.inner (F.pre self.now.deep) (F.post self.now.deep) }
         ensures { Reads (spec.read_prod self.now.room (spec.read self.now.inner) tokens.old) result tokens.new }
     {
-        let mut left = self.un(tokens)?;
-        for _turn in 0..self.room {
-            let Some(op) = link(Chain::Product, tokens.peek()) else {
-                return Ok(left);
-            };
-            tokens.skip();
-            let (before, right) = beside(left, self.un(tokens))?;
-            left = binary(self.alloc, self.room, op, before, right)?;
+        Links {
+            grammar: self,
+            chain: Chain::Product,
+            operand: &Self::un,
         }
-        Err(Refusal::NotInGrammar)
+        .read(tokens)
     }
 
-    #[tactic(auto, unfolding(sql_grammar::specs::Reading::read_sum, sql_grammar::specs::Reading::chain_from))]
+    #[tactic(auto, unfolding(sql_grammar::specs::Reading::read_sum))]
     fn sum(&self, tokens: &mut Tokens<'_>) -> Result<Node, Refusal>
         requires { Nests self.now.inner (F.pre self.now.deep) (F.post self.now.deep) }
         ensures { Reads (spec.read_sum self.now.room (spec.read self.now.inner) tokens.old) result tokens.new }
     {
-        let mut left = self.prod(tokens)?;
-        for _turn in 0..self.room {
-            let Some(op) = link(Chain::Sum, tokens.peek()) else {
-                return Ok(left);
-            };
-            tokens.skip();
-            let (before, right) = beside(left, self.prod(tokens))?;
-            left = binary(self.alloc, self.room, op, before, right)?;
+        Links {
+            grammar: self,
+            chain: Chain::Sum,
+            operand: &Self::prod,
         }
-        Err(Refusal::NotInGrammar)
+        .read(tokens)
     }
 
     #[tactic(auto, unfolding(sql_grammar::specs::Reading::list, sql_grammar::specs::Reading::list_from))]
@@ -221,7 +211,10 @@ impl<F: Fn(Global, &mut Tokens<'_>, u32, Start) -> Result<Node, Refusal>> Gramma
                 tokens.skip();
                 self.between(tokens, true, left)
             }
-            _ => Err(Refusal::NotInGrammar),
+            _ => {
+                drop(left);
+                Err(Refusal::NotInGrammar)
+            }
         }
     }
 
@@ -300,6 +293,7 @@ impl<F: Fn(Global, &mut Tokens<'_>, u32, Start) -> Result<Node, Refusal>> Gramma
             tokens.skip();
             left = self.null_test(tokens, left)?;
         }
+        drop(left);
         Err(Refusal::NotInGrammar)
     }
 
@@ -318,38 +312,30 @@ impl<F: Fn(Global, &mut Tokens<'_>, u32, Start) -> Result<Node, Refusal>> Gramma
         }
     }
 
-    #[tactic(auto, unfolding(sql_grammar::specs::Reading::read_and, sql_grammar::specs::Reading::chain_from))]
+    #[tactic(auto, unfolding(sql_grammar::specs::Reading::read_and))]
     fn and(&self, tokens: &mut Tokens<'_>) -> Result<Node, Refusal>
         requires { Nests self.now.inner (F.pre self.now.deep) (F.post self.now.deep) }
         ensures { Reads (spec.read_and self.now.room (spec.read self.now.inner) tokens.old) result tokens.new }
     {
-        let mut left = self.not(tokens)?;
-        for _turn in 0..self.room {
-            let Some(op) = link(Chain::And, tokens.peek()) else {
-                return Ok(left);
-            };
-            tokens.skip();
-            let (before, right) = beside(left, self.not(tokens))?;
-            left = binary(self.alloc, self.room, op, before, right)?;
+        Links {
+            grammar: self,
+            chain: Chain::And,
+            operand: &Self::not,
         }
-        Err(Refusal::NotInGrammar)
+        .read(tokens)
     }
 
-    #[tactic(auto, unfolding(sql_grammar::specs::Reading::read_or, sql_grammar::specs::Reading::chain_from))]
+    #[tactic(auto, unfolding(sql_grammar::specs::Reading::read_or))]
     fn or(&self, tokens: &mut Tokens<'_>) -> Result<Node, Refusal>
         requires { Nests self.now.inner (F.pre self.now.deep) (F.post self.now.deep) }
         ensures { Reads (spec.read_or self.now.room (spec.read self.now.inner) tokens.old) result tokens.new }
     {
-        let mut left = self.and(tokens)?;
-        for _turn in 0..self.room {
-            let Some(op) = link(Chain::Or, tokens.peek()) else {
-                return Ok(left);
-            };
-            tokens.skip();
-            let (before, right) = beside(left, self.and(tokens))?;
-            left = binary(self.alloc, self.room, op, before, right)?;
+        Links {
+            grammar: self,
+            chain: Chain::Or,
+            operand: &Self::and,
         }
-        Err(Refusal::NotInGrammar)
+        .read(tokens)
     }
 
     pub fn start(&self, tokens: &mut Tokens<'_>, start: Start) -> Result<Node, Refusal>

@@ -8,6 +8,7 @@ ghost use Rattle.sql_parser.specs.Levels.{level_of_chain};
 ghost use Rattle.sql_parser.specs.Reads.{Makes};
 
 use crate::error::Refusal;
+use crate::kept::beside;
 use crate::levels::Chain;
 use cell_base::{Boxed, Items, Memory, Text};
 use sql_grammar::{Keyword, Mark, Node};
@@ -25,6 +26,7 @@ pub fn made(room: u32, tree: Expr, by: u32, depth: u32) -> Result<Node, Refusal>
             depth: by + depth,
         })
     } else {
+        drop(tree);
         Err(Refusal::NotInGrammar)
     }
 }
@@ -64,16 +66,22 @@ pub fn comparison(mark: Option<&Mark>) -> Option<Op>
     }
 }
 
+/// Both in boxes. Where memory runs out, they are let go here, and not wherever two trees become one.
+fn boxed<T: Drop>(alloc: Global, a: T, b: T) -> Result<(Boxed<T>, Boxed<T>), Memory>
+    ensures left { IfOk result (λ both. both.0 ≡ a) }
+    ensures right { IfOk result (λ both. both.1 ≡ b) }
+{
+    let a = Boxed::new(alloc, a)?;
+    let b = Boxed::new(alloc, b)?;
+    Ok((a, b))
+}
+
 pub fn binary(alloc: Global, room: u32, op: Op, a: Node, b: Node) -> Result<Node, Refusal>
     ensures { Makes (spec.made room (Expr.Binary op a.tree b.tree) (1 + max a.depth b.depth)) result }
 {
     let depth = a.depth.max(b.depth);
-    made(
-        room,
-        Expr::Binary(op, Boxed::new(alloc, a.tree)?, Boxed::new(alloc, b.tree)?),
-        1,
-        depth,
-    )
+    let (left, right) = boxed(alloc, a.tree, b.tree)?;
+    made(room, Expr::Binary(op, left, right), 1, depth)
 }
 
 pub fn negative(alloc: Global, room: u32, a: Node) -> Result<Node, Refusal>
@@ -132,16 +140,14 @@ pub fn one_of(
 fn pair(alloc: Global, op: Op, a: Expr, b: Expr) -> Result<Boxed<Expr>, Memory>
     ensures { IfOk result (λ x. x ≡ Expr.Binary op a b) }
 {
-    Boxed::new(
-        alloc,
-        Expr::Binary(op, Boxed::new(alloc, a)?, Boxed::new(alloc, b)?),
-    )
+    let (left, right) = boxed(alloc, a, b)?;
+    Boxed::new(alloc, Expr::Binary(op, left, right))
 }
 
 fn at_least(alloc: Global, a: &Expr, low: Expr) -> Result<Boxed<Expr>, Memory>
     ensures { IfOk result (λ x. x ≡ Expr.Binary Op.Ge a.now low) }
 {
-    let a = a.copy(alloc)?;
+    let (low, a) = beside(low, a.copy(alloc))?;
     pair(alloc, Op::Ge, a, low)
 }
 
@@ -155,7 +161,8 @@ fn at_most(alloc: Global, above: Boxed<Expr>, a: Expr, high: Expr) -> Result<Exp
 fn within(alloc: Global, a: Expr, low: Expr, high: Expr) -> Result<Expr, Memory>
     ensures { IfOk result (λ x. x ≡ within a low high) }
 {
-    let above = at_least(alloc, &a, low)?;
+    let above = at_least(alloc, &a, low);
+    let ((a, high), above) = beside((a, high), above)?;
     at_most(alloc, above, a, high)
 }
 

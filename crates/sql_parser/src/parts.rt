@@ -6,10 +6,11 @@ ghost use Rattle.sql_grammar.specs.declared.mark.Sought.TheVariants as sought;
 ghost use Rattle.sql_grammar.specs.Reading.{front};
 ghost use Rattle.sql_grammar.specs.Syntax.{Kind, kind, is};
 ghost use Rattle.sql_grammar.specs.Steps.{repeat_from};
-ghost use Rattle.sql_parser.specs.Parts.{Finds, following, after_comma, listed_by};
+ghost use Rattle.sql_parser.specs.Parts.{Finds, following, after_comma, braced_by, listed_by};
 ghost use Rattle.sql_parser.specs.Reads.{Reads};
 
 use crate::error::Refusal;
+use crate::kept::kept;
 use crate::tokens::Tokens;
 use cell_base::Items;
 use sql_grammar::Sought;
@@ -107,4 +108,17 @@ pub fn listed<P: Part>(
     found.push(part.read(alloc, tokens)?)?;
     repeat(&AfterComma { part }, alloc, tokens, &mut found)?;
     Ok(found)
+}
+
+/// One or more with commas between, in parentheses.
+pub fn braced<P: Part>(
+    part: &P,
+    alloc: Global,
+    tokens: &mut Tokens<'_>,
+) -> Result<Items<P::Out>, Refusal>
+    ensures { Reads (braced_by (listed_by P.reading) tokens.old) result tokens.new }
+{
+    tokens.sign(Sign::Open)?;
+    let found = listed(part, alloc, tokens)?;
+    kept(found, tokens.sign(Sign::Close))
 }

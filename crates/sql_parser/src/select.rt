@@ -2,7 +2,7 @@
 ghost use Rattle.sql_grammar.specs.Reading.{front};
 ghost use Rattle.sql_grammar.specs.Statements as st;
 ghost use Rattle.sql_grammar.specs.Syntax as syntax;
-ghost use Rattle.sql_grammar.specs.Syntax.{kind};
+ghost use Rattle.sql_grammar.specs.Syntax.{kind, ◌⨟◌};
 ghost use Rattle.sql_grammar.specs.Steps.{any, begins, reading};
 ghost use Rattle.sql_grammar.specs.Limited.{max_depth};
 ghost use Rattle.sql_parser.specs.Reads.{Reads};
@@ -10,6 +10,7 @@ ghost use Rattle.std.specs.Prelude.{◌≡◌, [], ◌∷◌, IfOk};
 
 use crate::error::Refusal;
 use crate::expression::expression;
+use crate::kept::{beside, kept};
 use crate::parts::{Next, Part, listed, repeat};
 use crate::tokens::Tokens;
 use cell_base::{Items, Memory, Text};
@@ -35,8 +36,7 @@ pub fn at_name(tokens: &Tokens<'_>) -> bool
 fn alias(alloc: Global, tokens: &mut Tokens<'_>) -> Result<Option<Text>, Refusal>
     ensures { Reads (reading st.alias tokens.old) result tokens.new }
 {
-    if tokens.at_reserved(Word::As) {
-        tokens.reserved(Word::As)?;
+    if tokens.takes_reserved(Word::As) {
         Ok(Some(name(alloc, tokens)?))
     } else if at_name(tokens) {
         Ok(Some(name(alloc, tokens)?))
@@ -50,8 +50,7 @@ fn alias(alloc: Global, tokens: &mut Tokens<'_>) -> Result<Option<Text>, Refusal
 pub fn filter(alloc: Global, tokens: &mut Tokens<'_>) -> Result<Option<Expr>, Refusal>
     ensures { Reads (reading (st.filter max_depth) tokens.old) result tokens.new }
 {
-    if tokens.at_reserved(Word::Where) {
-        tokens.reserved(Word::Where)?;
+    if tokens.takes_reserved(Word::Where) {
         Ok(Some(expression(alloc, tokens)?))
     } else {
         Ok(None)
@@ -68,33 +67,40 @@ impl Part for ItemPart {
 
     #[tactic(auto, unfolding(sql_grammar::specs::Statements::item))]
     fn read(&self, alloc: Global, tokens: &mut Tokens<'_>) -> Result<Item, Refusal> {
-        if tokens.at_sign(Sign::Star) {
-            tokens.sign(Sign::Star)?;
+        if tokens.takes_sign(Sign::Star) {
             return Ok(Item::Star);
         }
         let expr = expression(alloc, tokens)?;
-        Ok(Item::Expr(expr, alias(alloc, tokens)?))
+        let (expr, alias) = beside(expr, alias(alloc, tokens))?;
+        Ok(Item::Expr(expr, alias))
     }
+}
+
+/// A name, and its alias, where one is written.
+fn named(alloc: Global, tokens: &mut Tokens<'_>) -> Result<(Text, Option<Text>), Refusal>
+    ensures { Reads (reading (st.name ⨟ st.alias) tokens.old) result tokens.new }
+{
+    let name = name(alloc, tokens)?;
+    Ok((name, alias(alloc, tokens)?))
 }
 
 #[tactic(auto, unfolding(sql_grammar::specs::Statements::tab))]
 fn tab(alloc: Global, tokens: &mut Tokens<'_>) -> Result<TableRef, Refusal>
     ensures { Reads (reading st.tab tokens.old) result tokens.new }
 {
-    let table = name(alloc, tokens)?;
+    let (name, alias) = named(alloc, tokens)?;
     Ok(TableRef {
-        name: table,
-        alias: alias(alloc, tokens)?,
+        name,
+        alias,
         on: None,
     })
 }
 
-#[tactic(auto, unfolding(sql_grammar::specs::Statements::join))]
+#[tactic(auto, unfolding(sql_grammar::specs::Statements::join, sql_grammar::specs::Statements::tab))]
 fn join(alloc: Global, tokens: &mut Tokens<'_>) -> Result<TableRef, Refusal>
     ensures { Reads (reading (st.join max_depth) tokens.old) result tokens.new }
 {
-    if tokens.at_reserved(Word::Cross) {
-        tokens.reserved(Word::Cross)?;
+    if tokens.takes_reserved(Word::Cross) {
         tokens.reserved(Word::Join)?;
         return tab(alloc, tokens);
     }
@@ -102,12 +108,13 @@ fn join(alloc: Global, tokens: &mut Tokens<'_>) -> Result<TableRef, Refusal>
         tokens.reserved(Word::Inner)?;
     }
     tokens.reserved(Word::Join)?;
-    let TableRef { name, alias, .. } = tab(alloc, tokens)?;
-    tokens.reserved(Word::On)?;
+    let entry = named(alloc, tokens)?;
+    let entry = kept(entry, tokens.reserved(Word::On))?;
+    let ((name, alias), on) = beside(entry, expression(alloc, tokens))?;
     Ok(TableRef {
         name,
         alias,
-        on: Some(expression(alloc, tokens)?),
+        on: Some(on),
     })
 }
 
@@ -218,7 +225,7 @@ fn from(alloc: Global, tokens: &mut Tokens<'_>) -> Result<Items<TableRef>, Refus
     ensures { Reads (reading (st.from max_depth) tokens.old) result tokens.new }
 {
     let first = tab(alloc, tokens)?;
-    let rest = more_from(alloc, tokens)?;
+    let (first, rest) = beside(first, more_from(alloc, tokens))?;
     Ok(in_front(first, rest)?)
 }
 
@@ -230,10 +237,9 @@ fn source(
 ) -> Result<Option<(Items<TableRef>, Option<Expr>)>, Refusal>
     ensures { Reads (reading (st.source max_depth) tokens.old) result tokens.new }
 {
-    if !tokens.at_reserved(Word::From) {
+    if !tokens.takes_reserved(Word::From) {
         return Ok(None);
     }
-    tokens.reserved(Word::From)?;
     let entries = from(alloc, tokens)?;
     Ok(Some((entries, filter(alloc, tokens)?)))
 }
@@ -262,10 +268,8 @@ impl Part for TermPart {
     #[tactic(auto, unfolding(sql_grammar::specs::Statements::term))]
     fn read(&self, alloc: Global, tokens: &mut Tokens<'_>) -> Result<OrderTerm, Refusal> {
         let expr = expression(alloc, tokens)?;
-        Ok(OrderTerm {
-            expr,
-            descending: direction(tokens)?,
-        })
+        let (expr, descending) = beside(expr, direction(tokens))?;
+        Ok(OrderTerm { expr, descending })
     }
 }
 
@@ -273,10 +277,9 @@ impl Part for TermPart {
 fn order(alloc: Global, tokens: &mut Tokens<'_>) -> Result<Items<OrderTerm>, Refusal>
     ensures { Reads (reading (st.order max_depth) tokens.old) result tokens.new }
 {
-    if !tokens.at_reserved(Word::Order) {
+    if !tokens.takes_reserved(Word::Order) {
         return Ok(Items::new(alloc));
     }
-    tokens.reserved(Word::Order)?;
     tokens.word(Word::By)?;
     listed(&TermPart, alloc, tokens)
 }
@@ -286,10 +289,9 @@ fn order(alloc: Global, tokens: &mut Tokens<'_>) -> Result<Items<OrderTerm>, Ref
 fn limit(tokens: &mut Tokens<'_>, word: Word) -> Result<Option<i64>, Refusal>
     ensures { Reads (reading (st.limit word) tokens.old) result tokens.new }
 {
-    if !tokens.at_reserved(word) {
+    if !tokens.takes_reserved(word) {
         return Ok(None);
     }
-    tokens.reserved(word)?;
     Ok(Some(tokens.integer()?))
 }
 
@@ -299,10 +301,10 @@ pub fn select(alloc: Global, tokens: &mut Tokens<'_>) -> Result<Statement, Refus
 {
     tokens.reserved(Word::Select)?;
     let items = listed(&ItemPart, alloc, tokens)?;
-    let source = source(alloc, tokens)?;
-    let order = order(alloc, tokens)?;
-    let limit_number = limit(tokens, Word::Limit)?;
-    let offset = limit(tokens, Word::Offset)?;
+    let read = beside(items, source(alloc, tokens))?;
+    let read = beside(read, order(alloc, tokens))?;
+    let read = beside(read, limit(tokens, Word::Limit))?;
+    let ((((items, source), order), limit), offset) = beside(read, limit(tokens, Word::Offset))?;
     let (from, filter) = match source {
         Some((entries, filter)) => (entries, filter),
         None => (Items::new(alloc), None),
@@ -312,7 +314,7 @@ pub fn select(alloc: Global, tokens: &mut Tokens<'_>) -> Result<Statement, Refus
         from,
         filter,
         order,
-        limit: limit_number,
+        limit,
         offset,
     }))
 }

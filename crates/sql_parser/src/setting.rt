@@ -6,6 +6,7 @@ ghost use Rattle.sql_grammar.specs.Steps.{reading};
 ghost use Rattle.sql_parser.specs.Reads.{Reads};
 
 use crate::error::Refusal;
+use crate::kept::beside;
 use crate::parts::{Part, listed};
 use crate::select::{at_name, name};
 use crate::tokens::Tokens;
@@ -45,8 +46,7 @@ fn joined(alloc: Global, first: Text, second: Option<Text>) -> Result<Text, Memo
 fn suffix(alloc: Global, tokens: &mut Tokens<'_>) -> Result<Option<Text>, Refusal>
     ensures { Reads (reading st.suffix tokens.old) result tokens.new }
 {
-    if tokens.at_sign(Sign::Dot) {
-        tokens.sign(Sign::Dot)?;
+    if tokens.takes_sign(Sign::Dot) {
         Ok(Some(name(alloc, tokens)?))
     } else {
         Ok(None)
@@ -108,8 +108,7 @@ impl Part for ValuePart {
         if tokens.at_text() {
             return tokens.text(alloc);
         }
-        if tokens.at_sign(Sign::Minus) {
-            tokens.sign(Sign::Minus)?;
+        if tokens.takes_sign(Sign::Minus) {
             let number = tokens.integer()?;
             return Ok(negative(alloc, number)?);
         }
@@ -129,9 +128,7 @@ impl Part for ValuePart {
 fn setting_values(alloc: Global, tokens: &mut Tokens<'_>) -> Result<Items<Text>, Refusal>
     ensures { Reads (reading st.setting_values tokens.old) result tokens.new }
 {
-    if tokens.at_reserved(Word::To) {
-        tokens.reserved(Word::To)?;
-    } else {
+    if !tokens.takes_reserved(Word::To) {
         tokens.sign(Sign::Eq)?;
     }
     listed(&ValuePart, alloc, tokens)
@@ -155,19 +152,26 @@ fn transaction_modes(alloc: Global, tokens: &mut Tokens<'_>) -> Result<Statement
     Ok(Statement::SetModes)
 }
 
+/// The name of a setting whose first part is the word CHARACTERISTICS.
+fn after_characteristics(alloc: Global, second: Option<Text>) -> Result<Text, Memory>
+    ensures { IfOk result (λ name. name ≡ st.join_names (codes "characteristics") second) }
+{
+    let first = text_of(alloc, "characteristics");
+    let (second, first) = beside(second, first)?;
+    joined(alloc, first, second)
+}
+
 #[tactic(auto, unfolding(sql_grammar::specs::Statements::characteristics))]
 fn characteristics(alloc: Global, tokens: &mut Tokens<'_>) -> Result<Statement, Refusal>
     ensures { Reads (reading st.characteristics tokens.old) result tokens.new }
 {
     tokens.word(Word::Characteristics)?;
-    if tokens.at_reserved(Word::As) {
-        tokens.reserved(Word::As)?;
+    if tokens.takes_reserved(Word::As) {
         return transaction_modes(alloc, tokens);
     }
     let second = suffix(alloc, tokens)?;
-    let values = setting_values(alloc, tokens)?;
-    let first = text_of(alloc, "characteristics")?;
-    Ok(Statement::Set(joined(alloc, first, second)?, values))
+    let (second, values) = beside(second, setting_values(alloc, tokens))?;
+    Ok(Statement::Set(after_characteristics(alloc, second)?, values))
 }
 
 /// After SET SESSION.
@@ -189,12 +193,10 @@ pub fn set(alloc: Global, tokens: &mut Tokens<'_>) -> Result<Statement, Refusal>
     if tokens.at_word(Word::Transaction) {
         return transaction_modes(alloc, tokens);
     }
-    if tokens.at_word(Word::Session) {
-        tokens.word(Word::Session)?;
+    if tokens.takes_word(Word::Session) {
         return session_setting(alloc, tokens);
     }
-    if tokens.at_word(Word::Local) {
-        tokens.word(Word::Local)?;
+    if tokens.takes_word(Word::Local) {
         return assigned(alloc, tokens, &[]);
     }
     assigned(

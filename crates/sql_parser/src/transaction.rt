@@ -49,15 +49,13 @@ fn level(tokens: &mut Tokens<'_>) -> Result<(), Refusal>
 fn mode(tokens: &mut Tokens<'_>) -> Result<(), Refusal>
     ensures { Reads (reading st.mode tokens.old) result tokens.new }
 {
-    if tokens.at_word(Word::Isolation) {
-        tokens.word(Word::Isolation)?;
+    if tokens.takes_word(Word::Isolation) {
         tokens.word(Word::Level)?;
         return level(tokens);
     }
-    if tokens.at_word(Word::Read) {
-        tokens.word(Word::Read)?;
-        if tokens.at_word(Word::Write) {
-            return tokens.word(Word::Write);
+    if tokens.takes_word(Word::Read) {
+        if tokens.takes_word(Word::Write) {
+            return Ok(());
         }
         return tokens.word(Word::Only);
     }
@@ -129,8 +127,7 @@ fn at_modes(tokens: &Tokens<'_>) -> bool
 fn beginning(tokens: &mut Tokens<'_>) -> Result<bool, Refusal>
     ensures { Reads (reading st.beginning tokens.old) result tokens.new }
 {
-    if tokens.at_word(Word::Begin) {
-        tokens.word(Word::Begin)?;
+    if tokens.takes_word(Word::Begin) {
         work(tokens)?;
         return Ok(false);
     }
@@ -154,9 +151,7 @@ pub fn begin(alloc: Global, tokens: &mut Tokens<'_>) -> Result<Statement, Refusa
 pub fn commit(tokens: &mut Tokens<'_>) -> Result<Statement, Refusal>
     ensures { Reads (reading st.commit tokens.old) result tokens.new }
 {
-    if tokens.at_word(Word::Commit) {
-        tokens.word(Word::Commit)?;
-    } else {
+    if !tokens.takes_word(Word::Commit) {
         tokens.reserved(Word::End)?;
     }
     work(tokens)?;
@@ -167,9 +162,7 @@ pub fn commit(tokens: &mut Tokens<'_>) -> Result<Statement, Refusal>
 pub fn rollback(tokens: &mut Tokens<'_>) -> Result<Statement, Refusal>
     ensures { Reads (reading st.rollback tokens.old) result tokens.new }
 {
-    if tokens.at_word(Word::Rollback) {
-        tokens.word(Word::Rollback)?;
-    } else {
+    if !tokens.takes_word(Word::Rollback) {
         tokens.word(Word::Abort)?;
     }
     work(tokens)?;

@@ -1,10 +1,11 @@
 // Calls of a store's sessions, one a function.
 ghost use Rattle.std.specs.Prelude.{OnOk};
 ghost use Rattle.history_core.specs.Events.{table_of};
-ghost use Rattle.history_core.specs.Book.{IsInTransaction, HasTable, HasWrite, IsUnwritten};
+ghost use Rattle.history_core.specs.Book.{IsInTransaction, HasTable};
 ghost use Rattle.table_samples.specs.SessionStates.{IsReady, IsFresh, IsBusy};
 
 use crate::cells::Spot;
+use crate::kept::{alone, kept, let_go};
 use crate::stop::Stop;
 use cell_base::{Cell, Level};
 use history_core::{Book, BookFault, Limit};
@@ -30,19 +31,11 @@ pub enum Call {
     RollBack,
 }
 
-/// The store that the seat was in, where the calls came to this.
-pub fn store_of(book: SeatBook, came: Result<(), Stop>) -> Result<Store, Stop> {
-    match came {
-        Ok(()) => Ok(book.into_store()),
-        Err(stop) => Err(stop),
-    }
-}
-
 /// Starts a transaction of the session.
 pub fn begin(store: Store, session: u32, level: Level) -> Result<Store, Stop> {
     let mut book = idle_seat(store, session)?;
     let came = begin_at(&mut book, level);
-    store_of(book, came)
+    kept(book.into_store(), came)
 }
 
 /// Starts a transaction.
@@ -60,22 +53,19 @@ pub fn begin_at(book: &mut SeatBook, level: Level) -> Result<(), Stop>
 pub fn go_on(store: Store, session: u32, call: Call) -> Result<Store, Stop> {
     let mut book = busy_seat(store, session)?;
     let came = act(&mut book, call);
-    store_of(book, told(came))
+    kept(book.into_store(), told(came))
 }
 
 /// Makes the call, which is to be refused since the load has no room for it.
 pub fn is_refused(store: Store, session: u32, call: Call) -> Result<Store, Stop> {
     let mut book = busy_seat(store, session)?;
     let came = act(&mut book, call);
-    store_of(book, refused(came))
+    kept(book.into_store(), refused(came))
 }
 
 /// What a call came to that is to succeed.
 fn told(came: Result<(), BookFault>) -> Result<(), Stop> {
-    match came {
-        Ok(()) => Ok(()),
-        Err(fault) => Err(Stop::from(fault)),
-    }
+    Ok(came?)
 }
 
 /// What a call came to that is to be refused since the load has no room for it.
@@ -91,11 +81,11 @@ fn act(book: &mut SeatBook, call: Call) -> Result<(), BookFault>
     requires { IsBusy book.old }
 {
     match call {
-        Call::Scan => scan(book),
-        Call::See(spot, word) => see(book, &spot.cell(), word),
+        Call::Scan => let_go(book.scan(0)),
+        Call::See(spot, word) => see(book, spot, word),
         Call::Write(spot, number) => write(book, spot, number),
-        Call::Look => look(book),
-        Call::Show => show(book),
+        Call::Look => let_go(book.look(0)),
+        Call::Show => let_go(book.show()),
         Call::Commit => {
             book.commit();
             Ok(())
@@ -107,67 +97,27 @@ fn act(book: &mut SeatBook, call: Call) -> Result<(), BookFault>
     }
 }
 
-fn scan(book: &mut SeatBook) -> Result<(), BookFault>
-    requires { IsBusy book.old }
-{
-    match book.scan(0) {
-        Ok(_) => Ok(()),
-        Err(fault) => Err(fault),
-    }
-}
-
 fn write(book: &mut SeatBook, spot: Spot, number: i64) -> Result<(), BookFault>
     requires { IsBusy book.old }
 {
     book.write(spot.cell(), spot.value(number))
 }
 
-fn look(book: &mut SeatBook) -> Result<(), BookFault>
+fn see(book: &mut SeatBook, spot: Spot, word: u32) -> Result<(), BookFault>
     requires { IsBusy book.old }
 {
-    match book.look(0) {
-        Ok(_) => Ok(()),
-        Err(fault) => Err(fault),
-    }
+    let cell = spot.cell();
+    let seen = see_cell(book, &cell, word);
+    alone(cell, seen)
 }
 
-fn show(book: &mut SeatBook) -> Result<(), BookFault>
-    requires { IsBusy book.old }
-{
-    match book.show() {
-        Ok(_) => Ok(()),
-        Err(fault) => Err(fault),
-    }
-}
-
-fn see(book: &mut SeatBook, cell: &Cell, word: u32) -> Result<(), BookFault>
+fn see_cell(book: &mut SeatBook, cell: &Cell, word: u32) -> Result<(), BookFault>
     requires pending { IsInTransaction book.old.state }
     requires table { HasTable book.old (table_of cell.now) }
 {
     if book.wrote(cell) {
-        own(book, cell)
+        let_go(book.own(cell))
     } else {
-        read(book, cell, word)
-    }
-}
-
-fn own(book: &mut SeatBook, cell: &Cell) -> Result<(), BookFault>
-    requires pending { IsInTransaction book.old.state }
-    requires written { HasWrite cell.now book.old.state }
-{
-    match book.own(cell) {
-        Ok(_) => Ok(()),
-        Err(fault) => Err(fault),
-    }
-}
-
-fn read(book: &mut SeatBook, cell: &Cell, word: u32) -> Result<(), BookFault>
-    requires pending { IsInTransaction book.old.state }
-    requires unwritten { IsUnwritten cell.now book.old.state }
-    requires table { HasTable book.old (table_of cell.now) }
-{
-    match book.read(cell, word) {
-        Ok(_) => Ok(()),
-        Err(fault) => Err(fault),
+        let_go(book.read(cell, word))
     }
 }

@@ -2,14 +2,14 @@
 ghost use Rattle.std.specs.Prelude.{OnOk};
 ghost use Rattle.table_samples.specs.SessionStates.{IsReady};
 
-use crate::calls::{Call, begin, go_on, is_refused, refused, store_of};
+use crate::calls::{Call, begin, go_on, is_refused, refused};
 use crate::cells::Spot;
+use crate::kept::{kept, let_go};
 use crate::start::{open_next, stage};
-use crate::stop::{Stop, unlike};
+use crate::stop::Stop;
 use cell_base::Level;
-use history_core::{Book, BookFault, Limit};
+use history_core::{Book, Limit};
 use std::alloc::Global;
-use std::test::Fail;
 use table_samples::idle_seat;
 use valid_writes::{SeatBook, Store};
 
@@ -26,40 +26,67 @@ const REFUSED: &[Call] = &[
 /// At a load of 1,048,576 all calls are refused but those that end a transaction or a session. The load is that of an Open, a Define,
 /// 1,048,572 Looks, a Begin and a Write.
 #[test]
-fn ends_at_the_greatest_load(rt: HostRuntime) -> Result<(), Fail> {
-    assert_eq!(rt; last_load(rt.alloc())?, 1_048_578);
-    Ok(())
+fn ends_at_the_greatest_load(rt: HostRuntime) -> Result<(), Stop> {
+    let store = full_store(rt.alloc())?;
+    let store = with_load(refuse_each(store, REFUSED), 1_048_576)?;
+    let store = with_load(go_on(store, 1, Call::RollBack), 1_048_577)?;
+    let store = refuse_begin(store)?;
+    let_go(with_load(close(store), 1_048_578))
 }
 
-/// The load after a rollback and a close at the greatest load.
-fn last_load(alloc: Global) -> Result<u64, Stop> {
-    let store = with_load(full_store(alloc)?, 1_048_576)?;
-    let store = with_load(refuse_all(store)?, 1_048_576)?;
-    let store = with_load(go_on(store, 1, Call::RollBack)?, 1_048_577)?;
-    let store = close(refuse_begin(store)?)?;
-    Ok(store.history().load())
+/// The store, where the load is this one.
+fn with_load(store: Result<Store, Stop>, load: u64) -> Result<Store, Stop> {
+    let store = store?;
+    let has = has_load(&store, load);
+    kept(store, has)
 }
 
 /// Ends the test where the load is another one.
-fn with_load(store: Store, load: u64) -> Result<Store, Stop> {
-    if store.history().load() != load {
-        return Err(unlike(&store));
+fn has_load(store: &Store, want: u64) -> Result<(), Stop> {
+    let load = store.history().load();
+    if load == want {
+        Ok(())
+    } else {
+        Err(Stop::Load(load))
     }
-    Ok(store)
 }
 
 /// A store at the greatest load, in whose session 1 a transaction has written the presence of row 1.
 fn full_store(alloc: Global) -> Result<Store, Stop> {
     let store = look_in(stage(alloc, 1)?, 1_048_572)?;
     let store = begin(store, 1, Level::Rc)?;
-    go_on(store, 1, Call::Write(Spot::Presence(1), 1))
+    let call = Call::Write(Spot::Presence(1), 1);
+    with_load(go_on(store, 1, call), 1_048_576)
+}
+
+/// Each of the calls is refused.
+fn refuse_each(store: Store, calls: &[Call]) -> Result<Store, Stop> {
+    let mut store = store;
+    for call in calls {
+        store = is_refused(store, 1, *call)?;
+    }
+    Ok(store)
+}
+
+/// A begin is refused.
+fn refuse_begin(store: Store) -> Result<Store, Stop> {
+    let mut book = idle_seat(store, 1)?;
+    let came = let_go(book.begin(Level::Rc));
+    kept(book.into_store(), refused(came))
+}
+
+/// The session can be closed.
+fn close(store: Store) -> Result<Store, Stop> {
+    let mut book = idle_seat(store, 1)?;
+    book.close();
+    Ok(book.into_store())
 }
 
 /// Looks so many times in session 1.
 fn look_in(store: Store, count: u32) -> Result<Store, Stop> {
     let mut book = idle_seat(store, 1)?;
     let came = look_many(&mut book, count);
-    store_of(book, came)
+    kept(book.into_store(), came)
 }
 
 /// Looks so many times.
@@ -83,52 +110,18 @@ fn look(book: &mut SeatBook) -> Result<(), Stop>
     }
 }
 
-/// Each call of a transaction is refused.
-fn refuse_all(store: Store) -> Result<Store, Stop> {
-    let mut store = store;
-    for call in REFUSED {
-        store = is_refused(store, 1, *call)?;
-    }
-    Ok(store)
-}
-
-/// A begin is refused.
-fn refuse_begin(store: Store) -> Result<Store, Stop> {
-    let mut book = idle_seat(store, 1)?;
-    let came = begin_at_last(&mut book);
-    store_of(book, refused(came))
-}
-
-fn begin_at_last(book: &mut SeatBook) -> Result<(), BookFault>
-    requires { IsReady book.old }
-{
-    match book.begin(Level::Rc) {
-        Ok(_) => Ok(()),
-        Err(fault) => Err(fault),
-    }
-}
-
-/// The session can be closed.
-fn close(store: Store) -> Result<Store, Stop> {
-    let mut book = idle_seat(store, 1)?;
-    book.close();
-    Ok(book.into_store())
-}
-
 /// 4,096 sessions are opened, and no more.
 #[test]
-fn opens_4096_sessions(rt: HostRuntime) -> Result<(), Fail> {
-    assert_eq!(rt;
-        one_more(rt.alloc(), 4_096)?,
-        Some(Stop::Full(Limit::Sessions))
-    );
-    Ok(())
+fn opens_4096_sessions(rt: HostRuntime) -> Result<(), Stop> {
+    let store = stage(rt.alloc(), 4_096)?;
+    refuse_next(store)
 }
 
-/// Why no session can be opened after so many.
-fn one_more(alloc: Global, count: u32) -> Result<Option<Stop>, Stop> {
-    match open_next(stage(alloc, count)?) {
-        Ok(_) => Ok(None),
-        Err(stop) => Ok(Some(stop)),
+/// No session can be opened, since there are as many as there may be.
+fn refuse_next(store: Store) -> Result<(), Stop> {
+    match let_go(open_next(store)) {
+        Err(Stop::Full(Limit::Sessions)) => Ok(()),
+        Err(stop) => Err(stop),
+        Ok(()) => Err(Stop::Accepted),
     }
 }

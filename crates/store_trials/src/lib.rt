@@ -3,6 +3,8 @@
 //!
 //! A definition could say something else than its reader thinks, and no clause says that memory is left or how long a call takes. The
 //! crate has nothing but tests, so that `valid_writes` is proved once.
+//!
+//! A store or a list that is held where a step may fail costs much to check, so each is handed on whole (`kept`).
 #![tactic(auto)]
 
 #[cfg(test)]
@@ -11,6 +13,8 @@ mod calls;
 mod cells;
 #[cfg(test)]
 mod full;
+#[cfg(test)]
+mod kept;
 #[cfg(test)]
 mod long;
 #[cfg(test)]

@@ -2,13 +2,13 @@
 ghost use Rattle.std.specs.Prelude.{OnOk};
 ghost use Rattle.table_samples.specs.SessionStates.{IsReady, IsFresh, IsBusy};
 
-use crate::calls::{begin_at, store_of};
+use crate::calls::begin_at;
+use crate::kept::{alone, kept};
 use crate::start::stage;
-use crate::stop::Stop;
+use crate::stop::{Stop, unlike};
 use cell_base::{Level, Value};
 use history_core::{Book, Event, History};
 use std::alloc::Global;
-use std::test::Fail;
 use table_samples::{idle_seat, presence};
 use valid_writes::{SeatBook, Store};
 
@@ -17,7 +17,7 @@ const READERS: u32 = 4_000;
 
 /// How many reads are from the source that is expected, of so many offered; how many transactions there are with the initial one; and whether
 /// each commit order has the first before the last reader, and the other way round.
-#[derive(Clone, Copy, Debug, PartialEq, Eq)]
+#[derive(Clone, Copy)]
 struct Reads {
     reads: usize,
     size: u32,
@@ -25,48 +25,92 @@ struct Reads {
     reaches_first: bool,
 }
 
-/// Read Committed, one session: its first transaction writes the presence of row 1, and each of 4,000 more reads it by the word 0, and so
-/// misses it.
-#[test]
-fn misses_its_own_row_4000_times(rt: HostRuntime) -> Result<(), Fail> {
-    assert_eq!(rt; reads_of(rt.alloc(), 1, Level::Rc, (0, 2))?, expected(true));
-    Ok(())
-}
+/// The session that reads, its level, the source of which its reads are counted, how many each of them is offered, and what is to come of 4,000
+/// reads.
+type Case = (u32, Level, u32, u32, Reads);
 
-/// Causal Consistency, one session: each of the 4,000 is offered the row alone.
-#[test]
-fn sees_its_own_row_4000_times(rt: HostRuntime) -> Result<(), Fail> {
-    assert_eq!(rt; reads_of(rt.alloc(), 1, Level::Cc, (1, 1))?, expected(true));
-    Ok(())
-}
-
-/// Causal Consistency, a second session: each of the 4,000 misses the first session's row, so that none stands before or after it.
-#[test]
-fn misses_another_row_4000_times(rt: HostRuntime) -> Result<(), Fail> {
-    assert_eq!(rt;
-        reads_of(rt.alloc(), 2, Level::Cc, (0, 2))?,
-        expected(false)
-    );
-    Ok(())
-}
-
-/// What is to come of 4,000 reads.
-fn expected(reaches_last: bool) -> Reads {
+const MISSED: Case = (
+    1,
+    Level::Rc,
+    0,
+    2,
     Reads {
         reads: 4_000,
         size: 4_002,
-        reaches_last,
+        reaches_last: true,
         reaches_first: false,
+    },
+);
+
+/// Read Committed, one session: its first transaction writes the presence of row 1, and each of 4,000 more reads it by the word 0, and so
+/// misses it.
+#[test]
+fn misses_its_own_row_4000_times(rt: HostRuntime) -> Result<(), Stop> {
+    hold(rt.alloc(), MISSED)
+}
+
+const SEEN: Case = (
+    1,
+    Level::Cc,
+    1,
+    1,
+    Reads {
+        reads: 4_000,
+        size: 4_002,
+        reaches_last: true,
+        reaches_first: false,
+    },
+);
+
+/// Causal Consistency, one session: each of the 4,000 is offered the row alone.
+#[test]
+fn sees_its_own_row_4000_times(rt: HostRuntime) -> Result<(), Stop> {
+    hold(rt.alloc(), SEEN)
+}
+
+const MISSED_BY_ANOTHER: Case = (
+    2,
+    Level::Cc,
+    0,
+    2,
+    Reads {
+        reads: 4_000,
+        size: 4_002,
+        reaches_last: false,
+        reaches_first: false,
+    },
+);
+
+/// Causal Consistency, a second session: each of the 4,000 misses the first session's row, so that none stands before or after it.
+#[test]
+fn misses_another_row_4000_times(rt: HostRuntime) -> Result<(), Stop> {
+    hold(rt.alloc(), MISSED_BY_ANOTHER)
+}
+
+/// Reads 4,000 times in the session, and compares what comes of it.
+fn hold(alloc: Global, case: Case) -> Result<(), Stop> {
+    let store = read_4000_times(alloc, case.0, case.1)?;
+    let compared = compare(&store, case);
+    alone(store, compared)
+}
+
+fn compare(store: &Store, (_, _, source, count, want): Case) -> Result<(), Stop> {
+    if are_same(reads_in(store, source, count), want) {
+        Ok(())
+    } else {
+        Err(unlike(store))
     }
 }
 
-/// What comes of 4,000 reads in the session, of which those are counted that are from the source, of so many offered.
-fn reads_of(alloc: Global, session: u32, level: Level, counted: (u32, u32)) -> Result<Reads, Stop> {
-    let store = read_4000_times(alloc, session, level)?;
-    Ok(reads_in(&store, counted))
+fn are_same(given: Reads, want: Reads) -> bool {
+    given.reads == want.reads
+        && given.size == want.size
+        && given.reaches_last == want.reaches_last
+        && given.reaches_first == want.reaches_first
 }
 
-fn reads_in(store: &Store, (source, count): (u32, u32)) -> Reads {
+/// What came of the reads, of which those are counted that are from the source, of so many offered.
+fn reads_in(store: &Store, source: u32, count: u32) -> Reads {
     Reads {
         reads: count_reads(store.history(), source, count),
         size: store.reach().size(),
@@ -84,13 +128,13 @@ fn read_4000_times(alloc: Global, session: u32, level: Level) -> Result<Store, S
 fn write_in(store: Store, session: u32) -> Result<Store, Stop> {
     let mut book = idle_seat(store, session)?;
     let came = write_alone(&mut book);
-    store_of(book, came)
+    kept(book.into_store(), came)
 }
 
 fn read_in(store: Store, session: u32, level: Level) -> Result<Store, Stop> {
     let mut book = idle_seat(store, session)?;
     let came = read_many(&mut book, level);
-    store_of(book, came)
+    kept(book.into_store(), came)
 }
 
 /// A transaction that writes the presence of row 1.
@@ -154,11 +198,13 @@ fn commit(book: &mut SeatBook)
 
 /// How many reads of the history are from the source, of so many offered.
 fn count_reads(history: &History, source: u32, count: u32) -> usize {
-    history
-        .events()
-        .iter()
-        .filter(|event| is_read(event, source, count))
-        .count()
+    let mut reads = 0usize;
+    for event in history.events() {
+        if is_read(event, source, count) {
+            reads = reads.saturating_add(1);
+        }
+    }
+    reads
 }
 
 fn is_read(event: &Event, source: u32, count: u32) -> bool {

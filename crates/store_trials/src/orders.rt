@@ -1,10 +1,14 @@
 // The writes that a read may take, found by trying each order of all transactions.
 use crate::cells::Spot;
+use crate::kept::{alone, kept};
 use crate::plain::{Given, Plain, SIZE, plain_of};
 use crate::stop::Stop;
 use cell_base::Level;
 use history_core::Event;
 use std::alloc::Global;
+
+/// Pairs of transactions, of which the first is to stand before the second.
+type Pairs = Vec<(u32, u32)>;
 
 /// The writes that the session's transaction may read next, where at most six transactions have begun.
 pub fn plain_offer(
@@ -14,7 +18,8 @@ pub fn plain_offer(
     spot: Spot,
 ) -> Result<Vec<u32>, Stop> {
     let mut plain = plain_of(alloc, events)?;
-    offer_of(alloc, &mut plain, events.len(), session, spot)
+    let offer = offer_of(alloc, &mut plain, events.len(), session, spot);
+    alone(plain, offer)
 }
 
 /// The same after so many events, of which the transactions, writes and reads are these.
@@ -26,12 +31,24 @@ fn offer_of(
     spot: Spot,
 ) -> Result<Vec<u32>, Stop> {
     let mut offer = Vec::new(alloc);
+    let added = add_offered(alloc, plain, place, session, spot, &mut offer);
+    kept(offer, added)
+}
+
+fn add_offered(
+    alloc: Global,
+    plain: &mut Plain,
+    place: usize,
+    session: u32,
+    spot: Spot,
+    offer: &mut Vec<u32>,
+) -> Result<(), Stop> {
     for source in 0..SIZE {
         if plain.is_writer(source, spot) && may_read(alloc, plain, place, session, spot, source)? {
             offer.push(source)?;
         }
     }
-    Ok(offer)
+    Ok(())
 }
 
 /// Whether some order meets the history with one more read.
@@ -52,24 +69,28 @@ fn may_read(
 /// Whether some order of all transactions, the initial one first, has all pairs.
 fn some_order_meets(alloc: Global, plain: &Plain) -> Result<bool, Stop> {
     let pairs = demanded(alloc, plain)?;
+    let is_met = some_order_has(&pairs);
+    Ok(alone(pairs, is_met))
+}
+
+fn some_order_has(pairs: &[(u32, u32)]) -> bool {
     for number in 0..720 {
-        let order = order_of(alloc, number)?;
-        if pairs.iter().all(|(a, b)| stands_before(&order, *a, *b)) {
-            return Ok(true);
+        if has_all(&order_of(number), pairs) {
+            return true;
         }
     }
-    Ok(false)
+    false
 }
 
 /// The order of that number, of the 720 of six transactions after the initial one. Those that haven't begun stand in no pair.
-fn order_of(alloc: Global, number: u32) -> Result<Vec<u32>, Stop> {
-    let mut order = vec![in alloc; 0, 1, 2, 3, 4, 5, 6]?;
+fn order_of(number: u32) -> [u32; 7] {
+    let mut order = [0, 1, 2, 3, 4, 5, 6];
     let mut rest = number;
     for count in 1..SIZE {
         swap(&mut order, count, (rest % count).saturating_add(1));
         rest /= count;
     }
-    Ok(order)
+    order
 }
 
 /// Swaps the transactions at two places.
@@ -80,28 +101,50 @@ fn swap(order: &mut [u32], first: u32, second: u32) {
     }
 }
 
+/// Whether of each pair the first stands before the second.
+fn has_all(order: &[u32], pairs: &[(u32, u32)]) -> bool {
+    for (first, second) in pairs {
+        if !stands_before(order, *first, *second) {
+            return false;
+        }
+    }
+    true
+}
+
 /// Whether the first stands before the second.
 fn stands_before(order: &[u32], first: u32, second: u32) -> bool {
-    let first = order.iter().position(|number| *number == first);
-    let second = order.iter().position(|number| *number == second);
-    match (first, second) {
+    match (place_of(order, first), place_of(order, second)) {
         (Some(first), Some(second)) => first < second,
         _ => false,
     }
 }
 
+fn place_of(order: &[u32], number: u32) -> Option<usize> {
+    for (place, other) in order.iter().enumerate() {
+        if *other == number {
+            return Some(place);
+        }
+    }
+    None
+}
+
 /// Session order, who reads from whom, and for each read each other writer of its cell that it sees, before its source.
-fn demanded(alloc: Global, plain: &Plain) -> Result<Vec<(u32, u32)>, Stop> {
+fn demanded(alloc: Global, plain: &Plain) -> Result<Pairs, Stop> {
     let mut pairs = preceding(alloc, plain)?;
-    add_demanded(alloc, plain, &mut pairs)?;
-    Ok(pairs)
+    let added = add_demanded(alloc, plain, &mut pairs);
+    kept(pairs, added)
 }
 
 /// Adds for each read each other writer of its cell that it sees, before its source.
-fn add_demanded(alloc: Global, plain: &Plain, pairs: &mut Vec<(u32, u32)>) -> Result<(), Stop> {
+fn add_demanded(alloc: Global, plain: &Plain, pairs: &mut Pairs) -> Result<(), Stop> {
     let causal = causal(alloc, plain)?;
+    let added = add_all_seen(plain, &causal, pairs);
+    alone(causal, added)
+}
+
+fn add_all_seen(plain: &Plain, causal: &[(u32, u32)], pairs: &mut Pairs) -> Result<(), Stop> {
     for read in &plain.reads {
-        add_seen(plain, &causal, *read, pairs)?;
+        add_seen(plain, causal, *read, pairs)?;
     }
     Ok(())
 }
@@ -110,7 +153,7 @@ fn add_seen(
     plain: &Plain,
     causal: &[(u32, u32)],
     read: Given,
-    pairs: &mut Vec<(u32, u32)>,
+    pairs: &mut Pairs,
 ) -> Result<(), Stop> {
     for writer in 0..SIZE {
         if is_demanded(plain, causal, read, writer) {
@@ -121,8 +164,13 @@ fn add_seen(
 }
 
 /// The pairs of which the first precedes the second.
-fn preceding(alloc: Global, plain: &Plain) -> Result<Vec<(u32, u32)>, Stop> {
+fn preceding(alloc: Global, plain: &Plain) -> Result<Pairs, Stop> {
     let mut pairs = Vec::new(alloc);
+    let added = add_preceding(plain, &mut pairs);
+    kept(pairs, added)
+}
+
+fn add_preceding(plain: &Plain, pairs: &mut Pairs) -> Result<(), Stop> {
     for first in 0..SIZE {
         for second in 0..SIZE {
             if plain.precedes(first, second) {
@@ -130,19 +178,24 @@ fn preceding(alloc: Global, plain: &Plain) -> Result<Vec<(u32, u32)>, Stop> {
             }
         }
     }
-    Ok(pairs)
+    Ok(())
 }
 
 /// The pairs of which a chain of preceding transactions leads from the first to the second.
-fn causal(alloc: Global, plain: &Plain) -> Result<Vec<(u32, u32)>, Stop> {
+fn causal(alloc: Global, plain: &Plain) -> Result<Pairs, Stop> {
     let steps = preceding(alloc, plain)?;
-    let mut pairs = Vec::from_slice(alloc, &steps)?;
-    add_chains(&mut pairs, &steps)?;
-    Ok(pairs)
+    let pairs = with_chains(alloc, &steps);
+    alone(steps, pairs)
+}
+
+fn with_chains(alloc: Global, steps: &[(u32, u32)]) -> Result<Pairs, Stop> {
+    let mut pairs = Vec::from_slice(alloc, steps)?;
+    let added = add_chains(&mut pairs, steps);
+    kept(pairs, added)
 }
 
 /// Adds the pairs of chains, of which there are no more than 49.
-fn add_chains(pairs: &mut Vec<(u32, u32)>, steps: &[(u32, u32)]) -> Result<(), Stop> {
+fn add_chains(pairs: &mut Pairs, steps: &[(u32, u32)]) -> Result<(), Stop> {
     for place in 0..49 {
         if let Some((first, middle)) = pairs.get(place).copied() {
             go_further(pairs, steps, first, middle)?;
@@ -153,7 +206,7 @@ fn add_chains(pairs: &mut Vec<(u32, u32)>, steps: &[(u32, u32)]) -> Result<(), S
 
 /// Adds the pairs of the first and each that the middle precedes.
 fn go_further(
-    pairs: &mut Vec<(u32, u32)>,
+    pairs: &mut Pairs,
     steps: &[(u32, u32)],
     first: u32,
     middle: u32,
@@ -177,9 +230,7 @@ fn sees(plain: &Plain, causal: &[(u32, u32)], read: Given, writer: u32) -> bool 
         return false;
     };
     match txn.level {
-        Level::Rc => plain.reads.iter().any(|other| {
-            other.reader == read.reader && other.place < read.place && other.source == writer
-        }),
+        Level::Rc => plain.has_read_before(read, writer),
         Level::Ra => plain.precedes(writer, read.reader),
         Level::Cc => causal.contains(&(writer, read.reader)),
     }

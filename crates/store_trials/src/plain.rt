@@ -1,6 +1,7 @@
 // What the events of a history say: its transactions, and what each wrote and read. Nothing of the store, and of the crates that decide for it,
 // is used.
 use crate::cells::Spot;
+use crate::kept::kept;
 use crate::stop::Stop;
 use cell_base::{Cell, Items, Key, Level};
 use history_core::Event;
@@ -44,8 +45,8 @@ pub fn plain_of(alloc: Global, events: &[Event]) -> Result<Plain, Stop> {
         writes: Vec::new(alloc),
         reads: Vec::new(alloc),
     };
-    plain.note_all(events)?;
-    Ok(plain)
+    let noted = plain.note_all(events);
+    kept(plain, noted)
 }
 
 /// The cell's place in the tests' table; all keys are integers there.
@@ -54,6 +55,16 @@ fn spot_of(cell: &Cell) -> Spot {
         Cell::Presence(_, key) => Spot::Presence(integer(key)),
         Cell::Field(_, key, _) => Spot::Field(integer(key)),
     }
+}
+
+/// Whether the integer is one of the keys.
+fn lists(keys: &[Key], key: i64) -> bool {
+    for listed in keys {
+        if integer(listed) == key {
+            return true;
+        }
+    }
+    false
 }
 
 fn integer(key: &Key) -> i64 {
@@ -137,7 +148,7 @@ impl Plain {
     /// A scan reads the presence of each key that it doesn't list from the initial transaction.
     fn scan(&mut self, session: u32, place: usize, keys: &Items<Key>) -> Result<(), Stop> {
         for key in [1, 2] {
-            if !keys.as_slice().iter().any(|listed| integer(listed) == key) {
+            if !lists(keys.as_slice(), key) {
                 self.read(session, place, Spot::Presence(key), 0)?;
             }
         }
@@ -172,18 +183,32 @@ impl Plain {
 
     /// Whether the first stands before the second in session order, or the second has read from it.
     pub fn precedes(&self, first: u32, second: u32) -> bool {
-        match (
-            self.txns.get(first as usize),
-            self.txns.get(second as usize),
-        ) {
-            (Some(a), Some(b)) => {
-                first < second && (first == 0 || a.session == b.session)
-                    || self
-                        .reads
-                        .iter()
-                        .any(|read| read.reader == second && read.source == first)
+        let Some(a) = self.txns.get(first as usize) else {
+            return false;
+        };
+        let Some(b) = self.txns.get(second as usize) else {
+            return false;
+        };
+        first < second && (first == 0 || a.session == b.session) || self.has_read(second, first)
+    }
+
+    /// Whether the transaction has read from the source.
+    fn has_read(&self, reader: u32, source: u32) -> bool {
+        for read in &self.reads {
+            if read.reader == reader && read.source == source {
+                return true;
             }
-            _ => false,
         }
+        false
+    }
+
+    /// Whether the transaction of the read has read from the source before.
+    pub fn has_read_before(&self, read: Given, source: u32) -> bool {
+        for other in &self.reads {
+            if other.reader == read.reader && other.place < read.place && other.source == source {
+                return true;
+            }
+        }
+        false
     }
 }

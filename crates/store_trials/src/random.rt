@@ -6,6 +6,7 @@ ghost use Rattle.saturation.specs.Laws.{AreForced};
 
 use crate::calls::{Call, begin, go_on};
 use crate::cells::Spot;
+use crate::kept::{alone, kept, let_go};
 use crate::orders::plain_offer;
 use crate::plain::MOST;
 use crate::start::stage;
@@ -67,13 +68,13 @@ fn run_of(alloc: Global, seed: u64, most: u32, histories: u32) -> Result<Run, St
         permitted: 0,
         refused: 0,
     };
-    play_many(alloc, &mut run, histories)?;
-    Ok(run)
+    let played = play_many(alloc, &mut run, histories);
+    kept(run, played)
 }
 
 fn play_many(alloc: Global, run: &mut Run, histories: u32) -> Result<(), Stop> {
     for _ in 0..histories {
-        play_random(alloc, run)?;
+        let_go(play_random(alloc, run))?;
     }
     Ok(())
 }
@@ -87,12 +88,12 @@ fn below(words: &mut SeedWords, bound: u32) -> u32
 }
 
 /// Makes the calls of one history.
-fn play_random(alloc: Global, run: &mut Run) -> Result<(), Stop> {
+fn play_random(alloc: Global, run: &mut Run) -> Result<Store, Stop> {
     let mut store = stage(alloc, SESSIONS)?;
     for _ in 0..CALLS {
         store = make_any(alloc, store, run)?;
     }
-    Ok(())
+    Ok(store)
 }
 
 /// Makes any call in any session.
@@ -109,14 +110,6 @@ fn go_on_any(alloc: Global, store: Store, session: u32, run: &mut Run) -> Result
     let call = any_call(&mut run.words);
     let compared = compare_call(alloc, &store, session, call, run);
     go_on(kept(store, compared)?, session, call)
-}
-
-/// The store, where the comparison held.
-fn kept(store: Store, compared: Result<(), Stop>) -> Result<Store, Stop> {
-    match compared {
-        Ok(()) => Ok(store),
-        Err(stop) => Err(stop),
-    }
 }
 
 /// Starts a transaction at any level, as long as there are few.
@@ -180,18 +173,34 @@ fn compare(
     run: &mut Run,
 ) -> Result<(), Stop> {
     run.reads = run.reads.saturating_add(1);
-    let by_pairs = by_pairs(alloc, store, session, &spot.cell(), run)?;
-    compare_both(alloc, store, session, spot, &by_pairs)
+    let cell = spot.cell();
+    let offer = offered(alloc, store, session, &cell, run);
+    let offer = alone(cell, offer)?;
+    let compared = compare_few(alloc, store, session, spot, &offer);
+    alone(offer, compared)
 }
 
-fn compare_both(
+/// The offer of the cell by the forced pairs, if that of the store is the same.
+fn offered(
+    alloc: Global,
+    store: &Store,
+    session: u32,
+    cell: &Cell,
+    run: &mut Run,
+) -> Result<Vec<u32>, Stop> {
+    let want = by_pairs(alloc, store, session, cell, run)?;
+    let compared = compare_offer(store, session, cell, &want);
+    kept(want, compared)
+}
+
+/// Compares those of the trial of all orders, as long as there are few transactions.
+fn compare_few(
     alloc: Global,
     store: &Store,
     session: u32,
     spot: Spot,
     want: &[u32],
 ) -> Result<(), Stop> {
-    compare_offer(store, session, &spot.cell(), want)?;
     if store.history().begun() > MOST {
         return Ok(());
     }
@@ -252,12 +261,26 @@ fn counted(
     requires { HasPending history.now.events session }
 {
     let mut permitted = Vec::new(alloc);
-    let count = add_permitted(alloc, history, session, cell, &mut permitted)?;
+    let added = add_counted(alloc, history, session, cell, run, &mut permitted);
+    kept(permitted, added)
+}
+
+fn add_counted(
+    alloc: Global,
+    history: &History,
+    session: u32,
+    cell: &Cell,
+    run: &mut Run,
+    permitted: &mut Vec<u32>,
+) -> Result<(), Stop>
+    requires { HasPending history.now.events session }
+{
+    let count = add_permitted(alloc, history, session, cell, permitted)?;
     run.permitted = run.permitted.saturating_add(permitted.len());
     run.refused = run
         .refused
         .saturating_add(count.saturating_sub(permitted.len()));
-    Ok(permitted)
+    Ok(())
 }
 
 /// Adds the candidates with which the forced pairs have no cycle; answers how many candidates there are.
@@ -271,7 +294,8 @@ fn add_permitted(
     requires { HasPending history.now.events session }
 {
     let graph = forced(alloc, history)?;
-    add_acyclic(alloc, history, &graph, session, cell, permitted)
+    let count = add_acyclic(alloc, history, &graph, session, cell, permitted);
+    alone(graph, count)
 }
 
 fn add_acyclic(
@@ -286,7 +310,23 @@ fn add_acyclic(
     requires pending { HasPending history.now.events session }
 {
     let sources = candidates(alloc, history, cell)?;
-    for source in &sources {
+    let count = add_each(alloc, history, graph, session, cell, &sources, permitted);
+    alone(sources, count)
+}
+
+fn add_each(
+    alloc: Global,
+    history: &History,
+    graph: &Graph,
+    session: u32,
+    cell: &Cell,
+    sources: &[u32],
+    permitted: &mut Vec<u32>,
+) -> Result<usize, Stop>
+    requires forced { AreForced history.now.events graph.now.edges.items }
+    requires pending { HasPending history.now.events session }
+{
+    for source in sources {
         if is_permitted(alloc, history, graph, session, cell, *source)? {
             permitted.push(*source)?;
         }

@@ -2,7 +2,7 @@
 ghost use Rattle.std.specs.Prelude.{◌≡◌, IfOk, OnOk};
 ghost use Rattle.history_core.specs.Book.{no_session, IsIdle};
 
-use crate::calls::store_of;
+use crate::kept::{alone, kept, let_go};
 use crate::stop::Stop;
 use cell_base::{Level, Memory};
 use history_core::{Book, InitialState};
@@ -23,13 +23,13 @@ pub fn stage(alloc: Global, sessions: u32) -> Result<Store, Stop> {
 pub fn open_next(store: Store) -> Result<Store, Stop> {
     let mut book = store.seat(None);
     let came = open(&mut book);
-    store_of(book, came)
+    kept(book.into_store(), came)
 }
 
 fn with_table(alloc: Global) -> Result<Store, Stop> {
     let mut book = new_book(alloc)?;
     let came = open_first(alloc, &mut book);
-    store_of(book, came)
+    kept(book.into_store(), came)
 }
 
 fn new_book(alloc: Global) -> Result<SeatBook, Memory>
@@ -59,8 +59,6 @@ fn define(alloc: Global, book: &mut SeatBook) -> Result<(), Stop>
     requires { IsIdle book.old.state }
 {
     let table = table(alloc)?;
-    match book.define(&table) {
-        Ok(_) => Ok(()),
-        Err(fault) => Err(Stop::from(fault)),
-    }
+    let defined = let_go(book.define(&table));
+    Ok(alone(table, defined)?)
 }

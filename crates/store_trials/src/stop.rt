@@ -3,26 +3,22 @@ use cell_base::Memory;
 use history_core::{BookFault, Limit};
 use std::alloc::{AllocError, AllocFailed};
 use table_samples::Misplaced;
-use thiserror::Error;
 use valid_writes::Store;
 
 /// Why a run of calls ends early. Numbers are those of the event that would have come next.
-#[derive(Clone, Copy, Debug, PartialEq, Eq, Error)]
+#[derive(Clone, Copy, Debug)]
 pub enum Stop {
     /// Out of memory.
-    #[error("out of memory")]
     Memory,
     /// The history is full.
-    #[error("full: {0}")]
     Full(Limit),
     /// The session doesn't stand so that the call may be made.
-    #[error("misplaced call before event {0}")]
     Misplaced(u32),
     /// Something else was offered than was expected.
-    #[error("another answer before event {0}")]
     Unlike(u32),
+    /// The load of the history, where it was to be another one.
+    Load(u64),
     /// A call succeeded that was to be refused.
-    #[error("a call that was to be refused")]
     Accepted,
 }
 

@@ -6,6 +6,16 @@
 #![tactic(auto)]
 
 #[cfg(test)]
+mod compared;
+#[cfg(test)]
+mod files;
+#[cfg(test)]
+mod held;
+#[cfg(test)]
 mod links;
 #[cfg(test)]
+mod made;
+#[cfg(test)]
 mod replies;
+#[cfg(test)]
+mod steps;

@@ -5,14 +5,14 @@ use Rattle.statement_course.specs.Course.{Course, first_demand}
 use Rattle.statement_course.specs.Statements.{course_of}
 use Rattle.outcome_replies.specs.Replies.{CanBeTold}
 use Rattle.outcome_replies.proofs.Told.{outcomes_told}
-use Rattle.block_machine.specs.Statements.{at_once}
+use Rattle.block_machine.specs.Statements.{at_once, concludes}
 use Rattle.block_machine.specs.Stages.{IsScriptOf}
 use Rattle.block_machine.proofs.Alone.{alone_done}
 use Rattle.block_machine.proofs.Answered.{ends_done}
 use Rattle.block_machine.proofs.actions.answer_typed.Goals as goal
 
-pub conclude_demand-requires : goal.conclude_demand-requires
-conclude_demand-requires c =
+pub conclude_demand-stage-requires : goal.conclude_demand-stage-requires
+conclude_demand-stage-requires c =
     let (outcome, is) = alone_done c.args.alone in
     let (statement, plain, typed) = c.requires in (
       outcome,
@@ -23,5 +23,6 @@ conclude_demand-requires c =
 pub returns-clause-goes : goal.returns-clause-goes
 returns-clause-goes c =
     let (outcome, is) = alone_done c.args.alone in
-    subst (λ (x : Course). IfOk c.conclude_demand.result (λ stage. IsScriptOf (at_once c.args.description x c.args.block) stage c.conclude_demand.new.built.items)) (sym is)
-    (c.conclude_demand.ensures.goes outcome (c.demand.ensures ∙ ap first_demand (c.in_ok-plan.ensures ∙ is)))
+    subst (λ (x : Course). IfOk c.without.result (λ stage. IsScriptOf (at_once c.args.description x c.args.block) stage c.conclude_demand-stage.new.built.items)) (sym is)
+    (subst (λ told. IfOk told (λ stage. IsScriptOf (concludes c.args.description outcome c.args.block) stage c.conclude_demand-stage.new.built.items)) (sym c.without.ensures)
+    (c.conclude_demand-stage.ensures.goes outcome (c.demand.ensures ∙ ap first_demand (c.in_ok-plan.ensures ∙ is))))

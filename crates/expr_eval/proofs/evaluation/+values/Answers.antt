@@ -12,8 +12,8 @@ any_equal-returns-in_err-datum_of t c =
     (omega arith) c.member-item.is c.loop-member.invariant c.in_err-datum_of.ensures in
     rw failed (search rules)
 
-pub datum_of-returns-in_err-left-in-In : goal.datum_of-returns-in_err-left-in-In
-datum_of-returns-in_err-left-in-In t c =
-    let failed : value_of c.args.expr.now (seen c.args.row.now) ≡ Err c.in_err-left-in-In.field-0.0 =
-    in_failed c.args.expr.now c.in-In.left c.in-In.members c.in-In.denies (seen c.args.row.now) c.in_err-left-in-In.field-0.0 c.in-In.is (search rules) in
+pub datum_of-returns-in-Err-datum_of : goal.datum_of-returns-in-Err-datum_of
+datum_of-returns-in-Err-datum_of t c =
+    let failed : value_of c.args.expr.now (seen c.args.row.now) ≡ Err c.in-Err-datum_of.code =
+    in_failed c.args.expr.now c.in-In.left c.in-In.members c.in-In.denies (seen c.args.row.now) c.in-Err-datum_of.code c.in-In.is (search rules) in
     rw failed (search rules)

@@ -1,4 +1,4 @@
 use Rattle.history_core.proofs.notes.keep_write.Goals as goal
 
-pub returns-clause-ok : goal.returns-clause-ok
-returns-clause-ok c = rw c.reserve.ensures.writes at c.put.ensures.value
+pub returns-in-Ok-clause-ok : goal.returns-in-Ok-clause-ok
+returns-in-Ok-clause-ok c = rw (c.in_ok-cell.ensures, c.in-Ok.ensures) at c.put_copies.ensures.ok

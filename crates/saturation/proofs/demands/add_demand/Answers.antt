@@ -1,10 +1,7 @@
-use Rattle.std.proofs.Common.{◌≡◌, ℕ, List, sym, ◌∙◌, subst}
-use Rattle.std.proofs.lemmas.Bool.{false≢true}
+use Rattle.std.proofs.Common.{◌≡◌, ℕ, subst}
 use Rattle.std.proofs.lemmas.Result.{on_ok_weaker}
-use Rattle.graph_base.specs.declared.Edge.{Edge}
 use Rattle.saturation.specs.Pairs.{AddsPairs}
-use Rattle.saturation.proofs.Adds.{adds_none}
-use Rattle.saturation.proofs.Steps.{demand_one, demand_not}
+use Rattle.saturation.proofs.Steps.{demand_one}
 use Rattle.saturation.proofs.demands.add_demand.Goals as goal
 
 pub returns-then-is_demanded : goal.returns-then-is_demanded

@@ -1,4 +1,4 @@
-use Rattle.std.proofs.Common.{◌≡◌, ◌<◌, ◌≤◌, length, get_or, Some, slice_get, refl, arith}
+use Rattle.std.proofs.Common.{◌≡◌, length, Some, slice_get, refl}
 use Rattle.std.proofs.lemmas.Option.{slice_get_read}
 use Rattle.saturation.proofs.Adds.{demand_more, demand_whole}
 use Rattle.saturation.proofs.demands.add_demands.Goals as goal

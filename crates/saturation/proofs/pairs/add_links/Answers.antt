@@ -1,4 +1,4 @@
-use Rattle.std.proofs.Common.{◌≡◌, ◌<◌, ◌+◌, ℕ, length, arith}
+use Rattle.std.proofs.Common.{◌≡◌, arith}
 use Rattle.order_witness.specs.Marks.{IsMarked}
 use Rattle.saturation.proofs.Adds.{first_more, first_whole}
 use Rattle.saturation.proofs.Readers.{marked_within}

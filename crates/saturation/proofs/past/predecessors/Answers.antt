@@ -1,4 +1,3 @@
-use Rattle.std.proofs.Common.{arith}
 use Rattle.saturation.proofs.Marks.{predecessors_push}
 use Rattle.saturation.proofs.past.predecessors.Goals as goal
 

@@ -1,11 +1,9 @@
-use Rattle.std.proofs.Common.{◌≡◌, ◌+◌, ℕ, List, Some, None, false, true, sym, ◌∙◌, subst}
-use Rattle.std.proofs.lemmas.Bool.{false≢true, not-true, not-false, not_from_false, false_from_ne_true}
-use Rattle.graph_base.specs.declared.Edge.{Edge}
+use Rattle.std.proofs.Common.{◌≡◌, ◌+◌, ℕ, Some, None, sym, ◌∙◌, subst}
+use Rattle.std.proofs.lemmas.Bool.{false≢true, not-true, not_from_false, false_from_ne_true}
 use Rattle.graph_base.specs.Walk.{IsInRange}
 use Rattle.cell_base.specs.declared.value.Value.{Value}
 use Rattle.cell_base.specs.declared.value.Value.TheVariants.{Unset}
-use Rattle.history_core.specs.Events.{begun}
-use Rattle.saturation.specs.Laws.{AreForced, with_read}
+use Rattle.saturation.specs.Laws.{with_read}
 use Rattle.saturation.proofs.After.{size_after}
 use Rattle.saturation.proofs.Decides.{consistent_no_cycle, consistent_from_no_cycle}
 use Rattle.history_core.specs.Forced.{IsForced, IsPairList}

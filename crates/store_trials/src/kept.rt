@@ -1,0 +1,18 @@
+// What was made, held over a step that may fail. What lets go of a store costs much to check wherever it stands, so it is let go here.
+
+/// What is held, if the step could be taken.
+pub fn kept<T: Drop, E>(held: T, step: Result<(), E>) -> Result<T, E> {
+    step?;
+    Ok(held)
+}
+
+/// Lets go of what was made.
+pub fn let_go<T: Drop, E>(made: Result<T, E>) -> Result<(), E> {
+    made?;
+    Ok(())
+}
+
+/// The answer, without what it was asked of.
+pub fn alone<T: Drop, A>(_held: T, answer: A) -> A {
+    answer
+}
