@@ -12,6 +12,7 @@ pub mod KeyLemmas
 pub mod EventLemmas
 pub mod Orderly
 pub mod TraceLaws
+pub mod Legal
 pub mod Committed
 pub mod KeyLists
 pub mod RowLemmas

@@ -3,8 +3,8 @@ ghost use Rattle.std.specs.Prelude.{◌≡◌, ℕ, List, None, Some, slice_get,
 ghost use Rattle.cell_base.specs.declared.cell.Cell.{Cell};
 ghost use Rattle.cell_base.specs.declared.value.Value.{Value};
 ghost use Rattle.history_core.specs.declared.event.Event.{Event};
-ghost use Rattle.history_core.specs.Relations.{IsConsistent};
-ghost use Rattle.history_core.specs.Legal.{Follows, IsFormed, full_for};
+ghost use Rattle.history_core.specs.Relations.{IsConsistent, Meets};
+ghost use Rattle.history_core.specs.Legal.{Follows, IsFormed, IsLegal, full_for};
 ghost use Rattle.history_log.specs.declared.trace.Trace.{Trace};
 ghost use Rattle.history_check.specs.declared.breach.Breach.{Breach};
 ghost use Rattle.history_check.specs.Breaches.{AreRight, IsFirstEventBreach};
@@ -26,4 +26,9 @@ pub fn trace_laws()
     ensures unbroken { (trace : Trace) (breach : Breach) → IsRightTrace trace → IsFirstBreach trace breach → ⊥ }
     ensures one { (trace : Trace) (a b : Breach) → IsFirstBreach trace a → IsFirstBreach trace b → a ≡ b }
     ensures prefixes { (trace : Trace) (k : ℕ) → IsRightTrace trace → IsConsistent (take k trace.events) }
+{}
+
+/// The law of the histories that a book keeps: a legal one has no breach, with any order that meets it.
+pub fn legal_laws()
+    ensures { (trace : Trace) (breach : Breach) → IsLegal trace.initial trace.events → Meets trace.events trace.order → IsFirstBreach trace breach → ⊥ }
 {}

@@ -2,7 +2,7 @@
 //!
 //! `check_events` numbers the cells of all events, then goes through the events once, with notes of its own, and answers the first breach: of the first event that breaks a rule,
 //! and of the first rule that it breaks. `event_laws` says what that comes to. `check` judges the order as well, by
-//! `order_test`, and `trace_laws` says that its answers exclude each other.
+//! `order_test`; `trace_laws` says that its answers exclude each other, and `legal_laws` that a legal history has no breach.
 #![tactic(auto)]
 
 mod breach;
@@ -26,5 +26,5 @@ mod writers;
 
 pub use breach::{Breach, CheckFault};
 pub use events::check_events;
-pub use laws::{event_laws, trace_laws};
+pub use laws::{event_laws, legal_laws, trace_laws};
 pub use order::check;

@@ -12,9 +12,9 @@ use Rattle.command_line.specs.declared.reading.CommandLine.{CommandLine}
 use Rattle.command_line.specs.declared.reading.CommandLine.TheVariants as lines
 use Rattle.command_line.proofs.OneCommand.{one_command}
 use Rattle.monkey_server.specs.Program.{Obeys}
-use Rattle.program_completeness.specs.Checking.{HasPrinted, PrintsUndisturbed, ChecksUndisturbed, JudgesWhole, ChecksAreComplete, CheckRunsAreComplete, CheckRunsAreExact}
+use Rattle.program_completeness.specs.Checking.{HasPrinted, PrintsUndisturbed, ChecksUndisturbed, JudgesWhole, ChecksAreComplete, CheckRunsAreComplete, CheckRunsAreExact, LegalLogsCheck}
 use Rattle.program_completeness.proofs.Counting.{one_more}
-use Rattle.program_completeness.proofs.Verdicts.{one_verdict, longer_verdict}
+use Rattle.program_completeness.proofs.Verdicts.{one_verdict, longer_verdict, legal_right}
 
 -- ---- what is printed
 
@@ -94,4 +94,13 @@ check_runs_exact args path network left before code after bytes line status is d
       | inr j ↦
           let one = one_verdict bytes j.line line code status (verdict_told j.given (bytes_at before.files path) bytes j.line code told j.told j.whole) verdict in
           inr (one.1, subst (λ (l : List ℕ). HasPrinted l before after) one.0 j.printed)
+    ]
+
+pub legal_logs_check : LegalLogsCheck
+legal_logs_check args path network left before code after bytes is does quiet told legal =
+    elim (check_runs_complete args path network left before code after is does quiet) [
+      | inl five ↦ inl five
+      | inr j ↦
+          let right = legal_right bytes j.line code legal (verdict_told j.given (bytes_at before.files path) bytes j.line code told j.told j.whole) in
+          inr (right.1, subst (λ (l : List ℕ). HasPrinted l before after) right.0 j.printed)
     ]

@@ -5,16 +5,18 @@ use Rattle.history_log.specs.declared.log_fault.LogFault.TheVariants as faults
 use Rattle.history_log.specs.declared.trace.Trace.{Trace}
 use Rattle.history_log.specs.declared.version.Version.{Version}
 use Rattle.history_log.specs.Cut.{cut_at}
-use Rattle.history_log.specs.Log.{IsLog}
+use Rattle.history_log.specs.Log.{IsLog, newest}
 use Rattle.history_log.specs.Faults.{CanGoOn, IsBadLine, IsCutShort, HasFewBytes, HasFault}
 use Rattle.history_log.proofs.ByLine.{snoc_same}
 use Rattle.history_log.proofs.OneHistory.{same_log, fault_only}
+use Rattle.log_file.specs.Text.{trace_of}
 use Rattle.history_check.specs.declared.breach.Breach.{Breach}
 use Rattle.history_check.specs.Orders.{IsRightTrace, IsFirstBreach}
+use Rattle.history_check.proofs.Legal.{legal_trace_unbroken}
 use Rattle.history_check.proofs.TraceLaws.{trace_unbroken, trace_breach_one}
 use Rattle.check_command.specs.Lines.{breach_words, fault_words, line_of}
 use Rattle.check_command.specs.Verdict.{IsVerdict, IsRightLog, IsBreachedLog}
-use Rattle.program_completeness.specs.Checking.{OneVerdict, ZeroIsRight}
+use Rattle.program_completeness.specs.Checking.{OneVerdict, ZeroIsRight, IsLegalLog, LegalLogsAreRight, WrittenLogsAreLegal}
 
 -- ---- lists
 
@@ -117,6 +119,28 @@ right_of bytes line code (inr (inr c)) zero = absurd (omega (arith, c.0, zero))
 
 pub zero_is_right : ZeroIsRight
 zero_is_right bytes line code v = (right_of bytes line code v, λ right. (one_verdict bytes line _ code 0 v (inl (refl, refl, right))).1)
+
+-- ---- the logs of legal histories
+
+legal_unbreached : (bytes : List ℕ) (breach : Breach) → IsLegalLog bytes → IsBreachedLog bytes breach → ⊥
+legal_unbreached bytes breach l b =
+    let same = (same_log l.version b.version l.trace b.trace bytes l.log b.log).1 in
+    legal_trace_unbroken l.trace breach l.legal l.meets (subst (λ (t : Trace). IsFirstBreach t breach) (sym same) b.first)
+
+pub legal_right : LegalLogsAreRight
+legal_right bytes line code l (inl a) = (a.1, a.0)
+legal_right bytes line code l (inr (inl b)) = absurd (legal_unbreached bytes b.1.0 l b.1.2)
+legal_right bytes line code l (inr (inr c)) = absurd (no_fault bytes c.1.0 l.version l.trace c.1.2 l.log l.few)
+
+pub written_legal : WrittenLogsAreLegal
+written_legal path history before after legal log few = record {
+  few = few;
+  version = newest history.initial;
+  trace = trace_of history log.order;
+  log = log.is_log;
+  legal = legal.legal;
+  meets = log.order_is.meets;
+}
 
 -- ---- a text that is too long
 

@@ -1,7 +1,7 @@
 // What holds of the program where no fault is counted.
 ghost use Rattle.program_completeness.specs.Visits.{VisitsAreComplete};
 ghost use Rattle.program_completeness.specs.Programs.{PipedAreComplete, PipesAreComplete, ServersAreComplete, ServeRunsAreComplete};
-ghost use Rattle.program_completeness.specs.Checking.{OneVerdict, ZeroIsRight, ChecksAreComplete, CheckRunsAreComplete, CheckRunsAreExact};
+ghost use Rattle.program_completeness.specs.Checking.{OneVerdict, ZeroIsRight, LegalLogsAreRight, WrittenLogsAreLegal, LegalLogsCheck, ChecksAreComplete, CheckRunsAreComplete, CheckRunsAreExact};
 ghost use Rattle.program_completeness.specs.Simulating.{SimulationsAreComplete, SimRunsAreComplete};
 ghost use Rattle.program_completeness.specs.Statuses.{StatusesHaveCauses};
 
@@ -41,6 +41,15 @@ pub fn checks_are_complete()
     ensures check { ChecksAreComplete }
     ensures program { CheckRunsAreComplete }
     ensures exact { CheckRunsAreExact }
+{}
+
+/// The log of a legal history, with an order that meets it, has the verdict `ok`; what `serve` or `sim` wrote whole as the log of its history is one,
+/// where it has at most 268,435,456 bytes; and the whole program, with the words `check PATH` and a host that tells such a file's bytes, prints `ok` with
+/// status 0, or the status is 5.
+pub fn own_logs_are_right()
+    ensures verdict { LegalLogsAreRight }
+    ensures written { WrittenLogsAreLegal }
+    ensures program { LegalLogsCheck }
 {}
 
 /// `sim LEVEL SEED SESSIONS QUERIES` serves all clients of the seed to their ends, writes the log of their history, where one is asked for, and

@@ -5,6 +5,6 @@
 mod law;
 
 pub use law::{
-    checks_are_complete, pipes_are_complete, servers_are_complete, simulations_are_complete,
-    statuses_have_causes, verdicts_are_exact, visits_are_complete,
+    checks_are_complete, own_logs_are_right, pipes_are_complete, servers_are_complete,
+    simulations_are_complete, statuses_have_causes, verdicts_are_exact, visits_are_complete,
 };
