@@ -6,6 +6,7 @@
 #![tactic(auto)]
 
 mod breach;
+mod broken_rule;
 mod cell_notes;
 mod events;
 mod judge;
