@@ -13,6 +13,7 @@ pub mod EventLemmas
 pub mod Orderly
 pub mod TraceLaws
 pub mod Committed
+pub mod CommitLemmas
 pub mod KeyLists
 pub mod RowLemmas
 pub mod ScanLemmas

@@ -176,7 +176,7 @@ fn of_read(
     if wrote_itself(notes, note, before, session, cell) {
         return Some(BrokenRule::Own);
     }
-    if !gives_value(note, initial, before, source, cell, value) {
+    if !gives_value(notes, note, initial, before, source, cell, value) {
         return Some(wrong_source(note, before, source, cell));
     }
     let candidates = count_writers(note, before, cell);

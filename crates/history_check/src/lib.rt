@@ -8,6 +8,7 @@
 mod breach;
 mod broken_rule;
 mod cell_notes;
+mod commits;
 mod events;
 mod judge;
 mod keys;

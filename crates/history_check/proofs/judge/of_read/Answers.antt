@@ -8,6 +8,9 @@ use Rattle.history_check.proofs.WriteLemmas.{value_writes}
 use Rattle.history_check.proofs.Verdicts.{read_right, read_own_broken, read_source_broken, read_value_broken, read_count_broken}
 use Rattle.history_check.proofs.judge.of_read.Goals as goal
 
+pub gives_value-requires-clause-begun : goal.gives_value-requires-clause-begun
+gives_value-requires-clause-begun c = c.requires.shape.2
+
 pub returns-then-wrote_itself : goal.returns-then-wrote_itself
 returns-then-wrote_itself c = read_own_broken c.args.initial.now c.args.before.now c.args.session c.args.cell.now c.args.source c.args.count c.args.word c.args.value.now c.requires.shape (λ none. none (c.wrote_itself.ensures.0 c.if-wrote_itself.true))
 
