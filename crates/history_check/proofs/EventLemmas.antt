@@ -1,7 +1,7 @@
 -- The first event that breaks a rule.
 use Rattle.std.proofs.Common.{◌≡◌, ℕ, ◌+◌, ◌≤◌, zero, suc, List, [], ◌∷◌, ◌++◌, Some, length, take, arith, refl, ap, sym, ◌∙◌, subst, inl, inr}
 use Rattle.std.specs.List.{slice_get}
-use Rattle.std.specs.Prelude.{OnOk}
+use Rattle.std.proofs.lemmas.List.{length-take-le}
 use Rattle.std.proofs.lemmas.Option.{slice_get_within}
 use Rattle.std.proofs.lemmas.Bool.{cases_eq, cases_order}
 use Rattle.cell_base.specs.declared.cell.Cell.{Cell}
@@ -9,14 +9,12 @@ use Rattle.cell_base.specs.declared.value.Value.{Value}
 use Rattle.history_core.specs.declared.event.Event.{Event}
 use Rattle.history_core.specs.declared.event.Event.TheVariants as events
 use Rattle.history_core.specs.Legal.{Follows}
-use Rattle.std.specs.declared.result.Result.{Result}
-use Rattle.std.specs.declared.result.Result.TheVariants.{Ok, Err}
 use Rattle.history_check.specs.declared.breach.Breach.{Breach}
-use Rattle.history_check.specs.declared.breach.CheckFault.{CheckFault}
-use Rattle.history_check.specs.declared.breach.CheckFault.TheVariants.{Breach as IsBreach, Memory}
 use Rattle.history_check.specs.declared.breach.Breach.TheVariants.{Count, Number}
+use Rattle.history_check.specs.declared.broken_rule.BrokenRule.{BrokenRule}
 use Rattle.history_check.specs.Rules.{Rule, shape, number, keys, own, source, value, count, rank, IsRight}
-use Rattle.history_check.specs.Breaches.{IsToldOf, IsBreachOf, AreRightBelow, AreRight, IsFirstEventBreach, IfBreach}
+use Rattle.history_check.specs.Breaches.{IsToldOf, IsBreachOf, AreRightBelow, AreRight, IsFirstEventBreach}
+use Rattle.history_check.specs.Found.{breach_at, IsFound}
 use Rattle.history_check.proofs.CountLemmas.{candidates_unique}
 use Rattle.history_check.proofs.Rights.{right_follows}
 
@@ -118,21 +116,20 @@ right_each initial all right k e is = right_follows initial (take k all) e (righ
 
 -- ---- answers
 
-pub breach_as : {X : Type 0} (Y : Type 0) (P Q : Breach → Type 0) (r : Result X CheckFault) (fault : CheckFault) → r ≡ Err fault → ((b : Breach) → P b → Q b) → IfBreach r P → IfBreach {X = Y} (Err fault) Q
-breach_as {X} Y P Q r fault is on holds = of fault (subst (λ (a : Result X CheckFault). IfBreach a P) is holds)
-  where
-    of : (f : CheckFault) → IfBreach {X = X} (Err f) P → IfBreach {X = Y} (Err f) Q
-    of (IsBreach b) h = on b h
-    of Memory h = tt
-
-pub never_breach : {X : Type 0} (P Q : Breach → Type 0) (r : Result X CheckFault) → ((b : Breach) → P b → Q b) → IfBreach r P → IfBreach r Q
-never_breach P Q (Ok x) on holds = tt
-never_breach P Q (Err (IsBreach b)) on holds = on b holds
-never_breach P Q (Err Memory) on holds = tt
-
-pub on_ok_of : {X E : Type 0} {P : Type 0} (r : Result X E) → P → OnOk r P
-on_ok_of (Ok x) holds = holds
-on_ok_of (Err e) holds = tt
+-- the first event of which a broken rule is found
+pub first_found :
+    (initial : List (Cell × Value)) (all : List Event) (n : ℕ) (e : Event) (rule : BrokenRule) → slice_get all n ≡ Some e → AreRightBelow initial all n →
+    IsFound initial (take n all) e (Some rule) → IsFirstEventBreach initial all (breach_at (n + 1) rule)
+first_found initial all n e rule is right found =
+    let within = slice_get_within all n e is in
+    let short : length (take n all) ≡ n = length-take-le n all (omega arith) in
+    record {
+      place = n;
+      event = e;
+      is = is;
+      right = right;
+      breach_is = subst (λ (m : ℕ). IsBreachOf initial (take n all) e (breach_at (m + 1) rule)) short found;
+    }
 
 pub take_next : {X : Type 0} (xs : List X) (n : ℕ) (x : X) → slice_get xs n ≡ Some x → take (n + 1) xs ≡ take n xs ++ x ∷ []
 take_next [] n x is = cc

@@ -14,6 +14,7 @@ pub mod Orderly
 pub mod TraceLaws
 pub mod Legal
 pub mod Committed
+pub mod CommitLemmas
 pub mod KeyLists
 pub mod RowLemmas
 pub mod ScanLemmas

@@ -1,5 +1,5 @@
 -- The verdict on each event: that it keeps to all rules, or the first one that it breaks.
-use Rattle.std.proofs.Common.{◌≡◌, ℕ, ◌+◌, ◌<◌, List, Some, length, arith, ap}
+use Rattle.std.proofs.Common.{◌≡◌, ℕ, ◌+◌, ◌<◌, List, Some, length, arith, refl}
 use Rattle.cell_base.specs.declared.level.Level.{Level}
 use Rattle.cell_base.specs.declared.cell.Cell.{Cell}
 use Rattle.cell_base.specs.declared.key.Key.{Key}
@@ -11,12 +11,12 @@ use Rattle.history_check.specs.Rules.{right_number, Rule, shape, number, keys, o
 use Rattle.history_check.specs.Breaches.{IsBreachOf}
 
 -- the state of the session doesn't allow the event
-pub shape_broken : (initial : List (Cell × CellValue)) (before : List Event) (e : Event) (k : ℕ) → k ≡ length before + 1 → (IsInShape before e → ⊥) → IsBreachOf initial before e (Shape k)
-shape_broken initial before e k at broken = record {
+pub shape_broken : (initial : List (Cell × CellValue)) (before : List Event) (e : Event) → (IsInShape before e → ⊥) → IsBreachOf initial before e (Shape (length before + 1))
+shape_broken initial before e broken = record {
   rule = shape;
   broken = broken;
   first = λ other less. absurd (omega arith);
-  told = ap (λ (n : ℕ). Shape n) at;
+  told = refl;
 }
 
 pub open_right : (initial : List (Cell × CellValue)) (before : List Event) (s : ℕ) → Keeps initial before (events.Open s) shape → IsRight initial before (events.Open s)
@@ -92,13 +92,13 @@ look_right initial before s t is_shape is_number value = tt
 look_right initial before s t is_shape is_number count = tt
 
 pub look_number_broken :
-    (initial : List (Cell × CellValue)) (before : List Event) (s : ℕ) (t : ℕ) (k : ℕ) → k ≡ length before + 1 → Keeps initial before (events.Look s t) shape →
-    (Keeps initial before (events.Look s t) number → ⊥) → (should : ℕ) → right_number before (events.Look s t) ≡ Some should → IsBreachOf initial before (events.Look s t) (Number k should)
-look_number_broken initial before s t k at is_shape broken should is = record {
+    (initial : List (Cell × CellValue)) (before : List Event) (s : ℕ) (t : ℕ) → Keeps initial before (events.Look s t) shape →
+    (Keeps initial before (events.Look s t) number → ⊥) → (should : ℕ) → right_number before (events.Look s t) ≡ Some should → IsBreachOf initial before (events.Look s t) (Number (length before + 1) should)
+look_number_broken initial before s t is_shape broken should is = record {
   rule = number;
   broken = broken;
   first = first;
-  told = (should, is, ap (λ (n : ℕ). Number n should) at);
+  told = (should, is, refl);
 }
   where
     first : (other : Rule) → rank other < rank number → Keeps initial before (events.Look s t) other
@@ -120,13 +120,13 @@ show_right initial before s m is_shape is_number value = tt
 show_right initial before s m is_shape is_number count = tt
 
 pub show_number_broken :
-    (initial : List (Cell × CellValue)) (before : List Event) (s : ℕ) (m : ℕ) (k : ℕ) → k ≡ length before + 1 → Keeps initial before (events.Show s m) shape →
-    (Keeps initial before (events.Show s m) number → ⊥) → (should : ℕ) → right_number before (events.Show s m) ≡ Some should → IsBreachOf initial before (events.Show s m) (Number k should)
-show_number_broken initial before s m k at is_shape broken should is = record {
+    (initial : List (Cell × CellValue)) (before : List Event) (s : ℕ) (m : ℕ) → Keeps initial before (events.Show s m) shape →
+    (Keeps initial before (events.Show s m) number → ⊥) → (should : ℕ) → right_number before (events.Show s m) ≡ Some should → IsBreachOf initial before (events.Show s m) (Number (length before + 1) should)
+show_number_broken initial before s m is_shape broken should is = record {
   rule = number;
   broken = broken;
   first = first;
-  told = (should, is, ap (λ (n : ℕ). Number n should) at);
+  told = (should, is, refl);
 }
   where
     first : (other : Rule) → rank other < rank number → Keeps initial before (events.Show s m) other
@@ -148,13 +148,13 @@ scan_right initial before s t listed is_shape is_keys value = tt
 scan_right initial before s t listed is_shape is_keys count = tt
 
 pub scan_keys_broken :
-    (initial : List (Cell × CellValue)) (before : List Event) (s : ℕ) (t : ℕ) (listed : List Key) (k : ℕ) → k ≡ length before + 1 → Keeps initial before (events.Scan s t listed) shape →
-    (Keeps initial before (events.Scan s t listed) keys → ⊥) → IsBreachOf initial before (events.Scan s t listed) (Keys k)
-scan_keys_broken initial before s t listed k at is_shape broken = record {
+    (initial : List (Cell × CellValue)) (before : List Event) (s : ℕ) (t : ℕ) (listed : List Key) → Keeps initial before (events.Scan s t listed) shape →
+    (Keeps initial before (events.Scan s t listed) keys → ⊥) → IsBreachOf initial before (events.Scan s t listed) (Keys (length before + 1))
+scan_keys_broken initial before s t listed is_shape broken = record {
   rule = keys;
   broken = broken;
   first = first;
-  told = ap (λ (n : ℕ). Keys n) at;
+  told = refl;
 }
   where
     first : (other : Rule) → rank other < rank keys → Keeps initial before (events.Scan s t listed) other
@@ -176,13 +176,13 @@ read_right initial before s x w n u v is_shape is_own is_source is_value is_coun
 read_right initial before s x w n u v is_shape is_own is_source is_value is_count count = is_count
 
 pub read_own_broken :
-    (initial : List (Cell × CellValue)) (before : List Event) (s : ℕ) (x : Cell) (w : ℕ) (n : ℕ) (u : ℕ) (v : CellValue) (k : ℕ) → k ≡ length before + 1 → Keeps initial before (events.Read s x w n u v) shape →
-    (Keeps initial before (events.Read s x w n u v) own → ⊥) → IsBreachOf initial before (events.Read s x w n u v) (Own k)
-read_own_broken initial before s x w n u v k at is_shape broken = record {
+    (initial : List (Cell × CellValue)) (before : List Event) (s : ℕ) (x : Cell) (w : ℕ) (n : ℕ) (u : ℕ) (v : CellValue) → Keeps initial before (events.Read s x w n u v) shape →
+    (Keeps initial before (events.Read s x w n u v) own → ⊥) → IsBreachOf initial before (events.Read s x w n u v) (Own (length before + 1))
+read_own_broken initial before s x w n u v is_shape broken = record {
   rule = own;
   broken = broken;
   first = first;
-  told = ap (λ (n : ℕ). Own n) at;
+  told = refl;
 }
   where
     first : (other : Rule) → rank other < rank own → Keeps initial before (events.Read s x w n u v) other
@@ -195,13 +195,13 @@ read_own_broken initial before s x w n u v k at is_shape broken = record {
     first count less = absurd (omega arith)
 
 pub read_source_broken :
-    (initial : List (Cell × CellValue)) (before : List Event) (s : ℕ) (x : Cell) (w : ℕ) (n : ℕ) (u : ℕ) (v : CellValue) (k : ℕ) → k ≡ length before + 1 → Keeps initial before (events.Read s x w n u v) shape → Keeps initial before (events.Read s x w n u v) own →
-    (Keeps initial before (events.Read s x w n u v) source → ⊥) → IsBreachOf initial before (events.Read s x w n u v) (Source k)
-read_source_broken initial before s x w n u v k at is_shape is_own broken = record {
+    (initial : List (Cell × CellValue)) (before : List Event) (s : ℕ) (x : Cell) (w : ℕ) (n : ℕ) (u : ℕ) (v : CellValue) → Keeps initial before (events.Read s x w n u v) shape → Keeps initial before (events.Read s x w n u v) own →
+    (Keeps initial before (events.Read s x w n u v) source → ⊥) → IsBreachOf initial before (events.Read s x w n u v) (Source (length before + 1))
+read_source_broken initial before s x w n u v is_shape is_own broken = record {
   rule = source;
   broken = broken;
   first = first;
-  told = ap (λ (n : ℕ). Source n) at;
+  told = refl;
 }
   where
     first : (other : Rule) → rank other < rank source → Keeps initial before (events.Read s x w n u v) other
@@ -214,13 +214,13 @@ read_source_broken initial before s x w n u v k at is_shape is_own broken = reco
     first count less = absurd (omega arith)
 
 pub read_value_broken :
-    (initial : List (Cell × CellValue)) (before : List Event) (s : ℕ) (x : Cell) (w : ℕ) (n : ℕ) (u : ℕ) (v : CellValue) (k : ℕ) → k ≡ length before + 1 → Keeps initial before (events.Read s x w n u v) shape → Keeps initial before (events.Read s x w n u v) own → Keeps initial before (events.Read s x w n u v) source →
-    (Keeps initial before (events.Read s x w n u v) value → ⊥) → IsBreachOf initial before (events.Read s x w n u v) (Value k)
-read_value_broken initial before s x w n u v k at is_shape is_own is_source broken = record {
+    (initial : List (Cell × CellValue)) (before : List Event) (s : ℕ) (x : Cell) (w : ℕ) (n : ℕ) (u : ℕ) (v : CellValue) → Keeps initial before (events.Read s x w n u v) shape → Keeps initial before (events.Read s x w n u v) own → Keeps initial before (events.Read s x w n u v) source →
+    (Keeps initial before (events.Read s x w n u v) value → ⊥) → IsBreachOf initial before (events.Read s x w n u v) (Value (length before + 1))
+read_value_broken initial before s x w n u v is_shape is_own is_source broken = record {
   rule = value;
   broken = broken;
   first = first;
-  told = ap (λ (n : ℕ). Value n) at;
+  told = refl;
 }
   where
     first : (other : Rule) → rank other < rank value → Keeps initial before (events.Read s x w n u v) other
@@ -233,13 +233,13 @@ read_value_broken initial before s x w n u v k at is_shape is_own is_source brok
     first count less = absurd (omega arith)
 
 pub read_count_broken :
-    (initial : List (Cell × CellValue)) (before : List Event) (s : ℕ) (x : Cell) (w : ℕ) (n : ℕ) (u : ℕ) (v : CellValue) (k : ℕ) → k ≡ length before + 1 → Keeps initial before (events.Read s x w n u v) shape → Keeps initial before (events.Read s x w n u v) own → Keeps initial before (events.Read s x w n u v) source → Keeps initial before (events.Read s x w n u v) value →
-    (Keeps initial before (events.Read s x w n u v) count → ⊥) → (should : ℕ) → HasCandidates before x should → IsBreachOf initial before (events.Read s x w n u v) (Count k should)
-read_count_broken initial before s x w n u v k at is_shape is_own is_source is_value broken should is = record {
+    (initial : List (Cell × CellValue)) (before : List Event) (s : ℕ) (x : Cell) (w : ℕ) (n : ℕ) (u : ℕ) (v : CellValue) → Keeps initial before (events.Read s x w n u v) shape → Keeps initial before (events.Read s x w n u v) own → Keeps initial before (events.Read s x w n u v) source → Keeps initial before (events.Read s x w n u v) value →
+    (Keeps initial before (events.Read s x w n u v) count → ⊥) → (should : ℕ) → HasCandidates before x should → IsBreachOf initial before (events.Read s x w n u v) (Count (length before + 1) should)
+read_count_broken initial before s x w n u v is_shape is_own is_source is_value broken should is = record {
   rule = count;
   broken = broken;
   first = first;
-  told = (should, is, ap (λ (n : ℕ). Count n should) at);
+  told = (should, is, refl);
 }
   where
     first : (other : Rule) → rank other < rank count → Keeps initial before (events.Read s x w n u v) other
@@ -261,13 +261,13 @@ own_right initial before s x v is_shape is_own is_value value = is_value
 own_right initial before s x v is_shape is_own is_value count = tt
 
 pub own_own_broken :
-    (initial : List (Cell × CellValue)) (before : List Event) (s : ℕ) (x : Cell) (v : CellValue) (k : ℕ) → k ≡ length before + 1 → Keeps initial before (events.Own s x v) shape →
-    (Keeps initial before (events.Own s x v) own → ⊥) → IsBreachOf initial before (events.Own s x v) (Own k)
-own_own_broken initial before s x v k at is_shape broken = record {
+    (initial : List (Cell × CellValue)) (before : List Event) (s : ℕ) (x : Cell) (v : CellValue) → Keeps initial before (events.Own s x v) shape →
+    (Keeps initial before (events.Own s x v) own → ⊥) → IsBreachOf initial before (events.Own s x v) (Own (length before + 1))
+own_own_broken initial before s x v is_shape broken = record {
   rule = own;
   broken = broken;
   first = first;
-  told = ap (λ (n : ℕ). Own n) at;
+  told = refl;
 }
   where
     first : (other : Rule) → rank other < rank own → Keeps initial before (events.Own s x v) other
@@ -280,13 +280,13 @@ own_own_broken initial before s x v k at is_shape broken = record {
     first count less = absurd (omega arith)
 
 pub own_value_broken :
-    (initial : List (Cell × CellValue)) (before : List Event) (s : ℕ) (x : Cell) (v : CellValue) (k : ℕ) → k ≡ length before + 1 → Keeps initial before (events.Own s x v) shape → Keeps initial before (events.Own s x v) own →
-    (Keeps initial before (events.Own s x v) value → ⊥) → IsBreachOf initial before (events.Own s x v) (Value k)
-own_value_broken initial before s x v k at is_shape is_own broken = record {
+    (initial : List (Cell × CellValue)) (before : List Event) (s : ℕ) (x : Cell) (v : CellValue) → Keeps initial before (events.Own s x v) shape → Keeps initial before (events.Own s x v) own →
+    (Keeps initial before (events.Own s x v) value → ⊥) → IsBreachOf initial before (events.Own s x v) (Value (length before + 1))
+own_value_broken initial before s x v is_shape is_own broken = record {
   rule = value;
   broken = broken;
   first = first;
-  told = ap (λ (n : ℕ). Value n) at;
+  told = refl;
 }
   where
     first : (other : Rule) → rank other < rank value → Keeps initial before (events.Own s x v) other

@@ -1,5 +1,6 @@
 pub mod Rules
 pub mod Breaches
+pub mod Found
 pub mod Notes
 pub mod Keys
 pub mod Rows

@@ -1,5 +1,5 @@
 -- How what the judge has noted stands for the events so far.
-use Rattle.std.specs.Prelude.{◌≡◌, ◌≢◌, ◌<◌, ◌≤◌, ◌+◌, ◌⊎◌, ◌↔◌, ℕ, Option, Some, None, false, List, Contains, length, slice_get, slice_index}
+use Rattle.std.specs.Prelude.{◌≡◌, ◌≢◌, ◌<◌, ◌≤◌, ◌+◌, ◌⊎◌, ◌↔◌, ℕ, Bool, false, IsTrue, Option, Some, None, List, Contains, length, slice_get, slice_index}
 use Rattle.std.specs.List.Sorted.{IsStrictlyIncreasing}
 use Rattle.cell_base.specs.declared.cell.Cell.{Cell}
 use Rattle.cell_base.specs.declared.cell.Cell.TheVariants.{Presence}
@@ -8,7 +8,7 @@ use Rattle.cell_base.specs.declared.value.Value.{Value}
 use Rattle.history_core.specs.declared.event.Event.{Event}
 use Rattle.history_core.specs.declared.event.Event.TheVariants.{Write}
 use Rattle.history_core.specs.Events.{opened, begun, defined, session_in}
-use Rattle.history_core.specs.Transactions.{IsOf, IsPending}
+use Rattle.history_core.specs.Transactions.{IsOf, IsPending, IsCommitted}
 use Rattle.history_core.specs.Kept.{IsSessionOf, ChangesOne}
 use Rattle.history_core.specs.Relations.{HasWritten, Writes}
 use Rattle.cell_writers.specs.declared.cell_note.CellNote.{CellNote}
@@ -44,6 +44,11 @@ TakesPending old session pending new = ChangesSessionNote old session (λ before
 -- the session is closed
 abbrev pub IsClosed : List SessionNote → ℕ → List SessionNote → Type 0
 IsClosed old session new = ChangesSessionNote old session (λ before after. after ≡ record before { is_open = false }) new
+
+-- transaction k has the k-th flag, which says whether it has committed
+pub record StandsForCommits (events : List Event) (flags : List Bool) : Type 0 where
+  pub count : length flags ≡ begun events
+  pub each : (i : ℕ) (flag : Bool) → slice_get flags i ≡ Some flag → IsTrue flag ↔ IsCommitted events (i + 1)
 
 -- each event is one of an opened session
 abbrev pub AreOfSessions : List Event → Type 0
@@ -146,5 +151,6 @@ pub record AreNotes (events : List Event) (notes : Notes) : Type 0 where
   pub session_notes : StandsForSessionNotes events notes.session_notes.items
   pub pending : StandsForPendingWrites events notes.pending.items
   pub begun_are : notes.begun ≡ begun events
+  pub commits : StandsForCommits events notes.committed.items
   pub keys : AreWrittenKeys events notes.keys
   pub tables : notes.tables ≡ defined events

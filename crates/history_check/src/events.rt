@@ -1,16 +1,17 @@
 // The events of a trace, one after another.
-ghost use Rattle.std.specs.Prelude.{◌≡◌, ◌<◌, ◌+◌, ◌∷◌, ◌++◌, [], ℕ, length, OnOk, IfOk, take};
-ghost use Rattle.history_check.specs.Rules.{IsRight, IsInShape, HasSource};
-ghost use Rattle.history_check.specs.Breaches.{IsBreachOf, AreRight, IsFirstEventBreach, IsVerdict, IfBreach};
+ghost use Rattle.std.specs.Prelude.{◌≡◌, ◌<◌, ◌∷◌, ◌++◌, [], length, OnOk, IfOk, IfNone};
+ghost use Rattle.history_check.specs.Breaches.{AreRight, IsFirstEventBreach, IfBreach};
+ghost use Rattle.history_check.specs.Found.{IsFound};
 ghost use Rattle.cell_writers.specs.Numbered.{AreNumbered};
 ghost use Rattle.history_check.specs.Notes.{AreNotes, AreCellNotes};
 
+use crate::CheckFault;
+use crate::broken_rule::{BrokenRule, breach_at};
 use crate::cell_notes::cell_notes;
 use crate::judge::verdict;
 use crate::notes::{Notes, no_notes};
 use crate::noting::note;
 use crate::rows::Rows;
-use crate::{Breach, CheckFault};
 use cell_base::{Cell, Memory, Value};
 use cell_writers::CellNotes;
 use history_core::Event;
@@ -85,83 +86,37 @@ fn note_all(
     let mut notes = no_notes(alloc);
     for at in 0..events.len() {
         match judge_event(&mut notes, &mut cells, initial, &events[..at], &events[at]) {
-            Ok(()) => {}
-            Err(fault) => return Err(fault),
+            Ok(None) => {}
+            Ok(Some(rule)) => return Err(CheckFault::Breach(breach_at(at as u32 + 1, rule))),
+            Err(_memory) => return Err(CheckFault::Memory),
         }
     }
     Ok(cells)
 }
 
-/// Judges one event, and notes it.
+/// Judges one event, and notes it where it keeps to all rules. The first rule that it breaks, if it breaks one.
 fn judge_event(
     notes: &mut Notes,
     cells: &mut CellNotes,
     initial: &Rows,
     before: &[Event],
     event: &Event,
-) -> Result<(), CheckFault>
+) -> Result<Option<BrokenRule>, Memory>
     requires notes { AreNotes before.now notes.old }
     requires cells { AreCellNotes before.now cells.old }
     requires numbered { AreNumbered (before.now ++ event.now ∷ []) cells.old.numbers }
     requires few { length before.now < 4294967295 }
-    ensures right { OnOk result (IsRight initial.now before.now event.now) }
+    ensures found { IfOk result (IsFound initial.now before.now event.now) }
     ensures numbers { cells.new.numbers ≡ cells.old.numbers }
-    ensures notes { OnOk result (AreNotes (before.now ++ event.now ∷ []) notes.new) }
-    ensures cells { OnOk result (AreCellNotes (before.now ++ event.now ∷ []) cells.new) }
-    ensures breach { IfBreach result (IsBreachOf initial.now before.now event.now) }
+    ensures notes { IfOk result (λ found. IfNone found (AreNotes (before.now ++ event.now ∷ []) notes.new)) }
+    ensures cells { IfOk result (λ found. IfNone found (AreCellNotes (before.now ++ event.now ∷ []) cells.new)) }
 {
-    match verdict(notes, cells, initial, before, event) {
-        Ok(found) => note_right(notes, cells, initial, before, event, found),
-        Err(_memory) => Err(CheckFault::Memory),
-    }
-}
-
-/// Notes the event, where the verdict finds no breach.
-fn note_right(
-    notes: &mut Notes,
-    cells: &mut CellNotes,
-    initial: &Rows,
-    before: &[Event],
-    event: &Event,
-    found: Option<Breach>,
-) -> Result<(), CheckFault>
-    requires notes { AreNotes before.now notes.old }
-    requires cells { AreCellNotes before.now cells.old }
-    requires numbered { AreNumbered (before.now ++ event.now ∷ []) cells.old.numbers }
-    requires few { length before.now < 4294967295 }
-    requires verdict { IsVerdict initial.now before.now event.now found }
-    ensures right { OnOk result (IsRight initial.now before.now event.now) }
-    ensures numbers { cells.new.numbers ≡ cells.old.numbers }
-    ensures notes { OnOk result (AreNotes (before.now ++ event.now ∷ []) notes.new) }
-    ensures cells { OnOk result (AreCellNotes (before.now ++ event.now ∷ []) cells.new) }
-    ensures breach { IfBreach result (IsBreachOf initial.now before.now event.now) }
-{
+    let found = verdict(notes, cells, initial, before, event)?;
     match found {
-        Some(breach) => Err(CheckFault::Breach(breach)),
-        None => note_only(notes, cells, before, event),
-    }
-}
-
-/// Notes the event.
-fn note_only(
-    notes: &mut Notes,
-    cells: &mut CellNotes,
-    before: &[Event],
-    event: &Event,
-) -> Result<(), CheckFault>
-    requires notes { AreNotes before.now notes.old }
-    requires cells { AreCellNotes before.now cells.old }
-    requires numbered { AreNumbered (before.now ++ event.now ∷ []) cells.old.numbers }
-    requires shape { IsInShape before.now event.now }
-    requires source { HasSource before.now event.now }
-    requires few { length before.now < 4294967295 }
-    ensures numbers { cells.new.numbers ≡ cells.old.numbers }
-    ensures notes { OnOk result (AreNotes (before.now ++ event.now ∷ []) notes.new) }
-    ensures cells { OnOk result (AreCellNotes (before.now ++ event.now ∷ []) cells.new) }
-    ensures breach { IfBreach result (λ breach. ⊥) }
-{
-    match note(notes, cells, before, event) {
-        Ok(()) => Ok(()),
-        Err(_memory) => Err(CheckFault::Memory),
+        Some(rule) => Ok(Some(rule)),
+        None => {
+            note(notes, cells, before, event)?;
+            Ok(None)
+        }
     }
 }

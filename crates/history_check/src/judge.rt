@@ -5,11 +5,11 @@ ghost use Rattle.cell_base.specs.declared.value.Value.{Value as ValueOf};
 ghost use Rattle.history_core.specs.declared.event.Event.{Event};
 ghost use Rattle.history_core.specs.Relations.{Writes};
 ghost use Rattle.history_check.specs.Rules.{IsInShape};
-ghost use Rattle.history_check.specs.Breaches.{IsVerdict};
+ghost use Rattle.history_check.specs.Found.{IsFound};
 ghost use Rattle.cell_writers.specs.Numbered.{AreNumbered};
 ghost use Rattle.history_check.specs.Notes.{AreNotes, AreCellNotes, IsNoteOf};
 
-use crate::Breach;
+use crate::broken_rule::BrokenRule;
 use crate::cell_notes::note_at;
 use crate::keys::lists_keys;
 use crate::notes::Notes;
@@ -28,24 +28,22 @@ fn next_number(before: &[Event]) -> u32
     before.len() as u32 + 1
 }
 
-/// The first rule that the event breaks, as a breach.
+/// The first rule that the event breaks.
 pub fn verdict(
     notes: &Notes,
     cells: &CellNotes,
     initial: &Rows,
     before: &[Event],
     event: &Event,
-) -> Result<Option<Breach>, Memory>
+) -> Result<Option<BrokenRule>, Memory>
     requires notes { AreNotes before.now notes.now }
     requires cells { AreCellNotes before.now cells.now }
     requires numbered { AreNumbered (before.now ++ event.now ∷ []) cells.now.numbers }
     requires few { length before.now < 4294967295 }
-    ensures { IfOk result (IsVerdict initial.now before.now event.now) }
+    ensures { IfOk result (IsFound initial.now before.now event.now) }
 {
     if !is_in_shape(notes, before, event) {
-        return Ok(Some(Breach::Shape {
-            event: next_number(before),
-        }));
+        return Ok(Some(BrokenRule::Shape));
     }
     match event {
         Event::Look { session, tables } => Ok(of_look(notes, before, *session, *tables)),
@@ -95,34 +93,29 @@ pub fn verdict(
 }
 
 /// The verdict on a look.
-fn of_look(notes: &Notes, before: &[Event], session: u32, tables: u32) -> Option<Breach>
+fn of_look(notes: &Notes, before: &[Event], session: u32, tables: u32) -> Option<BrokenRule>
     requires notes { AreNotes before.now notes.now }
     requires shape { IsInShape before.now (Event.Look session tables) }
-    requires few { length before.now < 4294967295 }
-    ensures { (initial : List (CellValue × ValueOf)) → IsVerdict initial before.now (Event.Look session tables) result }
+    ensures { (initial : List (CellValue × ValueOf)) → IsFound initial before.now (Event.Look session tables) result }
 {
     let expected = notes.tables;
     if tables == expected {
         return None;
     }
-    let event = next_number(before);
-    Some(Breach::Number { event, expected })
+    Some(BrokenRule::Number(expected))
 }
 
 /// The verdict on a show.
-fn of_show(before: &[Event], session: u32, number: u32) -> Option<Breach>
+fn of_show(before: &[Event], session: u32, number: u32) -> Option<BrokenRule>
     requires shape { IsInShape before.now (Event.Show session number) }
     requires few { length before.now < 4294967295 }
-    ensures { (initial : List (CellValue × ValueOf)) → IsVerdict initial before.now (Event.Show session number) result }
+    ensures { (initial : List (CellValue × ValueOf)) → IsFound initial before.now (Event.Show session number) result }
 {
-    let event = next_number(before);
-    if number == event {
+    let expected = next_number(before);
+    if number == expected {
         return None;
     }
-    Some(Breach::Number {
-        event,
-        expected: event,
-    })
+    Some(BrokenRule::Number(expected))
 }
 
 /// The verdict on a scan.
@@ -134,31 +127,30 @@ fn of_scan(
     session: u32,
     table: u32,
     keys: &[Key],
-) -> Result<Option<Breach>, Memory>
+) -> Result<Option<BrokenRule>, Memory>
     requires notes { AreNotes before.now notes.now }
     requires cells { AreCellNotes before.now cells.now }
     requires numbered { AreNumbered before.now cells.now.numbers }
     requires shape { IsInShape before.now (Event.Scan session table keys.now) }
     requires few { length before.now < 4294967295 }
-    ensures { IfOk result (IsVerdict initial.now before.now (Event.Scan session table keys.now)) }
+    ensures { IfOk result (IsFound initial.now before.now (Event.Scan session table keys.now)) }
 {
     let lists = lists_keys(notes, cells, initial, before, session, table, keys)?;
     if lists {
         return Ok(None);
     }
-    let event = next_number(before);
-    Ok(Some(Breach::Keys { event }))
+    Ok(Some(BrokenRule::Keys))
 }
 
-/// What is told of a read whose source doesn't give its value: that there is no such source, or that the value is wrong.
-fn wrong_source(note: &CellNote, before: &[Event], source: u32, cell: &Cell, event: u32) -> Breach
+/// Which rule a read breaks whose source doesn't give its value: there is no such source, or the value is wrong.
+fn wrong_source(note: &CellNote, before: &[Event], source: u32, cell: &Cell) -> BrokenRule
     requires { IsNoteOf before.now cell.now note.now }
-    ensures { (Writes before.now source cell.now × (result ≡ Breach.Value event)) ⊎ ((¬ Writes before.now source cell.now) × (result ≡ Breach.Source event)) }
+    ensures { (Writes before.now source cell.now × (result ≡ BrokenRule.Value)) ⊎ ((¬ Writes before.now source cell.now) × (result ≡ BrokenRule.Source)) }
 {
     if is_writer(note, before, source, cell) {
-        Breach::Value { event }
+        BrokenRule::Value
     } else {
-        Breach::Source { event }
+        BrokenRule::Source
     }
 }
 
@@ -174,26 +166,25 @@ fn of_read(
     count: u32,
     word: u32,
     value: &Value,
-) -> Option<Breach>
+) -> Option<BrokenRule>
     requires notes { AreNotes before.now notes.now }
     requires note { IsNoteOf before.now cell.now note.now }
     requires shape { IsInShape before.now (Event.Read session cell.now source count word value.now) }
     requires few { length before.now < 4294967295 }
-    ensures { IsVerdict initial.now before.now (Event.Read session cell.now source count word value.now) result }
+    ensures { IsFound initial.now before.now (Event.Read session cell.now source count word value.now) result }
 {
-    let event = next_number(before);
     if wrote_itself(notes, note, before, session, cell) {
-        return Some(Breach::Own { event });
+        return Some(BrokenRule::Own);
     }
-    if !gives_value(note, initial, before, source, cell, value) {
-        return Some(wrong_source(note, before, source, cell, event));
+    if !gives_value(notes, note, initial, before, source, cell, value) {
+        return Some(wrong_source(note, before, source, cell));
     }
     let candidates = count_writers(note, before, cell);
     if count == 0 {
-        return Some(Breach::Count { event, candidates });
+        return Some(BrokenRule::Count(candidates));
     }
     if count > candidates {
-        return Some(Breach::Count { event, candidates });
+        return Some(BrokenRule::Count(candidates));
     }
     None
 }
@@ -206,19 +197,17 @@ fn of_own(
     session: u32,
     cell: &Cell,
     value: &Value,
-) -> Option<Breach>
+) -> Option<BrokenRule>
     requires notes { AreNotes before.now notes.now }
     requires note { IsNoteOf before.now cell.now note.now }
     requires shape { IsInShape before.now (Event.Own session cell.now value.now) }
-    requires few { length before.now < 4294967295 }
-    ensures { (initial : List (CellValue × ValueOf)) → IsVerdict initial before.now (Event.Own session cell.now value.now) result }
+    ensures { (initial : List (CellValue × ValueOf)) → IsFound initial before.now (Event.Own session cell.now value.now) result }
 {
-    let event = next_number(before);
     if !wrote_itself(notes, note, before, session, cell) {
-        return Some(Breach::Own { event });
+        return Some(BrokenRule::Own);
     }
     if !gives_own_value(notes, note, before, session, cell, value) {
-        return Some(Breach::Value { event });
+        return Some(BrokenRule::Value);
     }
     None
 }

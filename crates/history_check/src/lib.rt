@@ -6,7 +6,9 @@
 #![tactic(auto)]
 
 mod breach;
+mod broken_rule;
 mod cell_notes;
+mod commits;
 mod events;
 mod judge;
 mod keys;

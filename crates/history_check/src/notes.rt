@@ -11,15 +11,16 @@ use crate::table_keys::{TableKeys, new_keys};
 use history_core::Event;
 use std::alloc::Global;
 
-/// A note of each session, and the places of the writes that are pending in it; the number of transactions that have begun; for each table the
-/// keys whose presence was written; and the number of tables. Session s has its notes at s - 1. What is noted of each cell stands in
-/// `CellNotes`.
+/// A note of each session, and the places of the writes that are pending in it; the number of transactions that have begun, and for each of them
+/// whether it has committed; for each table the keys whose presence was written; and the number of tables. Session s has its notes at s - 1, and
+/// transaction k its flag at k - 1. What is noted of each cell stands in `CellNotes`.
 #[derive(Debug, Drop)]
 pub struct Notes {
     pub alloc: Global,
     pub session_notes: Vec<SessionNote>,
     pub pending: Vec<PendingWrites>,
     pub begun: u32,
+    pub committed: Vec<bool>,
     pub keys: TableKeys,
     pub tables: u32,
 }
@@ -33,6 +34,7 @@ pub fn no_notes(alloc: Global) -> Notes
         session_notes: Vec::new(alloc),
         pending: Vec::new(alloc),
         begun: 0,
+        committed: Vec::new(alloc),
         keys: new_keys(alloc),
         tables: 0,
     }

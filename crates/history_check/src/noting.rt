@@ -5,6 +5,7 @@ ghost use Rattle.cell_writers.specs.Numbered.{AreNumbered};
 ghost use Rattle.history_check.specs.Rules.{IsInShape, HasSource};
 ghost use Rattle.history_check.specs.Notes.{AreNotes, AreCellNotes};
 
+use crate::commits::note_commit;
 use crate::notes::{Notes, pending_in};
 use crate::pending_writes::note_pending;
 use crate::session_notes::note_session;
@@ -34,6 +35,7 @@ pub fn note(
     note_cells(cells, &notes.pending, before, event, owner)?;
     note_pending(notes.alloc, &mut notes.pending, before, event)?;
     note_session(&mut notes.session_notes, before, event, notes.begun)?;
+    note_commit(&mut notes.committed, before, event, owner)?;
     note_written(&mut notes.keys, before, event)?;
     notes.begun += begins(event);
     notes.tables += definitions(event);

@@ -1,5 +1,6 @@
 // Who writes a cell, and what.
-ghost use Rattle.std.specs.Prelude.{◌≡◌, ◌<◌, ◌↔◌, ℕ, length, IsTrue, Any};
+ghost use Rattle.std.specs.Prelude.{◌≡◌, ◌<◌, ◌≤◌, ◌↔◌, ℕ, length, IsTrue, Any};
+ghost use Rattle.history_core.specs.Events.{begun};
 ghost use Rattle.history_core.specs.Initial.{WritesInitially, absent_value};
 ghost use Rattle.history_core.specs.Relations.{HasWritten, LastWrites, Writes, WritesValue};
 ghost use Rattle.history_core.specs.Transactions.{IsPending};
@@ -8,6 +9,7 @@ ghost use Rattle.history_check.specs.Rules.{HasCandidates};
 ghost use Rattle.history_check.specs.Keys.{HasLaterWriter};
 ghost use Rattle.history_check.specs.Notes.{AreNotes, IsLastWriteAt, IsNoteOf};
 
+use crate::commits::is_committed;
 use crate::notes::{Notes, pending_in};
 use crate::rows::Rows;
 use cell_base::{Cell, Value};
@@ -146,6 +148,7 @@ fn wrote_initially(initial: &Rows, cell: &Cell, value: &Value) -> bool
 
 /// Whether the transaction is the initial one or a committed one, and wrote the value last to the cell.
 pub fn gives_value(
+    notes: &Notes,
     note: &CellNote,
     initial: &Rows,
     before: &[Event],
@@ -153,11 +156,13 @@ pub fn gives_value(
     cell: &Cell,
     value: &Value,
 ) -> bool
-    requires { IsNoteOf before.now cell.now note.now }
+    requires notes { AreNotes before.now notes.now }
+    requires note { IsNoteOf before.now cell.now note.now }
+    requires begun { number ≤ begun before.now }
     ensures { IsTrue result ↔ WritesValue initial.now before.now number cell.now value.now }
 {
     if number == 0 {
         return wrote_initially(initial, cell, value);
     }
-    is_later_writer(note, before, number, cell) && wrote_last(note, before, number, cell, value)
+    is_committed(notes, before, number) && wrote_last(note, before, number, cell, value)
 }

@@ -92,7 +92,7 @@ pub fn note_cells(
 }
 
 /// The transaction of the event, where one is pending in its session.
-fn owner_of(before: &[Event], event: &Event, owner: Option<u32>) -> u32
+pub fn owner_of(before: &[Event], event: &Event, owner: Option<u32>) -> u32
     requires owner { IsRunningOwner before.now event.now owner }
     requires pending { HasPending before.now (session_in event.now) }
     ensures { IsPending before.now result (session_in event.now) }

@@ -4,10 +4,11 @@ use Rattle.std.proofs.lemmas.Option.{slice_get_read}
 use Rattle.cell_writers.specs.declared.cell_numbers.CellNumbers.{CellNumbers}
 use Rattle.cell_writers.specs.Numbered.{AreNumbered}
 use Rattle.history_core.specs.declared.event.Event.{Event}
-use Rattle.cell_writers.specs.declared.cell_note.CellNotes.{CellNotes}
+use Rattle.history_check.specs.declared.breach.Breach.{Breach}
+use Rattle.history_check.specs.Breaches.{IsFirstEventBreach}
 use Rattle.history_check.specs.Notes.{AreNotes, AreCellNotes}
 use Rattle.history_check.proofs.CellSteps.{numbered_to}
-use Rattle.history_check.proofs.EventLemmas.{right_step, right_all, breach_as, take_next}
+use Rattle.history_check.proofs.EventLemmas.{right_step, right_all, first_found, take_next}
 use Rattle.history_check.proofs.events.note_all.Goals as goal
 
 pub loop-at-init : goal.loop-at-init
@@ -29,17 +30,18 @@ pub loop-at-preserved : goal.loop-at-preserved
 loop-at-preserved c =
     let at = slice_get_read c.args.events.now (length c.args.events.now) c.loop-at.at c.index-events-at.result refl c.loop-at-test.true c.index-events-at.is in
     let next = take_next c.args.events.now c.loop-at.at c.index-events-at.result at in (
-      subst (λ (xs : List Event). AreNotes xs c.judge_event.new.notes) (sym next) c.in-Ok.ensures.notes,
-      subst (λ (xs : List Event). AreCellNotes xs c.judge_event.new.cells) (sym next) c.in-Ok.ensures.cells,
+      subst (λ (xs : List Event). AreNotes xs c.judge_event.new.notes) (sym next) (rw c.in-Ok-None.field-0-is at c.in-Ok-None.ensures.notes),
+      subst (λ (xs : List Event). AreCellNotes xs c.judge_event.new.cells) (sym next) (rw c.in-Ok-None.field-0-is at c.in-Ok-None.ensures.cells),
       c.judge_event.ensures.numbers ∙ c.loop-at.invariant.2,
-      right_step c.args.initial.now c.args.events.now c.loop-at.at c.index-events-at.result at c.in-Ok.ensures.right c.loop-at.invariant.3,
+      right_step c.args.initial.now c.args.events.now c.loop-at.at c.index-events-at.result at (rw c.in-Ok-None.field-0-is at c.in-Ok-None.ensures.found) c.loop-at.invariant.3,
     )
 
-pub returns-in-Err-clause-breach : goal.returns-in-Err-clause-breach
-returns-in-Err-clause-breach c =
-    breach_as CellNotes _ _ c.judge_event.result c.in-Err.fault c.in-Err.is
-    (λ b breach. record { place = c.loop-at.at; event = c.index-events-at.result; is = (slice_get_read c.args.events.now (length c.args.events.now) c.loop-at.at c.index-events-at.result refl c.loop-at-test.true c.index-events-at.is); right = c.loop-at.invariant.3; breach_is = breach })
-    c.judge_event.ensures.breach
+pub returns-in-Ok-Some-clause-breach : goal.returns-in-Ok-Some-clause-breach
+returns-in-Ok-Some-clause-breach c =
+    subst (λ (breach : Breach). IsFirstEventBreach c.args.initial.now c.args.events.now breach) (sym c.breach_at.ensures)
+    (first_found c.args.initial.now c.args.events.now c.loop-at.at c.index-events-at.result c.in-Ok-Some.rule
+    (slice_get_read c.args.events.now (length c.args.events.now) c.loop-at.at c.index-events-at.result refl c.loop-at-test.true c.index-events-at.is) c.loop-at.invariant.3
+    (rw c.in-Ok-Some.field-0-is at c.in-Ok-Some.ensures.found))
 
 pub returns-clause-notes : goal.returns-clause-notes
 returns-clause-notes c =

@@ -7,5 +7,5 @@ returns-then-tables-expected c = λ initial. look_right initial c.args.before.no
 
 pub returns : goal.returns
 returns c = λ initial.
-    look_number_broken initial c.args.before.now c.args.session c.args.tables c.next_number-event.result c.next_number-event.ensures c.requires.shape
+    look_number_broken initial c.args.before.now c.args.session c.args.tables c.requires.shape
     (λ same. c.if-tables-expected.false (same ∙ sym c.requires.notes.tables)) c.args.notes.now.tables (ap (λ (n : ℕ). Some n) (sym c.requires.notes.tables))

@@ -8,5 +8,5 @@ returns-then-lists c = scan_right c.args.initial.now c.args.before.now c.args.se
 
 pub returns : goal.returns
 returns c =
-    scan_keys_broken c.args.initial.now c.args.before.now c.args.session c.args.table c.args.keys.now c.next_number-event.result c.next_number-event.ensures c.requires.shape
+    scan_keys_broken c.args.initial.now c.args.before.now c.args.session c.args.table c.args.keys.now c.requires.shape
     (λ lists. false≢true (sym c.if-lists.false ∙ c.in_ok-lists.ensures.1 lists))

@@ -5,7 +5,7 @@ use Rattle.history_check.proofs.judge.verdict.Goals as goal
 
 pub returns-then-not-is_in_shape : goal.returns-then-not-is_in_shape
 returns-then-not-is_in_shape c =
-    shape_broken c.args.initial.now c.args.before.now c.args.event.now c.next_number.result c.next_number.ensures (λ fits. false≢true (sym c.if-not-is_in_shape.true ∙ c.is_in_shape.ensures.1 fits))
+    shape_broken c.args.initial.now c.args.before.now c.args.event.now (λ fits. false≢true (sym c.if-not-is_in_shape.true ∙ c.is_in_shape.ensures.1 fits))
 
 pub of_look-requires-clause-shape : goal.of_look-requires-clause-shape
 of_look-requires-clause-shape c = rw c.in-Look.is at (c.is_in_shape.ensures.0 c.if-not-is_in_shape.false)

@@ -9,6 +9,7 @@ returns c = record {
   session_notes = search rules;
   pending = search rules;
   begun_are = search rules;
+  commits = search rules;
   keys = written_none c.new_keys.result;
   tables = search rules;
 }

@@ -9,6 +9,9 @@ use Rattle.history_check.proofs.noting.note.Goals as goal
 pub note_cells-requires-clause-owner : goal.note_cells-requires-clause-owner
 note_cells-requires-clause-owner c = rw c.session_of.ensures at c.pending_in-owner.ensures
 
+pub note_commit-requires-clause-owner : goal.note_commit-requires-clause-owner
+note_commit-requires-clause-owner c = rw c.session_of.ensures at c.pending_in-owner.ensures
+
 pub overflow_add-notes-2 : goal.overflow_add-notes-2
 overflow_add-notes-2 c =
     let t = c.requires.notes.tables in
@@ -32,6 +35,7 @@ returns-clause-notes c =
       session_notes = c.in_ok-note_session.ensures;
       pending = c.in_ok-note_pending.ensures;
       begun_are = omega arith;
+      commits = c.in_ok-note_commit.ensures;
       keys = c.in_ok-note_written.ensures;
       tables = omega arith;
     }
