@@ -17,3 +17,5 @@ pub mod Strip
 pub mod WholeEvents
 pub mod Written
 pub mod DigitLemmas
+pub mod LeadingLemmas
+pub mod Taking

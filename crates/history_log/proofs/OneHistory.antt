@@ -41,7 +41,7 @@ joined_no_feed [] all = tt
 joined_no_feed (x ∷ []) all = no_feed x all.0
 joined_no_feed (x ∷ y ∷ xs) all = all_append (λ b. b ≢ 10) x (32 ∷ join_with_byte 32 (y ∷ xs)) (no_feed x all.0) ((λ e. omega arith), joined_no_feed (y ∷ xs) all.1)
 
-line_lacks : (words : List (List ℕ)) → AllByRecursion Ink words → Lacks 10 (line words)
+pub line_lacks : (words : List (List ℕ)) → AllByRecursion Ink words → Lacks 10 (line words)
 line_lacks words all = lacks_from 10 (line words) (joined_no_feed words all)
 
 cut_lines : (ls : List (List ℕ)) → AllByRecursion (Lacks 10) ls → cut_at 10 (whole_lines ls) ≡ ls ++ [] ∷ []

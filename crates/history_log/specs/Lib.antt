@@ -5,3 +5,4 @@ pub mod Log
 pub mod Draft
 pub mod Faults
 pub mod Rows
+pub mod Leading

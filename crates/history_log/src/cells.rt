@@ -1,9 +1,9 @@
 // Reads cells.
-ghost use Rattle.std.specs.Prelude.{◌≡◌, ◌∷◌, ◌++◌, decimal, IfSome};
+ghost use Rattle.std.specs.Prelude.{◌≡◌, ◌∷◌, ◌++◌, IfSome};
 ghost use Rattle.history_log.specs.Spelling.{kind_word, cell_word};
-ghost use Rattle.history_log.specs.Reading.{IsU32, FitsCell, IsCell, IsCellAfter, Finds, Reads};
+ghost use Rattle.history_log.specs.Reading.{FitsCell, IsCell, IsCellAfter, Finds, Reads};
 
-use crate::digits::leading_number;
+use crate::digits::{leading_number, number_before};
 use crate::fields::{take_end, take_key, take_number};
 use crate::misread::Misread;
 use crate::parts::Parts;
@@ -65,19 +65,11 @@ fn field_of(alloc: Global, parts: &mut Parts) -> Result<Cell, Misread>
     Ok(Cell::Field(table, key, column))
 }
 
-/// The number and the point that the text begins with, and what stands after them. `None` says nothing of the text.
-fn number_and_point(text: &[u8]) -> Option<(u32, &[u8])>
-    ensures { IfSome result (λ x. IsU32 x.0 × (text.now ≡ decimal x.0 ++ 46 ∷ x.1.now)) }
-{
-    let (number, rest) = leading_number(text)?;
-    Some((number, after_byte(rest, b'.')?))
-}
-
 /// The presence, of a key of few digits, that the text begins with, and what stands after it. `None` says nothing of the text.
 fn leading_presence(text: &[u8]) -> Option<(Cell, &[u8])>
     ensures { IfSome result (λ x. FitsCell x.0 × (112 ∷ 46 ∷ text.now ≡ cell_word x.0 ++ x.1.now)) }
 {
-    let (table, rest) = number_and_point(text)?;
+    let (table, rest) = number_before(text, b'.')?;
     let (key, rest) = leading_number(rest)?;
     Some((Cell::Presence(table, Key::Int(key as i64)), rest))
 }
@@ -86,8 +78,8 @@ fn leading_presence(text: &[u8]) -> Option<(Cell, &[u8])>
 fn leading_field(text: &[u8]) -> Option<(Cell, &[u8])>
     ensures { IfSome result (λ x. FitsCell x.0 × (102 ∷ 46 ∷ text.now ≡ cell_word x.0 ++ x.1.now)) }
 {
-    let (table, rest) = number_and_point(text)?;
-    let (key, rest) = number_and_point(rest)?;
+    let (table, rest) = number_before(text, b'.')?;
+    let (key, rest) = number_before(rest, b'.')?;
     let (column, rest) = leading_number(rest)?;
     Some((Cell::Field(table, Key::Int(key as i64), column), rest))
 }

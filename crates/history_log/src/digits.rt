@@ -2,6 +2,8 @@
 ghost use Rattle.std.specs.Prelude.{◌≡◌, ◌<◌, ◌+◌, ◌++◌, ◌∷◌, [], decimal, IfSome};
 ghost use Rattle.history_log.specs.Reading.{IsU32, IsNumber};
 
+use crate::words::after_byte;
+
 /// The digit that the byte is.
 fn digit_of(byte: u8) -> Option<u32>
     ensures { IfSome result (λ digit. (digit < 10) × (byte ≡ 48 + digit)) }
@@ -46,6 +48,14 @@ pub fn leading_number(text: &[u8]) -> Option<(u32, &[u8])>
         number = with_digit(number, digit)?;
     }
     Some((number, &text[text.len()..]))
+}
+
+/// The number and this byte after it that the text begins with, and what stands after them. `None` says nothing of the text.
+pub fn number_before(text: &[u8], byte: u8) -> Option<(u32, &[u8])>
+    ensures { IfSome result (λ x. IsU32 x.0 × (text.now ≡ decimal x.0 ++ byte ∷ x.1.now)) }
+{
+    let (number, rest) = leading_number(text)?;
+    Some((number, after_byte(rest, byte)?))
 }
 
 /// The number that the word is. `None` says nothing of the word.

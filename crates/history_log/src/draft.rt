@@ -47,6 +47,18 @@ fn has_initial(version: Version, initial: &[(Cell, Value)]) -> bool
     }
 }
 
+/// Whether the next line may be an event's.
+pub fn takes_events(draft: &Draft) -> bool
+    ensures place { IsTrue result → draft.now.place ≡ Place.Body }
+    ensures initial { IsTrue result → HasInitial draft.now.version draft.now.trace.initial }
+{
+    match draft.place {
+        Place::Body => has_initial(draft.version, draft.trace.initial.as_slice()),
+        Place::End => false,
+        Place::Done => false,
+    }
+}
+
 /// The next cell of the initial state.
 pub fn next_row(alloc: Global, draft: &Draft, words: &mut Parts) -> Result<(Cell, Value), Misread>
     requires { IsInitialState draft.now.trace.initial }

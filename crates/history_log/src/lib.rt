@@ -9,6 +9,7 @@ mod events;
 mod fields;
 mod keyword;
 mod laws;
+mod leading;
 mod line_event;
 mod lines;
 mod log_fault;

@@ -1,16 +1,20 @@
 // Takes the lines of a text into a draft.
-ghost use Rattle.std.specs.Prelude.{◌≡◌, ◌∷◌, ◌++◌, [], List, ℕ, ◌↔◌, IsTrue, OnOk, IsErrOf};
+ghost use Rattle.std.specs.Prelude.{◌≡◌, ◌≤◌, ◌∷◌, ◌++◌, [], List, ℕ, ◌↔◌, length, IsTrue, IfOk, OnOk, IsErrOf};
 ghost use Rattle.cell_base.specs.declared.cell.Cell.{Cell};
 ghost use Rattle.cell_base.specs.declared.value.Value.{Value};
 ghost use Rattle.history_core.specs.declared.event.Event.{Event};
+ghost use Rattle.history_log.specs.Cut.{cut_at};
 ghost use Rattle.history_log.specs.Spelling.{end_line};
 ghost use Rattle.history_log.specs.Draft.{IsRight, IsNextRow, IsNextEvent, IsNextOrder, said};
+ghost use Rattle.history_log.specs.Leading.{IsReadTo};
 ghost use Rattle.history_log.specs.Faults.{CanGoOn};
 
-use crate::draft::{Draft, Place, next_event, next_order, next_row};
+use crate::draft::{Draft, Place, next_event, next_order, next_row, takes_events};
 use crate::keyword::{Keyword, keyword_of};
+use crate::leading::leading_event;
 use crate::misread::Misread;
 use crate::parts::Parts;
+use cell_base::Memory;
 use std::alloc::Global;
 
 /// Takes the next line.
@@ -25,6 +29,30 @@ pub fn take_line(alloc: Global, draft: &mut Draft, line: &[u8]) -> Result<(), Mi
         Place::End => take_end_line(draft, line),
         Place::Done => Err(Misread::Form),
     }
+}
+
+/// Takes the lines that the text begins with, as long as each is of a read or a write of short numbers. Gives the number of
+/// the last line that has been taken, where `number` is that of the line before the text, and what stands after it.
+pub fn take_leading<'a>(
+    draft: &mut Draft,
+    number: u32,
+    text: &'a [u8],
+) -> Result<(u32, &'a [u8]), Memory>
+    requires { IsReadTo (said draft.old ++ cut_at 10 text.now) draft.old number text.now }
+    ensures read { IfOk result (λ x. IsReadTo (said draft.old ++ cut_at 10 text.now) draft.new x.0 x.1.now) }
+    ensures shorter { IfOk result (λ x. length x.1.now ≤ length text.now) }
+{
+    if !takes_events(draft) {
+        return Ok((number, text));
+    }
+    let mut last = number;
+    let mut rest = text;
+    while let Some((event, after)) = leading_event(rest) {
+        draft.trace.events.push(event)?;
+        last += 1;
+        rest = after;
+    }
+    Ok((last, rest))
 }
 
 /// Takes the end.

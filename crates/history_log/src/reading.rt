@@ -11,7 +11,7 @@ ghost use Rattle.history_log.specs.Faults.{IsCutInto, IsCutShort, HasLineFault, 
 
 use crate::Trace;
 use crate::draft::{Draft, Place};
-use crate::lines::take_line;
+use crate::lines::{take_leading, take_line};
 use crate::log_fault::LogFault;
 use crate::misread::Misread;
 use crate::parts::first_part;
@@ -89,7 +89,11 @@ fn read_lines(alloc: Global, draft: &mut Draft, text: &[u8]) -> Result<(), LogFa
     while let Some((line, after)) = first_part(rest, b'\n') {
         number += 1;
         match take_line(alloc, draft, line) {
-            Ok(()) => rest = after,
+            Ok(()) => {
+                let (last, left) = take_leading(draft, number, after)?;
+                number = last;
+                rest = left;
+            }
             Err(Misread::Form) => return Err(LogFault::Line(number)),
             Err(Misread::Memory) => return Err(LogFault::Memory),
         }

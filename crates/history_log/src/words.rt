@@ -1,5 +1,5 @@
 // Reads the words of a line.
-ghost use Rattle.std.specs.Prelude.{◌≡◌, ◌≢◌, ◌∷◌, ℕ, List, MatchOption};
+ghost use Rattle.std.specs.Prelude.{◌≡◌, ◌≢◌, ◌∷◌, ◌++◌, ℕ, List, IfSome, MatchOption};
 ghost use Rattle.history_log.specs.Reading.{IsNumber, IsInteger, IsHex, IsText, IsKey, IsNamedValue, IsValue, IsLevel, Finds, Reads};
 
 use crate::digits::few_digits;
@@ -100,6 +100,18 @@ pub fn after_byte(word: &[u8], byte: u8) -> Option<&[u8]>
     } else {
         None
     }
+}
+
+/// What stands after this word, where the text begins with it. `None` says nothing of the text.
+pub fn after_word<'a>(text: &'a [u8], word: &[u8]) -> Option<&'a [u8]>
+    ensures { IfSome result (λ rest. text.now ≡ word.now ++ rest.now) }
+{
+    let mut rest = text;
+    for byte in word {
+        let after = after_byte(rest, *byte)?;
+        rest = after;
+    }
+    Some(rest)
 }
 
 /// The text: an `x` and lower-case hex digits of UTF-8.

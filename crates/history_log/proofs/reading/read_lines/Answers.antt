@@ -1,4 +1,4 @@
-use Rattle.std.proofs.Common.{◌≡◌, ◌≢◌, ℕ, ◌+◌, List, [], ◌∷◌, ◌++◌, Result, Ok, Err, refl, sym, ap, ◌∙◌, subst}
+use Rattle.std.proofs.Common.{◌≡◌, ◌≢◌, ℕ, ◌+◌, List, [], ◌∷◌, ◌++◌, Result, Ok, Err, refl, sym, ap, ◌∙◌, subst, arith}
 use Rattle.std.specs.Prelude.{OnOk, IfErr, IsErrOf}
 use Rattle.history_log.specs.declared.log_fault.LogFault.{LogFault}
 use Rattle.history_log.specs.declared.log_fault.LogFault.TheVariants as faults
@@ -14,14 +14,28 @@ use Rattle.history_log.proofs.reading.read_lines.Goals as goal
 err_form : (m : Misread) → m ≡ Form → IsErrOf {T = Unit {0}} (Err m) Form
 err_form m e = ap (λ (x : Misread). Err x) e
 
+pub take_leading-requires : goal.take_leading-requires
+take_leading-requires c = record {
+  right = c.in-Ok.ensures.right;
+  cut = refl;
+  count = step_count (said c.loop-line.draft) (said c.take_line.new.draft) c.in-Some.line.now c.loop-line.number c.loop-line.invariant.2 c.in-Ok.ensures.said;
+  room = (step_room c.loop-line.rest.now c.in-Some.line.now c.in-Some.after.now c.loop-line.number c.in-Some.ensures.some c.loop-line.invariant.3).0;
+}
+
 pub loop-line-preserved : goal.loop-line-preserved
-loop-line-preserved c = (
-  c.in-Ok.ensures.right,
-  step_parts (said c.args.draft.now ++ cut_at 10 c.args.text.now) (said c.loop-line.draft) (said c.take_line.new.draft) c.loop-line.rest.now c.in-Some.line.now c.in-Some.after.now
-      c.loop-line.invariant.1 c.in-Some.ensures.some c.in-Some.ensures.first c.in-Ok.ensures.said,
-  step_count (said c.loop-line.draft) (said c.take_line.new.draft) c.in-Some.line.now c.loop-line.number c.loop-line.invariant.2 c.in-Ok.ensures.said,
-  (step_room c.loop-line.rest.now c.in-Some.line.now c.in-Some.after.now c.loop-line.number c.in-Some.ensures.some c.loop-line.invariant.3).0,
-)
+loop-line-preserved c =
+    let read = c.in_ok-last-in-Ok.ensures.read in (
+      read.right,
+      step_parts (said c.args.draft.now ++ cut_at 10 c.args.text.now) (said c.loop-line.draft) (said c.take_line.new.draft) c.loop-line.rest.now c.in-Some.line.now c.in-Some.after.now
+          c.loop-line.invariant.1 c.in-Some.ensures.some c.in-Some.ensures.first c.in-Ok.ensures.said ∙ read.cut,
+      read.count,
+      read.room,
+    )
+
+pub loop-line-smaller : goal.loop-line-smaller
+loop-line-smaller c =
+    let less = (step_room c.loop-line.rest.now c.in-Some.line.now c.in-Some.after.now c.loop-line.number c.in-Some.ensures.some c.loop-line.invariant.3).1 in
+    omega (arith, less, c.in_ok-last-in-Ok.ensures.shorter)
 
 pub returns-in-Err-Form-clause-fault : goal.returns-in-Err-Form-clause-fault
 returns-in-Err-Form-clause-fault c = λ other.
