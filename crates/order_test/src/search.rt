@@ -20,7 +20,7 @@ use crate::places::{Places, places_of, stands_before};
 use crate::quick::{is_clear, is_reached};
 use crate::reaches::{CellReaches, reaches_of};
 use crate::records::txns_of;
-use crate::rivals::{is_reading, origin, rival_cell};
+use crate::rivals::{is_reading, origin, rival_cell, source_of};
 use crate::sessions::{first_out_of_session, is_late, txn_of};
 use crate::unmet::is_rival;
 use cell_base::Memory;
@@ -90,7 +90,7 @@ fn axiom_of(
     }
 }
 
-/// Whether it is clear from what is light that the order keeps what the read or scan asks.
+/// Whether it is clear from what is light that the order keeps what the read or scan asks, which is from the source.
 fn read_is_reached(
     events: &[Event],
     order: &[u32],
@@ -101,13 +101,15 @@ fn read_is_reached(
     place: usize,
     event: &Event,
     reader: u32,
+    source: u32,
 ) -> bool
     requires survey { IsSurvey events.now order.now places.now cells.now glance.now reaches.now }
     requires orderly { IsOrderly events.now }
     requires read { IsReadAt events.now place event.now reader }
+    requires source { source ≡ origin_of event.now }
     ensures { IsTrue result → IsKeptAt events.now order.now place }
 {
-    if !stands_before(places, origin(event), reader) {
+    if !stands_before(places, source, reader) {
         return false;
     }
     is_reached(
@@ -131,13 +133,15 @@ fn event_is_reached(
     ensures { IsTrue result → IsKeptAt events.now order.now place }
 {
     let event = &events[place];
-    if !is_reading(event) {
-        return true;
+    match source_of(event) {
+        Some(source) => {
+            let reader = glance.owners[place];
+            read_is_reached(
+                events, order, places, cells, glance, reaches, place, event, reader, source,
+            )
+        }
+        None => true,
     }
-    let reader = glance.owners[place];
-    read_is_reached(
-        events, order, places, cells, glance, reaches, place, event, reader,
-    )
 }
 
 /// The first event of which what is light doesn't show that the order keeps what it asks, or the end.
