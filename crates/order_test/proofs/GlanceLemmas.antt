@@ -1,12 +1,11 @@
 -- How what is light goes on standing for the events.
-use Rattle.std.proofs.Common.{◌≡◌, ℕ, ◌+◌, ◌<◌, ◌≤◌, List, [], ◌∷◌, ◌++◌, Bool, false, cond, length, get_or, set, replicate, arith, refl, ap, sym, ◌∙◌, subst, inl, inr, ◌⊎◌}
+use Rattle.std.proofs.Common.{◌≡◌, ℕ, ◌+◌, ◌-◌, ◌<◌, ◌≤◌, List, [], ◌∷◌, ◌++◌, Bool, false, length, get_or, set, take, replicate, arith, refl, ap, sym, ◌∙◌, subst, inl, inr, ◌⊎◌}
 use Rattle.std.specs.Prelude.{IsTrue}
-use Rattle.std.proofs.lemmas.List.{length_push, length-set, length-replicate, get_or-replicate, get_or_append_left, get_or_push}
+use Rattle.std.proofs.lemmas.List.{length_push, length-set, length-append, length-replicate, get_or-replicate, get_or_append_left, get_or-append_right, get_or_push, take_all}
 use Rattle.std.proofs.lemmas.Bool.{cases_eq, cases_lt, false≢true}
 use Rattle.txn_buffer.proofs.Lists.{slice_get_push_cases}
 use Rattle.graph_base.specs.Order.{place_of}
 use Rattle.graph_base.proofs.Chains.{last_pair}
-use Rattle.graph_base.proofs.Places.{count_by-push}
 use Rattle.cell_base.specs.declared.level.Level.{Level}
 use Rattle.cell_base.specs.declared.cell.Cell.{Cell}
 use Rattle.cell_base.specs.declared.value.Value.{Value}
@@ -22,52 +21,93 @@ use Rattle.saturation.proofs.Decides.{start_exists}
 use Rattle.further_reads.specs.Begun.{ForcesNothing, with_begin, IsLastBegun}
 use Rattle.further_reads.proofs.Lasts.{last_begun_none, last_begun_still, last_begun_other, last_begun_now}
 use Rattle.further_reads.proofs.Sources.{begins_nothing}
-use Rattle.order_test.specs.declared.glance.Size.{Size}
 use Rattle.order_test.specs.declared.glance.Glance.{Glance}
 use Rattle.order_test.specs.Unkept.{KeepsSessions, StandsBefore}
 use Rattle.order_test.specs.Places.{ArePlaces, StandsAt}
-use Rattle.order_test.specs.Glance.{IsSizeOf, AreLast, AreOwners, AreLimits, IsScan, TellsScans, IsNoted, IsGlance, AddsLimit, RaisesLimit}
+use Rattle.order_test.specs.Glance.{AreWithin, HoldsLast, IsWidened, AreOwners, AreLimits, IsScan, TellsScans, IsNoted, IsGlance, AddsLimit, RaisesLimit}
 use Rattle.order_test.proofs.Closing.{read_past_back, other_past_back, begun_first, begin_past_back, begin_past_new}
 use Rattle.order_test.proofs.PastSteps.{at_set}
 use Rattle.order_test.proofs.SearchLemmas.{less_unless}
 
--- ---- sizes
-
-pub size_none : (size : Size) → size.started ≡ 0 → size.width ≡ 1 → IsSizeOf [] size
-size_none size none one = record { some = omega arith; within = λ k event is. cc; started = none }
-
-pub size_push :
-    (events : List Event) (e : Event) (old new : Size) → old.width ≤ new.width → session_in e < new.width → new.started ≡ old.started + begun (e ∷ []) → IsSizeOf events old →
-    IsSizeOf (events ++ e ∷ []) new
-size_push events e old new wider here counts is = record {
-  some = let h = is.some in omega arith;
-  within = λ k f at. elim (slice_get_push_cases events e k f at) [
-    | inl before ↦ let h = is.within k f before.1 in omega arith
-    | inr now ↦ subst (λ (g : Event). session_in g < new.width) now.1 here
-  ];
-  started =
-      let all : begun (events ++ e ∷ []) ≡ begun events + cond (is_begin e) 1 0 = count_by-push is_begin events e in
-      let one : begun (e ∷ []) ≡ 0 + cond (is_begin e) 1 0 = count_by-push is_begin [] e in
-      let was = is.started in omega arith;
-}
-
 -- ---- the last transactions of sessions
 
-pub last_still : (events : List Event) (e : Event) (width : ℕ) (last : List ℕ) → is_begin e ≡ false → AreLast events width last → AreLast (events ++ e ∷ []) width last
-last_still events e width last none are s small = last_begun_still events e s (get_or last s 0) none (are s small)
+within_push : (events : List Event) (e : Event) (width : ℕ) → session_in e < width → AreWithin width events → AreWithin width (events ++ e ∷ [])
+within_push events e width here within k f at = elim (slice_get_push_cases events e k f at) [
+  | inl before ↦ within k f before.1
+  | inr now ↦ subst (λ (g : Event). session_in g < width) now.1 here
+]
+
+pub last_still :
+    (events : List Event) (e : Event) (last : List ℕ) → is_begin e ≡ false → session_in e < length last → HoldsLast events last → HoldsLast (events ++ e ∷ []) last
+last_still events e last none here holds = record {
+  some = holds.some;
+  within = within_push events e (length last) here holds.within;
+  each = λ s small. last_begun_still events e s (get_or last s 0) none (holds.each s small);
+}
 
 last_begins :
-    (events : List Event) (s : ℕ) (level : Level) (width : ℕ) (last : List ℕ) → s < length last → AreLast events width last →
-    AreLast (with_begin events s level) width (set last s (begun events + 1))
-last_begins events s level width last within are t small =
-    elim (at_set last s (begun events + 1) t within) [
-      | inl here ↦
-          subst (λ (m : ℕ). IsLastBegun (with_begin events s level) t m) (sym here.1)
-          (subst (λ (r : ℕ). IsLastBegun (with_begin events s level) r (begun events + 1)) (sym here.0) (last_begun_now events s level))
-      | inr other ↦
-          subst (λ (m : ℕ). IsLastBegun (with_begin events s level) t m) (sym other.1)
-          (last_begun_other events s level t (get_or last t 0) other.0 (are t small))
-    ]
+    (events : List Event) (s : ℕ) (level : Level) (last : List ℕ) → s < length last → HoldsLast events last →
+    HoldsLast (with_begin events s level) (set last s (begun events + 1))
+last_begins events s level last here holds =
+    let long : length (set last s (begun events + 1)) ≡ length last = length-set last s (begun events + 1) in
+    let some : 0 < length last = holds.some in
+    record {
+      some = omega arith;
+      within = subst (λ (n : ℕ). AreWithin n (with_begin events s level)) (sym long) (within_push events (Begin s level) (length last) here holds.within);
+      each = λ t small. elim (at_set last s (begun events + 1) t here) [
+        | inl same ↦
+            subst (λ (m : ℕ). IsLastBegun (with_begin events s level) t m) (sym same.1)
+            (subst (λ (r : ℕ). IsLastBegun (with_begin events s level) r (begun events + 1)) (sym same.0) (last_begun_now events s level))
+        | inr other ↦
+            subst (λ (m : ℕ). IsLastBegun (with_begin events s level) t m) (sym other.1)
+            (last_begun_other events s level t (get_or last t 0) other.0 (holds.each t (omega arith)))
+      ];
+    }
+
+-- ---- room for the last transactions
+
+pub widened :
+    (width size : ℕ) (old new : List ℕ) → size ≡ length old → length old ≤ width → new ≡ take width old ++ replicate {A = ℕ} (width - size) 0 → IsWidened width old new
+widened width size old new same wider is =
+    let more : List ℕ = replicate {A = ℕ} (width - size) 0 in
+    let front : take width old ≡ old = take_all width old wider in
+    let whole : new ≡ old ++ more = is ∙ ap (λ (xs : List ℕ). xs ++ more) front in
+    let all : length new ≡ length (old ++ more) = ap length whole in
+    let sum : length (old ++ more) ≡ length old + length more = length-append old more in
+    let long : length more ≡ width - size = length-replicate (width - size) 0 in
+    record {
+      wider = wider;
+      count = omega arith;
+      kept = λ s small. ap (λ (xs : List ℕ). get_or xs s 0) whole ∙ get_or_append_left old more 0 s small;
+      zeros = λ s past small.
+          let right : get_or (old ++ more) s 0 ≡ get_or more (s - length old) 0 = get_or-append_right old more (length old) s 0 refl past in
+          let zero : get_or more (s - length old) 0 ≡ 0 = get_or-replicate (width - size) (s - length old) 0 0 (omega arith) in
+          ap (λ (xs : List ℕ). get_or xs s 0) whole ∙ right ∙ zero;
+    }
+
+-- a session that no event is one of has begun none
+none_begun : (events : List Event) (s width : ℕ) → AreWithin width events → width ≤ s → IsLastBegun events s 0
+none_begun events s width within past = record {
+  is = inl refl;
+  latest = λ other place start. let h : s < width = within place (Begin s start.level) start.is in absurd (omega arith);
+}
+
+pub last_widened : (events : List Event) (width : ℕ) (old new : List ℕ) → IsWidened width old new → HoldsLast events old → HoldsLast events new
+last_widened events width old new is holds =
+    let some : 0 < length old = holds.some in
+    let wider : length old ≤ width = is.wider in
+    let long : length new ≡ width = is.count in
+    record {
+      some = omega arith;
+      within = λ k e at. let h : session_in e < length old = holds.within k e at in omega arith;
+      each = λ s small. elim (cases_lt s (length old)) [
+        | inl here ↦ subst (λ (n : ℕ). IsLastBegun events s n) (sym (is.kept s here)) (holds.each s here)
+        | inr past ↦ subst (λ (n : ℕ). IsLastBegun events s n) (sym (is.zeros s past (omega arith))) (none_begun events s (length old) holds.within past)
+      ];
+    }
+
+pub room_widened : (e : Event) (session : ℕ) (old new : List ℕ) → session ≡ session_in e → IsWidened (session + 1) old new → session_in e < length new
+room_widened e session old new same is = let long : length new ≡ session + 1 = is.count in omega arith
 
 -- ---- limits of causal pasts
 
@@ -245,12 +285,19 @@ scans_push events e told here before k f at scan = elim (slice_get_push_cases ev
 -- ---- all of it
 
 pub glance_none :
-    (order : List ℕ) (width : ℕ) (glance : Glance) → glance.last.items ≡ replicate {A = ℕ} width 0 → glance.owners.items ≡ [] → glance.limits.items ≡ 0 ∷ [] → IsGlance [] order glance
-glance_none order width glance lasts owners limits = record {
-  last = λ s small.
-      let long : length glance.last.items ≡ width = ap length lasts ∙ length-replicate width 0 in
-      let zero : get_or glance.last.items s 0 ≡ 0 = ap (λ (xs : List ℕ). get_or xs s 0) lasts ∙ get_or-replicate width s 0 0 (omega arith) in
-      subst (λ (n : ℕ). IsLastBegun [] s n) (sym zero) (last_begun_none s);
+    (order : List ℕ) (glance : Glance) → glance.last.items ≡ 0 ∷ [] → glance.owners.items ≡ [] → glance.limits.items ≡ 0 ∷ [] → IsGlance [] order glance
+glance_none order glance lasts owners limits = record {
+  last =
+      let first : List ℕ = 0 ∷ [] in
+      let one : length first ≡ 1 = refl in
+      subst (λ (xs : List ℕ). HoldsLast [] xs) (sym lasts) record {
+        some = omega arith;
+        within = λ k event is. cc;
+        each = λ s small.
+            let number : s ≡ 0 = omega arith in
+            let zero : get_or first s 0 ≡ 0 = ap (λ (i : ℕ). get_or first i 0) number in
+            subst (λ (n : ℕ). IsLastBegun [] s n) (sym zero) (last_begun_none s);
+      };
   owners = record { count = ap length owners; each = λ k event is. cc };
   limits = record {
     count = ap length limits;
@@ -271,7 +318,7 @@ pub glance_still :
 glance_still events order e owner glance nothing none_scan noted =
     let none : is_begin e ≡ false = begins_nothing e nothing in
     record {
-      last = last_still events e (length glance.last.items) glance.last.items none noted.last;
+      last = last_still events e glance.last.items none noted.within noted.last;
       owners = noted.owners;
       limits = limits_still events e glance.limits.items nothing noted.limits;
       keeps = λ h. keeps_still events e order none (noted.keeps h);
@@ -284,12 +331,10 @@ pub glance_begin :
 glance_begin events sound order places s level last old new are noted adds =
     let number : length old.limits.items ≡ begun events + 1 = noted.limits.count in
     let lasts : set old.last.items s (begun events + 1) ≡ new.last.items = ap (λ (n : ℕ). set old.last.items s n) (sym number) ∙ sym adds.last_is in
-    let width : length old.last.items ≡ length new.last.items = sym (length-set old.last.items s (length old.limits.items)) ∙ ap length (sym adds.last_is) in
     record {
       last =
-          subst (λ (n : ℕ). AreLast (with_begin events s level) n new.last.items) width
-          (subst (λ (xs : List ℕ). AreLast (with_begin events s level) (length old.last.items) xs) lasts
-          (last_begins events s level (length old.last.items) old.last.items noted.within noted.last));
+          subst (λ (xs : List ℕ). HoldsLast (with_begin events s level) xs) lasts
+          (last_begins events s level old.last.items noted.within noted.last);
       owners = subst (λ (xs : List ℕ). AreOwners (with_begin events s level) xs) (sym adds.owners) noted.owners;
       limits =
           subst (λ (xs : List ℕ). AreLimits (with_begin events s level) xs) (sym adds.limits)

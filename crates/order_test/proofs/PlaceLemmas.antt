@@ -6,7 +6,7 @@ use Rattle.std.proofs.lemmas.Option.{slice_get_within, get_or_from_slice_get, sl
 use Rattle.std.proofs.lemmas.Bool.{cases_eq}
 use Rattle.std.proofs.lemmas.Bool.Decides.{nat_tests}
 use Rattle.graph_base.specs.Order.{place_of}
-use Rattle.graph_base.proofs.Fronts.{place_of-once, once_from_fresh, front_place}
+use Rattle.graph_base.proofs.Fronts.{place_of-once, once_from_fresh, front_place, length_from_once}
 use Rattle.order_test.specs.Unkept.{HoldsAll}
 use Rattle.order_test.specs.Places.{AreBelow, ArePlaces, StandOnce}
 
@@ -89,3 +89,7 @@ once_from_holds size order holds k n is =
     let within : k < length order = slice_get_within order k n is in
     let read : get_or order k 0 ≡ n = get_or_from_slice_get order k n 0 is in
     place_of-once order k n 0 within read (holds.once.once n (subst (λ (m : ℕ). m < size) read (holds.once.below k 0 within)))
+
+-- an order that holds each number below a size has as many, so it holds each below its own length
+pub holds_own : (size : ℕ) (order : List ℕ) → HoldsAll size order → HoldsAll (length order) order
+holds_own size order holds = subst (λ (n : ℕ). HoldsAll n order) (sym (length_from_once size order holds.once)) holds

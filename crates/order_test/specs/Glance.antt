@@ -6,7 +6,6 @@ use Rattle.history_core.specs.declared.event.Event.TheVariants.{Scan}
 use Rattle.history_core.specs.Events.{begun, session_in}
 use Rattle.history_core.specs.Relations.{PrecedesCausally}
 use Rattle.further_reads.specs.Begun.{IsLastBegun}
-use Rattle.order_test.specs.declared.glance.Size.{Size}
 use Rattle.order_test.specs.declared.glance.Glance.{Glance}
 use Rattle.order_test.specs.Unkept.{KeepsSessions}
 use Rattle.order_test.specs.Places.{StandsAt}
@@ -15,15 +14,22 @@ use Rattle.order_test.specs.Places.{StandsAt}
 abbrev pub AreWithin : ℕ → List Event → Type 0
 AreWithin width events = (k : ℕ) (event : Event) → slice_get events k ≡ Some event → session_in event < width
 
--- how many transactions have begun, and a number above those of all sessions
-pub record IsSizeOf (events : List Event) (size : Size) : Type 0 where
-  pub some : 0 < size.width
-  pub within : AreWithin size.width events
-  pub started : size.started ≡ begun events
-
 -- at each session below the width stands the last transaction that it has begun
 abbrev pub AreLast : List Event → ℕ → List ℕ → Type 0
 AreLast events width last = (session : ℕ) → session < width → IsLastBegun events session (slice_index last session)
+
+-- there is room for one session at least and for that of each event, and at each stands the last transaction that it has begun
+pub record HoldsLast (events : List Event) (last : List ℕ) : Type 0 where
+  pub some : 0 < length last
+  pub within : AreWithin (length last) events
+  pub each : AreLast events (length last) last
+
+-- the list is lengthened to the width, by zeros
+pub record IsWidened (width : ℕ) (old new : List ℕ) : Type 0 where
+  pub wider : length old ≤ width
+  pub count : length new ≡ width
+  pub kept : (session : ℕ) → session < length old → slice_index new session ≡ slice_index old session
+  pub zeros : (session : ℕ) → length old ≤ session → session < width → slice_index new session ≡ 0
 
 -- beside each event stands the last transaction that its session had begun before it
 pub record AreOwners (events : List Event) (owners : List ℕ) : Type 0 where
@@ -49,7 +55,7 @@ abbrev pub TellsScans : List Event → Bool → Type 0
 TellsScans events told = (k : ℕ) (event : Event) → slice_get events k ≡ Some event → IsScan event → IsTrue told
 
 pub record IsGlance (events : List Event) (order : List ℕ) (glance : Glance) : Type 0 where
-  pub last : AreLast events (length glance.last.items) glance.last.items
+  pub last : HoldsLast events glance.last.items
   pub owners : AreOwners events glance.owners.items
   pub limits : AreLimits events glance.limits.items
   pub keeps : IsTrue glance.keeps → KeepsSessions events order
@@ -57,7 +63,7 @@ pub record IsGlance (events : List Event) (order : List ℕ) (glance : Glance) :
 
 -- what was light before the event, and its transaction, which stands beside it
 pub record IsNoted (events : List Event) (order : List ℕ) (event : Event) (owner : ℕ) (glance : Glance) : Type 0 where
-  pub last : AreLast events (length glance.last.items) glance.last.items
+  pub last : HoldsLast events glance.last.items
   pub owners : AreOwners (events ++ event ∷ []) glance.owners.items
   pub limits : AreLimits events glance.limits.items
   pub keeps : IsTrue glance.keeps → KeepsSessions events order

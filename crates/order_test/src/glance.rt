@@ -1,27 +1,20 @@
 // What is light of the events, found in one pass over them.
-ghost use Rattle.std.specs.Prelude.{◌≡◌, ◌≤◌, ◌<◌, ◌+◌, ◌∷◌, ◌++◌, [], IsTrue, IfOk, OnOk, length};
-ghost use Rattle.history_core.specs.Events.{begun, session_in};
+ghost use Rattle.std.specs.Prelude.{◌≡◌, ◌≤◌, ◌<◌, ◌∷◌, ◌++◌, [], IsTrue, IfOk, OnOk, length};
+ghost use Rattle.history_core.specs.Events.{session_in};
 ghost use Rattle.further_reads.specs.Begun.{IsLastBegun};
 ghost use Rattle.order_test.specs.Settled.{ComesSettled, IsOrderly};
 ghost use Rattle.order_test.specs.Places.{ArePlaces, StandsAt};
-ghost use Rattle.order_test.specs.Glance.{AreWithin, IsSizeOf, AreLast, AreOwners, IsGlance, IsNoted, AddsLimit, RaisesLimit};
+ghost use Rattle.order_test.specs.Glance.{AreLast, HoldsLast, IsWidened, AreOwners, IsGlance, IsNoted, AddsLimit, RaisesLimit};
 
 use crate::places::{Places, stands_before};
 use cell_base::Memory;
 use history_core::Event;
 use std::alloc::Global;
 
-/// How many transactions have begun, and a number above those of all sessions.
-#[derive(Debug, Drop)]
-pub struct Size {
-    pub started: usize,
-    pub width: usize,
-}
-
 /// What the events so far come to, as far as it is light.
 #[derive(Debug, Drop)]
 pub struct Glance {
-    /// For each session the last transaction that it has begun, 0 where it has begun none.
+    /// For each session up to the greatest one so far the last transaction that it has begun, 0 where it has begun none.
     pub last: Vec<u32>,
     /// For each event that last transaction of its session.
     pub owners: Vec<u32>,
@@ -53,59 +46,21 @@ fn session_of(event: &Event) -> u32
     }
 }
 
-/// How many transactions the event begins: one or none.
-fn beginnings(event: &Event) -> usize
-    ensures value { result ≡ begun (event.now ∷ []) }
-    ensures small { result < 2 }
+/// The limit of the initial transaction, with room for so many limits.
+fn first_limits(alloc: Global, room: usize) -> Result<Vec<u32>, Memory>
+    ensures { IfOk result (λ limits. limits.items ≡ 0 ∷ []) }
 {
-    match event {
-        Event::Begin { .. } => 1,
-        Event::Open { .. } => 0,
-        Event::Close { .. } => 0,
-        Event::Define { .. } => 0,
-        Event::Look { .. } => 0,
-        Event::Scan { .. } => 0,
-        Event::Read { .. } => 0,
-        Event::Own { .. } => 0,
-        Event::Write { .. } => 0,
-        Event::Commit { .. } => 0,
-        Event::Rollback { .. } => 0,
-        Event::Show { .. } => 0,
-    }
+    let mut limits = Vec::with_capacity(alloc, room)?;
+    limits.push(0)?;
+    Ok(limits)
 }
 
-/// Counts the event.
-fn count(size: &mut Size, before: &[Event], event: &Event)
-    requires size { IsSizeOf before.now size.old }
-    requires few { length before.now < 4294967296 }
-    ensures { IsSizeOf (before.now ++ event.now ∷ []) size.new }
+/// No event yet, of so many that there is room for, and for as many transactions as the order has.
+fn no_glance(alloc: Global, order: &[u32], room: usize) -> Result<Glance, Memory>
+    ensures { IfOk result (IsGlance [] order.now) }
 {
-    size.width = size.width.max(session_of(event) as usize + 1);
-    size.started += beginnings(event);
-}
-
-/// How many transactions have begun, and a number above those of all sessions.
-pub fn size_of(events: &[Event]) -> Size
-    requires few { length events.now < 4294967296 }
-    ensures { IsSizeOf events.now result }
-{
-    let mut size = Size {
-        started: 0,
-        width: 1,
-    };
-    for at in 0..events.len() {
-        count(&mut size, &events[..at], &events[at]);
-    }
-    size
-}
-
-/// No event yet, of so many that there is room for.
-fn no_glance(alloc: Global, _order: &[u32], width: usize, room: usize) -> Result<Glance, Memory>
-    ensures glance { IfOk result (IsGlance [] _order.now) }
-    ensures width { IfOk result (λ glance. length glance.last.items ≡ width) }
-{
-    let last = vec![in alloc; 0; width]?;
-    let limits = vec![in alloc; 0; 1]?;
+    let last = vec![in alloc; 0; 1]?;
+    let limits = first_limits(alloc, order.len())?;
     let owners = Vec::with_capacity(alloc, room)?;
     Ok(Glance {
         last,
@@ -135,8 +90,7 @@ fn note_begin(glance: &mut Glance, places: &Places, session: u32, last: u32) -> 
     requires last { last < length glance.old.limits.items }
     requires session { session < length glance.old.last.items }
     requires few { length glance.old.limits.items < 4294967296 }
-    ensures width { length glance.new.last.items ≡ length glance.old.last.items }
-    ensures adds { OnOk result (AddsLimit places.now.at.items session last glance.old glance.new) }
+    ensures { OnOk result (AddsLimit places.now.at.items session last glance.old glance.new) }
 {
     let number = glance.limits.len() as u32;
     let limit = greater(last, glance.limits[last as usize]);
@@ -169,8 +123,7 @@ fn note_change(
     requires comes { ComesSettled before.now event.now }
     requires places { ArePlaces (length places.now.at.items) order.now places.now.at.items }
     requires few { length before.now < 4294967295 }
-    ensures width { length glance.new.last.items ≡ length glance.old.last.items }
-    ensures glance { OnOk result (IsGlance (before.now ++ event.now ∷ []) order.now glance.new) }
+    ensures { OnOk result (IsGlance (before.now ++ event.now ∷ []) order.now glance.new) }
 {
     match event {
         Event::Begin { session, .. } => note_begin(glance, places, *session, last),
@@ -192,6 +145,28 @@ fn note_change(
         Event::Rollback { .. } => Ok(()),
         Event::Show { .. } => Ok(()),
     }
+}
+
+/// Lengthens the list by zeros.
+fn widen(last: &mut Vec<u32>, width: usize) -> Result<(), Memory>
+    requires { length last.old.items ≤ width }
+    ensures { OnOk result (IsWidened width last.old.items last.new.items) }
+{
+    last.resize(width, 0)?;
+    Ok(())
+}
+
+/// Makes room for the last transaction of the event's session. Where there was none, the session has begun none.
+fn make_room(last: &mut Vec<u32>, before: &[Event], event: &Event) -> Result<(), Memory>
+    requires { HoldsLast before.now last.old.items }
+    ensures last { OnOk result (HoldsLast before.now last.new.items) }
+    ensures within { OnOk result (session_in event.now < length last.new.items) }
+{
+    let session = session_of(event);
+    if (session as usize) < last.len() {
+        return Ok(());
+    }
+    widen(last, session as usize + 1)
 }
 
 /// The last transaction of the event's session.
@@ -228,32 +203,29 @@ fn note(
 ) -> Result<(), Memory>
     requires glance { IsGlance before.now order.now glance.old }
     requires comes { ComesSettled before.now event.now }
-    requires within { session_in event.now < length glance.old.last.items }
     requires places { ArePlaces (length places.now.at.items) order.now places.now.at.items }
     requires few { length before.now < 4294967295 }
-    ensures width { length glance.new.last.items ≡ length glance.old.last.items }
-    ensures glance { OnOk result (IsGlance (before.now ++ event.now ∷ []) order.now glance.new) }
+    ensures { OnOk result (IsGlance (before.now ++ event.now ∷ []) order.now glance.new) }
 {
+    make_room(&mut glance.last, before, event)?;
     let owner = owner_of(glance, before, event);
     note_owner(&mut glance.owners, before, event, owner)?;
     note_change(glance, places, order, before, event, owner)
 }
 
-/// What is light of the events. All sessions are below the width.
+/// What is light of the events.
 pub fn glance_of(
     alloc: Global,
     events: &[Event],
     order: &[u32],
     places: &Places,
-    width: usize,
 ) -> Result<Glance, Memory>
     requires orderly { IsOrderly events.now }
-    requires within { AreWithin width events.now }
     requires places { ArePlaces (length places.now.at.items) order.now places.now.at.items }
     requires few { length events.now < 4294967296 }
     ensures { IfOk result (IsGlance events.now order.now) }
 {
-    let mut glance = no_glance(alloc, order, width, events.len())?;
+    let mut glance = no_glance(alloc, order, events.len())?;
     for at in 0..events.len() {
         note(&mut glance, places, order, &events[..at], &events[at])?;
     }

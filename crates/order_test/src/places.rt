@@ -57,22 +57,22 @@ fn begins_with_first(order: &[u32]) -> bool
     }
 }
 
-/// Whether the order has as many numbers as the size says, all below it, and 0 first.
-fn fits(order: &[u32], size: usize) -> bool
-    ensures { IsTrue result ↔ ((length order.now ≡ size) × AreBelow size order.now × (slice_get order.now 0 ≡ Some 0)) }
+/// Whether all numbers of the order are below its length, and 0 is the first.
+fn fits(order: &[u32]) -> bool
+    ensures { IsTrue result ↔ (AreBelow (length order.now) order.now × (slice_get order.now 0 ≡ Some 0)) }
 {
-    order.len() == size && are_below(order, size) && begins_with_first(order)
+    are_below(order, order.len()) && begins_with_first(order)
 }
 
-/// The place of each number below the size, where the order holds each of them once, and 0 first.
-pub fn places_of(alloc: Global, order: &[u32], size: usize) -> Result<Option<Places>, Memory>
-    ensures { IfOk result (IsPlaced size order.now) }
+/// The place of each number below the length of the order, where the order holds each of them once, and 0 first.
+pub fn places_of(alloc: Global, order: &[u32]) -> Result<Option<Places>, Memory>
+    ensures { IfOk result (IsPlaced (length order.now) order.now) }
 {
-    if !fits(order, size) {
+    if !fits(order) {
         return Ok(None);
     }
-    let at = first_places(alloc, order, size)?;
-    if !stand_once(order, &at, size) {
+    let at = first_places(alloc, order, order.len())?;
+    if !stand_once(order, &at, order.len()) {
         return Ok(None);
     }
     Ok(Some(Places { at }))

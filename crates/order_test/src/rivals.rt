@@ -32,6 +32,27 @@ pub fn origin(event: &Event) -> u32
     }
 }
 
+/// The transaction that a read is from, and the initial one for a scan. `None` where nothing is read.
+pub fn source_of(event: &Event) -> Option<u32>
+    ensures some { IfSome result (λ source. IsReading event.now × (source ≡ origin_of event.now)) }
+    ensures none { IfNone result (¬ IsReading event.now) }
+{
+    match event {
+        Event::Read { source, .. } => Some(*source),
+        Event::Scan { .. } => Some(0),
+        Event::Open { .. } => None,
+        Event::Close { .. } => None,
+        Event::Define { .. } => None,
+        Event::Look { .. } => None,
+        Event::Begin { .. } => None,
+        Event::Own { .. } => None,
+        Event::Write { .. } => None,
+        Event::Commit { .. } => None,
+        Event::Rollback { .. } => None,
+        Event::Show { .. } => None,
+    }
+}
+
 /// Whether the event is a read or a scan.
 pub fn is_reading(event: &Event) -> bool
     ensures { IsTrue result ↔ IsReading event.now }

@@ -1,26 +1,26 @@
 // The first that an order doesn't keep.
-ghost use Rattle.std.specs.Prelude.{◌≡◌, ◌≤◌, ◌<◌, ◌+◌, ℕ, Some, IsTrue, IfOk, IfSome, IfNone, length};
+ghost use Rattle.std.specs.Prelude.{◌≡◌, ◌≤◌, ◌<◌, ◌+◌, ◌↔◌, ℕ, Some, IsTrue, IfOk, IfSome, IfNone, length};
 ghost use Rattle.history_core.specs.Events.{begun};
 ghost use Rattle.cell_writers.specs.Numbered.{AreWriters};
 ghost use Rattle.order_test.specs.Settled.{IsOrderly, AreOwned};
-ghost use Rattle.order_test.specs.Unkept.{HoldsTransactions, KeepsSessions, IsFirstOutOfSession, IsFound, IsKeptAt, IsKeptBelow};
+ghost use Rattle.order_test.specs.Unkept.{HoldsAll, HoldsTransactions, KeepsSessions, IsFirstOutOfSession, IsFound, IsKeptAt, IsKeptBelow};
 ghost use Rattle.order_test.specs.Places.{ArePlaces};
 ghost use Rattle.order_test.specs.Pasts.{ArePasts};
 ghost use Rattle.order_test.specs.Sights.{IsScene, IsNumber, IsReadAt, IsReading, IsRival, IsAxiomOf, IsFoundAt, IsFoundAmong, origin_of};
-ghost use Rattle.order_test.specs.Glance.{AreWithin};
+ghost use Rattle.order_test.specs.Glance.{IsGlance};
 ghost use Rattle.order_test.specs.Reaches.{IsSurvey};
 ghost use Rattle.order_test.specs.Listed.{AreTxnsWithin, ListsCommitted};
 ghost use Rattle.order_test.specs.Firsts.{AreIndexes};
 
 use crate::Unkept;
-use crate::glance::{Glance, glance_of, size_of};
+use crate::glance::{Glance, glance_of};
 use crate::listed::{Lists, lists_of};
 use crate::pasts::{Pasts, pasts_of};
 use crate::places::{Places, places_of, stands_before};
 use crate::quick::{is_clear, is_reached};
 use crate::reaches::{CellReaches, reaches_of};
 use crate::records::txns_of;
-use crate::rivals::{is_reading, origin, rival_cell};
+use crate::rivals::{is_reading, origin, rival_cell, source_of};
 use crate::sessions::{first_out_of_session, is_late, txn_of};
 use crate::unmet::is_rival;
 use cell_base::Memory;
@@ -90,7 +90,7 @@ fn axiom_of(
     }
 }
 
-/// Whether it is clear from what is light that the order keeps what the read or scan asks.
+/// Whether it is clear from what is light that the order keeps what the read or scan asks, which is from the source.
 fn read_is_reached(
     events: &[Event],
     order: &[u32],
@@ -101,13 +101,15 @@ fn read_is_reached(
     place: usize,
     event: &Event,
     reader: u32,
+    source: u32,
 ) -> bool
     requires survey { IsSurvey events.now order.now places.now cells.now glance.now reaches.now }
     requires orderly { IsOrderly events.now }
     requires read { IsReadAt events.now place event.now reader }
+    requires source { source ≡ origin_of event.now }
     ensures { IsTrue result → IsKeptAt events.now order.now place }
 {
-    if !stands_before(places, origin(event), reader) {
+    if !stands_before(places, source, reader) {
         return false;
     }
     is_reached(
@@ -131,13 +133,15 @@ fn event_is_reached(
     ensures { IsTrue result → IsKeptAt events.now order.now place }
 {
     let event = &events[place];
-    if !is_reading(event) {
-        return true;
+    match source_of(event) {
+        Some(source) => {
+            let reader = glance.owners[place];
+            read_is_reached(
+                events, order, places, cells, glance, reaches, place, event, reader, source,
+            )
+        }
+        None => true,
     }
-    let reader = glance.owners[place];
-    read_is_reached(
-        events, order, places, cells, glance, reaches, place, event, reader,
-    )
 }
 
 /// The first event of which what is light doesn't show that the order keeps what it asks, or the end.
@@ -319,18 +323,16 @@ fn found_after(
     glance: &Glance,
     reaches: &CellReaches,
     start: usize,
-    width: usize,
 ) -> Result<Option<Unkept>, Memory>
     requires scene { IsScene events.now order.now txns.now places.now }
     requires sessions { KeepsSessions events.now order.now }
     requires survey { IsSurvey events.now order.now places.now cells.now glance.now reaches.now }
     requires orderly { IsOrderly events.now }
     requires kept { IsKeptBelow events.now order.now start }
-    requires some { 0 < width }
-    requires within { AreWithin width events.now }
     requires few { length events.now < 4294967296 }
     ensures { IfOk result (IsFoundAmong events.now order.now) }
 {
+    let width = glance.last.len();
     let pasts = pasts_of(alloc, events, &glance.owners, width)?;
     let lists = lists_of(alloc, txns, width)?;
     found_among(
@@ -348,14 +350,11 @@ fn found_by_records(
     glance: &Glance,
     reaches: &CellReaches,
     start: usize,
-    width: usize,
 ) -> Result<Option<Unkept>, Memory>
     requires survey { IsSurvey events.now order.now places.now cells.now glance.now reaches.now }
     requires orderly { IsOrderly events.now }
     requires owned { AreOwned events.now }
     requires kept { IsKeptBelow events.now order.now start }
-    requires some { 0 < width }
-    requires within { AreWithin width events.now }
     requires few { length events.now < 4294967296 }
     ensures { IfOk result (IsFound events.now order.now) }
 {
@@ -363,7 +362,7 @@ fn found_by_records(
     match session_breach(events, order, &txns, places, glance) {
         Some((earlier, later)) => Ok(Some(Unkept::Session { earlier, later })),
         None => found_after(
-            alloc, events, order, &txns, places, cells, glance, reaches, start, width,
+            alloc, events, order, &txns, places, cells, glance, reaches, start,
         ),
     }
 }
@@ -377,33 +376,59 @@ fn is_over(events: &[Event], glance: &Glance, start: usize) -> bool
 
 /// The first that the order doesn't keep, where it holds each transaction once and the initial one first. The records of the transactions are made
 /// only where the order isn't clear from what is light.
-fn found_in(
+fn found_by_glance(
     alloc: Global,
     events: &[Event],
     order: &[u32],
     places: &Places,
     cells: &CellNotes,
-    width: usize,
+    glance: &Glance,
 ) -> Result<Option<Unkept>, Memory>
     requires holds { HoldsTransactions events.now order.now }
     requires places { ArePlaces (begun events.now + 1) order.now places.now.at.items }
     requires orderly { IsOrderly events.now }
     requires owned { AreOwned events.now }
     requires writers { AreWriters events.now cells.now }
-    requires some { 0 < width }
-    requires within { AreWithin width events.now }
+    requires glance { IsGlance events.now order.now glance.now }
     requires few { length events.now < 4294967296 }
     ensures { IfOk result (IsFound events.now order.now) }
 {
-    let glance = glance_of(alloc, events, order, places, width)?;
     let reaches = reaches_of(alloc, cells, places, glance.scans)?;
-    let start = first_unreached(events, order, places, cells, &glance, &reaches);
-    if is_over(events, &glance, start) {
+    let start = first_unreached(events, order, places, cells, glance, &reaches);
+    if is_over(events, glance, start) {
         return Ok(None);
     }
-    found_by_records(
-        alloc, events, order, places, cells, &glance, &reaches, start, width,
-    )
+    found_by_records(alloc, events, order, places, cells, glance, &reaches, start)
+}
+
+/// Whether the order has as many numbers as there are transactions, the initial one among them.
+fn has_as_many(glance: &Glance, order: &[u32]) -> bool
+    ensures { IsTrue result ↔ (length glance.now.limits.items ≡ length order.now) }
+{
+    glance.limits.len() == order.len()
+}
+
+/// The first that the order doesn't keep, where it holds each number below its own length once and 0 first.
+fn found_in(
+    alloc: Global,
+    events: &[Event],
+    order: &[u32],
+    places: &Places,
+    cells: &CellNotes,
+) -> Result<Option<Unkept>, Memory>
+    requires holds { HoldsAll (length order.now) order.now }
+    requires places { ArePlaces (length order.now) order.now places.now.at.items }
+    requires orderly { IsOrderly events.now }
+    requires owned { AreOwned events.now }
+    requires writers { AreWriters events.now cells.now }
+    requires few { length events.now < 4294967296 }
+    ensures { IfOk result (IsFound events.now order.now) }
+{
+    let glance = glance_of(alloc, events, order, places)?;
+    if !has_as_many(&glance, order) {
+        return Ok(Some(Unkept::Order));
+    }
+    found_by_glance(alloc, events, order, places, cells, &glance)
 }
 
 /// The first that the order doesn't keep of the history: that it holds each transaction once and the initial one first, the order of each
@@ -421,9 +446,8 @@ pub fn first_unkept(
     requires few { length events.now < 4294967296 }
     ensures { IfOk result (IsFound events.now order.now) }
 {
-    let size = size_of(events);
-    match places_of(alloc, order, size.started + 1)? {
-        Some(places) => found_in(alloc, events, order, &places, cells, size.width),
+    match places_of(alloc, order)? {
+        Some(places) => found_in(alloc, events, order, &places, cells),
         None => Ok(Some(Unkept::Order)),
     }
 }

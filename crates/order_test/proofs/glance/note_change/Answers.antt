@@ -10,12 +10,12 @@ pub note_begin-requires-clause-last : goal.note_begin-requires-clause-last
 note_begin-requires-clause-last c =
     let h = last_bounded c.args.before.now _ c.args.last c.requires.glance.of in let n = c.requires.glance.limits.count in omega arith
 
-pub returns-in-Begin-clause-glance : goal.returns-in-Begin-clause-glance
-returns-in-Begin-clause-glance c =
+pub returns-in-Begin : goal.returns-in-Begin
+returns-in-Begin c =
     on_ok_weaker c.note_begin.result
     (λ adds. rw c.in-Begin.is (glance_begin c.args.before.now (sound_from c.args.before.now c.requires.comes.settled) c.args.order.now c.args.places.now.at.items c.in-Begin.session
     c.in-Begin.level c.args.last c.args.glance.now c.note_begin.new.glance c.requires.places (rw c.in-Begin.is at c.requires.glance) adds))
-    c.note_begin.ensures.adds
+    c.note_begin.ensures
 
 pub note_read-requires-clause-reader : goal.note_read-requires-clause-reader
 note_read-requires-clause-reader c =
@@ -25,14 +25,14 @@ pub note_read-requires-clause-source : goal.note_read-requires-clause-source
 note_read-requires-clause-source c =
     let h = source_bounded c.args.before.now c.in-Read.source (rw c.in-Read.is at c.requires.comes.source) in let n = c.requires.glance.limits.count in omega arith
 
-pub returns-in-Read-clause-glance : goal.returns-in-Read-clause-glance
-returns-in-Read-clause-glance c =
+pub returns-in-Read : goal.returns-in-Read
+returns-in-Read c =
     let sound = sound_from c.args.before.now c.requires.comes.settled in
     let source = rw c.in-Read.is at c.requires.comes.source in
     let noted = rw c.in-Read.is at c.requires.glance in
     let pending = owner_pending c.args.before.now sound c.in-Read.session c.args.last (rw c.in-Read.is at c.requires.comes.reader) noted.of in
     rw c.in-Read.is record {
-      last = last_still c.args.before.now _ _ _ refl noted.last;
+      last = last_still c.args.before.now _ _ refl noted.within noted.last;
       owners = noted.owners;
       limits =
           limits_read c.args.before.now sound c.in-Read.session c.args.last c.in-Read.cell c.in-Read.source c.in-Read.count c.in-Read.word c.in-Read.value pending
@@ -42,40 +42,40 @@ returns-in-Read-clause-glance c =
       scans = scans_push c.args.before.now _ c.args.glance.now.scans (λ scan. absurd scan) noted.scans;
     }
 
-pub returns-in-Open-clause-glance : goal.returns-in-Open-clause-glance
-returns-in-Open-clause-glance c = rw c.in-Open.is (glance_still c.args.before.now c.args.order.now _ c.args.last c.args.glance.now tt (λ scan. scan) (rw c.in-Open.is at c.requires.glance))
+pub returns-in-Open : goal.returns-in-Open
+returns-in-Open c = rw c.in-Open.is (glance_still c.args.before.now c.args.order.now _ c.args.last c.args.glance.now tt (λ scan. scan) (rw c.in-Open.is at c.requires.glance))
 
-pub returns-in-Close-clause-glance : goal.returns-in-Close-clause-glance
-returns-in-Close-clause-glance c = rw c.in-Close.is (glance_still c.args.before.now c.args.order.now _ c.args.last c.args.glance.now tt (λ scan. scan) (rw c.in-Close.is at c.requires.glance))
+pub returns-in-Close : goal.returns-in-Close
+returns-in-Close c = rw c.in-Close.is (glance_still c.args.before.now c.args.order.now _ c.args.last c.args.glance.now tt (λ scan. scan) (rw c.in-Close.is at c.requires.glance))
 
-pub returns-in-Define-clause-glance : goal.returns-in-Define-clause-glance
-returns-in-Define-clause-glance c = rw c.in-Define.is (glance_still c.args.before.now c.args.order.now _ c.args.last c.args.glance.now tt (λ scan. scan) (rw c.in-Define.is at c.requires.glance))
+pub returns-in-Define : goal.returns-in-Define
+returns-in-Define c = rw c.in-Define.is (glance_still c.args.before.now c.args.order.now _ c.args.last c.args.glance.now tt (λ scan. scan) (rw c.in-Define.is at c.requires.glance))
 
-pub returns-in-Look-clause-glance : goal.returns-in-Look-clause-glance
-returns-in-Look-clause-glance c = rw c.in-Look.is (glance_still c.args.before.now c.args.order.now _ c.args.last c.args.glance.now tt (λ scan. scan) (rw c.in-Look.is at c.requires.glance))
+pub returns-in-Look : goal.returns-in-Look
+returns-in-Look c = rw c.in-Look.is (glance_still c.args.before.now c.args.order.now _ c.args.last c.args.glance.now tt (λ scan. scan) (rw c.in-Look.is at c.requires.glance))
 
-pub returns-in-Scan-clause-glance : goal.returns-in-Scan-clause-glance
-returns-in-Scan-clause-glance c =
+pub returns-in-Scan : goal.returns-in-Scan
+returns-in-Scan c =
     let noted = rw c.in-Scan.is at c.requires.glance in
     rw c.in-Scan.is record {
-      last = last_still c.args.before.now _ _ _ refl noted.last;
+      last = last_still c.args.before.now _ _ refl noted.within noted.last;
       owners = noted.owners;
       limits = limits_still c.args.before.now _ _ tt noted.limits;
       keeps = λ h. keeps_still c.args.before.now _ c.args.order.now refl (noted.keeps h);
       scans = λ k event at scan. refl;
     }
 
-pub returns-in-Own-clause-glance : goal.returns-in-Own-clause-glance
-returns-in-Own-clause-glance c = rw c.in-Own.is (glance_still c.args.before.now c.args.order.now _ c.args.last c.args.glance.now tt (λ scan. scan) (rw c.in-Own.is at c.requires.glance))
+pub returns-in-Own : goal.returns-in-Own
+returns-in-Own c = rw c.in-Own.is (glance_still c.args.before.now c.args.order.now _ c.args.last c.args.glance.now tt (λ scan. scan) (rw c.in-Own.is at c.requires.glance))
 
-pub returns-in-Write-clause-glance : goal.returns-in-Write-clause-glance
-returns-in-Write-clause-glance c = rw c.in-Write.is (glance_still c.args.before.now c.args.order.now _ c.args.last c.args.glance.now tt (λ scan. scan) (rw c.in-Write.is at c.requires.glance))
+pub returns-in-Write : goal.returns-in-Write
+returns-in-Write c = rw c.in-Write.is (glance_still c.args.before.now c.args.order.now _ c.args.last c.args.glance.now tt (λ scan. scan) (rw c.in-Write.is at c.requires.glance))
 
-pub returns-in-Commit-clause-glance : goal.returns-in-Commit-clause-glance
-returns-in-Commit-clause-glance c = rw c.in-Commit.is (glance_still c.args.before.now c.args.order.now _ c.args.last c.args.glance.now tt (λ scan. scan) (rw c.in-Commit.is at c.requires.glance))
+pub returns-in-Commit : goal.returns-in-Commit
+returns-in-Commit c = rw c.in-Commit.is (glance_still c.args.before.now c.args.order.now _ c.args.last c.args.glance.now tt (λ scan. scan) (rw c.in-Commit.is at c.requires.glance))
 
-pub returns-in-Rollback-clause-glance : goal.returns-in-Rollback-clause-glance
-returns-in-Rollback-clause-glance c = rw c.in-Rollback.is (glance_still c.args.before.now c.args.order.now _ c.args.last c.args.glance.now tt (λ scan. scan) (rw c.in-Rollback.is at c.requires.glance))
+pub returns-in-Rollback : goal.returns-in-Rollback
+returns-in-Rollback c = rw c.in-Rollback.is (glance_still c.args.before.now c.args.order.now _ c.args.last c.args.glance.now tt (λ scan. scan) (rw c.in-Rollback.is at c.requires.glance))
 
-pub returns-in-Show-clause-glance : goal.returns-in-Show-clause-glance
-returns-in-Show-clause-glance c = rw c.in-Show.is (glance_still c.args.before.now c.args.order.now _ c.args.last c.args.glance.now tt (λ scan. scan) (rw c.in-Show.is at c.requires.glance))
+pub returns-in-Show : goal.returns-in-Show
+returns-in-Show c = rw c.in-Show.is (glance_still c.args.before.now c.args.order.now _ c.args.last c.args.glance.now tt (λ scan. scan) (rw c.in-Show.is at c.requires.glance))

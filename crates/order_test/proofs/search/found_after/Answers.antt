@@ -1,12 +1,25 @@
-use Rattle.std.proofs.Common.{ℕ, sym, subst}
+use Rattle.std.proofs.Common.{◌≡◌, ℕ, length, sym, ◌∙◌, subst, arith}
+use Rattle.order_test.specs.Glance.{AreWithin}
 use Rattle.order_test.specs.Listed.{AreTxnsWithin}
 use Rattle.order_test.proofs.ListedLemmas.{txns_within}
 use Rattle.order_test.proofs.search.found_after.Goals as goal
 
+pub pasts_of-requires-clause-some : goal.pasts_of-requires-clause-some
+pasts_of-requires-clause-some c = let some = c.requires.survey.glance_is.last.some in let width = c.len-width.ensures in omega arith
+
+pub pasts_of-requires-clause-within : goal.pasts_of-requires-clause-within
+pasts_of-requires-clause-within c =
+    let width : length c.args.glance.now.last.items ≡ c.len-width.result = let len = c.len-width.ensures in omega arith in
+    subst (λ (n : ℕ). AreWithin n c.args.events.now) width c.requires.survey.glance_is.last.within
+
 pub lists_of-requires-clause-within : goal.lists_of-requires-clause-within
-lists_of-requires-clause-within c = txns_within c.args.events.now c.args.width c.args.txns.now c.requires.within c.requires.scene.records
+lists_of-requires-clause-within c =
+    let width : length c.args.glance.now.last.items ≡ c.len-width.result = let len = c.len-width.ensures in omega arith in
+    subst (λ (n : ℕ). AreTxnsWithin n c.args.txns.now) width
+    (txns_within c.args.events.now (length c.args.glance.now.last.items) c.args.txns.now c.requires.survey.glance_is.last.within c.requires.scene.records)
 
 pub found_among-requires-clause-txns_within : goal.found_among-requires-clause-txns_within
 found_among-requires-clause-txns_within c =
-    subst (λ (n : ℕ). AreTxnsWithin n c.args.txns.now) (sym c.in_ok-lists.ensures.width)
-    (txns_within c.args.events.now c.args.width c.args.txns.now c.requires.within c.requires.scene.records)
+    let width : length c.args.glance.now.last.items ≡ c.len-width.result = let len = c.len-width.ensures in omega arith in
+    subst (λ (n : ℕ). AreTxnsWithin n c.args.txns.now) (width ∙ sym c.in_ok-lists.ensures.width)
+    (txns_within c.args.events.now (length c.args.glance.now.last.items) c.args.txns.now c.requires.survey.glance_is.last.within c.requires.scene.records)
