@@ -1,7 +1,6 @@
 -- A legal history keeps to the rules of its events, so that no breach is told of it.
-use Rattle.std.proofs.Common.{◌≡◌, ℕ, ◌+◌, ◌<◌, ◌≤◌, ◌%◌, List, ◌++◌, Some, length, take, drop, arith, ap, sym, ◌∙◌, inl, inr}
-use Rattle.std.specs.List.{slice_get, Contains}
-use Rattle.std.proofs.Common.{length-append, take-append-drop, length-take}
+use Rattle.std.proofs.Common.{◌≡◌, ℕ, ◌+◌, ◌<◌, ◌≤◌, ◌%◌, List, ◌++◌, Some, length, take, drop, arith, ap, sym, ◌∙◌, inl, inr, length-append, take-append-drop, length-take}
+use Rattle.std.specs.List.{slice_get}
 use Rattle.std.proofs.lemmas.List.{take-take}
 use Rattle.std.proofs.lemmas.List.Elements.{filter_map-append}
 use Rattle.std.proofs.lemmas.Option.{slice_get_within}
@@ -29,9 +28,9 @@ defined-take-le : (all : List Event) (i j : ℕ) → i ≤ j → defined (take i
 defined-take-le all i j le =
     let front : List Event = take j all in
     let cut : names front ≡ names (take i front) ++ names (drop i front) =
-        ap names (sym (take-append-drop i front)) ∙ filter_map-append defined_name (take i front) (drop i front) in
+    ap names (sym (take-append-drop i front)) ∙ filter_map-append defined_name (take i front) (drop i front) in
     let parts : defined front ≡ defined (take i front) + length (names (drop i front)) =
-        ap length cut ∙ length-append (names (take i front)) (names (drop i front)) in
+    ap length cut ∙ length-append (names (take i front)) (names (drop i front)) in
     let same : defined (take i front) ≡ defined (take i all) = ap defined (take-take i j all le) in
     omega (arith, parts, same)
 
@@ -153,7 +152,7 @@ no_count before (events.Read s cell from offered word v) breach offer broken tol
     let some : word % offered < length offer.0 = slice_get_within offer.0 (word % offered) from offer.3 in
     let all = told.1 in
     let few : length offer.0 ≤ length all.0 =
-        rising_short offer.0 all.0 offer.1.ascending all.1.ascending (λ x member. (all.1.exact x).1 ((offer.1.exact x).0 member).0) in
+    rising_short offer.0 all.0 offer.1.ascending all.1.ascending (λ x member. (all.1.exact x).1 ((offer.1.exact x).0 member).0) in
     let size = offer.2 in
     let right = all.2 in
     broken (omega (arith, some, size), (told.0, all, omega (arith, few, size, right)))
