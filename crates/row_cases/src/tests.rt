@@ -4,28 +4,42 @@ use crate::cases::{AGGREGATES, FAULTS, FILTERS, JOINS, ORDERS};
 use crate::chance::Chance;
 use crate::made;
 use crate::world::{long_picture, picture_of, tables};
-use case_lines::{alone, both, is};
+use case_lines::{alone, both, is, is_remark};
 use cell_base::{Items, Memory};
 use row_meaning::TableRows;
 use sql_tree::Table;
 use std::alloc::Global;
 use std::test::Fail;
 
-fn have_rows_over(
+fn is_answered(
     alloc: Global,
-    cases: &[(&str, &str)],
+    line: &str,
     tables: &[Table],
     picture: &[TableRows],
 ) -> Result<(), Fail> {
-    for (spelled, want) in cases {
-        let given = answer(alloc, spelled, tables, picture, Ask::Rows);
-        is(*spelled, given, want)?;
+    match line.split_once(" => ") {
+        Some((spelled, want)) => {
+            let given = answer(alloc, spelled, tables, picture, Ask::Rows);
+            is(spelled, given, want)
+        }
+        None => is_remark(line),
+    }
+}
+
+fn have_rows_over(
+    alloc: Global,
+    cases: &str,
+    tables: &[Table],
+    picture: &[TableRows],
+) -> Result<(), Fail> {
+    for line in cases.lines() {
+        is_answered(alloc, line, tables, picture)?;
     }
     Ok(())
 }
 
-/// Whether each text of the list comes to what the list says.
-fn have_rows(alloc: Global, cases: &[(&str, &str)]) -> Result<(), Fail> {
+/// Whether each text of the table comes to what the table says.
+fn have_rows(alloc: Global, cases: &str) -> Result<(), Fail> {
     let (tables, picture) = both(tables(alloc), picture_of(alloc))?;
     let have_rows = have_rows_over(alloc, cases, tables.as_slice(), picture.as_slice());
     alone((tables, picture), have_rows)
