@@ -1,9 +1,9 @@
 // What the readers make of a text.
 ghost use Rattle.std.specs.Prelude.{◌<◌, ◌^◌, length};
 
-use crate::held::alone;
-use crate::line::{Line, each};
+use crate::expr::Plain;
 use crate::tokens::push_tokens;
+use case_lines::{Line, alone, each, named};
 use cell_base::{Items, Memory, Text};
 use sql_lexer::{LexFault, tokens};
 use sql_statements::{ParseFault, parse, statements};
@@ -41,7 +41,7 @@ fn tokens_line(alloc: Global, found: &[Token]) -> Result<String, AllocError> {
 fn tokens_shown(alloc: Global, answer: Result<Vec<Token>, LexFault>) -> Result<String, AllocError> {
     match answer {
         Ok(found) => tokens_line(alloc, &found),
-        Err(fault) => format!(in alloc; "{fault:?}"),
+        Err(fault) => named(alloc, &fault),
     }
 }
 
@@ -50,8 +50,8 @@ fn tokens_counted(
     answer: Result<Vec<Token>, LexFault>,
 ) -> Result<String, AllocError> {
     match answer {
-        Ok(found) => format!(in alloc; "{}", found.len()),
-        Err(fault) => format!(in alloc; "{fault:?}"),
+        Ok(found) => named(alloc, &found.len()),
+        Err(fault) => named(alloc, &fault),
     }
 }
 
@@ -68,22 +68,22 @@ fn count_of_million(alloc: Global, text: &Text) -> Result<String, Memory>
 
 fn lines(alloc: Global, found: &Items<Statement>) -> Result<String, AllocError> {
     let mut line = Line::new(alloc);
-    each(&mut line, "", found);
+    each::<Plain, _>(&mut line, "", found);
     line.whole()
 }
 
 fn read(alloc: Global, found: &Items<Statement>, ask: Ask) -> Result<String, AllocError> {
     match ask {
         Ask::Statements => lines(alloc, found),
-        Ask::Count => format!(in alloc; "{}", found.len()),
+        Ask::Count => named(alloc, &found.len()),
         _ => String::from_str(alloc, "read"),
     }
 }
 
 fn refused(alloc: Global, fault: ParseFault, ask: Ask) -> Result<String, AllocError> {
     match ask {
-        Ask::Code => format!(in alloc; "{:?}", fault.state()),
-        _ => format!(in alloc; "{fault:?}"),
+        Ask::Code => named(alloc, &fault.state()),
+        _ => named(alloc, &fault),
     }
 }
 
@@ -101,7 +101,7 @@ fn shown(
 fn parsed(alloc: Global, answer: Result<Vec<Token>, LexFault>) -> Result<String, AllocError> {
     match answer {
         Ok(found) => shown(alloc, parse(alloc, &found), Ask::Count),
-        Err(fault) => format!(in alloc; "{fault:?}"),
+        Err(fault) => named(alloc, &fault),
     }
 }
 

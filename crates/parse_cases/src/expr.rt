@@ -1,6 +1,9 @@
 // Expressions with all their parentheses.
-use crate::line::{Line, Shown};
+use case_lines::{Line, Shown};
 use sql_tree::{Expr, Op};
+
+/// The way in which trees are shown here.
+pub struct Plain;
 
 fn sign(op: Op) -> &'static str {
     match op {
@@ -93,7 +96,7 @@ fn show_all(line: &mut Line, among: &[Expr]) {
     }
 }
 
-impl Shown for Expr {
+impl Shown<Plain> for Expr {
     fn push(&self, line: &mut Line) {
         show(line, self);
     }

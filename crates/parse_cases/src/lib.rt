@@ -15,11 +15,7 @@ mod compared;
 #[cfg(test)]
 mod expr;
 #[cfg(test)]
-mod held;
-#[cfg(test)]
 mod lexemes;
-#[cfg(test)]
-mod line;
 #[cfg(test)]
 mod long_texts;
 #[cfg(test)]

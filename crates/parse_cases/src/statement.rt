@@ -1,13 +1,13 @@
 // Statements as one line each.
-use crate::expr::show;
-use crate::line::{Line, Shown, each};
+use crate::expr::{Plain, show};
+use case_lines::{Line, Shown, each};
 use cell_base::{Items, SqlType, Text};
 use sql_tree::{
     ColumnDef, CreateTable, Delete, Expr, Insert, Item, OrderTerm, Select, Statement, TableRef,
     Update,
 };
 
-impl Shown for Text {
+impl Shown<Plain> for Text {
     fn push(&self, line: &mut Line) {
         line.word(self.as_str());
     }
@@ -28,18 +28,22 @@ fn push_after(line: &mut Line, word: &str, expr: &Option<Expr>) {
 }
 
 /// A cell of a row, or what a column is set to.
-impl Shown for Option<Expr> {
+fn push_value(line: &mut Line, value: &Option<Expr>) {
+    match value {
+        Some(expr) => show(line, expr),
+        None => line.word("default"),
+    }
+}
+
+impl Shown<Plain> for Option<Expr> {
     fn push(&self, line: &mut Line) {
-        match self {
-            Some(expr) => show(line, expr),
-            None => line.word("default"),
-        }
+        push_value(line, self);
     }
 }
 
 // ---- queries
 
-impl Shown for Item {
+impl Shown<Plain> for Item {
     fn push(&self, line: &mut Line) {
         match self {
             Item::Star => line.word("*"),
@@ -51,7 +55,7 @@ impl Shown for Item {
     }
 }
 
-impl Shown for TableRef {
+impl Shown<Plain> for TableRef {
     fn push(&self, line: &mut Line) {
         line.word(self.name.as_str());
         push_alias(line, &self.alias);
@@ -59,7 +63,7 @@ impl Shown for TableRef {
     }
 }
 
-impl Shown for OrderTerm {
+impl Shown<Plain> for OrderTerm {
     fn push(&self, line: &mut Line) {
         show(line, &self.expr);
         if self.descending {
@@ -77,42 +81,42 @@ fn push_count(line: &mut Line, word: &str, number: Option<i64>) {
 
 fn push_select(line: &mut Line, select: &Select) {
     line.word("select");
-    each(line, " ", &select.items);
-    each(line, " from ", &select.from);
+    each::<Plain, _>(line, " ", &select.items);
+    each::<Plain, _>(line, " from ", &select.from);
     push_after(line, " where ", &select.filter);
-    each(line, " by ", &select.order);
+    each::<Plain, _>(line, " by ", &select.order);
     push_count(line, " limit ", select.limit);
     push_count(line, " offset ", select.offset);
 }
 
 // ---- changes
 
-impl Shown for Items<Option<Expr>> {
+impl Shown<Plain> for Items<Option<Expr>> {
     fn push(&self, line: &mut Line) {
-        each(line, " ", self);
+        each::<Plain, _>(line, " ", self);
     }
 }
 
 fn push_insert(line: &mut Line, insert: &Insert) {
     line.word("insert ");
     line.word(insert.table.as_str());
-    each(line, " ", &insert.columns);
-    each(line, " row", &insert.rows);
+    each::<Plain, _>(line, " ", &insert.columns);
+    each::<Plain, _>(line, " row", &insert.rows);
 }
 
 /// A column that is set, and to what.
-impl Shown for (Text, Option<Expr>) {
+impl Shown<Plain> for (Text, Option<Expr>) {
     fn push(&self, line: &mut Line) {
         line.word(self.0.as_str());
         line.word(" = ");
-        self.1.push(line);
+        push_value(line, &self.1);
     }
 }
 
 fn push_update(line: &mut Line, update: &Update) {
     line.word("update ");
     line.word(update.table.as_str());
-    each(line, " set ", &update.set);
+    each::<Plain, _>(line, " set ", &update.set);
     push_after(line, " where ", &update.filter);
 }
 
@@ -140,7 +144,7 @@ fn push_kind(line: &mut Line, kind: SqlType) {
     }
 }
 
-impl Shown for ColumnDef {
+impl Shown<Plain> for ColumnDef {
     fn push(&self, line: &mut Line) {
         line.word(self.name.as_str());
         push_kind(line, self.kind);
@@ -157,9 +161,9 @@ impl Shown for ColumnDef {
 fn push_create(line: &mut Line, create: &CreateTable) {
     line.word("create ");
     line.word(create.name.as_str());
-    each(line, " column ", &create.columns);
-    each(line, " key ", &create.keys);
-    each(line, " check ", &create.checks);
+    each::<Plain, _>(line, " column ", &create.columns);
+    each::<Plain, _>(line, " key ", &create.keys);
+    each::<Plain, _>(line, " check ", &create.checks);
 }
 
 // ---- settings
@@ -168,7 +172,7 @@ fn push_set(line: &mut Line, name: &Text, values: &Items<Text>) {
     line.word("set ");
     line.word(name.as_str());
     line.word(" =");
-    each(line, " ", values);
+    each::<Plain, _>(line, " ", values);
 }
 
 fn push_show(line: &mut Line, name: &Text) {
@@ -201,7 +205,7 @@ fn push_statement(line: &mut Line, statement: &Statement) {
 }
 
 /// The statement as one line, with a semicolon after it.
-impl Shown for Statement {
+impl Shown<Plain> for Statement {
     fn push(&self, line: &mut Line) {
         push_statement(line, self);
         line.word(";");

@@ -1,17 +1,9 @@
 // Tables of texts with what they come to.
 use crate::answers::{Ask, answer, answer_to};
-use crate::compared::{is, is_of_long};
 use crate::texts::{Long, long_text};
+use case_lines::{is, is_of_long, is_remark};
 use std::alloc::Global;
 use std::test::Fail;
-
-/// Ends the test at a line that is no case and tells nothing of cases.
-fn is_remark(line: &str) -> Result<(), Fail> {
-    if line.is_empty() || line.starts_with("#") {
-        return Ok(());
-    }
-    Err(Fail::new(format_args!("no case: {line}")))
-}
 
 fn is_read(alloc: Global, ask: Ask, line: &str) -> Result<(), Fail> {
     match line.split_once(" => ") {
@@ -31,15 +23,21 @@ pub fn are_read(alloc: Global, ask: Ask, table: &str) -> Result<(), Fail> {
 /// Whether each text of the list comes to what the list says.
 pub fn are_pairs_read(alloc: Global, ask: Ask, table: &[(&str, &str)]) -> Result<(), Fail> {
     for (spelled, want) in table {
-        is(spelled, answer(alloc, spelled, ask), want)?;
+        is(*spelled, answer(alloc, spelled, ask), want)?;
     }
     Ok(())
+}
+
+fn is_answered(alloc: Global, ask: Ask, long: &Long) -> Result<(), Fail> {
+    let (first, open, times, _, _, want) = *long;
+    let given = answer_to(alloc, long_text(alloc, long), ask);
+    is_of_long(first, open, times, given, want)
 }
 
 /// Whether each long text of the table comes to what the table says.
 pub fn are_answered(alloc: Global, ask: Ask, table: &[Long]) -> Result<(), Fail> {
     for long in table {
-        is_of_long(long, answer_to(alloc, long_text(alloc, long), ask))?;
+        is_answered(alloc, ask, long)?;
     }
     Ok(())
 }

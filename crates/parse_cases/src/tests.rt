@@ -4,10 +4,11 @@ use crate::cases::{
     CHANGES, EXPRESSIONS, FAULTS, LONG, RESERVED, SELECTS, SESSIONS, SPACED_EXPRESSIONS,
     SPACED_FAULTS, SPACED_SELECTS, UNSUPPORTED,
 };
-use crate::compared::{is, is_code, is_no_text, is_not};
+use crate::compared::{is_code, is_no_text, is_not};
 use crate::lexemes::{LEXEMES, SPACED_LEXEMES};
 use crate::tables::{are_answered, are_pairs_read, are_read};
 use crate::texts::joined;
+use case_lines::is;
 use cell_base::{Memory, SqlState, Text};
 use sql_lexer::LexFault;
 use sql_statements::ParseFault;

@@ -1,5 +1,5 @@
 // Texts that are made.
-use crate::line::Line;
+use case_lines::Line;
 use std::alloc::{AllocError, Global};
 
 /// A long text: how it begins, what opens so many times, what stands inside, and what closes as often; and what it comes to.
@@ -12,18 +12,12 @@ pub type Long = (
     &'static str,
 );
 
-fn push_times(line: &mut Line, part: &str, times: u32) {
-    for _ in 0..times {
-        line.word(part);
-    }
-}
-
 fn push_long(line: &mut Line, long: &Long) {
     let (first, open, times, inner, close, _) = *long;
     line.word(first);
-    push_times(line, open, times);
+    line.times(open, times);
     line.word(inner);
-    push_times(line, close, times);
+    line.times(close, times);
 }
 
 /// The text.

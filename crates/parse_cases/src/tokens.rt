@@ -1,5 +1,5 @@
 // Tokens as text.
-use crate::line::Line;
+use case_lines::Line;
 use sql_tree::{Token, TokenKind};
 
 fn push_text(line: &mut Line, word: &str, text: &str) {

@@ -2,12 +2,10 @@
 ghost use Rattle.std.specs.Prelude.{◌↔◌, ◌≤◌, ◌<◌, ◌^◌, length, IfOk, IsTrue};
 ghost use Rattle.std.specs.List.{All};
 
-use crate::compared::is;
-use crate::held::{alone, kept};
-use crate::line::Line;
 use crate::shown::push_demand;
 use crate::statements::{Statement, typed_of};
 use crate::trees::two_tables;
+use case_lines::{Line, alone, is, kept};
 use cell_base::{Cell, Items, Key, Memory, Value};
 use cell_compile::Plan;
 use sql_tree::Table;

@@ -5,21 +5,15 @@
 //! demands what the definitions of a statement's course say; these cases show that the definitions are SQL's, and that plans
 //! with ample memory don't give up. The crate has nothing but tests.
 //!
-//! A tree or a plan that is held where a step may fail costs much to check, so each is handed on whole (`held`).
+//! A tree or a plan that is held where a step may fail costs much to check, so each is handed on whole (`kept`, `both` and `alone` of `case_lines`).
 #![tactic(auto)]
 
 #[cfg(test)]
 mod changes;
 #[cfg(test)]
-mod compared;
-#[cfg(test)]
 mod courses;
 #[cfg(test)]
-mod held;
-#[cfg(test)]
 mod inserts;
-#[cfg(test)]
-mod line;
 #[cfg(test)]
 mod selects;
 #[cfg(test)]

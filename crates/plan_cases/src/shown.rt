@@ -1,45 +1,13 @@
 // Demands as text.
-use crate::line::Line;
-use cell_base::{Cell, Items, Key, Value};
+use case_lines::Line;
+use cell_base::{Cell, Items, Value};
 use statement_course::{Demand, Outcome};
-
-fn push_value(line: &mut Line, value: &Value) {
-    match value {
-        Value::Null => line.word("-"),
-        Value::Flag(flag) => line.word(if *flag { "t" } else { "f" }),
-        Value::Int(n) => line.number(*n),
-        _ => line.word("other"),
-    }
-}
-
-fn push_key(line: &mut Line, key: &Key) {
-    match key {
-        Key::Int(n) => line.number(*n),
-        Key::Text(text) => line.word(text.as_str()),
-    }
-}
-
-fn push_row(line: &mut Line, table: u32, key: &Key) {
-    line.number(i64::from(table));
-    line.word(".");
-    push_key(line, key);
-}
-
-fn push_cell(line: &mut Line, cell: &Cell) {
-    match cell {
-        Cell::Presence(table, key) => push_row(line, *table, key),
-        Cell::Field(table, key, column) => {
-            push_row(line, *table, key);
-            push_count(line, ".", *column);
-        }
-    }
-}
 
 fn push_rows(line: &mut Line, rows: &[Items<Value>]) {
     for row in rows {
         for value in row.as_slice() {
             line.word(" ");
-            push_value(line, value);
+            line.value(value, "-");
         }
         line.word(";");
     }
@@ -67,14 +35,14 @@ fn push_outcome(line: &mut Line, outcome: &Outcome) {
 }
 
 fn push_touch(line: &mut Line, cell: &Cell) {
-    push_cell(line, cell);
+    line.cell(cell);
     line.word("?, ");
 }
 
 fn push_write(line: &mut Line, cell: &Cell, value: &Value) {
-    push_cell(line, cell);
+    line.cell(cell);
     line.word("=");
-    push_value(line, value);
+    line.value(value, "-");
     line.word(", ");
 }
 

@@ -1,6 +1,6 @@
 // Statements over the tables.
-use crate::held::{both, kept};
-use crate::trees::{column, equal, integer, sum, text_of};
+use crate::trees::{column, equal, integer, sum};
+use case_lines::{both, kept, text_of};
 use cell_base::{Items, Key, Memory, SqlType};
 use sql_tree::{OutField, Typed, TypedChange, TypedExpr, TypedInsert, TypedSelect};
 use std::alloc::Global;

@@ -1,15 +1,8 @@
 // The tables of all cases, and expressions over them.
-use crate::held::{both, kept};
-use cell_base::{Boxed, Items, Memory, SqlType, Text, Value};
+use case_lines::{both, boxed, kept, text_of};
+use cell_base::{Items, Memory, SqlType, Value};
 use sql_tree::{Column, Op, Table, TypedExpr, TypedNode};
 use std::alloc::Global;
-
-pub fn text_of(alloc: Global, bytes: &[u8]) -> Result<Text, Memory> {
-    match Text::from_bytes(alloc, bytes) {
-        Ok(text) => Ok(text),
-        Err(_) => Err(Memory),
-    }
-}
 
 fn push_column(
     columns: &mut Items<Column>,
@@ -75,25 +68,20 @@ pub fn integer(n: i64) -> TypedExpr {
     }
 }
 
-fn binary(
-    alloc: Global,
-    kind: SqlType,
-    op: Op,
-    (left, right): (TypedExpr, TypedExpr),
-) -> Result<TypedExpr, Memory> {
-    let (left, right) = both(Boxed::new(alloc, left), Boxed::new(alloc, right))?;
-    Ok(TypedExpr {
-        kind,
-        node: TypedNode::Binary(op, left, right),
-    })
-}
-
 /// `left = right`.
 pub fn equal(alloc: Global, left: TypedExpr, right: TypedExpr) -> Result<TypedExpr, Memory> {
-    binary(alloc, SqlType::Boolean, Op::Eq, (left, right))
+    let (left, right) = boxed(alloc, left, right)?;
+    Ok(TypedExpr {
+        kind: SqlType::Boolean,
+        node: TypedNode::Binary(Op::Eq, left, right),
+    })
 }
 
 /// `left + right`.
 pub fn sum(alloc: Global, left: TypedExpr, right: TypedExpr) -> Result<TypedExpr, Memory> {
-    binary(alloc, SqlType::Bigint, Op::Add, (left, right))
+    let (left, right) = boxed(alloc, left, right)?;
+    Ok(TypedExpr {
+        kind: SqlType::Bigint,
+        node: TypedNode::Binary(Op::Add, left, right),
+    })
 }

@@ -1,36 +1,21 @@
 // What a statement comes to over rows, as text: the values of a row stand between commas, the rows between semicolons.
-ghost use Rattle.std.specs.Prelude.{◌≡◌, true};
-ghost use Rattle.typing_parts.specs.Narrow.{AreFewAndNarrow};
-
-use crate::held::{alone, both};
-use crate::line::Line;
 use crate::slow;
-use crate::world::MAX_TEXT;
-use cell_base::{Items, Memory, SqlFault, SqlState, Text, Value};
+use case_lines::{Line, alone, both, fault_shown, named};
+use case_tables::{are_narrow, read};
+use cell_base::{Items, Memory, SqlFault, Value};
 use row_assembly::rows_of;
 use row_meaning::TableRows;
-use sql_statements::{ParseFault, statements};
+use sql_statements::ParseFault;
 use sql_tree::{Statement, Table, Typed, TypedSelect};
 use sql_types::typed;
 use std::alloc::{AllocError, Global};
 
 // ---- rows as text
 
-fn push_value(line: &mut Line, value: &Value) {
-    match value {
-        Value::Unset => line.word("unset"),
-        Value::Null => line.word("null"),
-        Value::Flag(flag) => line.word(if *flag { "t" } else { "f" }),
-        Value::Int(n) => line.number(i128::from(*n)),
-        Value::Wide(n) => line.number(*n),
-        Value::Text(text) => line.word(text.as_str()),
-    }
-}
-
 fn push_row(line: &mut Line, row: &[Value]) {
     for (i, value) in row.iter().enumerate() {
         line.word(if i > 0 { "," } else { "" });
-        push_value(line, value);
+        line.value(value, "null");
     }
 }
 
@@ -48,17 +33,6 @@ fn rows_shown(alloc: Global, rows: &[Items<Value>]) -> Result<String, AllocError
         String::from_str(alloc, "none")
     } else {
         rows_text(alloc, rows)
-    }
-}
-
-fn code(alloc: Global, code: SqlState) -> Result<String, AllocError> {
-    format!(in alloc; "{code:?}")
-}
-
-fn fault_shown(alloc: Global, fault: SqlFault) -> Result<String, AllocError> {
-    match fault {
-        SqlFault::State(state) => code(alloc, state),
-        SqlFault::Memory => String::from_str(alloc, "memory"),
     }
 }
 
@@ -85,7 +59,7 @@ pub enum Ask {
 
 fn counted(alloc: Global, answer: Answer) -> Result<String, AllocError> {
     match answer {
-        Ok(rows) => format!(in alloc; "{}", rows.len()),
+        Ok(rows) => named(alloc, &rows.len()),
         Err(fault) => fault_shown(alloc, fault),
     }
 }
@@ -123,17 +97,6 @@ fn answered(
 }
 
 // ---- statements
-
-fn are_narrow(tables: &[Table]) -> bool
-    ensures { result ≡ true → AreFewAndNarrow tables.now }
-{
-    for table in tables {
-        if table.columns.len() > 32 {
-            return false;
-        }
-    }
-    tables.len() <= 64
-}
 
 fn answer_to_typed(
     alloc: Global,
@@ -190,20 +153,6 @@ fn answer_to_read(
     }
 }
 
-fn answer_to_text(
-    alloc: Global,
-    text: Text,
-    tables: &[Table],
-    picture: &[TableRows],
-    ask: Ask,
-) -> Result<String, Memory> {
-    if text.bytes().len() > MAX_TEXT {
-        return Err(Memory);
-    }
-    let reading = statements(alloc, &text);
-    Ok(answer_to_read(alloc, reading, tables, picture, ask)?)
-}
-
 /// What the one SELECT of a text comes to over the rows, or the code of its fault.
 pub fn answer(
     alloc: Global,
@@ -212,8 +161,5 @@ pub fn answer(
     picture: &[TableRows],
     ask: Ask,
 ) -> Result<String, Memory> {
-    match Text::from_bytes(alloc, spelled.as_bytes()) {
-        Ok(text) => answer_to_text(alloc, text, tables, picture, ask),
-        Err(_) => Err(Memory),
-    }
+    Ok(answer_to_read(alloc, read(alloc, spelled), tables, picture, ask)?)
 }

@@ -12,12 +12,6 @@ mod cases;
 #[cfg(test)]
 mod chance;
 #[cfg(test)]
-mod compared;
-#[cfg(test)]
-mod held;
-#[cfg(test)]
-mod line;
-#[cfg(test)]
 mod list;
 #[cfg(test)]
 mod made;

@@ -1,8 +1,8 @@
 // Statements and rows made by chance.
 use crate::chance::Chance;
-use crate::line::Line;
 use crate::list::List;
 use crate::world::{of_table, text_value, with_key};
+use case_lines::Line;
 use cell_base::{Items, Key, SqlFault, Value};
 use row_meaning::TableRows;
 use std::alloc::{AllocError, Global};

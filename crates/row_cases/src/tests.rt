@@ -2,32 +2,45 @@
 use crate::answers::{Ask, answer};
 use crate::cases::{AGGREGATES, FAULTS, FILTERS, JOINS, ORDERS};
 use crate::chance::Chance;
-use crate::compared::is;
-use crate::held::{alone, both};
 use crate::made;
-use crate::world::{long_picture, picture_of, tables_of};
+use crate::world::{long_picture, picture_of, tables};
+use case_lines::{alone, both, is, is_remark};
 use cell_base::{Items, Memory};
 use row_meaning::TableRows;
 use sql_tree::Table;
 use std::alloc::Global;
 use std::test::Fail;
 
-fn have_rows_over(
+fn is_answered(
     alloc: Global,
-    cases: &[(&str, &str)],
+    line: &str,
     tables: &[Table],
     picture: &[TableRows],
 ) -> Result<(), Fail> {
-    for (spelled, want) in cases {
-        let given = answer(alloc, spelled, tables, picture, Ask::Rows);
-        is(spelled, given, want)?;
+    match line.split_once(" => ") {
+        Some((spelled, want)) => {
+            let given = answer(alloc, spelled, tables, picture, Ask::Rows);
+            is(spelled, given, want)
+        }
+        None => is_remark(line),
+    }
+}
+
+fn have_rows_over(
+    alloc: Global,
+    cases: &str,
+    tables: &[Table],
+    picture: &[TableRows],
+) -> Result<(), Fail> {
+    for line in cases.lines() {
+        is_answered(alloc, line, tables, picture)?;
     }
     Ok(())
 }
 
-/// Whether each text of the list comes to what the list says.
-fn have_rows(alloc: Global, cases: &[(&str, &str)]) -> Result<(), Fail> {
-    let (tables, picture) = both(tables_of(alloc), picture_of(alloc))?;
+/// Whether each text of the table comes to what the table says.
+fn have_rows(alloc: Global, cases: &str) -> Result<(), Fail> {
+    let (tables, picture) = both(tables(alloc), picture_of(alloc))?;
     let have_rows = have_rows_over(alloc, cases, tables.as_slice(), picture.as_slice());
     alone((tables, picture), have_rows)
 }
@@ -77,14 +90,14 @@ fn count(alloc: Global, spelled: &str, last: usize, tables: &[Table]) -> Result<
 
 fn have_counts(alloc: Global, tables: &[Table]) -> Result<(), Fail> {
     for (spelled, last, want) in COUNTS {
-        is(spelled, count(alloc, spelled, *last, tables), want)?;
+        is(*spelled, count(alloc, spelled, *last, tables), want)?;
     }
     Ok(())
 }
 
 #[test]
 fn bounds_the_bytes_of_a_result(rt: HostRuntime) -> Result<(), Fail> {
-    let tables = tables_of(rt.alloc())?;
+    let tables = tables(rt.alloc())?;
     let have_counts = have_counts(rt.alloc(), tables.as_slice());
     alone(tables, have_counts)
 }
@@ -154,7 +167,7 @@ fn are_many(with_rows: u32) -> Result<(), Fail> {
 /// Statements and rows by chance: each has the rows of the slow program, and many have some.
 #[test]
 fn agrees_with_a_slow_program(rt: HostRuntime) -> Result<(), Fail> {
-    let tables = tables_of(rt.alloc())?;
+    let tables = tables(rt.alloc())?;
     let with_rows = agree(rt.alloc(), tables.as_slice());
     are_many(alone(tables, with_rows)?)
 }

@@ -1,20 +1,11 @@
 // The tables that the cases stand over, and rows of them.
-use crate::held::both;
 use crate::list::List;
+use case_lines::{Lit, both, value_of};
+use case_tables::tables_of;
 use cell_base::{Items, Key, SqlFault, Text, Value};
 use row_meaning::TableRows;
-use sql_statements::{ParseFault, statements};
-use sql_tree::{Statement, Table};
+use sql_tree::Table;
 use std::alloc::Global;
-use table_schema::build;
-
-/// A value of a case.
-#[derive(Clone, Copy)]
-pub enum Lit {
-    Null,
-    Int(i64),
-    Str(&'static str),
-}
 
 /// The tables, in the order of their numbers, from 0.
 const TABLES: &[&str] = &[
@@ -24,49 +15,9 @@ const TABLES: &[&str] = &[
     "CREATE TABLE w (k bigint PRIMARY KEY, s text)",
 ];
 
-/// The longest text of a case.
-pub const MAX_TEXT: usize = 100_000;
-
-// ---- tables
-
-fn built(alloc: Global, found: &[Statement]) -> Result<Table, SqlFault> {
-    match found {
-        [Statement::Create(create)] => build(alloc, create),
-        _ => Err(SqlFault::Memory),
-    }
-}
-
-fn built_of(
-    alloc: Global,
-    reading: Result<Items<Statement>, ParseFault>,
-) -> Result<Table, SqlFault> {
-    match reading {
-        Ok(found) => built(alloc, found.as_slice()),
-        Err(_) => Err(SqlFault::Memory),
-    }
-}
-
-fn table_of(alloc: Global, text: Text) -> Result<Table, SqlFault> {
-    if text.bytes().len() > MAX_TEXT {
-        return Err(SqlFault::Memory);
-    }
-    built_of(alloc, statements(alloc, &text))
-}
-
-fn spelled_table(alloc: Global, spelled: &str) -> Result<Table, SqlFault> {
-    match Text::from_bytes(alloc, spelled.as_bytes()) {
-        Ok(text) => table_of(alloc, text),
-        Err(_) => Err(SqlFault::Memory),
-    }
-}
-
 /// The tables that all cases stand over.
-pub fn tables_of(alloc: Global) -> Result<Items<Table>, SqlFault> {
-    let mut tables = List::new(alloc);
-    for spelled in TABLES {
-        tables.push(spelled_table(alloc, spelled));
-    }
-    tables.whole()
+pub fn tables(alloc: Global) -> Result<Items<Table>, SqlFault> {
+    Ok(tables_of(alloc, TABLES)?)
 }
 
 // ---- rows
@@ -79,12 +30,8 @@ pub fn text_value(alloc: Global, bytes: &[u8]) -> Result<Value, SqlFault> {
     }
 }
 
-fn value_of(alloc: Global, lit: Lit) -> Result<Value, SqlFault> {
-    match lit {
-        Lit::Null => Ok(Value::Null),
-        Lit::Int(n) => Ok(Value::Int(n)),
-        Lit::Str(text) => text_value(alloc, text.as_bytes()),
-    }
+fn value_of_case(alloc: Global, lit: Lit) -> Result<Value, SqlFault> {
+    Ok(value_of(alloc, lit)?)
 }
 
 fn key_of(row: &[Lit]) -> Key {
@@ -97,7 +44,7 @@ fn key_of(row: &[Lit]) -> Key {
 fn row_of(alloc: Global, row: &[Lit]) -> Result<(Key, Items<Value>), SqlFault> {
     let mut values = List::new(alloc);
     for lit in row {
-        values.push(value_of(alloc, *lit));
+        values.push(value_of_case(alloc, *lit));
     }
     with_key(key_of(row), values)
 }

@@ -1,5 +1,6 @@
 // The typed expressions of the cases.
 use crate::cases::Shape;
+use case_lines::{both, boxed, kept};
 use cell_base::{Boxed, Items, Memory, SqlType, Value};
 use sql_tree::{Aggregate, Op, TypedExpr, TypedNode};
 use std::alloc::Global;
@@ -45,8 +46,7 @@ fn binary(
     left: TypedExpr,
     right: TypedExpr,
 ) -> Result<TypedExpr, Memory> {
-    let left = Boxed::new(alloc, left)?;
-    let right = Boxed::new(alloc, right)?;
+    let (left, right) = boxed(alloc, left, right)?;
     Ok(TypedExpr {
         kind,
         node: TypedNode::Binary(op, left, right),
@@ -109,24 +109,32 @@ fn mean(alloc: Global) -> Result<TypedExpr, Memory> {
     binary(alloc, SqlType::Bigint, Op::Div, total, count_rows())
 }
 
-fn among(alloc: Global, left: TypedExpr, members: Items<TypedExpr>) -> Result<TypedExpr, Memory> {
-    let left = Boxed::new(alloc, left)?;
+fn among(
+    alloc: Global,
+    left: TypedExpr,
+    members: Result<Items<TypedExpr>, Memory>,
+) -> Result<TypedExpr, Memory> {
+    let (left, members) = both(Boxed::new(alloc, left), members)?;
     Ok(TypedExpr {
         kind: SqlType::Boolean,
         node: TypedNode::In(left, members, false),
     })
 }
 
+fn push_rows_or_six(members: &mut Items<TypedExpr>) -> Result<(), Memory> {
+    members.push(count_rows())?;
+    members.push(number(SqlType::Bigint, 6))
+}
+
 fn rows_or_six(alloc: Global) -> Result<Items<TypedExpr>, Memory> {
     let mut members = Items::new(alloc);
-    members.push(count_rows())?;
-    members.push(number(SqlType::Bigint, 6))?;
-    Ok(members)
+    let pushed = push_rows_or_six(&mut members);
+    kept(members, pushed)
 }
 
 fn sum_in(alloc: Global) -> Result<TypedExpr, Memory> {
-    let members = rows_or_six(alloc)?;
-    among(alloc, sum(alloc, column(SqlType::Integer))?, members)
+    let total = sum(alloc, column(SqlType::Integer))?;
+    among(alloc, total, rows_or_six(alloc))
 }
 
 fn lacks(alloc: Global, operand: TypedExpr) -> Result<TypedExpr, Memory> {
@@ -180,6 +188,18 @@ fn expr_of(alloc: Global, kind: SqlType, shape: Shape) -> Result<TypedExpr, Memo
     }
 }
 
+fn push_exprs(
+    exprs: &mut Items<TypedExpr>,
+    alloc: Global,
+    kind: SqlType,
+    shapes: &[Shape],
+) -> Result<(), Memory> {
+    for shape in shapes {
+        exprs.push(expr_of(alloc, kind, *shape)?)?;
+    }
+    Ok(())
+}
+
 /// The expressions over a column of this type.
 pub fn exprs_of(
     alloc: Global,
@@ -187,8 +207,6 @@ pub fn exprs_of(
     shapes: &[Shape],
 ) -> Result<Items<TypedExpr>, Memory> {
     let mut exprs = Items::new(alloc);
-    for shape in shapes {
-        exprs.push(expr_of(alloc, kind, *shape)?)?;
-    }
-    Ok(exprs)
+    let pushed = push_exprs(&mut exprs, alloc, kind, shapes);
+    kept(exprs, pushed)
 }

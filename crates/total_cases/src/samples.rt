@@ -1,64 +1,39 @@
-// Values of constants, and how values are shown.
-use cell_base::{Items, SqlFault, Text, TextFault, Value};
-use std::alloc::Global;
-use std::test::Fail;
+// How values are shown.
+use case_lines::{Line, fault_shown};
+use cell_base::{Items, SqlFault, Value};
+use row_order::SortedRow;
+use std::alloc::{AllocError, Global};
 
-/// A constant.
-#[derive(Clone, Copy)]
-pub enum Lit {
-    Null,
-    Flag(bool),
-    Int(i64),
-    Str(&'static str),
-}
-
-/// The value of a constant.
-pub fn value_of(alloc: Global, lit: Lit) -> Result<Value, TextFault> {
-    Ok(match lit {
-        Lit::Null => Value::Null,
-        Lit::Flag(flag) => Value::Flag(flag),
-        Lit::Int(n) => Value::Int(n),
-        Lit::Str(text) => Value::Text(Text::from_bytes(alloc, text.as_bytes())?),
-    })
-}
-
-fn push_value(alloc: Global, text: &mut String, value: &Value) -> Result<(), Fail> {
-    match value {
-        Value::Null => text.push_str("null")?,
-        Value::Flag(true) => text.push_str("t")?,
-        Value::Flag(false) => text.push_str("f")?,
-        Value::Int(n) => text.push_str(format!(in alloc; "{n}")?.as_str())?,
-        Value::Wide(n) => text.push_str(format!(in alloc; "{n}")?.as_str())?,
-        Value::Text(t) => text.push_str(t.as_str())?,
-        Value::Unset => text.push_str("unset")?,
+fn push_values(line: &mut Line, values: &[Value]) {
+    for (i, value) in values.iter().enumerate() {
+        line.word(if i > 0 { " " } else { "" });
+        line.value(value, "null");
     }
-    Ok(())
 }
 
-/// The values with spaces between them.
-pub fn shown(alloc: Global, values: &[Value]) -> Result<String, Fail> {
-    let mut text = String::new(alloc);
-    for value in values {
-        if text.len() > 0 {
-            text.push(' ')?;
-        }
-        push_value(alloc, &mut text, value)?;
-    }
-    Ok(text)
+fn values_shown(alloc: Global, values: &[Value]) -> Result<String, AllocError> {
+    let mut line = Line::new(alloc);
+    push_values(&mut line, values);
+    line.whole()
 }
 
-/// The values, or the code's name.
-pub fn shown_answer(alloc: Global, answer: Result<Items<Value>, SqlFault>) -> Result<String, Fail> {
+/// The values with spaces between them, or the code's name.
+pub fn answer_shown(
+    alloc: Global,
+    answer: Result<Items<Value>, SqlFault>,
+) -> Result<String, AllocError> {
     match answer {
-        Ok(values) => shown(alloc, values.as_slice()),
-        Err(fault) => shown_fault(alloc, fault),
+        Ok(values) => values_shown(alloc, values.as_slice()),
+        Err(fault) => fault_shown(alloc, fault),
     }
 }
 
-/// The code's name.
-pub fn shown_fault(alloc: Global, fault: SqlFault) -> Result<String, Fail> {
-    match fault {
-        SqlFault::State(code) => Ok(format!(in alloc; "{code:?}")?),
-        SqlFault::Memory => Ok(String::from_str(alloc, "memory")?),
+/// The values of the rows with spaces between them.
+pub fn rows_shown(alloc: Global, rows: &[SortedRow]) -> Result<String, AllocError> {
+    let mut line = Line::new(alloc);
+    for (i, row) in rows.iter().enumerate() {
+        line.word(if i > 0 { " " } else { "" });
+        push_values(&mut line, row.values.as_slice());
     }
+    line.whole()
 }

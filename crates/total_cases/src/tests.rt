@@ -2,136 +2,159 @@
 use crate::cases::{Case, OF_EXPRESSIONS, OF_FAULTS, OF_NUMBERS, OF_OTHERS};
 use crate::exprs::exprs_of;
 use crate::orders::{CUTS, ORDERS, Order};
-use crate::samples::{Lit, shown, shown_answer, shown_fault, value_of};
-use cell_base::{Items, SqlFault, Value};
+use crate::samples::{answer_shown, rows_shown};
+use case_lines::{Lit, alone, both, is, is_in, kept, value_of, values_of};
+use cell_base::{Items, Memory, SqlFault, Value};
 use row_order::{SortedRow, cut_rows, sort_rows};
 use row_totals::Totals;
 use sql_tree::TypedExpr;
 use std::alloc::Global;
 use std::test::Fail;
 
-fn add(alloc: Global, totals: &mut Totals, lit: Lit) -> Result<Result<(), SqlFault>, Fail> {
-    let values = [value_of(alloc, lit)?];
-    Ok(totals.add(&[values.as_slice()]))
+fn add_value(totals: &mut Totals, value: Value) -> Result<(), SqlFault> {
+    let values = [value];
+    totals.add(&[values.as_slice()])
 }
 
-fn over(alloc: Global, exprs: Items<TypedExpr>, cells: &[Lit]) -> Result<String, Fail> {
-    let mut totals = Totals::new(alloc, exprs.as_slice())?;
+fn add_all(alloc: Global, totals: &mut Totals, cells: &[Lit]) -> Result<(), SqlFault> {
     for lit in cells {
-        if let Err(fault) = add(alloc, &mut totals, *lit)? {
-            return shown_fault(alloc, fault);
-        }
+        add_value(totals, value_of(alloc, *lit)?)?;
     }
-    shown_answer(alloc, totals.finish(exprs.as_slice()))
+    Ok(())
 }
 
-fn agrees(alloc: Global, case: &Case) -> Result<bool, Fail> {
-    let (kind, shapes, cells, want) = *case;
+/// The values of the expressions over the rows.
+fn totals_of(
+    alloc: Global,
+    exprs: &[TypedExpr],
+    cells: &[Lit],
+) -> Result<Items<Value>, SqlFault> {
+    let mut totals = Totals::new(alloc, exprs)?;
+    let added = add_all(alloc, &mut totals, cells);
+    let totals = kept(totals, added)?;
+    totals.finish(exprs)
+}
+
+fn given(alloc: Global, case: &Case) -> Result<String, Memory> {
+    let (kind, shapes, cells, _) = *case;
     let exprs = exprs_of(alloc, kind, shapes)?;
-    Ok(over(alloc, exprs, cells)?.as_str() == want)
+    let answer = answer_shown(alloc, totals_of(alloc, exprs.as_slice(), cells));
+    Ok(alone(exprs, answer)?)
 }
 
-fn first_wrong(alloc: Global, cases: &[Case]) -> Result<Option<usize>, Fail> {
+fn are_given(alloc: Global, table: &str, cases: &[Case]) -> Result<(), Fail> {
     for (place, case) in cases.iter().enumerate() {
-        if !agrees(alloc, case)? {
-            return Ok(Some(place));
-        }
+        is_in(table, place, given(alloc, case), case.3)?;
     }
-    Ok(None)
+    Ok(())
 }
 
 #[test]
 fn totals_numbers(rt: HostRuntime) -> Result<(), Fail> {
-    assert_eq!(rt; first_wrong(rt.alloc(), &OF_NUMBERS)?, None);
-    Ok(())
+    are_given(rt.alloc(), "numbers", &OF_NUMBERS)
 }
 
 #[test]
 fn totals_other_types(rt: HostRuntime) -> Result<(), Fail> {
-    assert_eq!(rt; first_wrong(rt.alloc(), &OF_OTHERS)?, None);
-    Ok(())
+    are_given(rt.alloc(), "others", &OF_OTHERS)
 }
 
 #[test]
 fn totals_in_expressions(rt: HostRuntime) -> Result<(), Fail> {
-    assert_eq!(rt; first_wrong(rt.alloc(), &OF_EXPRESSIONS)?, None);
-    Ok(())
+    are_given(rt.alloc(), "expressions", &OF_EXPRESSIONS)
 }
 
 #[test]
 fn tells_the_first_fault(rt: HostRuntime) -> Result<(), Fail> {
-    assert_eq!(rt; first_wrong(rt.alloc(), &OF_FAULTS)?, None);
+    are_given(rt.alloc(), "faults", &OF_FAULTS)
+}
+
+// ---- orders
+
+fn numbered(alloc: Global, number: usize, terms: &[Lit]) -> Result<SortedRow, Memory> {
+    let number = Lit::Int((number % 1000) as i64);
+    let (values, terms) = both(values_of(alloc, &[number]), values_of(alloc, terms))?;
+    Ok(SortedRow { values, terms })
+}
+
+/// The numbers of the rows.
+fn numbers(alloc: Global, rows: Vec<SortedRow>) -> Result<String, Memory> {
+    let shown = rows_shown(alloc, rows.as_slice());
+    Ok(alone(rows, shown)?)
+}
+
+fn push_rows(
+    made: &mut Items<SortedRow>,
+    alloc: Global,
+    rows: &[&[Lit]],
+) -> Result<(), Memory> {
+    for (number, terms) in rows.iter().enumerate() {
+        made.push(numbered(alloc, number, terms)?)?;
+    }
     Ok(())
 }
 
-fn numbered(alloc: Global, number: usize, terms: &[Lit]) -> Result<SortedRow, Fail> {
-    let mut values = Items::new(alloc);
-    values.push(Value::Int((number % 1000) as i64))?;
-    let mut of_terms = Items::new(alloc);
-    for lit in terms {
-        of_terms.push(value_of(alloc, *lit)?)?;
-    }
-    Ok(SortedRow {
-        values,
-        terms: of_terms,
-    })
+fn rows_of(alloc: Global, rows: &[&[Lit]]) -> Result<Vec<SortedRow>, Memory> {
+    let mut made = Items::new(alloc);
+    let pushed = push_rows(&mut made, alloc, rows);
+    Ok(kept(made, pushed)?.into_vec())
 }
 
-fn numbers(alloc: Global, rows: Vec<SortedRow>) -> Result<String, Fail> {
-    let mut values = Vec::new(alloc);
-    for row in rows {
-        for value in row.values.into_vec() {
-            values.push(value)?;
-        }
-    }
-    shown(alloc, values.as_slice())
+fn sorted(alloc: Global, order: &Order) -> Result<String, Memory> {
+    let (rows, directions, _) = *order;
+    let rows = rows_of(alloc, rows)?;
+    numbers(alloc, sort_rows(rows, directions)?)
 }
 
-fn rows_of(alloc: Global, rows: &[&[Lit]]) -> Result<Vec<SortedRow>, Fail> {
-    let mut numbered_rows = Vec::new(alloc);
-    for (number, terms) in rows.iter().enumerate() {
-        numbered_rows.push(numbered(alloc, number, terms)?)?;
+fn are_sorted(alloc: Global, orders: &[Order]) -> Result<(), Fail> {
+    for (place, order) in orders.iter().enumerate() {
+        is_in("orders", place, sorted(alloc, order), order.2)?;
     }
-    Ok(numbered_rows)
-}
-
-fn is_sorted_so(alloc: Global, order: &Order) -> Result<bool, Fail> {
-    let (rows, directions, want) = *order;
-    let sorted = sort_rows(rows_of(alloc, rows)?, directions)?;
-    Ok(numbers(alloc, sorted)?.as_str() == want)
+    Ok(())
 }
 
 #[test]
 fn sorts(rt: HostRuntime) -> Result<(), Fail> {
-    for order in &ORDERS {
-        assert!(rt; is_sorted_so(rt.alloc(), order)?);
+    are_sorted(rt.alloc(), &ORDERS)
+}
+
+fn cut(alloc: Global, offset: i64, limit: Option<i64>) -> Result<String, Memory> {
+    let rows = rows_of(alloc, &[&[], &[], &[], &[]])?;
+    numbers(alloc, cut_rows(rows, offset, limit))
+}
+
+fn are_cut(alloc: Global, cuts: &[(i64, Option<i64>, &str)]) -> Result<(), Fail> {
+    for (place, (offset, limit, want)) in cuts.iter().enumerate() {
+        is_in("cuts", place, cut(alloc, *offset, *limit), want)?;
     }
     Ok(())
 }
 
-fn is_cut_so(alloc: Global, offset: i64, limit: Option<i64>, want: &str) -> Result<bool, Fail> {
-    let rows = rows_of(alloc, &[&[], &[], &[], &[]])?;
-    let cut = cut_rows(rows, offset, limit);
-    Ok(numbers(alloc, cut)?.as_str() == want)
-}
-
 #[test]
 fn cuts(rt: HostRuntime) -> Result<(), Fail> {
-    for (offset, limit, want) in &CUTS {
-        assert!(rt; is_cut_so(rt.alloc(), *offset, *limit, want)?);
+    are_cut(rt.alloc(), &CUTS)
+}
+
+fn push_many(rows: &mut Items<SortedRow>, alloc: Global) -> Result<(), Memory> {
+    for number in 0..100usize {
+        rows.push(numbered(alloc, number, &[Lit::Int((number % 7) as i64)])?)?;
     }
     Ok(())
 }
 
 /// So many rows of 0 to 6, more than are sorted without a buffer.
+fn many(alloc: Global) -> Result<Vec<SortedRow>, Memory> {
+    let mut rows = Items::new(alloc);
+    let pushed = push_many(&mut rows, alloc);
+    Ok(kept(rows, pushed)?.into_vec())
+}
+
+fn many_sorted(alloc: Global) -> Result<String, Memory> {
+    let rows = many(alloc)?;
+    numbers(alloc, cut_rows(sort_rows(rows, &[false])?, 13, Some(4)))
+}
+
 #[test]
 fn sorts_many(rt: HostRuntime) -> Result<(), Fail> {
-    let alloc = rt.alloc();
-    let mut rows = Vec::new(alloc);
-    for number in 0..100usize {
-        rows.push(numbered(alloc, number, &[Lit::Int((number % 7) as i64)])?)?;
-    }
-    let sorted = cut_rows(sort_rows(rows, &[false])?, 13, Some(4));
-    assert_eq!(rt; numbers(alloc, sorted)?.as_str(), "91 98 1 8");
-    Ok(())
+    is("many", many_sorted(rt.alloc()), "91 98 1 8")
 }

@@ -2,7 +2,8 @@
 //
 // Types are `b` boolean, `i` integer, `l` bigint, `t` text, `v` varchar, `v3` varchar(3) and `n` numeric. A column is the number
 // of its entry, a point and its number in its table: `=(0.0:l 1:i):b` is k = 1 with a bigint k.
-use crate::line::{Line, Shown};
+use crate::shown::WithTypes;
+use case_lines::{Line, Shown};
 use cell_base::{SqlType, Text, Value};
 use sql_tree::{Aggregate, Op, TypedExpr, TypedNode};
 
@@ -147,7 +148,7 @@ fn push_each(line: &mut Line, exprs: &[TypedExpr]) {
     }
 }
 
-impl Shown for TypedExpr {
+impl Shown<WithTypes> for TypedExpr {
     fn push(&self, line: &mut Line) {
         push_expr(line, self);
     }

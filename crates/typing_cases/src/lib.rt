@@ -9,13 +9,9 @@
 #[cfg(test)]
 mod cases;
 #[cfg(test)]
-mod compared;
-#[cfg(test)]
 mod expr;
 #[cfg(test)]
-mod held;
-#[cfg(test)]
-mod line;
+mod shown;
 #[cfg(test)]
 mod statement;
 #[cfg(test)]

@@ -5,7 +5,8 @@
 // `limit`, `offset`, and `grouped` where an aggregate stands in it. An INSERT is `into` its table and its rows; an UPDATE and a
 // DELETE have the same words, and `set` a column's number `=` its value.
 use crate::expr::{push_expr, push_kind, push_quoted};
-use crate::line::{Line, Shown, each, listed};
+use crate::shown::{WithTypes, listed};
+use case_lines::{Line, Shown, each};
 use cell_base::{Items, Key};
 use sql_tree::{OutField, Typed, TypedChange, TypedExpr, TypedInsert, TypedSelect};
 
@@ -28,7 +29,7 @@ fn push_point(line: &mut Line, point: &Option<Key>) {
 
 // ---- queries
 
-impl Shown for OutField {
+impl Shown<WithTypes> for OutField {
     fn push(&self, line: &mut Line) {
         line.word(self.name.as_str());
         push_kind(line, self.kind);
@@ -37,27 +38,27 @@ impl Shown for OutField {
 }
 
 /// The number of a table.
-impl Shown for u32 {
+impl Shown<WithTypes> for u32 {
     fn push(&self, line: &mut Line) {
         line.number(i64::from(*self));
     }
 }
 
 /// The mentioned columns of an entry.
-impl Shown for Items<u32> {
+impl Shown<WithTypes> for Items<u32> {
     fn push(&self, line: &mut Line) {
         push_columns(line, self.as_slice());
     }
 }
 
-impl Shown for Option<Key> {
+impl Shown<WithTypes> for Option<Key> {
     fn push(&self, line: &mut Line) {
         push_point(line, self);
     }
 }
 
 /// A term of ORDER BY.
-impl Shown for (TypedExpr, bool) {
+impl Shown<WithTypes> for (TypedExpr, bool) {
     fn push(&self, line: &mut Line) {
         push_expr(line, &self.0);
         if self.1 {
@@ -84,9 +85,9 @@ fn push_cut(line: &mut Line, select: &TypedSelect) {
 }
 
 fn push_select(line: &mut Line, select: &TypedSelect) {
-    each(line, "", &select.fields);
+    each::<WithTypes, _>(line, "", &select.fields);
     line.word("<-");
-    each(line, " ", &select.items);
+    each::<WithTypes, _>(line, " ", &select.items);
     push_from(line, select);
     listed(line, " where", &select.conditions);
     listed(line, " by", &select.order);
@@ -103,12 +104,12 @@ fn push_insert(line: &mut Line, insert: &TypedInsert) {
     line.number(i64::from(insert.table));
     for row in insert.rows.as_slice() {
         line.word(" row");
-        each(line, " ", row);
+        each::<WithTypes, _>(line, " ", row);
     }
 }
 
 /// A column that is set, and to what.
-impl Shown for (u32, TypedExpr) {
+impl Shown<WithTypes> for (u32, TypedExpr) {
     fn push(&self, line: &mut Line) {
         line.number(i64::from(self.0));
         line.word(" = ");
@@ -130,12 +131,12 @@ fn push_change(line: &mut Line, change: &TypedChange) {
     push_columns(line, change.mentioned.as_slice());
     line.word(" at ");
     push_point(line, &change.point);
-    each(line, " set ", &change.set);
+    each::<WithTypes, _>(line, " set ", &change.set);
     push_filter(line, &change.filter);
 }
 
 /// The typed statement as one line.
-impl Shown for Typed {
+impl Shown<WithTypes> for Typed {
     fn push(&self, line: &mut Line) {
         match self {
             Typed::Select(typed) => push_select(line, typed),

@@ -1,7 +1,8 @@
 // Tables as text: each column with its type, `!` where it is never null and its default where that isn't null; the number of the
 // key's column; and the CHECKs.
 use crate::expr::{push_kind, push_value};
-use crate::line::{Line, Shown, each};
+use crate::shown::WithTypes;
+use case_lines::{Line, Shown, each};
 use cell_base::Value;
 use sql_tree::{Column, Table};
 
@@ -15,7 +16,7 @@ fn push_default(line: &mut Line, default: &Value) {
     }
 }
 
-impl Shown for Column {
+impl Shown<WithTypes> for Column {
     fn push(&self, line: &mut Line) {
         line.word(self.name.as_str());
         push_kind(line, self.kind);
@@ -27,13 +28,13 @@ impl Shown for Column {
 }
 
 /// The table as one line.
-impl Shown for Table {
+impl Shown<WithTypes> for Table {
     fn push(&self, line: &mut Line) {
         line.word(self.name.as_str());
         line.word(":");
-        each(line, " ", &self.columns);
+        each::<WithTypes, _>(line, " ", &self.columns);
         line.word(" key ");
         line.number(i64::from(self.key));
-        each(line, " check ", &self.checks);
+        each::<WithTypes, _>(line, " check ", &self.checks);
     }
 }

@@ -1,5 +1,7 @@
 // INSERT, UPDATE and DELETE over t (k integer PRIMARY KEY, a integer DEFAULT 5, b integer, CHECK (a = b)).
-use crate::samples::{are_narrow, code_of, is_constant, is_key, read, tables_of};
+use crate::samples::{code_of, is_constant, is_key};
+use case_lines::{alone, right};
+use case_tables::{are_narrow, read, tables_of};
 use cell_base::SqlState;
 use change_typing::{typed_delete, typed_insert, typed_update};
 use sql_tree::{Delete, Insert, Statement, Table, TypedChange, TypedExpr, TypedInsert, Update};
@@ -162,17 +164,21 @@ fn changes_one(alloc: Global, found: &[Statement], tables: &[Table], expected: E
 
 fn changes_text(alloc: Global, spelled: &str, tables: &[Table], expected: Expected) -> bool {
     match read(alloc, spelled) {
-        Some(found) => changes_one(alloc, found.as_slice(), tables, expected),
-        None => false,
+        Ok(found) => changes_one(alloc, found.as_slice(), tables, expected),
+        Err(_) => false,
     }
+}
+
+fn are_typed(alloc: Global, tables: &[Table]) -> Result<(), Fail> {
+    for (spelled, expected) in CHANGES {
+        right(*spelled, changes_text(alloc, spelled, tables, *expected))?;
+    }
+    Ok(())
 }
 
 #[test]
 fn types_changes(rt: HostRuntime) -> Result<(), Fail> {
     let tables = tables_of(rt.alloc(), TABLES)?;
-    for (spelled, expected) in CHANGES {
-        let holds = changes_text(rt.alloc(), spelled, tables.as_slice(), *expected);
-        assert!(rt; holds, "at {spelled}");
-    }
-    Ok(())
+    let are_typed = are_typed(rt.alloc(), tables.as_slice());
+    alone(tables, are_typed)
 }

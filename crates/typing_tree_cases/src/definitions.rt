@@ -1,6 +1,8 @@
 // The table of a CREATE TABLE or its code, and the list of tables.
-use crate::samples::{code_of, read};
-use cell_base::{Items, Memory, SqlState, Text, TextFault, Value};
+use crate::samples::code_of;
+use case_lines::{alone, right, text_of};
+use case_tables::read;
+use cell_base::{Items, Memory, SqlState, Value};
 use sql_tree::{CreateTable, Statement, Table};
 use std::alloc::Global;
 use std::test::Fail;
@@ -121,28 +123,24 @@ fn builds_one(alloc: Global, found: &[Statement], expected: Expected) -> bool {
 
 fn builds_text(alloc: Global, spelled: &str, expected: Expected) -> bool {
     match read(alloc, spelled) {
-        Some(found) => builds_one(alloc, found.as_slice(), expected),
-        None => false,
+        Ok(found) => builds_one(alloc, found.as_slice(), expected),
+        Err(_) => false,
     }
 }
 
 #[test]
-fn builds_tables(rt: HostRuntime) {
+fn builds_tables(rt: HostRuntime) -> Result<(), Fail> {
     for (spelled, expected) in DEFINITIONS {
-        let holds = builds_text(rt.alloc(), spelled, *expected);
-        assert!(rt; holds, "at {spelled}");
+        right(*spelled, builds_text(rt.alloc(), spelled, *expected))?;
     }
+    Ok(())
 }
 
 // ---- the list of tables
 
-fn text(alloc: Global, name: &str) -> Result<Text, TextFault> {
-    Text::from_bytes(alloc, name.as_bytes())
-}
-
-fn bare(alloc: Global, name: &str) -> Result<Table, TextFault> {
+fn bare(alloc: Global, name: &str) -> Result<Table, Memory> {
     Ok(Table {
-        name: text(alloc, name)?,
+        name: text_of(alloc, name.as_bytes())?,
         columns: Items::new(alloc),
         key: 0,
         checks: Items::new(alloc),
@@ -152,33 +150,47 @@ fn bare(alloc: Global, name: &str) -> Result<Table, TextFault> {
 /// Puts the table after the others, where it is new and there is room for it.
 fn define(catalogue: &mut Catalogue, table: Table) -> Result<(), Memory> {
     if catalogue.tables().len() >= 64 {
-        return Ok(());
+        return alone(table, Ok(()));
     }
     match catalogue.find(&table.name) {
-        Some(_) => Ok(()),
+        Some(_) => alone(table, Ok(())),
         None => catalogue.add(table),
     }
 }
 
-fn define_named(alloc: Global, catalogue: &mut Catalogue, name: &str) -> Result<(), Fail> {
+fn define_named(alloc: Global, catalogue: &mut Catalogue, name: &str) -> Result<(), Memory> {
     let table = bare(alloc, name)?;
-    Ok(define(catalogue, table)?)
+    define(catalogue, table)
 }
 
-fn number_of(alloc: Global, catalogue: &Catalogue, name: &str) -> Result<Option<u32>, Fail> {
-    let name = text(alloc, name)?;
+fn define_all(alloc: Global, catalogue: &mut Catalogue) -> Result<(), Memory> {
+    for name in ["a", "a", "b"] {
+        define_named(alloc, catalogue, name)?;
+    }
+    Ok(())
+}
+
+fn number_of(alloc: Global, catalogue: &Catalogue, name: &str) -> Result<Option<u32>, Memory> {
+    let name = text_of(alloc, name.as_bytes())?;
     Ok(catalogue.find(&name))
+}
+
+fn are_found(alloc: Global, catalogue: &Catalogue) -> Result<(), Fail> {
+    for (name, expected) in [("b", Some(1)), ("q", None)] {
+        let found = number_of(alloc, catalogue, name)?;
+        right(name, found == expected)?;
+    }
+    Ok(())
+}
+
+fn finds(alloc: Global, catalogue: &mut Catalogue) -> Result<(), Fail> {
+    define_all(alloc, catalogue)?;
+    are_found(alloc, catalogue)
 }
 
 #[test]
 fn finds_tables(rt: HostRuntime) -> Result<(), Fail> {
     let mut catalogue = Catalogue::new(rt.alloc());
-    for name in ["a", "a", "b"] {
-        define_named(rt.alloc(), &mut catalogue, name)?;
-    }
-    for (name, expected) in [("b", Some(1)), ("q", None)] {
-        let found = number_of(rt.alloc(), &catalogue, name)?;
-        assert_eq!(rt; found, expected, "at {name}");
-    }
-    Ok(())
+    let finds = finds(rt.alloc(), &mut catalogue);
+    alone(catalogue, finds)
 }

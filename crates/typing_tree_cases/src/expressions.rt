@@ -1,5 +1,7 @@
 // Conditions over one row of t (n integer), and constants of a type.
-use crate::samples::{code_of, is_column, is_constant, read, tables_of};
+use crate::samples::{code_of, is_column, is_constant};
+use case_lines::{alone, right};
+use case_tables::{read, tables_of};
 use cell_base::{SqlState, SqlType, Value};
 use expr_typing::{Entry, typed_constant, typed_flag};
 use sql_tree::{Expr, Item, Op, Statement, Table, TypedExpr, TypedNode};
@@ -54,8 +56,8 @@ fn compares_one(alloc: Global, found: &[Statement], tables: &[Table]) -> bool {
 
 fn compares_text(alloc: Global, spelled: &str, tables: &[Table]) -> bool {
     match read(alloc, spelled) {
-        Some(found) => compares_one(alloc, found.as_slice(), tables),
-        None => false,
+        Ok(found) => compares_one(alloc, found.as_slice(), tables),
+        Err(_) => false,
     }
 }
 
@@ -67,8 +69,7 @@ fn types_a_condition(rt: HostRuntime) -> Result<(), Fail> {
         "DELETE FROM t WHERE n = ' 7 '",
         tables.as_slice(),
     );
-    assert!(rt; holds);
-    Ok(())
+    right("n = ' 7 '", alone(tables, holds))
 }
 
 // ---- constants
@@ -127,15 +128,15 @@ fn types_one(alloc: Global, found: &[Statement], kind: SqlType, expected: Expect
 
 fn types_text(alloc: Global, spelled: &str, kind: SqlType, expected: Expected) -> bool {
     match read(alloc, spelled) {
-        Some(found) => types_one(alloc, found.as_slice(), kind, expected),
-        None => false,
+        Ok(found) => types_one(alloc, found.as_slice(), kind, expected),
+        Err(_) => false,
     }
 }
 
 #[test]
-fn types_constants(rt: HostRuntime) {
+fn types_constants(rt: HostRuntime) -> Result<(), Fail> {
     for (spelled, kind, expected) in CONSTANTS {
-        let holds = types_text(rt.alloc(), spelled, *kind, *expected);
-        assert!(rt; holds, "at {spelled}");
+        right(*spelled, types_text(rt.alloc(), spelled, *kind, *expected))?;
     }
+    Ok(())
 }

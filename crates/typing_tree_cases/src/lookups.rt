@@ -1,6 +1,8 @@
 // What the typing of statements shares: tables and columns by name, WHERE, the key of a point read, and the columns that an
 // expression mentions. All stands over s and t (k integer key, n integer).
-use crate::samples::{code_of, read, tables_of};
+use crate::samples::code_of;
+use case_lines::{alone, right};
+use case_tables::{read, tables_of};
 use cell_base::{Key, SqlState, Text, TextFault};
 use expr_typing::Entry;
 use sql_tree::{Delete, Expr, Statement, Table, TypedExpr};
@@ -42,18 +44,23 @@ fn numbers(
     Ok((table_number(tables, &name), column_number(tables, &name)))
 }
 
-#[test]
-fn finds_tables_and_columns(rt: HostRuntime) -> Result<(), Fail> {
-    let tables = tables_of(rt.alloc(), TABLES)?;
+fn are_found(alloc: Global, tables: &[Table]) -> Result<(), Fail> {
     for (name, table, column) in [
         ("t", Ok(1), Err(SqlState::S42703)),
         ("n", Err(SqlState::S42P01), Ok(1)),
         ("q", Err(SqlState::S42P01), Err(SqlState::S42703)),
     ] {
-        let found = numbers(rt.alloc(), tables.as_slice(), name)?;
-        assert_eq!(rt; found, (table, column), "at {name}");
+        let found = numbers(alloc, tables, name)?;
+        right(name, found == (table, column))?;
     }
     Ok(())
+}
+
+#[test]
+fn finds_tables_and_columns(rt: HostRuntime) -> Result<(), Fail> {
+    let tables = tables_of(rt.alloc(), TABLES)?;
+    let are_found = are_found(rt.alloc(), tables.as_slice());
+    alone(tables, are_found)
 }
 
 // ---- conditions
@@ -169,17 +176,21 @@ fn filters_one(alloc: Global, found: &[Statement], tables: &[Table], expected: E
 
 fn filters_text(alloc: Global, spelled: &str, tables: &[Table], expected: Expected) -> bool {
     match read(alloc, spelled) {
-        Some(found) => filters_one(alloc, found.as_slice(), tables, expected),
-        None => false,
+        Ok(found) => filters_one(alloc, found.as_slice(), tables, expected),
+        Err(_) => false,
     }
+}
+
+fn are_typed(alloc: Global, tables: &[Table]) -> Result<(), Fail> {
+    for (spelled, expected) in CONDITIONS {
+        right(*spelled, filters_text(alloc, spelled, tables, *expected))?;
+    }
+    Ok(())
 }
 
 #[test]
 fn types_where(rt: HostRuntime) -> Result<(), Fail> {
     let tables = tables_of(rt.alloc(), TABLES)?;
-    for (spelled, expected) in CONDITIONS {
-        let holds = filters_text(rt.alloc(), spelled, tables.as_slice(), *expected);
-        assert!(rt; holds, "at {spelled}");
-    }
-    Ok(())
+    let are_typed = are_typed(rt.alloc(), tables.as_slice());
+    alone(tables, are_typed)
 }

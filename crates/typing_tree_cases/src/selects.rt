@@ -1,5 +1,7 @@
 // SELECT over t (k integer key, v text, n integer) and u (k integer key, v text).
-use crate::samples::{are_narrow, is_column, is_key, read, tables_of};
+use crate::samples::{is_column, is_key};
+use case_lines::{alone, right};
+use case_tables::{are_narrow, read, tables_of};
 use cell_base::{Items, SqlFault, SqlState};
 use select_typing::typed_select;
 use sql_tree::{Select, Statement, Table, TypedSelect};
@@ -161,17 +163,21 @@ fn types_one(alloc: Global, found: &[Statement], tables: &[Table], expected: Exp
 
 fn types_text(alloc: Global, spelled: &str, tables: &[Table], expected: Expected) -> bool {
     match read(alloc, spelled) {
-        Some(found) => types_one(alloc, found.as_slice(), tables, expected),
-        None => false,
+        Ok(found) => types_one(alloc, found.as_slice(), tables, expected),
+        Err(_) => false,
     }
+}
+
+fn are_typed(alloc: Global, tables: &[Table]) -> Result<(), Fail> {
+    for (spelled, expected) in SELECTS {
+        right(*spelled, types_text(alloc, spelled, tables, *expected))?;
+    }
+    Ok(())
 }
 
 #[test]
 fn types_selects(rt: HostRuntime) -> Result<(), Fail> {
     let tables = tables_of(rt.alloc(), TABLES)?;
-    for (spelled, expected) in SELECTS {
-        let holds = types_text(rt.alloc(), spelled, tables.as_slice(), *expected);
-        assert!(rt; holds, "at {spelled}");
-    }
-    Ok(())
+    let are_typed = are_typed(rt.alloc(), tables.as_slice());
+    alone(tables, are_typed)
 }

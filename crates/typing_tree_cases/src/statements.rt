@@ -1,5 +1,7 @@
 // The typing of a statement of each kind, over t (k integer key, n integer).
-use crate::samples::{are_narrow, code_of, is_key, read, tables_of};
+use crate::samples::{code_of, is_key};
+use case_lines::{alone, right};
+use case_tables::{are_narrow, read, tables_of};
 use cell_base::{SqlFault, SqlState};
 use sql_tree::{Statement, Table, Typed, TypedChange, TypedInsert, TypedSelect};
 use sql_types::typed;
@@ -77,17 +79,21 @@ fn types_one(alloc: Global, found: &[Statement], tables: &[Table]) -> bool {
 
 fn types_text(alloc: Global, spelled: &str, tables: &[Table]) -> bool {
     match read(alloc, spelled) {
-        Some(found) => types_one(alloc, found.as_slice(), tables),
-        None => false,
+        Ok(found) => types_one(alloc, found.as_slice(), tables),
+        Err(_) => false,
     }
+}
+
+fn are_typed(alloc: Global, tables: &[Table]) -> Result<(), Fail> {
+    for spelled in STATEMENTS {
+        right(*spelled, types_text(alloc, spelled, tables))?;
+    }
+    Ok(())
 }
 
 #[test]
 fn types_each_kind_of_statement(rt: HostRuntime) -> Result<(), Fail> {
     let tables = tables_of(rt.alloc(), TABLES)?;
-    for spelled in STATEMENTS {
-        let holds = types_text(rt.alloc(), spelled, tables.as_slice());
-        assert!(rt; holds, "at {spelled}");
-    }
-    Ok(())
+    let are_typed = are_typed(rt.alloc(), tables.as_slice());
+    alone(tables, are_typed)
 }

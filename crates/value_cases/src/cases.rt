@@ -1,17 +1,9 @@
 // Operators with the values that they give, worked out by hand from PostgreSQL's documentation.
+use case_lines::Lit;
 use cell_base::SqlType;
 use cell_base::SqlType::{Bigint, Boolean, Integer, Text, Varchar};
 use sql_tree::Op;
 use sql_tree::Op::{Add, And, Div, Eq, Ge, Gt, Le, Lt, Mul, Ne, Or, Rem, Sub};
-
-/// A constant.
-#[derive(Clone, Copy)]
-pub enum Lit {
-    Null,
-    Flag(bool),
-    Int(i64),
-    Str(&'static str),
-}
 
 /// An operator, the type of its operands, and its operands.
 pub type Operation = (Op, SqlType, Lit, Lit);
@@ -232,7 +224,7 @@ pub const ASSIGNED: &[(SqlType, Lit, &str)] = &[
 ];
 
 /// A type, the text of so many pieces and an end, and how many bytes of it are stored, or the code.
-pub type LongCase = (SqlType, &'static str, usize, &'static str, &'static str);
+pub type LongCase = (SqlType, &'static str, u32, &'static str, &'static str);
 
 /// The bytes of a text.
 pub const OF_BYTES: &[LongCase] = &[

@@ -10,10 +10,6 @@ mod assigned;
 #[cfg(test)]
 mod cases;
 #[cfg(test)]
-mod compared;
-#[cfg(test)]
-mod held;
-#[cfg(test)]
 mod samples;
 #[cfg(test)]
 mod tests;

@@ -1,14 +1,13 @@
 // What no clause says of `eval`: that a call with ample memory succeeds, and values worked out by hand.
 use crate::cases::{
-    AMONG, COLUMNS, CONJUNCTIONS, Case, DENIED, DISJUNCTIONS, GUARDED, Lit, NULL_TESTS, OF_BIGINT,
+    AMONG, COLUMNS, CONJUNCTIONS, Case, DENIED, DISJUNCTIONS, GUARDED, NULL_TESTS, OF_BIGINT,
     OF_FAULTS, OF_FLAGS, OF_INTEGER, OF_NULL, OF_NUMBERS, OF_TEXTS, OneCase, Operation, SIGNED,
 };
-use crate::compared::is;
-use crate::held::{alone, both, kept};
-use crate::samples::{shown, text_of};
+use crate::samples::shown;
 use crate::trees::{
     among, among_failing, binary, constant, equality, failing, integer, of_one, operation,
 };
+use case_lines::{Lit, alone, both, is_in, kept, text_of};
 use cell_base::{Items, Memory, SqlType, Value};
 use expr_eval::eval;
 use sql_tree::{Op, TypedExpr, TypedNode};
@@ -29,7 +28,7 @@ fn operation_given(alloc: Global, case: &Case) -> Result<String, Memory> {
 
 fn are_given(alloc: Global, table: &str, cases: &[Case]) -> Result<(), Fail> {
     for (place, case) in cases.iter().enumerate() {
-        is(table, place, operation_given(alloc, case), case.4)?;
+        is_in(table, place, operation_given(alloc, case), case.4)?;
     }
     Ok(())
 }
@@ -66,7 +65,7 @@ fn guarded(alloc: Global, flag: bool, op: Op) -> Result<String, Memory> {
 #[test]
 fn evaluates_both_operands(rt: HostRuntime) -> Result<(), Fail> {
     for (place, (flag, op, want)) in GUARDED.iter().enumerate() {
-        is("guarded", place, guarded(rt.alloc(), *flag, *op), want)?;
+        is_in("guarded", place, guarded(rt.alloc(), *flag, *op), want)?;
     }
     Ok(())
 }
@@ -79,7 +78,7 @@ fn compared(alloc: Global, left: Operation, right: Operation) -> Result<String, 
 #[test]
 fn evaluates_the_left_operand_first(rt: HostRuntime) -> Result<(), Fail> {
     for (place, (left, right, want)) in OF_FAULTS.iter().enumerate() {
-        is("faults", place, compared(rt.alloc(), *left, *right), want)?;
+        is_in("faults", place, compared(rt.alloc(), *left, *right), want)?;
     }
     Ok(())
 }
@@ -93,7 +92,7 @@ fn mixed(alloc: Global) -> Result<String, Memory> {
 /// An integer and a bigint.
 #[test]
 fn takes_two_types_of_number(rt: HostRuntime) -> Result<(), Fail> {
-    is("mixed", 0, mixed(rt.alloc()), "f")
+    is_in("mixed", 0, mixed(rt.alloc()), "f")
 }
 
 fn one_given(alloc: Global, case: &OneCase) -> Result<String, Memory> {
@@ -103,7 +102,7 @@ fn one_given(alloc: Global, case: &OneCase) -> Result<String, Memory> {
 
 fn are_given_of_one(alloc: Global, table: &str, cases: &[OneCase]) -> Result<(), Fail> {
     for (place, case) in cases.iter().enumerate() {
-        is(table, place, one_given(alloc, case), case.3)?;
+        is_in(table, place, one_given(alloc, case), case.3)?;
     }
     Ok(())
 }
@@ -131,7 +130,7 @@ fn found_among(alloc: Global, left: Lit, members: &[Lit], negated: bool) -> Resu
 fn looks_among_members(rt: HostRuntime) -> Result<(), Fail> {
     for (place, (left, members, negated, want)) in AMONG.iter().enumerate() {
         let found = found_among(rt.alloc(), *left, members, *negated);
-        is("among", place, found, want)?;
+        is_in("among", place, found, want)?;
     }
     Ok(())
 }
@@ -139,7 +138,7 @@ fn looks_among_members(rt: HostRuntime) -> Result<(), Fail> {
 /// `1 IN (1, 1 / 0)`: the member after one that is equal is evaluated too.
 #[test]
 fn evaluates_all_members(rt: HostRuntime) -> Result<(), Fail> {
-    is(
+    is_in(
         "among",
         0,
         given(rt.alloc(), among_failing(rt.alloc())),
@@ -151,7 +150,7 @@ fn evaluates_all_members(rt: HostRuntime) -> Result<(), Fail> {
 
 fn push_first(entry: &mut Items<Value>, alloc: Global) -> Result<(), Memory> {
     entry.push(Value::Int(7))?;
-    entry.push(text_of(alloc, b"ab")?)?;
+    entry.push(Value::Text(text_of(alloc, b"ab")?))?;
     entry.push(Value::Unset)
 }
 
@@ -201,7 +200,7 @@ fn column(alloc: Global, kind: SqlType, entry: u32, place: u32) -> Result<String
 #[test]
 fn reads_columns(rt: HostRuntime) -> Result<(), Fail> {
     for (place, (kind, entry, number, want)) in COLUMNS.iter().enumerate() {
-        is(
+        is_in(
             "columns",
             place,
             column(rt.alloc(), *kind, *entry, *number),

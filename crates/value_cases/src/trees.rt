@@ -1,7 +1,6 @@
 // Expressions over constants.
-use crate::cases::{Form, Lit, Operation};
-use crate::held::{both, kept};
-use crate::samples::value_of;
+use crate::cases::{Form, Operation};
+use case_lines::{Lit, both, kept, value_of};
 use cell_base::{Boxed, Items, Memory, SqlType};
 use sql_tree::{Op, TypedExpr, TypedNode};
 use std::alloc::Global;

@@ -1,7 +1,7 @@
 // Calls that hand files out, each with what it is to come to.
 use crate::compared::right;
-use crate::made::text;
 use crate::steps::{reads, sends};
+use case_lines::text_of;
 use cell_base::Text;
 use link_traits::Host;
 use std::alloc::Global;
@@ -52,7 +52,7 @@ fn calls<H: Host>(host: &mut H, call: Call, path: &Text, bytes: &[u8]) -> bool {
 
 fn holds<H: Host>(alloc: Global, host: &mut H, row: &Row) -> bool {
     let (call, path, bytes, want) = *row;
-    match text(alloc, path) {
+    match text_of(alloc, path) {
         Ok(path) => calls(host, call, &path, bytes) == want,
         Err(_) => false,
     }

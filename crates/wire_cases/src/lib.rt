@@ -10,8 +10,6 @@ mod compared;
 #[cfg(test)]
 mod files;
 #[cfg(test)]
-mod held;
-#[cfg(test)]
 mod links;
 #[cfg(test)]
 mod made;

@@ -4,10 +4,10 @@ ghost use Rattle.link_traits.specs.Hosts.{mem_hosted};
 
 use crate::compared::right;
 use crate::files::{Call, Row, hold};
-use crate::held::alone;
 use crate::made::{host, link, sink, source};
 use crate::steps::Step::{Read as Reads, Send, Write as Writes};
 use crate::steps::{Step, reads, sends, take, writes};
+use case_lines::alone;
 use cell_base::Memory;
 use link_traits::{
     FileSource, Host, HostFault, MemHost, MemLink, MemReturned, MemSink, MemSource, StdHost,

@@ -2,8 +2,8 @@
 ghost use Rattle.std.specs.Prelude.{◌≡◌, IfOk, IsSome};
 ghost use Rattle.link_traits.specs.Hosts.{mem_hosted};
 
-use crate::held::{both, kept};
-use cell_base::{Items, Memory, Text};
+use case_lines::{both, kept, text_of};
+use cell_base::{Items, Memory};
 use link_traits::{HostFile, MemHost, MemLink, MemPlan, MemSink, MemSource};
 use std::alloc::Global;
 
@@ -47,14 +47,6 @@ pub fn sink(alloc: Global) -> Result<MemSink, Memory> {
     MemSink::new(alloc, plan(alloc, 2, &[5], 100, 0)?)
 }
 
-/// A path, or any other text.
-pub fn text(alloc: Global, bytes: &[u8]) -> Result<Text, Memory> {
-    match Text::from_bytes(alloc, bytes) {
-        Ok(text) => Ok(text),
-        Err(_) => Err(Memory),
-    }
-}
-
 fn host_link(alloc: Global) -> Result<MemLink, Memory> {
     let bytes = Vec::from_slice(alloc, b"in")?;
     MemLink::new(
@@ -70,7 +62,7 @@ fn host_sink(alloc: Global) -> Result<MemSink, Memory> {
 }
 
 fn host_files(alloc: Global) -> Result<Items<HostFile>, Memory> {
-    let (path, bytes) = both(text(alloc, b"log"), Items::from_slice(alloc, b"open"))?;
+    let (path, bytes) = both(text_of(alloc, b"log"), Items::from_slice(alloc, b"open"))?;
     let mut files = Items::new(alloc);
     let pushed = files.push(HostFile { path, bytes });
     kept(files, pushed)

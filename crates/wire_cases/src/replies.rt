@@ -4,7 +4,7 @@ ghost use Rattle.pg_framing.specs.Replies.{FitsModifier, value_bytes};
 ghost use Rattle.cell_base.specs.Texts.{HasNoZero};
 
 use crate::compared::{is, right};
-use crate::held::{alone, kept};
+use case_lines::{alone, kept};
 use cell_base::{Memory, SqlState, SqlType, Text, Value};
 use itoa::Buffer;
 use pg_framing::{

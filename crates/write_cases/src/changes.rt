@@ -2,12 +2,11 @@
 use crate::changes::Filter::{All, Compared, DividesTen};
 use crate::changes::Term::{Constant, Field, Sum};
 use crate::changes::Verb::{Delete, Update};
-use crate::compared::is;
-use crate::held::{alone, both, kept};
 use crate::shown;
-use crate::trees::Lit::{Int, Null, Str};
-use crate::trees::{Lit, column, compared, constant, divides_ten, shown_to, sum, table};
-use cell_base::{Items, Key, Memory, SqlFault, Value};
+use crate::trees::{column, compared, constant, divides_ten, shown_to, sum, table};
+use case_lines::Lit::{Int, Null, Str};
+use case_lines::{Lit, alone, both, fault_shown, is, kept};
+use cell_base::{Items, Key, Memory, Value};
 use row_writes::changes_of;
 use sql_tree::{Op, Table, TypedChange, TypedExpr};
 use std::alloc::{AllocError, Global};
@@ -60,8 +59,7 @@ fn answer(
 ) -> Result<String, AllocError> {
     match changes_of(alloc, table, change, rows) {
         Ok(made) => shown::changes(alloc, made.as_slice()),
-        Err(SqlFault::State(code)) => format!(in alloc; "{code:?}"),
-        Err(SqlFault::Memory) => String::from_str(alloc, "memory"),
+        Err(fault) => fault_shown(alloc, fault),
     }
 }
 

@@ -1,10 +1,9 @@
 // The rows that an INSERT makes.
-use crate::compared::is;
-use crate::held::{alone, both, kept};
 use crate::shown;
-use crate::trees::Lit::{Int, Null, Str};
-use crate::trees::{Lit, constants, rows_of, table, text_of};
-use cell_base::{Items, Memory, SqlFault, SqlType, Text, Value};
+use crate::trees::{constants, rows_of, table};
+use case_lines::Lit::{Int, Null, Str};
+use case_lines::{Lit, alone, both, fault_shown, is, kept, text_of};
+use cell_base::{Items, Memory, SqlType, Text, Value};
 use row_writes::rows_to_insert;
 use sql_tree::{Table, TypedExpr, TypedNode};
 use std::alloc::{AllocError, Global};
@@ -17,8 +16,7 @@ type Case = (&'static [&'static [Lit]], &'static str);
 fn answer(alloc: Global, table: &Table, rows: &[Items<TypedExpr>]) -> Result<String, AllocError> {
     match rows_to_insert(alloc, table, rows) {
         Ok(made) => shown::rows(alloc, made.as_slice()),
-        Err(SqlFault::State(code)) => format!(in alloc; "{code:?}"),
-        Err(SqlFault::Memory) => String::from_str(alloc, "memory"),
+        Err(fault) => fault_shown(alloc, fault),
     }
 }
 
@@ -176,5 +174,5 @@ fn long_length(alloc: Global, bytes: usize) -> Result<usize, Memory> {
 #[test]
 fn bounds_the_bytes_of_a_text(rt: HostRuntime) -> Result<(), Fail> {
     assert_eq!(rt; long_length(rt.alloc(), 65_536)?, 65_548);
-    is(1, long_inserted(rt.alloc(), 65_537), "S54000")
+    is(65_537usize, long_inserted(rt.alloc(), 65_537), "S54000")
 }

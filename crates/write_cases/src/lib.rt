@@ -9,10 +9,6 @@
 #[cfg(test)]
 mod changes;
 #[cfg(test)]
-mod compared;
-#[cfg(test)]
-mod held;
-#[cfg(test)]
 mod inserts;
 #[cfg(test)]
 mod shown;

@@ -1,16 +1,8 @@
 // The table of all cases, and expressions over it.
-use crate::held::{both, kept};
-use cell_base::{Boxed, Items, Key, Memory, SqlType, Text, Value};
+use case_lines::{Lit, both, boxed, kept, text_of, value_of, values_of};
+use cell_base::{Items, Key, Memory, SqlType, Value};
 use sql_tree::{Column, Op, Table, TypedExpr, TypedNode};
 use std::alloc::Global;
-
-/// A constant.
-#[derive(Clone, Copy)]
-pub enum Lit {
-    Null,
-    Int(i64),
-    Str(&'static str),
-}
 
 /// The types of the columns k, a, v, b and t, and whether they are never null.
 const COLUMNS: [(SqlType, bool); 5] = [
@@ -21,21 +13,6 @@ const COLUMNS: [(SqlType, bool); 5] = [
     (SqlType::Text, false),
 ];
 
-pub fn text_of(alloc: Global, bytes: &[u8]) -> Result<Text, Memory> {
-    match Text::from_bytes(alloc, bytes) {
-        Ok(text) => Ok(text),
-        Err(_) => Err(Memory),
-    }
-}
-
-pub fn value_of(alloc: Global, lit: Lit) -> Result<Value, Memory> {
-    match lit {
-        Lit::Null => Ok(Value::Null),
-        Lit::Int(n) => Ok(Value::Int(n)),
-        Lit::Str(text) => Ok(Value::Text(text_of(alloc, text.as_bytes())?)),
-    }
-}
-
 fn kind_of(lit: Lit) -> SqlType {
     match lit {
         Lit::Int(n) => {
@@ -45,6 +22,7 @@ fn kind_of(lit: Lit) -> SqlType {
                 SqlType::Bigint
             }
         }
+        Lit::Flag(_) => SqlType::Boolean,
         Lit::Null | Lit::Str(_) => SqlType::Text,
     }
 }
@@ -70,7 +48,7 @@ fn binary(
     op: Op,
     (left, right): (TypedExpr, TypedExpr),
 ) -> Result<TypedExpr, Memory> {
-    let (left, right) = both(Boxed::new(alloc, left), Boxed::new(alloc, right))?;
+    let (left, right) = boxed(alloc, left, right)?;
     Ok(TypedExpr {
         kind,
         node: TypedNode::Binary(op, left, right),
@@ -183,26 +161,13 @@ pub fn rows_of(alloc: Global, rows: &[&[Lit]]) -> Result<Items<Items<TypedExpr>>
     kept(exprs, pushed)
 }
 
-fn push_values(values: &mut Items<Value>, alloc: Global, lits: &[Lit]) -> Result<(), Memory> {
-    for lit in lits {
-        values.push(value_of(alloc, *lit)?)?;
-    }
-    Ok(())
-}
-
-fn values(alloc: Global, lits: &[Lit]) -> Result<Items<Value>, Memory> {
-    let mut values = Items::new(alloc);
-    let pushed = push_values(&mut values, alloc, lits);
-    kept(values, pushed)
-}
-
 fn push_shown(
     shown: &mut Items<(Key, Items<Value>)>,
     alloc: Global,
     rows: &[(i64, &[Lit])],
 ) -> Result<(), Memory> {
     for (key, row) in rows {
-        shown.push((Key::Int(*key), values(alloc, row)?))?;
+        shown.push((Key::Int(*key), values_of(alloc, row)?))?;
     }
     Ok(())
 }

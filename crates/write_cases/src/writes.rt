@@ -1,9 +1,8 @@
 // The cells that are written.
-use crate::compared::is;
-use crate::held::{alone, both, kept};
 use crate::shown;
-use crate::trees::Lit::{Int, Null, Str};
-use crate::trees::{Lit, rows_of, table, text_of};
+use crate::trees::{rows_of, table};
+use case_lines::Lit::{Int, Null, Str};
+use case_lines::{Lit, alone, both, is, kept, text_of};
 use cell_base::{Cell, Items, Key, Memory, Value};
 use row_writes::{RowChange, delete_writes, insert_writes, rows_to_insert, update_writes};
 use sql_tree::{Table, TypedExpr};
@@ -58,7 +57,7 @@ const INSERTED: &[(u32, &str)] = &[
 #[test]
 fn writes_presence_and_then_fields(rt: HostRuntime) -> Result<(), Fail> {
     for (key, want) in INSERTED {
-        is(*key as usize, inserts(rt.alloc(), *key), want)?;
+        is(*key, inserts(rt.alloc(), *key), want)?;
     }
     Ok(())
 }
@@ -109,10 +108,10 @@ fn deletes(alloc: Global) -> Result<String, Memory> {
 
 #[test]
 fn writes_assigned_fields_alone(rt: HostRuntime) -> Result<(), Fail> {
-    is(0, updates(rt.alloc()), "0.3.1=- 0.3.2=ab ")
+    is("updates", updates(rt.alloc()), "0.3.1=- 0.3.2=ab ")
 }
 
 #[test]
 fn writes_absence_alone(rt: HostRuntime) -> Result<(), Fail> {
-    is(0, deletes(rt.alloc()), "63.3=f 63.5=f ")
+    is("deletes", deletes(rt.alloc()), "63.3=f 63.5=f ")
 }
