@@ -1,36 +1,40 @@
 // Why a test's run of calls ends.
 use cell_base::Memory;
-use history_core::{BookFault, Limit};
+use history_core::{BookFault, History, Limit};
 use std::alloc::{AllocError, AllocFailed};
-use table_samples::Misplaced;
-use valid_writes::Store;
+use thiserror::Error;
 
 /// Why a run of calls ends early. Numbers are those of the event that would have come next.
-#[derive(Clone, Copy, Debug)]
+#[derive(Clone, Copy, Debug, Error)]
 pub enum Stop {
     /// Out of memory.
+    #[error("out of memory")]
     Memory,
     /// The history is full.
+    #[error("the history is full: {0}")]
     Full(Limit),
     /// The session doesn't stand so that the call may be made.
+    #[error("misplaced call before event {0}")]
     Misplaced(u32),
-    /// Something else was offered than was expected.
+    /// Something else was offered or told than was expected.
+    #[error("another answer before event {0}")]
     Unlike(u32),
     /// The load of the history, where it was to be another one.
+    #[error("a load of {0}")]
     Load(u64),
     /// A call succeeded that was to be refused.
+    #[error("an accepted call")]
     Accepted,
 }
 
-/// Something else came than was expected.
-pub fn unlike(store: &Store) -> Stop {
-    Stop::Unlike(store.history().next_number())
+/// The call can't be made where the history stands.
+pub fn misplaced(history: &History) -> Stop {
+    Stop::Misplaced(history.next_number())
 }
 
-impl From<Misplaced> for Stop {
-    fn from(misplaced: Misplaced) -> Self {
-        Stop::Misplaced(misplaced.next)
-    }
+/// Something else came than was expected.
+pub fn unlike(history: &History) -> Stop {
+    Stop::Unlike(history.next_number())
 }
 
 impl From<Memory> for Stop {

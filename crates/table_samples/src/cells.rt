@@ -1,9 +1,25 @@
-// The cells of the tests' table, `CREATE TABLE t (k bigint PRIMARY KEY, v bigint)`, and lists of its keys.
-ghost use Rattle.std.specs.Prelude.{◌≡◌};
+// The cells of the table's rows, whose keys are integers, and the values that numbers stand for in them.
+ghost use Rattle.std.specs.Prelude.{◌≡◌, pos};
 ghost use Rattle.history_core.specs.Events.{table_of};
 ghost use Rattle.history_core.specs.Initial.{IsStorable};
 
 use cell_base::{Cell, Key, Value};
+
+/// Whether the row of key 1 is there.
+pub fn presence() -> Cell
+    ensures is { result ≡ Cell.Presence 0 (Key.Int (pos 1)) }
+    ensures table { table_of result ≡ 0 }
+{
+    Cell::Presence(0, Key::Int(1))
+}
+
+/// The field v of the row of key 1.
+pub fn field() -> Cell
+    ensures is { result ≡ Cell.Field 0 (Key.Int (pos 1)) 1 }
+    ensures table { table_of result ≡ 0 }
+{
+    Cell::Field(0, Key::Int(1), 1)
+}
 
 /// The number that stands for null in a field.
 pub const NULL: i64 = -1;
@@ -12,7 +28,7 @@ pub const NULL: i64 = -1;
 pub const UNSET: i64 = -2;
 
 /// A cell of the row of a key.
-#[derive(Clone, Copy)]
+#[derive(Clone, Copy, PartialEq, Eq)]
 pub enum Spot {
     /// Whether the row is there.
     Presence(i64),
@@ -57,16 +73,4 @@ fn number_or_null(number: i64) -> Value
         return Value::Null;
     }
     Value::Int(number)
-}
-
-/// Whether the keys are just these integers, in this order.
-pub fn are_integers(keys: &[Key], want: &[i64]) -> bool {
-    keys.len() == want.len() && keys.iter().zip(want).all(|(key, n)| is_integer(key, *n))
-}
-
-fn is_integer(key: &Key, want: i64) -> bool {
-    match key {
-        Key::Int(n) => *n == want,
-        Key::Text(_) => false,
-    }
 }
