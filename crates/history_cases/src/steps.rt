@@ -1,17 +1,6 @@
-// What was made, held over a step that may fail. What lets go of a value costs much to check wherever it stands, so it is let go here.
+// Steps that many tests take.
 use cell_base::Memory;
 use std::test::Fail;
-
-/// What is held, if the step could be taken.
-pub fn kept<T: Drop>(held: T, step: Result<(), Memory>) -> Result<T, Memory> {
-    step?;
-    Ok(held)
-}
-
-/// The answer, without what it was asked of.
-pub fn alone<T: Drop, A>(_held: T, answer: A) -> A {
-    answer
-}
 
 /// Adds what was made.
 pub fn push<T: Drop>(list: &mut Vec<T>, item: T) -> Result<(), Memory> {
