@@ -3,10 +3,10 @@ ghost use Rattle.std.specs.Prelude.{◌≡◌, ◌<◌, ◌≤◌, All, IfOk, le
 ghost use Rattle.session_hall.specs.declared.client.Client.{Client as Known};
 ghost use Rattle.session_hall.specs.Halls.{IsHall, clients_of};
 
-use crate::handing::without;
 use crate::reading::Interleaving;
 use cell_base::Memory;
 use event_text::event_lines;
+use held_values::without;
 use session_hall::{Client, Hall};
 use session_text::Session;
 use std::alloc::{AllocError, Global};
@@ -170,8 +170,8 @@ fn played(alloc: Global, hall: &mut Hall, count: u32, row: &Interleaving) -> Res
     requires hall { IsHall hall.old }
     requires count { count ≤ clients_of hall.old }
 {
-    take_turns(hall, count, row.events.as_str())?;
-    let found = other_events(alloc, hall, row.events.as_str())?;
+    take_turns(hall, count, row.head.events.as_str())?;
+    let found = other_events(alloc, hall, row.head.events.as_str())?;
     if !found.as_str().is_empty() {
         return Ok(found);
     }
@@ -191,7 +191,7 @@ fn found_in(alloc: Global, row: &Interleaving, piece: u32) -> Result<String, Fai
 {
     let clients = clients(alloc, &row.clients, piece)?;
     let count = count_of(clients.as_slice());
-    let mut hall = Hall::new(alloc, row.level, clients)?;
+    let mut hall = Hall::new(alloc, row.head.level, clients)?;
     let found = played(alloc, &mut hall, count, row);
     without(hall, found)
 }
