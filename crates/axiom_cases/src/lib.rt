@@ -11,8 +11,6 @@ mod histories;
 #[cfg(test)]
 mod play;
 #[cfg(test)]
-mod tables;
-#[cfg(test)]
 mod together;
 #[cfg(test)]
 mod worked;

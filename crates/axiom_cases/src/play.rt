@@ -4,8 +4,8 @@ ghost use Rattle.history_core.specs.Book.{IsIdle, IsInTransaction, HasTable};
 ghost use Rattle.history_core.specs.Events.{table_of as table_in};
 ghost use Rattle.history_core.specs.Initial.{IsStorable};
 
-use crate::tables::table_of;
 use cell_base::{Cell, Key, Level, Value};
+use created_tables::table_of;
 use held_values::{beside, kept, let_go, without};
 use history_core::{Book, BookFault, History, InitialState};
 use seat_samples::{Stop, busy_seat, idle_seat, misplaced, open_next, with_table};

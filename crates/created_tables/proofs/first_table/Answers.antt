@@ -3,7 +3,7 @@ use Rattle.std.specs.List.{slice_get}
 use Rattle.std.proofs.lemmas.Option.{slice_get_within, get_or_from_slice_get}
 use Rattle.sql_tree.specs.declared.statement.Statement.{Statement}
 use Rattle.sql_tree.specs.declared.statement.Statement.TheVariants.{Create}
-use Rattle.committed_cases.proofs.tables.first_table.Goals as goal
+use Rattle.created_tables.proofs.first_table.Goals as goal
 
 pub returns : goal.returns
 returns c =
