@@ -1,11 +1,11 @@
 // What the axiom crates answer over a store's history.
-use crate::handing::without;
 use crate::play::Spot;
-use crate::stop::Stop;
 use cell_base::{Cell, Level};
 use graph_base::Edge;
+use held_values::without;
 use history_core::History;
 use saturation::is_writer;
+use seat_samples::{Stop, misplaced};
 use std::alloc::Global;
 
 /// What a further read of the session forces by the level.
@@ -31,10 +31,10 @@ fn trial(
     source: u32,
 ) -> Result<Vec<Edge>, Stop> {
     if !is_writer(history, source, cell) {
-        return Err(Stop::Misplaced);
+        return Err(misplaced(history));
     }
     let Some(reader) = history.pending(session) else {
-        return Err(Stop::Misplaced);
+        return Err(misplaced(history));
     };
     let pairs = match level {
         Level::Rc => axiom_rc::trial(alloc, history, reader, cell, source)?,
@@ -53,7 +53,7 @@ pub fn visible(
     place: u32,
 ) -> Result<Vec<u32>, Stop> {
     if reader == 0 || reader > history.begun() {
-        return Err(Stop::Misplaced);
+        return Err(misplaced(history));
     }
     let writers = match level {
         Level::Rc => axiom_rc::visible(alloc, history, reader, place)?,

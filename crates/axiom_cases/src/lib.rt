@@ -7,17 +7,9 @@
 #[cfg(test)]
 mod answers;
 #[cfg(test)]
-mod handing;
-#[cfg(test)]
 mod histories;
 #[cfg(test)]
 mod play;
-#[cfg(test)]
-mod seats;
-#[cfg(test)]
-mod stop;
-#[cfg(test)]
-mod tables;
 #[cfg(test)]
 mod together;
 #[cfg(test)]

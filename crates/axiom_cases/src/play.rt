@@ -1,13 +1,14 @@
 // Steps of several sessions, one after another, in one store.
-ghost use Rattle.history_core.specs.Book.{IsIdle, IsInTransaction};
+ghost use Rattle.std.specs.Prelude.{◌≡◌, ◌↔◌, IsTrue};
+ghost use Rattle.history_core.specs.Book.{IsIdle, IsInTransaction, HasTable};
+ghost use Rattle.history_core.specs.Events.{table_of as table_in};
 ghost use Rattle.history_core.specs.Initial.{IsStorable};
 
-use crate::handing::{after, beside, misplaced, without};
-use crate::seats::{busy_seat, has_table, idle_seat, table};
-use crate::stop::Stop;
-use crate::tables::table_of;
 use cell_base::{Cell, Key, Level, Value};
-use history_core::{Book, InitialState};
+use created_tables::table_of;
+use held_values::{beside, kept, let_go, without};
+use history_core::{Book, BookFault, History, InitialState};
+use seat_samples::{Stop, busy_seat, idle_seat, misplaced, open_next, with_table};
 use std::alloc::Global;
 use valid_writes::{SeatBook, Store};
 
@@ -78,19 +79,14 @@ pub fn make(store: Store, level: Level, session: u32, step: Step) -> Result<Stor
 pub fn offer(store: &Store, session: u32, cell: &Cell) -> Result<Vec<u32>, Stop> {
     match store.history().pending(session) {
         Some(_) => Ok(store.offer(session, cell)?),
-        None => Err(Stop::Misplaced),
+        None => Err(misplaced(store.history())),
     }
 }
 
 /// A store with the tables t and u and three open sessions.
 fn stage(alloc: Global) -> Result<Store, Stop> {
     let store = Store::new(alloc, Level::Rc, InitialState::empty(alloc))?;
-    let store = open(open(open(store)?)?)?;
-    let store = define(
-        alloc,
-        store,
-        b"CREATE TABLE t (k bigint PRIMARY KEY, v bigint)",
-    )?;
+    let store = open_next(open_next(with_table(alloc, store)?)?)?;
     define(
         alloc,
         store,
@@ -98,32 +94,24 @@ fn stage(alloc: Global) -> Result<Store, Stop> {
     )
 }
 
-fn open(store: Store) -> Result<Store, Stop> {
-    let mut book = store.seat(None);
-    let opened = book.open();
-    after(book.into_store(), opened)
-}
-
 fn define(alloc: Global, store: Store, text: &[u8]) -> Result<Store, Stop> {
     let mut book = idle_seat(store, 1)?;
     let defined = define_in(alloc, &mut book, text);
-    let (book, ()) = beside(book, defined)?;
-    Ok(book.into_store())
+    kept(book.into_store(), defined)
 }
 
 fn define_in(alloc: Global, book: &mut SeatBook, text: &[u8]) -> Result<(), Stop>
     requires { IsIdle book.old.state }
 {
     let table = table_of(alloc, text)?;
-    let answer = book.define(&table);
-    without(table, answer)?;
-    Ok(())
+    let answer = let_go(book.define(&table));
+    Ok(without(table, answer)?)
 }
 
 fn begin(store: Store, session: u32, level: Level) -> Result<Store, Stop> {
     let mut book = idle_seat(store, session)?;
-    let begun = book.begin(level);
-    after(book.into_store(), begun)
+    let begun = let_go(book.begin(level));
+    Ok(kept(book.into_store(), begun)?)
 }
 
 /// Makes a step in the pending transaction.
@@ -132,8 +120,7 @@ fn go_on(store: Store, session: u32, step: Step) -> Result<Store, Stop> {
     let (store, word) = beside(store, word)?;
     let mut book = busy_seat(store, session)?;
     let made = act(&mut book, step, word);
-    let (store, ()) = beside(book.into_store(), made)?;
-    Ok(store)
+    kept(book.into_store(), made)
 }
 
 /// The word that a read's source is picked by, and 0 for another step.
@@ -147,12 +134,12 @@ fn word_of(store: &Store, session: u32, step: Step) -> Result<u32, Stop> {
 /// The word that picks the source.
 fn word_for(store: &Store, session: u32, spot: Spot, source: u32) -> Result<u32, Stop> {
     let offer = offer(store, session, &spot.cell())?;
-    let word = place_of(offer.as_slice(), source);
+    let word = place_of(store.history(), offer.as_slice(), source);
     without(offer, word)
 }
 
 /// The place of the source in what is offered.
-fn place_of(offer: &[u32], source: u32) -> Result<u32, Stop> {
+fn place_of(history: &History, offer: &[u32], source: u32) -> Result<u32, Stop> {
     let mut word = 0u32;
     for number in offer {
         if *number == source {
@@ -160,7 +147,7 @@ fn place_of(offer: &[u32], source: u32) -> Result<u32, Stop> {
         }
         word = word.saturating_add(1);
     }
-    Err(Stop::Misplaced)
+    Err(misplaced(history))
 }
 
 /// Makes the step, a read by the word. A transaction can't begin in another one.
@@ -168,7 +155,7 @@ fn act(book: &mut SeatBook, step: Step, word: u32) -> Result<(), Stop>
     requires { IsInTransaction book.old.state }
 {
     match step {
-        Step::Begin => Err(Stop::Misplaced),
+        Step::Begin => Err(misplaced(book.history())),
         Step::Scan(table) => scan(book, table),
         Step::Read(spot, _) => read(book, spot, word),
         Step::Write(spot) => write(book, spot.cell(), spot.value()),
@@ -183,14 +170,18 @@ fn act(book: &mut SeatBook, step: Step, word: u32) -> Result<(), Stop>
     }
 }
 
+/// What a call came to.
+fn told(came: Result<(), BookFault>) -> Result<(), Stop> {
+    Ok(came?)
+}
+
 fn scan(book: &mut SeatBook, table: u32) -> Result<(), Stop>
     requires { IsInTransaction book.old.state }
 {
     if !has_table(book, table) {
-        return Err(Stop::Misplaced);
+        return Err(misplaced(book.history()));
     }
-    book.scan(table)?;
-    Ok(())
+    told(let_go(book.scan(table)))
 }
 
 fn read(book: &mut SeatBook, spot: Spot, word: u32) -> Result<(), Stop>
@@ -205,13 +196,12 @@ fn read_cell(book: &mut SeatBook, cell: &Cell, word: u32) -> Result<(), Stop>
     requires { IsInTransaction book.old.state }
 {
     if book.wrote(cell) {
-        return Err(Stop::Misplaced);
+        return Err(misplaced(book.history()));
     }
     if !has_table(book, table(cell)) {
-        return Err(Stop::Misplaced);
+        return Err(misplaced(book.history()));
     }
-    book.read(cell, word)?;
-    Ok(())
+    told(let_go(book.read(cell, word)))
 }
 
 fn write(book: &mut SeatBook, cell: Cell, value: Value) -> Result<(), Stop>
@@ -219,8 +209,25 @@ fn write(book: &mut SeatBook, cell: Cell, value: Value) -> Result<(), Stop>
     requires storable { IsStorable value }
 {
     if !has_table(book, table(&cell)) {
-        return misplaced((cell, value));
+        let stop = misplaced(book.history());
+        return without((cell, value), Err(stop));
     }
-    book.write(cell, value)?;
-    Ok(())
+    told(book.write(cell, value))
+}
+
+/// Whether the table is defined.
+fn has_table(book: &SeatBook, table: u32) -> bool
+    ensures { IsTrue result ↔ HasTable book.now table }
+{
+    (table as usize) < book.history().tables().len()
+}
+
+/// The table of the cell.
+fn table(cell: &Cell) -> u32
+    ensures { result ≡ table_in cell.now }
+{
+    match cell {
+        Cell::Presence(table, _) => *table,
+        Cell::Field(table, _, _) => *table,
+    }
 }

@@ -3,16 +3,16 @@ ghost use Rattle.std.specs.Prelude.{◌↔◌, IsTrue, IfOk};
 ghost use Rattle.graph_base.specs.Walk.{IsInRange};
 
 use crate::answers::trial_at;
-use crate::handing::{beside, without};
 use crate::histories::{CHAINED, LISTED, LOST, ROLLED_BACK, SCANNED, U1, UPDATED};
 use crate::play::Spot::{Field, Presence};
 use crate::play::{Spot, Step, make, offer, play};
-use crate::stop::Stop;
 use cell_base::Level;
 use cell_base::Level::{Cc, Ra, Rc};
 use graph_base::{Edge, Graph};
+use held_values::{beside, kept, without};
 use history_core::History;
 use saturation::{forced, holds_cycle, is_writer};
+use seat_samples::Stop;
 use std::alloc::Global;
 use valid_writes::Store;
 
@@ -160,8 +160,7 @@ fn forced_with_trial(
         spot,
         source,
     );
-    let (graph, ()) = beside(graph, added)?;
-    Ok(graph)
+    kept(graph, added)
 }
 
 /// Adds the trial of the read.
@@ -220,7 +219,7 @@ fn is_in_range(graph: &Graph) -> bool
 /// Whether the graph has a cycle.
 fn closes_cycle(alloc: Global, graph: &Graph) -> Result<bool, Stop> {
     if !is_in_range(graph) {
-        return Err(Stop::Misplaced);
+        return Err(Stop::Unlike(0));
     }
     Ok(holds_cycle(alloc, graph)?)
 }

@@ -1,15 +1,15 @@
 // What reads see and force, found by hand. Transactions are numbered from 1 in the order of their begins. The answers at a level are the same
 // whatever the level that the transactions run at.
 use crate::answers::{forces, sees};
-use crate::handing::without;
 use crate::histories::{CHAINED, LISTED, LOST, ROLLED_BACK, SCANNED, U1, UPDATED};
 use crate::play::Spot::{Field, Presence};
 use crate::play::{Spot, Step, play};
-use crate::stop::Stop;
 use crate::worked::Case::{Further, Made};
 use cell_base::Level;
 use cell_base::Level::{Cc, Ra, Rc};
+use held_values::without;
 use history_core::History;
+use seat_samples::Stop;
 use std::alloc::Global;
 
 /// What is so of a history, by a level.

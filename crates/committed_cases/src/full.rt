@@ -4,8 +4,8 @@ ghost use Rattle.sound_table.specs.Sound.{IsSound};
 ghost use Rattle.history_core.specs.Book.{no_session, IsIdle};
 
 use crate::held::{alone, right};
-use crate::tables::table_of;
 use cell_base::{Level, Memory};
+use created_tables::table_of;
 use history_core::{Book, BookFault, DefineAnswer, Event, History, InitialState, Limit};
 use sql_tree::Table;
 use std::alloc::Global;
@@ -36,7 +36,7 @@ fn open(book: &mut SeatBook) -> Result<(), BookFault>
 }
 
 /// The table `t` with this number after the letter.
-fn numbered(alloc: Global, number: u32) -> Result<Table, BookFault>
+fn numbered(alloc: Global, number: u32) -> Result<Table, Memory>
     ensures { IfOk result IsSound }
 {
     let text = format!(in alloc; "CREATE TABLE t{number} (k bigint PRIMARY KEY)")?;

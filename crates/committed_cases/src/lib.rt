@@ -13,6 +13,4 @@ mod held;
 #[cfg(test)]
 mod play;
 #[cfg(test)]
-mod tables;
-#[cfg(test)]
 mod tests;

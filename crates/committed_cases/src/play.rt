@@ -6,8 +6,8 @@ ghost use Rattle.history_core.specs.Book.{no_session, IsIdle, IsInTransaction, H
 
 use crate::cells::{Put, cell_of, value_of};
 use crate::held::{alone, kept, refused};
-use crate::tables::table_of;
 use cell_base::{Cell, Level, Value};
+use created_tables::table_of;
 use history_core::{Book, BookFault, InitialState};
 use std::alloc::Global;
 use valid_writes::{SeatBook, Store};

@@ -3,9 +3,14 @@
 //! `begin 1 cc` begins a transaction of session 1 at Causal Consistency. `read 1 p.0.1 0 2 1 true` is a read in session 1 of the presence
 //! of key 1 in table 0, from transaction 0, of 2 that were offered, by the word 1, which found true; `f.0.1.1` is column 1 of that row.
 //! Text is shown in hexadecimal after an `x`.
+//!
+//! Where the events, or the bytes that came, aren't those that were expected, it also tells how many are before the first that differs.
 #![tactic(auto)]
 
+mod differing;
+
 use cell_base::{Cell, Items, Key, Level, Text, Value};
+pub use differing::{common_bytes, other_event};
 use history_core::Event;
 use std::alloc::{AllocError, Global};
 

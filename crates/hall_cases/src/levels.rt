@@ -10,27 +10,7 @@ level rc
 1 + started
 1 + table t
 1 + row (1, 10) with the word 0
-2 > StartupMessage user=a
-2 + started
-2 + block
-2 > Query SELECT v FROM t WHERE k = 1
-2 words 1 0
-* look 2 1
-* read 2 p.0.1 1 2 1 true
-* read 2 f.0.1.1 1 1 0 10
-2 < RowDescription v bigint
-2 < DataRow 10
-2 < CommandComplete SELECT 1
-2 < ReadyForQuery T
-2 > Query INSERT INTO t VALUES (2, 20)
-2 words 0
-* look 2 1
-* read 2 p.0.2 0 1 0 false
-* write 2 p.0.2 true
-* write 2 f.0.2.1 20
-2 < CommandComplete INSERT 0 1
-2 < ReadyForQuery T
-2 + commit
+2 + block that finds the row (1, 10) and commits the row (2, 20)
 3 > StartupMessage user=a
 3 + started
 3 > Query SET monkey.level TO 'cc'

@@ -8,7 +8,7 @@
 //! | `level cc` | the level of the server; without this line `rc` |
 //! | `* begin 2 cc` | an event of the history, as `event_text` spells it: a step of the client whose session it names |
 //! | `2 > Query BEGIN` | a line of a client's session, as `session_text` has them: here a message of the client of session 2 |
-//! | `2 + started` | the lines of a set-up of this name (`setups.rt`), for that client |
+//! | `2 + started` | the lines of a set-up of this name (`setups.rt`, or else of `session_text`), for that client |
 //!
 //! So the events say in which order the clients go on, and nothing else does. The crate has nothing but tests.
 #![tactic(auto)]
@@ -19,8 +19,6 @@ mod causes;
 mod drivers;
 #[cfg(test)]
 mod halves;
-#[cfg(test)]
-mod handing;
 #[cfg(test)]
 mod levels;
 #[cfg(test)]

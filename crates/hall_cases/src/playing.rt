@@ -3,10 +3,10 @@ ghost use Rattle.std.specs.Prelude.{◌≡◌, ◌<◌, ◌≤◌, All, IfOk, le
 ghost use Rattle.session_hall.specs.declared.client.Client.{Client as Known};
 ghost use Rattle.session_hall.specs.Halls.{IsHall, clients_of};
 
-use crate::handing::without;
 use crate::reading::Interleaving;
 use cell_base::Memory;
-use event_text::event_lines;
+use event_text::{common_bytes, event_lines, other_event};
+use held_values::without;
 use session_hall::{Client, Hall};
 use session_text::Session;
 use std::alloc::{AllocError, Global};
@@ -67,38 +67,12 @@ fn take_turns(hall: &mut Hall, count: u32, events: &str) -> Result<(), Memory>
     Ok(())
 }
 
-// How many lines both have in common, up to the first that differs.
-fn common_lines(found: &str, expected: &str) -> usize {
-    let mut common: usize = 0;
-    for (one, other) in found.lines().zip(expected.lines()) {
-        if one != other {
-            return common;
-        }
-        common = common.saturating_add(1);
-    }
-    common
-}
-
 // What isn't as these events say.
-fn other_event(alloc: Global, found: &str, expected: &str) -> Result<String, AllocError> {
+fn unlike(alloc: Global, found: &str, expected: &str) -> Result<String, AllocError> {
     if found == expected {
         return Ok(String::new(alloc));
     }
-    let common = common_lines(found, expected);
-    let event = found.lines().nth(common).unwrap_or("none");
-    format!(in alloc; "after {common} events: {event}")
-}
-
-// How many bytes both have in common, up to the first that differs.
-fn common_bytes(found: &[u8], expected: &[u8]) -> usize {
-    let mut common: usize = 0;
-    for (one, other) in found.iter().zip(expected.iter()) {
-        if *one != *other {
-            return common;
-        }
-        common = common.saturating_add(1);
-    }
-    common
+    other_event(alloc, found, expected)
 }
 
 // How a client ended, as a line.
@@ -161,7 +135,7 @@ fn other_events(alloc: Global, hall: &Hall, expected: &str) -> Result<String, Al
     requires { IsHall hall.now }
 {
     let found = event_lines(alloc, hall.history().events())?;
-    let other = other_event(alloc, found.as_str(), expected);
+    let other = unlike(alloc, found.as_str(), expected);
     without(found, other)
 }
 
@@ -170,8 +144,8 @@ fn played(alloc: Global, hall: &mut Hall, count: u32, row: &Interleaving) -> Res
     requires hall { IsHall hall.old }
     requires count { count ≤ clients_of hall.old }
 {
-    take_turns(hall, count, row.events.as_str())?;
-    let found = other_events(alloc, hall, row.events.as_str())?;
+    take_turns(hall, count, row.head.events.as_str())?;
+    let found = other_events(alloc, hall, row.head.events.as_str())?;
     if !found.as_str().is_empty() {
         return Ok(found);
     }
@@ -191,7 +165,7 @@ fn found_in(alloc: Global, row: &Interleaving, piece: u32) -> Result<String, Fai
 {
     let clients = clients(alloc, &row.clients, piece)?;
     let count = count_of(clients.as_slice());
-    let mut hall = Hall::new(alloc, row.level, clients)?;
+    let mut hall = Hall::new(alloc, row.head.level, clients)?;
     let found = played(alloc, &mut hall, count, row);
     without(hall, found)
 }

@@ -1,42 +1,34 @@
 // An interleaving's text, line by line.
-use crate::handing::{after, beside, push_each, push_made, without};
 use crate::setups::setup;
-use cell_base::Level;
+use held_values::{beside, kept, without};
 use session_text::{Session, Unread, read_sessions};
 use std::alloc::Global;
 
 /// Sessions that go on by turns, over one history.
-#[derive(Debug, Drop)]
+#[derive(Drop)]
 pub struct Interleaving {
-    /// The first line of its text.
-    pub name: String,
-    /// The level of the server.
-    pub level: Level,
+    /// What is said of all of them: the name, the level of the server, and the events of the history.
+    pub head: Session,
     /// What each client says and is sent, that of session 1 first.
     pub clients: Vec<Session>,
-    /// The events of the history, a line each.
-    pub events: String,
     /// The lines that couldn't be read, a line each.
     pub unread: String,
 }
 
 // A text, as far as it was read.
-#[derive(Debug, Drop)]
+#[derive(Drop)]
 struct Parts {
-    name: String,
-    level: Level,
+    // What is said of all sessions, as the text of one.
+    head: String,
     // The text of each client's session.
     clients: Vec<String>,
-    events: String,
     unread: String,
 }
 
 fn no_parts(alloc: Global) -> Parts {
     Parts {
-        name: String::new(alloc),
-        level: Level::Rc,
+        head: String::new(alloc),
         clients: Vec::new(alloc),
-        events: String::new(alloc),
         unread: String::new(alloc),
     }
 }
@@ -47,29 +39,14 @@ fn push_line_of(out: &mut String, line: &str) -> Result<(), Unread> {
     Ok(())
 }
 
-// The first one is the name of the interleaving.
-fn push_comment(name: &mut String, comment: &str) -> Result<(), Unread> {
-    if name.as_str().is_empty() {
-        name.push_str(comment)?;
+// The name of the level of the server, as far as the text was read.
+fn level_name(head: &str) -> &str {
+    for line in head.lines() {
+        if let Some(name) = line.strip_prefix("level ") {
+            return name;
+        }
     }
-    Ok(())
-}
-
-fn level_of(name: &str) -> Result<Level, Unread> {
-    match name {
-        "rc" => Ok(Level::Rc),
-        "ra" => Ok(Level::Ra),
-        "cc" => Ok(Level::Cc),
-        _ => Err(Unread::Line),
-    }
-}
-
-fn level_name(level: Level) -> &'static str {
-    match level {
-        Level::Rc => "rc",
-        Level::Ra => "ra",
-        Level::Cc => "cc",
-    }
+    "rc"
 }
 
 // The place of a session's number, which is from 1 on. The first that isn't there yet may come.
@@ -100,30 +77,23 @@ fn push_client_line(
     push_line_of(&mut clients[place], line)
 }
 
-// A line that names no set-up.
+// A line that names no set-up of an interleaving.
 fn push_plain_line(alloc: Global, parts: &mut Parts, line: &str) -> Result<(), Unread> {
     let (kind, rest) = line.split_once(' ').unwrap_or((line, ""));
     match kind {
         "" => Ok(()),
-        "#" => push_comment(&mut parts.name, rest),
-        "*" => push_line_of(&mut parts.events, rest),
-        "level" => {
-            parts.level = level_of(rest)?;
-            Ok(())
-        }
+        "#" => push_line_of(&mut parts.head, line),
+        "*" => push_line_of(&mut parts.head, line),
+        "level" => push_line_of(&mut parts.head, line),
         _ => push_client_line(alloc, &mut parts.clients, kind, rest),
     }
 }
 
-fn push_setup(alloc: Global, parts: &mut Parts, session: &str, name: &str) -> Result<(), Unread> {
-    let lines = setup(name)?.replace(alloc, "{session}", session)?;
-    let lines = lines
-        .as_str()
-        .replace(alloc, "{level}", level_name(parts.level))?;
-    for line in lines.as_str().lines() {
-        push_plain_line(alloc, parts, line)?;
-    }
-    Ok(())
+// The lines of a set-up for the session.
+fn filled(alloc: Global, head: &str, session: &str, lines: &str) -> Result<String, Unread> {
+    let lines = lines.replace(alloc, "{session}", session)?;
+    let filled = lines.as_str().replace(alloc, "{level}", level_name(head));
+    Ok(without(lines, filled)?)
 }
 
 // The session that has a set-up, and the name of that.
@@ -133,11 +103,54 @@ fn named_setup(line: &str) -> Option<(&str, &str)> {
     Some((session, name))
 }
 
-fn push_line(alloc: Global, parts: &mut Parts, line: &str) -> Result<(), Unread> {
-    match named_setup(line) {
-        Some((session, name)) => push_setup(alloc, parts, session, name),
-        None => push_plain_line(alloc, parts, line),
+fn push_plain_lines(alloc: Global, parts: &mut Parts, lines: &str) -> Result<(), Unread> {
+    for line in lines.lines() {
+        push_plain_line(alloc, parts, line)?;
     }
+    Ok(())
+}
+
+// A set-up whose lines name no other one.
+fn push_plain_setup(
+    alloc: Global,
+    parts: &mut Parts,
+    session: &str,
+    lines: &str,
+) -> Result<(), Unread> {
+    let lines = filled(alloc, parts.head.as_str(), session, lines)?;
+    let pushed = push_plain_lines(alloc, parts, lines.as_str());
+    without(lines, pushed)
+}
+
+fn push_setup_line(alloc: Global, parts: &mut Parts, line: &str) -> Result<(), Unread> {
+    if let Some((session, name)) = named_setup(line) {
+        if let Some(lines) = setup(name) {
+            return push_plain_setup(alloc, parts, session, lines);
+        }
+    }
+    push_plain_line(alloc, parts, line)
+}
+
+fn push_setup_lines(alloc: Global, parts: &mut Parts, lines: &str) -> Result<(), Unread> {
+    for line in lines.lines() {
+        push_setup_line(alloc, parts, line)?;
+    }
+    Ok(())
+}
+
+fn push_setup(alloc: Global, parts: &mut Parts, session: &str, lines: &str) -> Result<(), Unread> {
+    let lines = filled(alloc, parts.head.as_str(), session, lines)?;
+    let pushed = push_setup_lines(alloc, parts, lines.as_str());
+    without(lines, pushed)
+}
+
+fn push_line(alloc: Global, parts: &mut Parts, line: &str) -> Result<(), Unread> {
+    if let Some((session, name)) = named_setup(line) {
+        if let Some(lines) = setup(name) {
+            return push_setup(alloc, parts, session, lines);
+        }
+    }
+    push_plain_line(alloc, parts, line)
 }
 
 // A line that can't be read is kept as such.
@@ -160,79 +173,83 @@ fn push_lines(alloc: Global, parts: &mut Parts, text: &str) -> Result<(), Unread
 fn read_parts(alloc: Global, text: &str) -> Result<Parts, Unread> {
     let mut parts = no_parts(alloc);
     let read = push_lines(alloc, &mut parts, text);
-    after(parts, read)
+    kept(parts, read)
 }
 
-// Adds the lines of sessions that couldn't be read.
-fn push_unread(unread: &mut String, sessions: &[Session]) -> Result<(), Unread> {
-    for session in sessions {
-        unread.push_str(session.unread.as_str())?;
+// The last one that was made.
+fn last<T: Drop>(made: Result<Vec<T>, Unread>) -> Result<T, Unread> {
+    let mut made = made?;
+    match made.pop() {
+        Some(one) => Ok(without(made, one)),
+        None => without(made, Err(Unread::Line)),
     }
+}
+
+// Adds what was made, if it was.
+fn push_made<T: Drop>(out: &mut Vec<T>, made: Result<T, Unread>) -> Result<(), Unread> {
+    out.push(made?)?;
     Ok(())
 }
 
-// Adds the sessions of the text. A line that can't be read is added to those.
-fn push_client(
-    alloc: Global,
-    text: &str,
-    clients: &mut Vec<Session>,
-    unread: &mut String,
-) -> Result<(), Unread> {
-    let sessions = read_sessions(alloc, text)?;
-    let told = push_unread(unread, &sessions);
-    push_each(clients, after(sessions, told))
-}
-
+// Adds the session of each text.
 fn push_clients(
     alloc: Global,
     texts: &[String],
     clients: &mut Vec<Session>,
-    unread: &mut String,
 ) -> Result<(), Unread> {
     for text in texts {
-        push_client(alloc, text.as_str(), clients, unread)?;
+        push_made(clients, last(read_sessions(alloc, text.as_str())))?;
     }
     Ok(())
 }
 
-// The sessions of these texts. A line that can't be read is added to those.
-fn read_clients(
-    alloc: Global,
-    texts: &[String],
-    unread: &mut String,
-) -> Result<Vec<Session>, Unread> {
+// The session of each of these texts.
+fn read_clients(alloc: Global, texts: &[String]) -> Result<Vec<Session>, Unread> {
     let mut clients = Vec::new(alloc);
-    let read = push_clients(alloc, texts, &mut clients, unread);
-    after(clients, read)
+    let read = push_clients(alloc, texts, &mut clients);
+    kept(clients, read)
 }
 
-// The parts with these clients.
-fn with_clients(parts: Parts, clients: Vec<Session>) -> Interleaving {
+// What is said of all sessions, and each of them.
+fn read_all(alloc: Global, parts: &Parts) -> Result<(Session, Vec<Session>), Unread> {
+    let head = last(read_sessions(alloc, parts.head.as_str()))?;
+    beside(head, read_clients(alloc, &parts.clients))
+}
+
+// The parts with these sessions.
+fn with_sessions(parts: Parts, head: Session, clients: Vec<Session>) -> Interleaving {
     let Parts {
-        name,
-        level,
+        head: text,
         clients: texts,
-        events,
         unread,
     } = parts;
     without(
-        texts,
+        (text, texts),
         Interleaving {
-            name,
-            level,
+            head,
             clients,
-            events,
             unread,
         },
     )
 }
 
+// Adds the lines of sessions that couldn't be read.
+fn push_unread(unread: &mut String, head: &Session, clients: &[Session]) -> Result<(), Unread> {
+    unread.push_str(head.unread.as_str())?;
+    for client in clients {
+        unread.push_str(client.unread.as_str())?;
+    }
+    Ok(())
+}
+
 // The interleaving of a text.
 fn read_interleaving(alloc: Global, text: &str) -> Result<Interleaving, Unread> {
-    let mut parts = read_parts(alloc, text)?;
-    let clients = read_clients(alloc, &parts.clients, &mut parts.unread);
-    let (parts, clients) = beside(parts, clients)?;
-    Ok(with_clients(parts, clients))
+    let parts = read_parts(alloc, text)?;
+    let sessions = read_all(alloc, &parts);
+    let (parts, (head, clients)) = beside(parts, sessions)?;
+    let mut row = with_sessions(parts, head, clients);
+    let told = push_unread(&mut row.unread, &row.head, &row.clients);
+    kept(row, told)
 }
 
 fn push_interleavings(
@@ -250,5 +267,5 @@ fn push_interleavings(
 pub fn read_interleavings(alloc: Global, text: &str) -> Result<Vec<Interleaving>, Unread> {
     let mut rows = Vec::new(alloc);
     let read = push_interleavings(alloc, text, &mut rows);
-    after(rows, read)
+    kept(rows, read)
 }

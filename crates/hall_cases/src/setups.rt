@@ -1,17 +1,10 @@
 // What many interleavings have in common, each named by its first line. `{session}` is the session of the client that has it, and `{level}`
-// the level of the server.
-use session_text::Unread;
+// the level of the server. A set-up may name another one, which names none of these.
 
 const SETUPS: &str = r"
 # started
 * open {session}
-{session} < AuthenticationOk
-{session} < ParameterStatus server_version 14.0
-{session} < ParameterStatus server_encoding UTF8
-{session} < ParameterStatus client_encoding UTF8
-{session} < ParameterStatus DateStyle ISO, MDY
-{session} < ParameterStatus integer_datetimes on
-{session} < ParameterStatus standard_conforming_strings on
+{session} + greeted
 {session} < BackendKeyData {session} 0
 {session} < ReadyForQuery I
 
@@ -32,6 +25,29 @@ const SETUPS: &str = r"
 * commit {session}
 {session} < CommandComplete INSERT 0 1
 {session} < ReadyForQuery I
+
+# block that finds the row (1, 10) and commits the row (2, 20)
+{session} > StartupMessage user=a
+{session} + started
+{session} + block
+{session} > Query SELECT v FROM t WHERE k = 1
+{session} words 1 0
+* look {session} 1
+* read {session} p.0.1 1 2 1 true
+* read {session} f.0.1.1 1 1 0 10
+{session} < RowDescription v bigint
+{session} < DataRow 10
+{session} < CommandComplete SELECT 1
+{session} < ReadyForQuery T
+{session} > Query INSERT INTO t VALUES (2, 20)
+{session} words 0
+* look {session} 1
+* read {session} p.0.2 0 1 0 false
+* write {session} p.0.2 true
+* write {session} f.0.2.1 20
+{session} < CommandComplete INSERT 0 1
+{session} < ReadyForQuery T
+{session} + commit
 
 # block
 {session} > Query BEGIN
@@ -62,13 +78,13 @@ fn setups() -> &'static str {
 }
 
 /// The lines of the set-up of this name.
-pub fn setup(name: &str) -> Result<&'static str, Unread> {
+pub fn setup(name: &str) -> Option<&'static str> {
     for paragraph in setups().split("\n\n") {
         if let Some((title, lines)) = paragraph.trim_start().split_once('\n') {
             if title.strip_prefix("# ") == Some(name) {
-                return Ok(lines);
+                return Some(lines);
             }
         }
     }
-    Err(Unread::Line)
+    None
 }

@@ -4,11 +4,11 @@ ghost use Rattle.std.specs.Prelude.{◌<◌};
 use crate::causes::causes;
 use crate::drivers::drivers;
 use crate::halves::halves;
-use crate::handing::without;
 use crate::levels::levels;
 use crate::playing::difference;
 use crate::reading::{Interleaving, read_interleavings};
 use crate::updates::updates;
+use held_values::without;
 use std::alloc::Global;
 use std::test::Fail;
 
@@ -19,7 +19,7 @@ fn first_difference(alloc: Global, rows: &[Interleaving], piece: u32) -> Result<
     for row in rows {
         let found = difference(alloc, row, piece)?;
         if !found.as_str().is_empty() {
-            let (name, what) = (row.name.as_str(), found.as_str());
+            let (name, what) = (row.head.name.as_str(), found.as_str());
             return Ok(format!(in alloc; "{name}, in pieces of {piece}: {what}")?);
         }
     }

@@ -2,8 +2,9 @@
 use crate::cells::Lit::{Flag, Int};
 use crate::cells::Spot::{Field, Presence};
 use crate::cells::{Found, Spot, is_found};
-use crate::held::{alone, push, right, right_at};
+use crate::steps::{push, right, right_at};
 use cell_base::{Cell, Key, Memory, Value};
+use held_values::without;
 use std::test::Fail;
 use txn_buffer::TxnBuffer;
 
@@ -58,7 +59,7 @@ fn keeps_order(buffer: &mut TxnBuffer) -> Result<(), Fail> {
 fn keeps_the_order_of_first_writes(rt: HostRuntime) -> Result<(), Fail> {
     let mut buffer = TxnBuffer::new(rt.alloc());
     let keeps = keeps_order(&mut buffer);
-    alone(buffer, keeps)
+    without(buffer, keeps)
 }
 
 /// A cell for each number.
@@ -126,5 +127,5 @@ fn keeps_what_a_walked_list_keeps(rt: HostRuntime) -> Result<(), Fail> {
     let mut buffer = TxnBuffer::new(rt.alloc());
     let mut list = Vec::new(rt.alloc());
     let keep = keep_same(&mut buffer, &mut list);
-    alone((buffer, list), keep)
+    without((buffer, list), keep)
 }

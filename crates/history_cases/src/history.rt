@@ -1,17 +1,16 @@
 // What no clause says: that the calls succeed with ample memory, and values found by hand.
 ghost use Rattle.std.specs.Prelude.{◌≡◌, pos, [], ◌∷◌, take, codes, IfOk, OnOk};
-ghost use Rattle.sound_table.specs.Example.{two_columns};
-ghost use Rattle.sound_table.specs.Sound.{IsSound};
 ghost use Rattle.history_cases.specs.WorkedRow.{row_written, row_read};
 
 use crate::buffer::find_all;
 use crate::cells::{Found, Lit, Spot};
-use crate::held::{alone, right};
-use cell_base::{Cell, Items, Key, Level, Memory, SqlType, Text, Value};
+use crate::steps::right;
+use cell_base::{Items, Key, Level, Memory, Value};
+use held_values::without;
 use history_core::{BookFault, Event, History, InitialState, Txn, TxnState};
-use sql_tree::{Column, Table};
 use std::alloc::Global;
 use std::test::Fail;
+use table_samples::{field, presence, table};
 
 fn was_written(history: &History) -> bool {
     history.load() == 9
@@ -63,7 +62,7 @@ fn write_and_read(alloc: Global, history: &mut History) -> Result<(), Fail>
 fn a_row_is_written_and_read_back(rt: HostRuntime) -> Result<(), Fail> {
     let mut history = History::new(rt.alloc(), Level::Rc, InitialState::empty(rt.alloc()));
     let came = write_and_read(rt.alloc(), &mut history);
-    alone(history, came)
+    without(history, came)
 }
 
 /// The first transaction, with the session and the table before it: nine events.
@@ -204,55 +203,4 @@ fn one_key(alloc: Global) -> Result<Items<Key>, Memory>
     let mut keys = Items::new(alloc);
     keys.push(Key::Int(1))?;
     Ok(keys)
-}
-
-/// Whether the row of key 1 is there.
-fn presence() -> Cell
-    ensures { result ≡ Cell.Presence 0 (Key.Int (pos 1)) }
-{
-    Cell::Presence(0, Key::Int(1))
-}
-
-/// The field v of the row of key 1.
-fn field() -> Cell
-    ensures { result ≡ Cell.Field 0 (Key.Int (pos 1)) 1 }
-{
-    Cell::Field(0, Key::Int(1), 1)
-}
-
-/// The table of `CREATE TABLE t (k bigint PRIMARY KEY, v bigint)`.
-#[tactic(auto, using(sound_table::proofs::Example::sound))]
-pub fn table(alloc: Global) -> Result<Table, Memory>
-    ensures value { IfOk result (λ table. table ≡ two_columns) }
-    ensures sound { IfOk result IsSound }
-{
-    let mut columns = Items::new(alloc);
-    columns.push(column(text(alloc, b"k")?, true))?;
-    columns.push(column(text(alloc, b"v")?, false))?;
-    Ok(Table {
-        name: text(alloc, b"t")?,
-        columns,
-        key: 0,
-        checks: Items::new(alloc),
-    })
-}
-
-fn column(name: Text, not_null: bool) -> Column
-    ensures { result ≡ record { name = name; kind = SqlType.Bigint; not_null = not_null; default = Value.Null } }
-{
-    Column {
-        name,
-        kind: SqlType::Bigint,
-        not_null,
-        default: Value::Null,
-    }
-}
-
-fn text(alloc: Global, bytes: &[u8]) -> Result<Text, Memory>
-    ensures { IfOk result (λ text. text ≡ bytes.now) }
-{
-    match Text::from_bytes(alloc, bytes) {
-        Ok(text) => Ok(text),
-        Err(_) => Err(Memory),
-    }
 }

@@ -11,10 +11,10 @@ mod buffer;
 #[cfg(test)]
 mod cells;
 #[cfg(test)]
-mod held;
-#[cfg(test)]
 mod history;
 #[cfg(test)]
 mod limit;
 #[cfg(test)]
 mod rows;
+#[cfg(test)]
+mod steps;

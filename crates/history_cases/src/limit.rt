@@ -4,8 +4,9 @@ ghost use Rattle.history_cases.specs.Pairs.{IsBetween};
 ghost use Rattle.history_core.specs.declared.event.Event.{Event};
 ghost use Rattle.cell_base.specs.declared.level.Level.{Level};
 
-use crate::held::{alone, right};
+use crate::steps::right;
 use cell_base::Level;
+use held_values::without;
 use history_core::{BookFault, Event, History, InitialState, Limit};
 use std::test::Fail;
 
@@ -27,7 +28,7 @@ fn fill(history: &mut History) -> Result<(), Fail>
 fn begins_and_commits_65535_transactions(rt: HostRuntime) -> Result<(), Fail> {
     let mut history = History::new(rt.alloc(), Level::Rc, InitialState::empty(rt.alloc()));
     let fill = fill(&mut history);
-    alone(history, fill)
+    without(history, fill)
 }
 
 /// Begins and commits so many transactions.

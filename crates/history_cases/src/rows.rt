@@ -2,13 +2,14 @@
 use crate::cells::Lit::{Flag, Int, Null};
 use crate::cells::Spot::{Field, Presence};
 use crate::cells::{Found, Lit, Spot, is_found};
-use crate::held::{alone, kept, push, right, right_at};
-use crate::history::table;
+use crate::steps::{push, right, right_at};
 use cell_base::{Cell, Level, Memory, Value};
+use held_values::{kept, without};
 use history_core::{History, InitialState};
 use sql_tree::Table;
 use std::alloc::Global;
 use std::test::Fail;
+use table_samples::table;
 
 /// Two rows of the table of `CREATE TABLE t (k bigint PRIMARY KEY, v bigint)`: (1, 10) and (2, null). What is there comes first, and then the
 /// fields, each ascending.
@@ -61,7 +62,7 @@ fn initial_of(
 fn two_rows(alloc: Global) -> Result<InitialState, Memory> {
     let tables = tables(alloc)?;
     let initial = initial_of(tables.as_slice(), cells_of(alloc, TWO_ROWS));
-    alone(tables, initial)
+    without(tables, initial)
 }
 
 fn finds(initial: &InitialState, (spot, want): Found) -> bool {
@@ -104,7 +105,7 @@ fn has_two_rows(initial: &InitialState) -> Result<(), Fail> {
 fn two_rows_are_there_from_the_start(rt: HostRuntime) -> Result<(), Fail> {
     let initial = two_rows(rt.alloc())?;
     let has_two_rows = has_two_rows(&initial);
-    alone(initial, has_two_rows)
+    without(initial, has_two_rows)
 }
 
 const OF_FIELD: Found = (Field(1, 1), Some(Int(10)));
@@ -123,7 +124,7 @@ fn a_history_begins_with_its_rows(rt: HostRuntime) -> Result<(), Fail> {
     let initial = two_rows(rt.alloc())?;
     let history = History::new(rt.alloc(), Level::Ra, initial);
     let begins = begins_with_rows(&history);
-    right("history", alone(history, begins))
+    right("history", without(history, begins))
 }
 
 /// Whether the table is there, cells, and whether they are an initial state: a row that lacks its field, a row without its presence, rows of no
@@ -152,5 +153,5 @@ fn are_initial(alloc: Global, tables: &[Table]) -> Result<(), Fail> {
 fn parts_of_rows_are_no_initial_state(rt: HostRuntime) -> Result<(), Fail> {
     let tables = tables(rt.alloc())?;
     let are_initial = are_initial(rt.alloc(), tables.as_slice());
-    alone(tables, are_initial)
+    without(tables, are_initial)
 }

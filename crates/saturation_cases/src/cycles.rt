@@ -1,25 +1,17 @@
 // A history at Read Atomic that no commit order meets: a transaction finds one row of another, and misses the other row.
-ghost use Rattle.std.specs.Prelude.{◌≡◌, ◌↔◌, pos, [], codes, IfOk, OnOk, IsTrue};
+ghost use Rattle.std.specs.Prelude.{◌≡◌, ◌↔◌, pos, [], codes, OnOk, IsTrue};
 ghost use Rattle.graph_base.specs.Walk.{IsInRange};
-ghost use Rattle.sound_table.specs.Example.{two_columns};
-ghost use Rattle.sound_table.specs.Sound.{IsSound};
 ghost use Rattle.saturation_cases.specs.Fractured.{missed};
 
-use cell_base::{Cell, Items, Key, Level, Memory, SqlType, Text, Value};
+use cell_base::{Cell, Key, Level, Memory, Value};
 use graph_base::{Edge, Graph};
+use held_values::{kept, without};
 use history_core::{BookFault, Event, History, InitialState};
 use order_witness::{Verdict, order_or_cycle};
 use saturation::forced;
-use sql_tree::{Column, Table};
 use std::alloc::Global;
 use std::test::Fail;
-
-/// Whether the row of key 1 is there.
-fn first_row() -> Cell
-    ensures { result ≡ Cell.Presence 0 (Key.Int (pos 1)) }
-{
-    Cell::Presence(0, Key::Int(1))
-}
+use table_samples::{presence, table};
 
 /// Whether the row of key 2 is there.
 fn second_row() -> Cell
@@ -44,7 +36,7 @@ fn miss(alloc: Global, history: &mut History) -> Result<(), BookFault>
     })?;
     history.push(Event::Read {
         session: 1,
-        cell: first_row(),
+        cell: presence(),
         source: 0,
         count: 1,
         word: 0,
@@ -64,7 +56,7 @@ fn find_half(history: &mut History) -> Result<(), BookFault>
     })?;
     history.push(Event::Write {
         session: 2,
-        cell: first_row(),
+        cell: presence(),
         value: Value::Flag(true),
     })?;
     history.push(Event::Write {
@@ -84,48 +76,18 @@ fn find_half(history: &mut History) -> Result<(), BookFault>
     Ok(())
 }
 
-/// The table of `CREATE TABLE t (k bigint PRIMARY KEY, v bigint)`.
-#[tactic(auto, using(sound_table::proofs::Example::sound))]
-fn table(alloc: Global) -> Result<Table, Memory>
-    ensures value { IfOk result (λ table. table ≡ two_columns) }
-    ensures sound { IfOk result IsSound }
-{
-    let mut columns = Items::new(alloc);
-    columns.push(column(text(alloc, b"k")?, true))?;
-    columns.push(column(text(alloc, b"v")?, false))?;
-    Ok(Table {
-        name: text(alloc, b"t")?,
-        columns,
-        key: 0,
-        checks: Items::new(alloc),
-    })
-}
-
-fn column(name: Text, not_null: bool) -> Column
-    ensures { result ≡ record { name = name; kind = SqlType.Bigint; not_null = not_null; default = Value.Null } }
-{
-    Column {
-        name,
-        kind: SqlType::Bigint,
-        not_null,
-        default: Value::Null,
-    }
-}
-
-fn text(alloc: Global, bytes: &[u8]) -> Result<Text, Memory>
-    ensures { IfOk result (λ text. text ≡ bytes.now) }
-{
-    match Text::from_bytes(alloc, bytes) {
-        Ok(text) => Ok(text),
-        Err(_) => Err(Memory),
-    }
-}
-
 fn fractured_history(alloc: Global) -> Result<History, BookFault> {
     let mut history = History::new(alloc, Level::Ra, InitialState::empty(alloc));
-    miss(alloc, &mut history)?;
-    find_half(&mut history)?;
-    Ok(history)
+    let came = fracture(alloc, &mut history);
+    kept(history, came)
+}
+
+fn fracture(alloc: Global, history: &mut History) -> Result<(), BookFault>
+    requires events { history.old.events ≡ [] }
+    requires initial { history.old.initial ≡ [] }
+{
+    miss(alloc, history)?;
+    find_half(history)
 }
 
 /// Whether all numbers of the graph's edges are below its size.
@@ -164,15 +126,38 @@ fn is_list(edges: &[Edge], pairs: &[(u32, u32)]) -> bool {
         && edges.iter().zip(pairs).all(|(edge, pair)| edge.before == pair.0 && edge.after == pair.1)
 }
 
+/// What of the graph isn't as it was worked out, or an empty text.
+fn other(alloc: Global, graph: &Graph) -> Result<&'static str, Memory> {
+    if graph.size != 3 {
+        return Ok("size");
+    }
+    if !are_pairs(graph.edges.as_slice(), &[(0, 1), (0, 2), (2, 0), (2, 1)]) {
+        return Ok("edges");
+    }
+    if !has_cycle(alloc, graph, &[(0, 2), (2, 0)])? {
+        return Ok("cycle");
+    }
+    Ok("")
+}
+
+/// The same of what the history forces.
+fn other_forced(alloc: Global, history: &History) -> Result<&'static str, Memory> {
+    let graph = forced(alloc, history)?;
+    let other = other(alloc, &graph);
+    without(graph, other)
+}
+
+/// The same of a history with a fractured read.
+fn other_fractured(alloc: Global) -> Result<&'static str, BookFault> {
+    let history = fractured_history(alloc)?;
+    let other = other_forced(alloc, &history);
+    Ok(without(history, other)?)
+}
+
 /// At Read Atomic transaction 1 sees transaction 2 once it has read from it. It has missed the row of key 1, which 2 wrote, so 2 would have to
 /// stand before the initial transaction.
 #[test]
 fn a_fractured_read_forces_a_cycle(rt: HostRuntime) -> Result<(), Fail> {
-    let alloc = rt.alloc();
-    let history = fractured_history(alloc)?;
-    let graph = forced(alloc, &history)?;
-    assert_eq!(&rt; graph.size, 3);
-    assert!(&rt; are_pairs(graph.edges.as_slice(), &[(0, 1), (0, 2), (2, 0), (2, 1)]));
-    assert!(&rt; has_cycle(alloc, &graph, &[(0, 2), (2, 0)])?);
+    assert_eq!(&rt; other_fractured(rt.alloc())?, "");
     Ok(())
 }

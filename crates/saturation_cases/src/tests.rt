@@ -1,16 +1,11 @@
 // What is forced, and which writes may be read, before any transaction.
-ghost use Rattle.std.specs.Prelude.{IfOk};
-
-use cell_base::{Cell, Key, Level, Memory};
+use cell_base::{Cell, Level, Memory};
 use graph_base::Graph;
+use held_values::without;
 use history_core::{History, InitialState};
 use saturation::{candidates, forced, holds_cycle, is_writer};
 use std::alloc::Global;
-
-/// The presence of a row.
-fn presence() -> Cell {
-    Cell::Presence(0, Key::Int(1))
-}
+use table_samples::presence;
 
 /// A history without rows and events.
 fn empty_history(alloc: Global) -> History {
@@ -34,17 +29,42 @@ fn has_cycle(alloc: Global) -> Result<bool, Memory> {
     )
 }
 
+/// Whether the initial transaction alone may be read from.
+fn has_one_candidate(alloc: Global, history: &History, cell: &Cell) -> Result<bool, Memory> {
+    Ok(candidates(alloc, history, cell)?.as_slice() == [0].as_slice())
+}
+
+/// What isn't so before any transaction, or an empty text.
+fn other_at(alloc: Global, history: &History, cell: &Cell) -> Result<&'static str, Memory> {
+    if count_forced(alloc, history)? != (1, 0) {
+        return Ok("forced");
+    }
+    if !is_writer(history, 0, cell) {
+        return Ok("initial transaction");
+    }
+    if is_writer(history, 1, cell) {
+        return Ok("first transaction");
+    }
+    if !has_one_candidate(alloc, history, cell)? {
+        return Ok("candidates");
+    }
+    if has_cycle(alloc)? {
+        return Ok("cycle");
+    }
+    Ok("")
+}
+
+/// The same at the presence of a row.
+fn other(alloc: Global, history: &History) -> Result<&'static str, Memory> {
+    let cell = presence();
+    let other = other_at(alloc, history, &cell);
+    without(cell, other)
+}
+
 #[test]
 fn history_without_events(rt: HostRuntime) -> Result<(), Memory> {
-    let alloc = rt.alloc();
-    let history = empty_history(alloc);
-    assert_eq!(&rt; count_forced(alloc, &history)?, (1, 0));
-    assert!(&rt; is_writer(&history, 0, &presence()));
-    assert!(&rt; !is_writer(&history, 1, &presence()));
-    assert_eq!(&rt;
-        candidates(alloc, &history, &presence())?.as_slice(),
-        [0].as_slice()
-    );
-    assert!(&rt; !has_cycle(alloc)?);
+    let history = empty_history(rt.alloc());
+    let other = other(rt.alloc(), &history);
+    assert_eq!(&rt; without(history, other)?, "");
     Ok(())
 }

@@ -1,5 +1,8 @@
 // What came of a session beside what its text says.
 use crate::serving::{Outcome, served_new};
+use cell_base::Memory;
+use event_text::{common_bytes, other_event};
+use held_values::without;
 use link_traits::MemLink;
 use session_core::Served;
 use session_text::Session;
@@ -16,37 +19,6 @@ fn ended(alloc: Global, served: &Served) -> Result<String, AllocError> {
         Some(number) => format!(in alloc; "session {number}: {end:?}\n"),
         None => format!(in alloc; "no session: {end:?}\n"),
     }
-}
-
-// How many lines both have in common, up to the first that differs.
-fn common_lines(found: &str, expected: &str) -> usize {
-    let mut common: usize = 0;
-    for (one, other) in found.lines().zip(expected.lines()) {
-        if one != other {
-            return common;
-        }
-        common = common.saturating_add(1);
-    }
-    common
-}
-
-// How many bytes both have in common, up to the first that differs.
-fn common_bytes(found: &[u8], expected: &[u8]) -> usize {
-    let mut common: usize = 0;
-    for (one, other) in found.iter().zip(expected.iter()) {
-        if *one != *other {
-            return common;
-        }
-        common = common.saturating_add(1);
-    }
-    common
-}
-
-// The first event that isn't as the text says.
-fn other_event(alloc: Global, found: &str, expected: &str) -> Result<String, AllocError> {
-    let common = common_lines(found, expected);
-    let event = found.lines().nth(common).unwrap_or("none");
-    format!(in alloc; "after {common} events: {event}")
 }
 
 // The first byte that isn't as the text says.
@@ -87,5 +59,17 @@ fn compared(
 /// What isn't as the session's text says, where its client is served over this link: nothing, where all of it is.
 pub fn difference(alloc: Global, session: &Session, link: &mut MemLink) -> Result<String, Fail> {
     let came = served_new(alloc, session, link)?;
-    Ok(compared(alloc, session, &came, link.written())?)
+    let found = compared(alloc, session, &came, link.written());
+    Ok(without(came, found)?)
+}
+
+/// The same over a link that is let go then.
+pub fn difference_over(
+    alloc: Global,
+    session: &Session,
+    link: Result<MemLink, Memory>,
+) -> Result<String, Fail> {
+    let mut link = link?;
+    let found = difference(alloc, session, &mut link);
+    without(link, found)
 }

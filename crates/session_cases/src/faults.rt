@@ -1,8 +1,9 @@
 // Clients whose input is cut short, and links whose reads or writes fail.
 ghost use Rattle.std.specs.Prelude.{◌<◌};
 
-use crate::compared::difference;
+use crate::compared::difference_over;
 use crate::links::failing_link;
+use held_values::without;
 use session_text::{Session, read_sessions};
 use std::alloc::Global;
 use std::test::Fail;
@@ -145,8 +146,8 @@ const OF_PARTS: &[Failures] = &[(&[3], &[]), (&[], &[4]), (&[], &[5])];
 // What isn't as the session's text says, where the first bytes of its client come, so many of them.
 fn difference_of_front(alloc: Global, session: &Session, length: usize) -> Result<String, Fail> {
     let input = session.input.get(..length).unwrap_or(&[]);
-    let mut link = failing_link(alloc, input, 10_000, 10_000, &[], &[])?;
-    difference(alloc, session, &mut link)
+    let link = failing_link(alloc, input, 10_000, 10_000, &[], &[]);
+    difference_over(alloc, session, link)
 }
 
 // The same for each length from the first to that before the second.
@@ -167,6 +168,16 @@ fn difference_of_fronts(
 // The first difference from the text for the lengths of its sessions; or how many sessions there are.
 fn cut_short(alloc: Global, text: &str, lengths: &[(usize, usize)]) -> Result<String, Fail> {
     let sessions = read_sessions(alloc, text)?;
+    let found = cut_each_short(alloc, &sessions, lengths);
+    without(sessions, found)
+}
+
+// The same of these sessions.
+fn cut_each_short(
+    alloc: Global,
+    sessions: &[Session],
+    lengths: &[(usize, usize)],
+) -> Result<String, Fail> {
     for (session, row) in sessions.iter().zip(lengths.iter()) {
         let found = difference_of_fronts(alloc, session, *row)?;
         if !found.as_str().is_empty() {
@@ -189,8 +200,8 @@ fn difference_where(
     requires taken { 0 < taken }
 {
     let (reads, writes) = failures;
-    let mut link = failing_link(alloc, &session.input, given, taken, reads, writes)?;
-    difference(alloc, session, &mut link)
+    let link = failing_link(alloc, &session.input, given, taken, reads, writes);
+    difference_over(alloc, session, link)
 }
 
 // The first difference from the text for the failures of its sessions; or how many sessions there are.
@@ -205,6 +216,21 @@ fn broken_off(
     requires taken { 0 < taken }
 {
     let sessions = read_sessions(alloc, text)?;
+    let found = each_broken_off(alloc, &sessions, given, taken, failures);
+    without(sessions, found)
+}
+
+// The same of these sessions.
+fn each_broken_off(
+    alloc: Global,
+    sessions: &[Session],
+    given: u32,
+    taken: u32,
+    failures: &[Failures],
+) -> Result<String, Fail>
+    requires given { 0 < given }
+    requires taken { 0 < taken }
+{
     for (session, row) in sessions.iter().zip(failures.iter()) {
         let found = difference_where(alloc, session, given, taken, *row)?;
         if !found.as_str().is_empty() {

@@ -5,7 +5,9 @@ ghost use Rattle.history_core.specs.Book.{no_session};
 use crate::links::failing_link;
 use crate::serving::{new_book, serve};
 use cell_base::SqlState;
+use held_values::without;
 use history_core::Book;
+use link_traits::MemLink;
 use session_core::End;
 use session_text::{Session, read_sessions};
 use std::alloc::Global;
@@ -46,15 +48,58 @@ fn opened(book: &mut SeatBook, number: u32) -> u32
 // Serves the client after so many other sessions.
 fn after_others(alloc: Global, client: &Session, number: u32) -> Result<Remainder, Fail> {
     let mut link = failing_link(alloc, &client.input, 10_000, 10_000, &[], &[])?;
+    let remainder = remainder_over(alloc, client, number, &mut link);
+    without(link, remainder)
+}
+
+// The same over this link.
+fn remainder_over(
+    alloc: Global,
+    client: &Session,
+    number: u32,
+    link: &mut MemLink,
+) -> Result<Remainder, Fail> {
     let mut book = new_book(alloc, client.level)?;
-    let opened = opened(&mut book, number);
-    let served = serve(alloc, client, &mut book, &mut link)?;
+    let remainder = remainder_of(alloc, client, number, &mut book, link);
+    without(book, remainder)
+}
+
+// The same on the book of a new history.
+fn remainder_of(
+    alloc: Global,
+    client: &Session,
+    number: u32,
+    book: &mut SeatBook,
+    link: &mut MemLink,
+) -> Result<Remainder, Fail>
+    requires { book.old.state ≡ no_session }
+{
+    let opened = opened(book, number);
+    let served = serve(alloc, client, book, link)?;
     Ok(Remainder {
         opened,
         session: served.session,
         end: served.end,
         events: book.history().events().len(),
     })
+}
+
+// The same of the first client of the text.
+fn first_after_others(alloc: Global, text: &str, number: u32) -> Result<Option<Remainder>, Fail> {
+    let clients = read_sessions(alloc, text)?;
+    let remainder = after_others_of(alloc, &clients, number);
+    without(clients, remainder)
+}
+
+fn after_others_of(
+    alloc: Global,
+    clients: &[Session],
+    number: u32,
+) -> Result<Option<Remainder>, Fail> {
+    match clients.first() {
+        Some(client) => Ok(Some(after_others(alloc, client, number)?)),
+        None => Ok(None),
+    }
 }
 
 #[test]
@@ -65,8 +110,6 @@ fn refuses_a_session_beyond_the_last(rt: HostRuntime) -> Result<(), Fail> {
         end: End::Refused(SqlState::S54000),
         events: 8192,
     };
-    for client in &read_sessions(rt.alloc(), CLIENT)? {
-        assert_eq!(rt; after_others(rt.alloc(), client, 4096)?, expected);
-    }
+    assert_eq!(rt; first_after_others(rt.alloc(), CLIENT, 4096)?, Some(expected));
     Ok(())
 }

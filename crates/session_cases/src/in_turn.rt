@@ -3,6 +3,8 @@ ghost use Rattle.std.specs.Prelude.{◌<◌};
 
 use crate::links::failing_link;
 use crate::serving::{Outcome, served_new};
+use held_values::without;
+use link_traits::MemLink;
 use session_core::End;
 use session_text::{Session, read_sessions};
 use std::alloc::Global;
@@ -120,8 +122,20 @@ fn leaves(
     requires { 0 < piece }
 {
     let mut link = failing_link(alloc, &session.input, piece, 10_000, reads, writes)?;
-    let came = served_new(alloc, session, &mut link)?;
-    Ok(is_left(session, &came, link.written(), row))
+    let leaves = leaves_over(alloc, session, &mut link, row);
+    without(link, leaves)
+}
+
+// The same over this link.
+fn leaves_over(
+    alloc: Global,
+    session: &Session,
+    link: &mut MemLink,
+    row: (End, usize, usize),
+) -> Result<bool, Fail> {
+    let came = served_new(alloc, session, link)?;
+    let is_left = is_left(session, &came, link.written(), row);
+    Ok(without(came, is_left))
 }
 
 // The first write whose failure doesn't leave what its row says.
@@ -132,6 +146,23 @@ fn other_write(alloc: Global, session: &Session) -> Result<Option<u64>, Fail> {
             return Ok(Some(number));
         }
         number = number.saturating_add(1);
+    }
+    Ok(None)
+}
+
+// The same of the sessions of a text.
+fn other_write_in(alloc: Global, text: &str) -> Result<Option<u64>, Fail> {
+    let sessions = read_sessions(alloc, text)?;
+    let other = other_write_of(alloc, &sessions);
+    without(sessions, other)
+}
+
+fn other_write_of(alloc: Global, sessions: &[Session]) -> Result<Option<u64>, Fail> {
+    for session in sessions {
+        let other = other_write(alloc, session)?;
+        if other.is_some() {
+            return Ok(other);
+        }
     }
     Ok(None)
 }
@@ -148,18 +179,31 @@ fn other_read(alloc: Global, session: &Session) -> Result<Option<u64>, Fail> {
     Ok(None)
 }
 
+// The same of the sessions of a text.
+fn other_read_in(alloc: Global, text: &str) -> Result<Option<u64>, Fail> {
+    let sessions = read_sessions(alloc, text)?;
+    let other = other_read_of(alloc, &sessions);
+    without(sessions, other)
+}
+
+fn other_read_of(alloc: Global, sessions: &[Session]) -> Result<Option<u64>, Fail> {
+    for session in sessions {
+        let other = other_read(alloc, session)?;
+        if other.is_some() {
+            return Ok(other);
+        }
+    }
+    Ok(None)
+}
+
 #[test]
 fn ends_where_each_write_fails(rt: HostRuntime) -> Result<(), Fail> {
-    for session in &read_sessions(rt.alloc(), BLOCK)? {
-        assert_eq!(rt; other_write(rt.alloc(), session)?, None);
-    }
+    assert_eq!(rt; other_write_in(rt.alloc(), BLOCK)?, None);
     Ok(())
 }
 
 #[test]
 fn ends_where_each_read_fails(rt: HostRuntime) -> Result<(), Fail> {
-    for session in &read_sessions(rt.alloc(), BLOCK)? {
-        assert_eq!(rt; other_read(rt.alloc(), session)?, None);
-    }
+    assert_eq!(rt; other_read_in(rt.alloc(), BLOCK)?, None);
     Ok(())
 }

@@ -3,6 +3,8 @@ ghost use Rattle.std.specs.Prelude.{◌<◌};
 
 use crate::compared::difference;
 use crate::links::link;
+use held_values::without;
+use link_traits::MemLink;
 use session_text::{Session, read_sessions};
 use std::alloc::Global;
 use std::test::Fail;
@@ -67,8 +69,20 @@ fn has_marks(
     requires { 0 < piece }
 {
     let mut link = link(alloc, &session.input, piece)?;
-    let found = difference(alloc, session, &mut link)?;
-    Ok(found.as_str().is_empty() && link.marks() == marks)
+    let has = has_marks_over(alloc, session, &mut link, marks);
+    without(link, has)
+}
+
+// The same over this link.
+fn has_marks_over(
+    alloc: Global,
+    session: &Session,
+    link: &mut MemLink,
+    marks: &[(usize, usize)],
+) -> Result<bool, Fail> {
+    let found = difference(alloc, session, link)?;
+    let is_same = found.as_str().is_empty();
+    Ok(without(found, is_same) && link.marks() == marks)
 }
 
 // The same of each session of a text.
@@ -76,7 +90,20 @@ fn have_marks(alloc: Global, text: &str, piece: u32, marks: &[(usize, usize)]) -
     requires { 0 < piece }
 {
     let sessions = read_sessions(alloc, text)?;
-    for session in sessions.iter() {
+    let have = each_has_marks(alloc, &sessions, piece, marks);
+    without(sessions, have)
+}
+
+// The same of these sessions.
+fn each_has_marks(
+    alloc: Global,
+    sessions: &[Session],
+    piece: u32,
+    marks: &[(usize, usize)],
+) -> Result<bool, Fail>
+    requires { 0 < piece }
+{
+    for session in sessions {
         if !has_marks(alloc, session, piece, marks)? {
             return Ok(false);
         }

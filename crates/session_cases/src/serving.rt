@@ -5,6 +5,7 @@ ghost use Rattle.history_core.specs.Book.{no_session};
 use cell_base::{Items, Level, Memory};
 use choice_stream::ListWords;
 use event_text::event_lines;
+use held_values::without;
 use history_core::InitialState;
 use link_traits::MemLink;
 use session_core::{Served, serve_link};
@@ -43,7 +44,20 @@ pub fn serve(
 /// The same over a new history.
 pub fn served_new(alloc: Global, session: &Session, link: &mut MemLink) -> Result<Outcome, Fail> {
     let mut book = new_book(alloc, session.level)?;
-    let served = serve(alloc, session, &mut book, link)?;
+    let came = outcome_of(alloc, session, &mut book, link);
+    without(book, came)
+}
+
+// What comes of the session over the book's history, which has no event.
+fn outcome_of(
+    alloc: Global,
+    session: &Session,
+    book: &mut SeatBook,
+    link: &mut MemLink,
+) -> Result<Outcome, Fail>
+    requires { book.old.state ≡ no_session }
+{
+    let served = serve(alloc, session, book, link)?;
     Ok(Outcome {
         events: event_lines(alloc, book.history().events())?,
         served,

@@ -1,8 +1,9 @@
 // The sessions of `session_text`, over links in memory, in pieces of several lengths.
 ghost use Rattle.std.specs.Prelude.{◌<◌};
 
-use crate::compared::difference;
+use crate::compared::difference_over;
 use crate::links::link;
+use held_values::without;
 use session_text::{
     Session, block_sessions, delete_sessions, duplicate_key_sessions, level_sessions,
     lone_sessions, message_sessions, query_sessions, read_sessions, refusal_sessions, row_sessions,
@@ -15,8 +16,7 @@ use std::test::Fail;
 fn difference_in_pieces(alloc: Global, session: &Session, piece: u32) -> Result<String, Fail>
     requires { 0 < piece }
 {
-    let mut link = link(alloc, &session.input, piece)?;
-    difference(alloc, session, &mut link)
+    difference_over(alloc, session, link(alloc, &session.input, piece))
 }
 
 // The first session that isn't as its text says, and what differs; or how many there are.
@@ -37,8 +37,14 @@ fn first_difference(alloc: Global, sessions: &[Session], piece: u32) -> Result<S
 // sessions there are.
 fn held(alloc: Global, text: &str) -> Result<String, Fail> {
     let sessions = read_sessions(alloc, text)?;
+    let held = all_held(alloc, &sessions);
+    without(sessions, held)
+}
+
+// The same of these sessions.
+fn all_held(alloc: Global, sessions: &[Session]) -> Result<String, Fail> {
     for piece in [1, 2, 3, 7, 29, 64, 100] {
-        let found = first_difference(alloc, &sessions, piece)?;
+        let found = first_difference(alloc, sessions, piece)?;
         if !found.as_str().is_empty() {
             return Ok(found);
         }
@@ -121,8 +127,14 @@ fn serves_lone_sessions(rt: HostRuntime) -> Result<(), Fail> {
 fn difference_in_each(alloc: Global, text: &str, count: usize, bound: u32) -> Result<String, Fail> {
     let sessions = read_sessions(alloc, text)?;
     let first = sessions.get(..count).unwrap_or(&[]);
+    let found = difference_below(alloc, first, bound);
+    without(sessions, found)
+}
+
+// The same of these sessions.
+fn difference_below(alloc: Global, sessions: &[Session], bound: u32) -> Result<String, Fail> {
     for piece in 1..bound {
-        let found = first_difference(alloc, first, piece)?;
+        let found = first_difference(alloc, sessions, piece)?;
         if !found.as_str().is_empty() {
             return Ok(found);
         }

@@ -1,1 +1,1 @@
-pub mod SessionStates
+pub mod Passes

@@ -5,7 +5,8 @@ ghost use Rattle.history_core.specs.Events.{table_of};
 ghost use Rattle.history_core.specs.Initial.{IsStorable};
 ghost use Rattle.history_core.specs.Book.{no_session, IsIdle};
 ghost use Rattle.shared_book.specs.Books.{past_of};
-ghost use Rattle.shared_cases.specs.SessionStates.{IsReady, IsFresh, IsBusy, SamePass};
+ghost use Rattle.seat_samples.specs.SessionStates.{IsReady, IsFresh, IsBusy};
+ghost use Rattle.shared_cases.specs.Passes.{SamePass};
 
 use cell_base::{Cell, Level, Value};
 use history_core::{Book, BookFault};

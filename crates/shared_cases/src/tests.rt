@@ -3,12 +3,15 @@ ghost use Rattle.std.specs.Prelude.{◌≡◌, ◌+◌, ◌≤◌, IfOk, OnOk};
 ghost use Rattle.sound_table.specs.Sound.{IsSound};
 ghost use Rattle.history_core.specs.Book.{no_session, IsIdle};
 ghost use Rattle.shared_book.specs.Books.{past_of};
-ghost use Rattle.shared_cases.specs.SessionStates.{IsReady, IsFresh, IsBusy, SamePass, ArePassesOf};
+ghost use Rattle.seat_samples.specs.SessionStates.{IsReady, IsFresh, IsBusy};
+ghost use Rattle.shared_cases.specs.Passes.{SamePass, ArePassesOf};
 
 use crate::calls::{begin, close, commit, define, look, open, read, write};
-use crate::lines::{are_lines, is_whole};
+use crate::lines::{Line, are_lines, is_whole};
 use cell_base::{Level, Value};
-use history_core::{Book, BookFault, InitialState};
+use held_values::{beside, without};
+use history_core::{BookFault, Event, InitialState};
+use seat_samples::{Stop, with_table};
 use shared_book::{Pass, Shared, SharedBook};
 use sql_tree::Table;
 use std::alloc::Global;
@@ -164,43 +167,70 @@ fn store_of(shared: Shared, mut pass: Pass, other: Pass) -> Store
 }
 
 /// Both sessions on one shared history, and the store that it leaves.
-fn play_on<R: Wait>(rt: &R, alloc: Global, store: Store) -> Result<(Store, [bool; 4]), BookFault> {
+fn play_on<R: Wait>(
+    rt: &R,
+    alloc: Global,
+    store: Store,
+    table: &Table,
+) -> Result<(Store, [bool; 4]), BookFault>
+    requires { IsSound table.now }
+{
     let (shared, pass, other) = shared_by_two(alloc, store)?;
     let mut first = shared.book(rt, pass);
     let mut second = shared.book(rt, other);
-    let found = play(&mut first, &mut second, &table(alloc)?)?;
+    let found = play(&mut first, &mut second, table);
     let (pass, other) = (first.into_pass(), second.into_pass());
-    Ok((store_of(shared, pass, other), found))
+    beside(store_of(shared, pass, other), found)
 }
+
+/// The same on a new history.
+fn play_new<R: Wait>(
+    rt: &R,
+    alloc: Global,
+    table: &Table,
+) -> Result<(Store, [bool; 4]), BookFault>
+    requires { IsSound table.now }
+{
+    let store = Store::new(alloc, Level::Rc, InitialState::empty(alloc))?;
+    play_on(rt, alloc, store, table)
+}
+
+/// Whether each read found the row, and whether the events are those that were worked out.
+fn take_turns<R: Wait>(rt: &R, alloc: Global) -> Result<([bool; 4], bool), BookFault> {
+    let table = table(alloc)?;
+    let played = play_new(rt, alloc, &table);
+    let (store, found) = without(table, played)?;
+    let are_lines = are_lines(store.history().events(), TURNS);
+    Ok(without(store, (found, are_lines)))
+}
+
+const TURNS: &[Line] = &[
+    (b'o', 1, 0, 0),
+    (b'd', 1, 0, 0),
+    (b'l', 1, 1, 0),
+    (b'o', 2, 0, 0),
+    (b'l', 2, 1, 0),
+    (b'b', 1, 0, 0),
+    (b'w', 1, 0, 0),
+    (b'w', 1, 0, 0),
+    (b'b', 2, 0, 0),
+    (b'r', 2, 0, 1),
+    (b'c', 1, 0, 0),
+    (b'r', 2, 1, 2),
+    (b'r', 2, 1, 1),
+    (b'c', 2, 0, 0),
+    (b'b', 2, 0, 0),
+    (b'r', 2, 0, 2),
+    (b'c', 2, 0, 0),
+    (b'x', 1, 0, 0),
+    (b'x', 2, 0, 0),
+];
 
 #[test]
 fn two_books_take_turns(rt: HostRuntime) -> Result<(), BookFault> {
-    let alloc = rt.alloc();
-    let store = Store::new(alloc, Level::Rc, InitialState::empty(alloc))?;
-    let (store, found) = play_on(&rt, alloc, store)?;
+    let (found, are_lines) = take_turns(&rt, rt.alloc())?;
     assert_eq!(&rt; found, [false, true, true, false]);
-    let want = [
-        (b'o', 1, 0, 0),
-        (b'd', 1, 0, 0),
-        (b'l', 1, 1, 0),
-        (b'o', 2, 0, 0),
-        (b'l', 2, 1, 0),
-        (b'b', 1, 0, 0),
-        (b'w', 1, 0, 0),
-        (b'w', 1, 0, 0),
-        (b'b', 2, 0, 0),
-        (b'r', 2, 0, 1),
-        (b'c', 1, 0, 0),
-        (b'r', 2, 1, 2),
-        (b'r', 2, 1, 1),
-        (b'c', 2, 0, 0),
-        (b'b', 2, 0, 0),
-        (b'r', 2, 0, 2),
-        (b'c', 2, 0, 0),
-        (b'x', 1, 0, 0),
-        (b'x', 2, 0, 0),
-    ];
-    assert!(&rt; are_lines(store.history().events(), want.as_slice()));
+    assert!(&rt; are_lines);
     Ok(())
 }
 
@@ -228,15 +258,25 @@ fn write_many<R: Wait>(book: &mut SharedBook<'_, R>, count: u32) -> Result<(), B
     Ok(())
 }
 
-/// A session that opens, looks, writes in so many transactions and closes. The answer has its number.
+/// A session that opens, looks, writes in so many transactions and closes. The answer is its number.
+fn work_on<R: Wait>(book: &mut SharedBook<'_, R>, count: u32) -> Result<u32, BookFault>
+    requires { book.old.state ≡ no_session }
+    ensures { SamePass book.old.pass book.new.pass }
+{
+    let session = enter(book)?;
+    write_many(book, count)?;
+    close(book);
+    Ok(session)
+}
+
+/// The same of a book of one's own. The answer has its pass.
 fn work<R: Wait>(mut book: SharedBook<'_, R>, count: u32) -> Result<(Pass, u32), BookFault>
     requires { book.state ≡ no_session }
     ensures { IfOk result (λ done. SamePass book.entry.pass done.0) }
 {
-    let session = enter(&mut book)?;
-    write_many(&mut book, count)?;
-    close(&mut book);
-    Ok((book.into_pass(), session))
+    let worked = work_on(&mut book, count);
+    let (pass, session) = beside(book.into_pass(), worked)?;
+    Ok((pass, session))
 }
 
 /// Two workers in two threads. The answer is the store and their sessions.
@@ -256,21 +296,39 @@ fn work_in_two<R: Threads + Wait + Sync>(
 }
 
 /// A store in which session 1 has defined the table.
-fn prepared(alloc: Global) -> Result<Store, BookFault> {
-    let mut book = Store::new(alloc, Level::Rc, InitialState::empty(alloc))?.seat(None);
-    book.open()?;
-    book.define(&table(alloc)?)?;
-    Ok(book.into_store())
+fn prepared(alloc: Global) -> Result<Store, Stop> {
+    with_table(
+        alloc,
+        Store::new(alloc, Level::Rc, InitialState::empty(alloc))?,
+    )
+}
+
+/// What isn't so after two sessions that committed fifty transactions each, or an empty text.
+fn difference(events: &[Event], a: u32, b: u32) -> &'static str {
+    if !((a == 2 && b == 3) || (a == 3 && b == 2)) {
+        return "sessions";
+    }
+    if events.len() != 308 {
+        return "events";
+    }
+    if !is_whole(events, 2, 50) {
+        return "session 2";
+    }
+    if !is_whole(events, 3, 50) {
+        return "session 3";
+    }
+    ""
+}
+
+/// The same of two sessions in two threads.
+fn difference_in_two<R: Threads + Wait + Sync>(rt: &R, alloc: Global) -> Result<&'static str, Stop> {
+    let (store, a, b) = work_in_two(rt, alloc, prepared(alloc)?, 50)?;
+    let difference = difference(store.history().events(), a, b);
+    Ok(without(store, difference))
 }
 
 #[test]
-fn two_threads_commit_fifty_each(rt: HostRuntime) -> Result<(), BookFault> {
-    let alloc = rt.alloc();
-    let (store, a, b) = work_in_two(&rt, alloc, prepared(alloc)?, 50)?;
-    let events = store.history().events();
-    assert!(&rt; (a == 2 && b == 3) || (a == 3 && b == 2));
-    assert_eq!(&rt; events.len(), 308);
-    assert!(&rt; is_whole(events, 2, 50));
-    assert!(&rt; is_whole(events, 3, 50));
+fn two_threads_commit_fifty_each(rt: HostRuntime) -> Result<(), Stop> {
+    assert_eq!(&rt; difference_in_two(&rt, rt.alloc())?, "");
     Ok(())
 }

@@ -1,9 +1,11 @@
 //! The offer of a cell that many committed transactions wrote.
-use crate::book::{begin, cell, start, write_many};
+use crate::book::{count_offered, written};
 use crate::meter;
 use anyhow::Result;
-use cell_base::Level;
+use cell_base::{Cell, Level};
+use held_values::without;
 use std::time::CpuClock;
+use table_samples::presence;
 use valid_writes::Store;
 
 /// How many times the offer is made.
@@ -15,23 +17,22 @@ pub(crate) fn measure(
     level: Level,
     writers: u32,
 ) -> Result<()> {
-    let mut book = start(rt.alloc())?;
-    write_many(&mut book, level, writers)?;
-    begin(&mut book, level)?;
-    measure_offers(rt, &book.into_store(), writers)
+    let store = written(rt.alloc(), level, writers)?;
+    let cell = presence();
+    let measured = measure_offers(rt, &store, &cell, writers);
+    without((store, cell), measured)
 }
 
 fn measure_offers(
     rt: &(impl CpuClock + Print + AllocGlobal),
     store: &Store,
+    cell: &Cell,
     writers: u32,
 ) -> Result<()> {
     let mut offered = 0usize;
     let start = rt.thread_cpu_time()?;
     for _ in 0..OFFERS {
-        if let Some(_) = store.history().pending(1) {
-            offered = store.offer(1, &cell())?.len();
-        }
+        offered = count_offered(store, cell)?;
     }
     let nanos = meter::each(rt, start, u64::from(OFFERS))?;
     println!(rt; "{writers} writers, {offered} offered: {nanos} ns")?;

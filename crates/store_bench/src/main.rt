@@ -25,19 +25,49 @@ fn level_of(name: &str) -> Level {
     }
 }
 
-fn run(rt: &(impl Env + Print + CpuClock + AllocGlobal)) -> Result<()> {
+/// Whether offers are to be timed, where there is a word.
+fn is_hot(word: Option<String>) -> Option<bool> {
+    match word {
+        Some(name) => Some(name.as_str() == "hot"),
+        None => None,
+    }
+}
+
+/// The level that the word names, where there is one.
+fn level_in(word: Option<String>) -> Option<Level> {
+    match word {
+        Some(name) => Some(level_of(name.as_str())),
+        None => None,
+    }
+}
+
+/// The number that the word spells, and a thousand for others, where there is one.
+fn number_in(word: Option<String>) -> Option<u32> {
+    match word {
+        Some(text) => Some(text.as_str().parse::<u32>().unwrap_or(1_000)),
+        None => None,
+    }
+}
+
+/// What the words ask for: whether offers are to be timed, the level and the number. None where there are too few words.
+fn asked(rt: &(impl Env + AllocGlobal)) -> Result<Option<(bool, Level, u32)>> {
     let mut words = env::args(rt)?;
     let _program = words.next();
-    let (Some(what), Some(level), Some(number)) = (words.next(), words.next(), words.next()) else {
-        rt.println("usage: store_bench reads LEVEL SIZE | hot LEVEL WRITERS")?;
-        return Ok(());
-    };
-    let level = level_of(level.as_str());
-    let number = number.as_str().parse::<u32>().unwrap_or(1_000);
-    if what.as_str() == "hot" {
-        hot::measure(rt, level, number)
-    } else {
-        reads::measure(rt, level, number)
+    let (what, level) = (is_hot(words.next()), level_in(words.next()));
+    match (what, level, number_in(words.next())) {
+        (Some(is_hot), Some(level), Some(number)) => Ok(Some((is_hot, level, number))),
+        _ => Ok(None),
+    }
+}
+
+fn run(rt: &(impl Env + Print + CpuClock + AllocGlobal)) -> Result<()> {
+    match asked(rt)? {
+        Some((true, level, number)) => hot::measure(rt, level, number),
+        Some((false, level, number)) => reads::measure(rt, level, number),
+        None => {
+            rt.println("usage: store_bench reads LEVEL SIZE | hot LEVEL WRITERS")?;
+            Ok(())
+        }
     }
 }
 

@@ -1,9 +1,13 @@
 //! Point reads at the end of a history, each in a transaction of its own.
-use crate::book::{read_many, start, write_alone};
+ghost use Rattle.seat_samples.specs.SessionStates.{IsReady};
+
+use crate::book::{fill, read_cell, start};
 use crate::meter;
 use anyhow::Result;
 use cell_base::Level;
+use held_values::without;
 use std::time::CpuClock;
+use valid_writes::SeatBook;
 
 /// How many transactions are timed.
 const TIMED: u32 = 1_000;
@@ -15,14 +19,21 @@ pub(crate) fn measure(
     size: u32,
 ) -> Result<()> {
     let mut book = start(rt.alloc())?;
-    write_alone(&mut book, level)?;
-    read_many(
-        &mut book,
-        level,
-        size.saturating_sub(TIMED).saturating_sub(1),
-    )?;
+    let measured = measure_last(rt, &mut book, level, size);
+    without(book, measured)
+}
+
+fn measure_last(
+    rt: &(impl CpuClock + Print + AllocGlobal),
+    book: &mut SeatBook,
+    level: Level,
+    size: u32,
+) -> Result<()>
+    requires { IsReady book.old }
+{
+    fill(book, level, size.saturating_sub(TIMED))?;
     let start = rt.thread_cpu_time()?;
-    read_many(&mut book, level, TIMED)?;
+    read_cell(book, level, TIMED)?;
     let nanos = meter::each(rt, start, u64::from(TIMED))?;
     let begun = book.history().begun();
     println!(rt; "{begun} transactions, begin, read and commit: {nanos} ns")?;

@@ -1,10 +1,10 @@
 // Cases of one session and of several, worked out by hand. A transaction's number stands after its statement.
-use crate::cells::Spot::{Field as F, Presence as P};
-use crate::cells::{NULL, UNSET};
 use crate::play::Call::{At, Begin, Commit, Own, Read, RollBack, Scan, Write};
 use crate::play::{Calls, Case};
 use cell_base::Level;
 use cell_base::Level::{Cc, Ra, Rc};
+use table_samples::Spot::{Field as F, Presence as P};
+use table_samples::{NULL, UNSET};
 
 const RC: &[Level] = &[Rc];
 

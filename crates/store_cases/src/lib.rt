@@ -8,14 +8,10 @@
 #[cfg(test)]
 mod cases;
 #[cfg(test)]
-mod cells;
-#[cfg(test)]
-mod kept;
+mod keys;
 #[cfg(test)]
 mod play;
 #[cfg(test)]
 mod start;
-#[cfg(test)]
-mod stop;
 #[cfg(test)]
 mod worked;

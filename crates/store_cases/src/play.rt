@@ -2,16 +2,16 @@
 ghost use Rattle.std.specs.Prelude.{◌≡◌};
 ghost use Rattle.history_core.specs.Events.{table_of};
 ghost use Rattle.history_core.specs.Transactions.{HasPending};
-ghost use Rattle.history_core.specs.Book.{IsIdle, IsInTransaction, HasTable};
+ghost use Rattle.history_core.specs.Book.{IsInTransaction, HasTable};
 
-use crate::cells::{Spot, are_integers};
-use crate::kept::{kept, let_go};
+use crate::keys::are_integers;
 use crate::start::stage;
-use crate::stop::Stop;
 use cell_base::{Cell, Level, Value};
+use held_values::{kept, let_go};
 use history_core::{Book, BookFault, Event};
+use seat_samples::{Stop, busy_seat, idle_seat, misplaced, unlike};
 use std::alloc::Global;
-use table_samples::{busy_seat, idle_seat, misplaced_at};
+use table_samples::Spot;
 use valid_writes::{SeatBook, Store};
 
 /// A call, with what is expected of it. A number that a cell has is read as `Spot::value` says.
@@ -97,15 +97,8 @@ fn play_one(store: Store, session: u32, call: Call) -> Result<Store, Stop> {
 
 fn begin(store: Store, session: u32, level: Level) -> Result<Store, Stop> {
     let mut book = idle_seat(store, session)?;
-    let begun = begin_in(&mut book, level);
-    kept(book.into_store(), begun)
-}
-
-fn begin_in(book: &mut SeatBook, level: Level) -> Result<(), Stop>
-    requires { IsIdle book.old.state }
-{
-    book.begin(level)?;
-    Ok(())
+    let begun = let_go(book.begin(level));
+    Ok(kept(book.into_store(), begun)?)
 }
 
 /// Makes a call in the pending transaction.
@@ -125,7 +118,7 @@ fn be_offered(store: &Store, session: u32, call: Call) -> Result<(), Stop> {
     if is_offered(store, session, call)? {
         return Ok(());
     }
-    Err(Stop::Unlike(store.history().next_number()))
+    Err(unlike(store.history()))
 }
 
 /// Makes the call, and ends the case where it doesn't give what it is to give.
@@ -136,7 +129,7 @@ fn be_answered(book: &mut SeatBook, call: Call) -> Result<(), Stop>
     if act(book, call)? {
         return Ok(());
     }
-    Err(Stop::Unlike(book.history().next_number()))
+    Err(unlike(book.history()))
 }
 
 /// Whether a read is offered what it says; other calls are offered nothing.
@@ -151,7 +144,7 @@ fn is_offered(store: &Store, session: u32, call: Call) -> Result<bool, Stop> {
 fn offers(store: &Store, session: u32, spot: Spot, want: &[u32]) -> Result<bool, Stop> {
     match store.history().pending(session) {
         Some(_) => offers_at(store, session, &spot.cell(), want),
-        None => Err(Stop::from(misplaced_at(store))),
+        None => Err(misplaced(store.history())),
     }
 }
 

@@ -6,11 +6,12 @@ use crate::cases::{
     OLD_VALUE, ONE_ORDER, OWN_LEVEL, OWN_ROW, PRESENCES, ROLLED_BACK_FREE, ROLLED_BACK_READ,
     SCAN_KEPT, SCAN_OVERTAKEN, SECOND_SESSION, SEEN, TAKEN, THIRD_WRITER,
 };
-use crate::kept::alone;
 use crate::play::{Case, hold, play};
-use crate::stop::Stop;
 use cell_base::Level;
+use graph_base::Graph;
+use held_values::without;
 use saturation::forced;
+use seat_samples::Stop;
 use std::alloc::Global;
 use std::test::Fail;
 use valid_writes::Store;
@@ -25,7 +26,7 @@ fn a_session_misses_or_sees_its_own_row(rt: HostRuntime) -> Result<(), Stop> {
 const OLD_OR_NEW: &[Case] = &[OLD_VALUE, NEW_VALUE, NEW_VALUE_ALONE];
 
 #[test]
-fn an_old_value_is_read_at_read_committed_alone(rt: HostRuntime) -> Result<(), Stop> {
+fn an_old_value_is_read_at_read_committed_without(rt: HostRuntime) -> Result<(), Stop> {
     hold(rt.alloc(), OLD_OR_NEW)
 }
 
@@ -53,14 +54,14 @@ fn an_update_is_lost(rt: HostRuntime) -> Result<(), Stop> {
 const FRACTURED: &[Case] = &[NO_PART, A_PART];
 
 #[test]
-fn a_read_is_fractured_at_read_committed_alone(rt: HostRuntime) -> Result<(), Stop> {
+fn a_read_is_fractured_at_read_committed_without(rt: HostRuntime) -> Result<(), Stop> {
     hold(rt.alloc(), FRACTURED)
 }
 
 const FORWARD: &[Case] = &[NEVER_BACK, NEWER_LATER, THIRD_WRITER];
 
 #[test]
-fn a_transaction_goes_forward_alone(rt: HostRuntime) -> Result<(), Stop> {
+fn a_transaction_goes_forward_without(rt: HostRuntime) -> Result<(), Stop> {
     hold(rt.alloc(), FORWARD)
 }
 
@@ -118,7 +119,7 @@ fn a_fractured_read_has_an_order(rt: HostRuntime) -> Result<(), Fail> {
 fn order_after(alloc: Global, case: &Case) -> Result<Vec<u32>, Stop> {
     let store = play(alloc, Level::Rc, case)?;
     let order = order_of(&store);
-    alone(store, order)
+    without(store, order)
 }
 
 fn order_of(store: &Store) -> Result<Vec<u32>, Stop> {
@@ -136,15 +137,19 @@ fn two_writers_have_one_order(rt: HostRuntime) -> Result<(), Fail> {
 fn forces_after(alloc: Global, case: &Case, before: u32, after: u32) -> Result<bool, Stop> {
     let store = play(alloc, Level::Rc, case)?;
     let is_forced = forces(alloc, &store, before, after);
-    alone(store, is_forced)
+    without(store, is_forced)
 }
 
 /// Whether the history forces the pair.
 fn forces(alloc: Global, store: &Store, before: u32, after: u32) -> Result<bool, Stop> {
     let graph = forced(alloc, store.history())?;
-    let is_forced = graph
+    let is_forced = has_pair(&graph, before, after);
+    Ok(without(graph, is_forced))
+}
+
+fn has_pair(graph: &Graph, before: u32, after: u32) -> bool {
+    graph
         .edges
         .iter()
-        .any(|edge| edge.before == before && edge.after == after);
-    Ok(is_forced)
+        .any(|edge| edge.before == before && edge.after == after)
 }

@@ -1,15 +1,13 @@
 // Calls of a store's sessions, one a function.
-ghost use Rattle.std.specs.Prelude.{OnOk};
 ghost use Rattle.history_core.specs.Events.{table_of};
 ghost use Rattle.history_core.specs.Book.{IsInTransaction, HasTable};
-ghost use Rattle.table_samples.specs.SessionStates.{IsReady, IsFresh, IsBusy};
+ghost use Rattle.seat_samples.specs.SessionStates.{IsBusy};
 
-use crate::cells::Spot;
-use crate::kept::{alone, kept, let_go};
-use crate::stop::Stop;
 use cell_base::{Cell, Level};
+use held_values::{kept, let_go, without};
 use history_core::{Book, BookFault, Limit};
-use table_samples::{busy_seat, idle_seat};
+use seat_samples::{Stop, busy_seat, idle_seat};
+use table_samples::Spot;
 use valid_writes::{SeatBook, Store};
 
 /// A call in a pending transaction.
@@ -34,19 +32,8 @@ pub enum Call {
 /// Starts a transaction of the session.
 pub fn begin(store: Store, session: u32, level: Level) -> Result<Store, Stop> {
     let mut book = idle_seat(store, session)?;
-    let came = begin_at(&mut book, level);
-    kept(book.into_store(), came)
-}
-
-/// Starts a transaction.
-pub fn begin_at(book: &mut SeatBook, level: Level) -> Result<(), Stop>
-    requires { IsReady book.old }
-    ensures { OnOk result (IsFresh book.new) }
-{
-    match book.begin(level) {
-        Ok(_) => Ok(()),
-        Err(fault) => Err(Stop::from(fault)),
-    }
+    let came = let_go(book.begin(level));
+    kept(book.into_store(), told(came))
 }
 
 /// Makes the call.
@@ -100,7 +87,7 @@ fn act(book: &mut SeatBook, call: Call) -> Result<(), BookFault>
 fn write(book: &mut SeatBook, spot: Spot, number: i64) -> Result<(), BookFault>
     requires { IsBusy book.old }
 {
-    book.write(spot.cell(), spot.value(number))
+    book.write(spot.cell(), spot.written(number))
 }
 
 fn see(book: &mut SeatBook, spot: Spot, word: u32) -> Result<(), BookFault>
@@ -108,7 +95,7 @@ fn see(book: &mut SeatBook, spot: Spot, word: u32) -> Result<(), BookFault>
 {
     let cell = spot.cell();
     let seen = see_cell(book, &cell, word);
-    alone(cell, seen)
+    without(cell, seen)
 }
 
 fn see_cell(book: &mut SeatBook, cell: &Cell, word: u32) -> Result<(), BookFault>

@@ -1,16 +1,15 @@
 // Full histories: what is refused at the last value of a limit, and what still succeeds.
 ghost use Rattle.std.specs.Prelude.{OnOk};
-ghost use Rattle.table_samples.specs.SessionStates.{IsReady};
+ghost use Rattle.seat_samples.specs.SessionStates.{IsReady};
 
 use crate::calls::{Call, begin, go_on, is_refused, refused};
-use crate::cells::Spot;
-use crate::kept::{kept, let_go};
-use crate::start::{open_next, stage};
-use crate::stop::Stop;
+use crate::start::stage;
 use cell_base::Level;
+use held_values::{kept, let_go};
 use history_core::{Book, Limit};
+use seat_samples::{Stop, idle_seat, open_next};
 use std::alloc::Global;
-use table_samples::idle_seat;
+use table_samples::Spot;
 use valid_writes::{SeatBook, Store};
 
 /// What is refused at the greatest load.

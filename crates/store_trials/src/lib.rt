@@ -4,17 +4,13 @@
 //! A definition could say something else than its reader thinks, and no clause says that memory is left or how long a call takes. The
 //! crate has nothing but tests, so that `valid_writes` is proved once.
 //!
-//! A store or a list that is held where a step may fail costs much to check, so each is handed on whole (`kept`).
+//! A store or a list that is held where a step may fail costs much to check, so each is handed on whole (`held_values`).
 #![tactic(auto)]
 
 #[cfg(test)]
 mod calls;
 #[cfg(test)]
-mod cells;
-#[cfg(test)]
 mod full;
-#[cfg(test)]
-mod kept;
 #[cfg(test)]
 mod long;
 #[cfg(test)]
@@ -25,5 +21,3 @@ mod plain;
 mod random;
 #[cfg(test)]
 mod start;
-#[cfg(test)]
-mod stop;

@@ -1,16 +1,11 @@
 // Long histories: thousands of transactions of which each reads, and what precedes what in the end.
-ghost use Rattle.std.specs.Prelude.{OnOk};
-ghost use Rattle.table_samples.specs.SessionStates.{IsReady, IsFresh, IsBusy};
-
-use crate::calls::begin_at;
-use crate::kept::{alone, kept};
 use crate::start::stage;
-use crate::stop::{Stop, unlike};
-use cell_base::{Level, Value};
-use history_core::{Book, Event, History};
+use cell_base::Level;
+use held_values::{kept, without};
+use history_core::{Event, History};
+use seat_samples::{Stop, idle_seat, read_many, unlike, write_alone};
 use std::alloc::Global;
-use table_samples::{idle_seat, presence};
-use valid_writes::{SeatBook, Store};
+use valid_writes::Store;
 
 /// How many transactions read.
 const READERS: u32 = 4_000;
@@ -91,14 +86,14 @@ fn misses_another_row_4000_times(rt: HostRuntime) -> Result<(), Stop> {
 fn hold(alloc: Global, case: Case) -> Result<(), Stop> {
     let store = read_4000_times(alloc, case.0, case.1)?;
     let compared = compare(&store, case);
-    alone(store, compared)
+    without(store, compared)
 }
 
 fn compare(store: &Store, (_, _, source, count, want): Case) -> Result<(), Stop> {
     if are_same(reads_in(store, source, count), want) {
         Ok(())
     } else {
-        Err(unlike(store))
+        Err(unlike(store.history()))
     }
 }
 
@@ -127,73 +122,14 @@ fn read_4000_times(alloc: Global, session: u32, level: Level) -> Result<Store, S
 
 fn write_in(store: Store, session: u32) -> Result<Store, Stop> {
     let mut book = idle_seat(store, session)?;
-    let came = write_alone(&mut book);
+    let came = write_alone(&mut book, Level::Rc);
     kept(book.into_store(), came)
 }
 
 fn read_in(store: Store, session: u32, level: Level) -> Result<Store, Stop> {
     let mut book = idle_seat(store, session)?;
-    let came = read_many(&mut book, level);
+    let came = read_many(&mut book, level, 0, READERS);
     kept(book.into_store(), came)
-}
-
-/// A transaction that writes the presence of row 1.
-fn write_alone(book: &mut SeatBook) -> Result<(), Stop>
-    requires { IsReady book.old }
-    ensures { OnOk result (IsReady book.new) }
-{
-    begin_at(book, Level::Rc)?;
-    write(book)?;
-    commit(book);
-    Ok(())
-}
-
-/// Transactions that read it by the word 0, one after another.
-fn read_many(book: &mut SeatBook, level: Level) -> Result<(), Stop>
-    requires { IsReady book.old }
-    ensures { OnOk result (IsReady book.new) }
-{
-    for _ in 0..READERS {
-        read_alone(book, level)?;
-    }
-    Ok(())
-}
-
-fn read_alone(book: &mut SeatBook, level: Level) -> Result<(), Stop>
-    requires { IsReady book.old }
-    ensures { OnOk result (IsReady book.new) }
-{
-    begin_at(book, level)?;
-    read(book)?;
-    commit(book);
-    Ok(())
-}
-
-fn read(book: &mut SeatBook) -> Result<(), Stop>
-    requires { IsFresh book.old }
-    ensures { OnOk result (IsBusy book.new) }
-{
-    match book.read(&presence(), 0) {
-        Ok(_) => Ok(()),
-        Err(fault) => Err(Stop::from(fault)),
-    }
-}
-
-fn write(book: &mut SeatBook) -> Result<(), Stop>
-    requires { IsFresh book.old }
-    ensures { OnOk result (IsBusy book.new) }
-{
-    match book.write(presence(), Value::Flag(true)) {
-        Ok(()) => Ok(()),
-        Err(fault) => Err(Stop::from(fault)),
-    }
-}
-
-fn commit(book: &mut SeatBook)
-    requires { IsBusy book.old }
-    ensures { IsReady book.new }
-{
-    book.commit();
 }
 
 /// How many reads of the history are from the source, of so many offered.

@@ -1,11 +1,11 @@
 // The writes that a read may take, found by trying each order of all transactions.
-use crate::cells::Spot;
-use crate::kept::{alone, kept};
 use crate::plain::{Given, Plain, SIZE, plain_of};
-use crate::stop::Stop;
 use cell_base::Level;
+use held_values::{kept, without};
 use history_core::Event;
+use seat_samples::Stop;
 use std::alloc::Global;
+use table_samples::Spot;
 
 /// Pairs of transactions, of which the first is to stand before the second.
 type Pairs = Vec<(u32, u32)>;
@@ -19,7 +19,7 @@ pub fn plain_offer(
 ) -> Result<Vec<u32>, Stop> {
     let mut plain = plain_of(alloc, events)?;
     let offer = offer_of(alloc, &mut plain, events.len(), session, spot);
-    alone(plain, offer)
+    without(plain, offer)
 }
 
 /// The same after so many events, of which the transactions, writes and reads are these.
@@ -70,7 +70,7 @@ fn may_read(
 fn some_order_meets(alloc: Global, plain: &Plain) -> Result<bool, Stop> {
     let pairs = demanded(alloc, plain)?;
     let is_met = some_order_has(&pairs);
-    Ok(alone(pairs, is_met))
+    Ok(without(pairs, is_met))
 }
 
 fn some_order_has(pairs: &[(u32, u32)]) -> bool {
@@ -139,7 +139,7 @@ fn demanded(alloc: Global, plain: &Plain) -> Result<Pairs, Stop> {
 fn add_demanded(alloc: Global, plain: &Plain, pairs: &mut Pairs) -> Result<(), Stop> {
     let causal = causal(alloc, plain)?;
     let added = add_all_seen(plain, &causal, pairs);
-    alone(causal, added)
+    without(causal, added)
 }
 
 fn add_all_seen(plain: &Plain, causal: &[(u32, u32)], pairs: &mut Pairs) -> Result<(), Stop> {
@@ -185,7 +185,7 @@ fn add_preceding(plain: &Plain, pairs: &mut Pairs) -> Result<(), Stop> {
 fn causal(alloc: Global, plain: &Plain) -> Result<Pairs, Stop> {
     let steps = preceding(alloc, plain)?;
     let pairs = with_chains(alloc, &steps);
-    alone(steps, pairs)
+    without(steps, pairs)
 }
 
 fn with_chains(alloc: Global, steps: &[(u32, u32)]) -> Result<Pairs, Stop> {

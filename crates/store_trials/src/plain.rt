@@ -1,11 +1,11 @@
 // What the events of a history say: its transactions, and what each wrote and read. Nothing of the store, and of the crates that decide for it,
 // is used.
-use crate::cells::Spot;
-use crate::kept::kept;
-use crate::stop::Stop;
 use cell_base::{Cell, Items, Key, Level};
+use held_values::kept;
 use history_core::Event;
+use seat_samples::Stop;
 use std::alloc::Global;
+use table_samples::Spot;
 
 /// How many transactions may have begun: as many orders as there are of these are tried.
 pub const MOST: u32 = 6;

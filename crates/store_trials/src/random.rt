@@ -5,21 +5,20 @@ ghost use Rattle.history_core.specs.Transactions.{HasPending};
 ghost use Rattle.saturation.specs.Laws.{AreForced};
 
 use crate::calls::{Call, begin, go_on};
-use crate::cells::Spot;
-use crate::kept::{alone, kept, let_go};
 use crate::orders::plain_offer;
 use crate::plain::MOST;
 use crate::start::stage;
-use crate::stop::{Stop, unlike};
 use cell_base::{Cell, Level};
 use choice_stream::SeedWords;
 use graph_base::Graph;
+use held_values::{kept, let_go, without};
 use history_core::History;
 use link_traits::Words;
 use saturation::{candidates, forced, is_permitted};
+use seat_samples::{Stop, misplaced, unlike};
 use std::alloc::Global;
 use std::test::Fail;
-use table_samples::misplaced_at;
+use table_samples::Spot;
 use valid_writes::Store;
 
 /// How many calls each history has.
@@ -175,9 +174,9 @@ fn compare(
     run.reads = run.reads.saturating_add(1);
     let cell = spot.cell();
     let offer = offered(alloc, store, session, &cell, run);
-    let offer = alone(cell, offer)?;
+    let offer = without(cell, offer)?;
     let compared = compare_few(alloc, store, session, spot, &offer);
-    alone(offer, compared)
+    without(offer, compared)
 }
 
 /// The offer of the cell by the forced pairs, if that of the store is the same.
@@ -211,7 +210,7 @@ fn compare_few(
 fn compare_offer(store: &Store, session: u32, cell: &Cell, want: &[u32]) -> Result<(), Stop> {
     match store.history().pending(session) {
         Some(_) => same(store, &store.offer(session, cell)?, want),
-        None => Err(Stop::from(misplaced_at(store))),
+        None => Err(misplaced(store.history())),
     }
 }
 
@@ -231,7 +230,7 @@ fn same(store: &Store, offer: &[u32], want: &[u32]) -> Result<(), Stop> {
     if offer == want {
         Ok(())
     } else {
-        Err(unlike(store))
+        Err(unlike(store.history()))
     }
 }
 
@@ -246,7 +245,7 @@ fn by_pairs(
     let history = store.history();
     match history.pending(session) {
         Some(_) => counted(alloc, history, session, cell, run),
-        None => Err(Stop::from(misplaced_at(store))),
+        None => Err(misplaced(store.history())),
     }
 }
 
@@ -295,7 +294,7 @@ fn add_permitted(
 {
     let graph = forced(alloc, history)?;
     let count = add_acyclic(alloc, history, &graph, session, cell, permitted);
-    alone(graph, count)
+    without(graph, count)
 }
 
 fn add_acyclic(
@@ -311,7 +310,7 @@ fn add_acyclic(
 {
     let sources = candidates(alloc, history, cell)?;
     let count = add_each(alloc, history, graph, session, cell, &sources, permitted);
-    alone(sources, count)
+    without(sources, count)
 }
 
 fn add_each(

@@ -3,11 +3,9 @@
 //!
 //! The contract of `summary` says which line it is, and not that memory is left. The crate has nothing but tests.
 //!
-//! A store that is held where a step may fail costs much to check, so each function hands its store on whole (`handing`).
+//! A store that is held where a step may fail costs much to check, so each function hands its store on whole (`held_values`).
 #![tactic(auto)]
 
-#[cfg(test)]
-mod handing;
 #[cfg(test)]
 mod lines;
 #[cfg(test)]

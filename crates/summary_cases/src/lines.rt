@@ -1,11 +1,11 @@
 // The lines of two histories.
-use crate::handing::without;
 use crate::play::play;
 use crate::steps::Step;
 use crate::steps::Step::{Begin, Commit, Find, Make, Open, OpenFirst, Read, RollBack, Write};
 use cell_base::Level;
-use history_core::BookFault;
+use held_values::without;
 use history_summary::summary;
+use seat_samples::Stop;
 use std::alloc::Global;
 
 /// The line of a level and a seed, for what sessions do one after another.
@@ -14,7 +14,7 @@ fn line_of(
     level: Level,
     seed: u64,
     steps: &[(u32, Step)],
-) -> Result<Vec<u8>, BookFault> {
+) -> Result<Vec<u8>, Stop> {
     let store = play(alloc, level, steps)?;
     let line = summary(alloc, level, seed, store.history());
     Ok(without(store, line)?)
@@ -22,7 +22,7 @@ fn line_of(
 
 /// Nothing has happened, and the seed is the greatest one.
 #[test]
-fn a_history_without_events(rt: HostRuntime) -> Result<(), BookFault> {
+fn a_history_without_events(rt: HostRuntime) -> Result<(), Stop> {
     assert_eq!(&rt;
         line_of(rt.alloc(), Level::Cc, u64::MAX, &[])?.as_slice(),
         b"sim cc 18446744073709551615 sessions 0 transactions 0 events 0 reads 0 offered 0 weak 0\n".as_slice()
@@ -67,7 +67,7 @@ const TWO_SESSIONS: [(u32, Step); 25] = [
 ];
 
 #[test]
-fn a_history_of_two_sessions(rt: HostRuntime) -> Result<(), BookFault> {
+fn a_history_of_two_sessions(rt: HostRuntime) -> Result<(), Stop> {
     assert_eq!(&rt;
         line_of(rt.alloc(), Level::Rc, 42, &TWO_SESSIONS)?.as_slice(),
         b"sim rc 42 sessions 2 transactions 6 events 26 reads 6 offered 13 weak 2\n".as_slice()

@@ -1,17 +1,13 @@
 // Calls of a seat, each by the step that it is.
 ghost use Rattle.std.specs.Prelude.{◌≡◌};
-ghost use Rattle.sound_table.specs.Sound.{IsSound};
-ghost use Rattle.history_core.specs.Book.{HasSession, no_session};
 ghost use Rattle.history_core.specs.Events.{table_of};
-ghost use Rattle.history_core.specs.Initial.{IsStorable};
-ghost use Rattle.table_samples.specs.SessionStates.{IsBusy};
+ghost use Rattle.seat_samples.specs.SessionStates.{IsBusy};
 
-use crate::handing::without;
 use cell_base::{Cell, Value};
+use held_values::{let_go, without};
 use history_core::{Book, BookFault};
-use sql_tree::Table;
-use std::alloc::Global;
-use table_samples::{field, presence, table};
+use seat_samples::{Stop, misplaced};
+use table_samples::{field, presence};
 use valid_writes::SeatBook;
 
 /// What a session does next.
@@ -37,32 +33,15 @@ pub enum Step {
     RollBack,
 }
 
-/// Opens the session, which defines the table.
-pub fn open_first(alloc: Global, book: &mut SeatBook) -> Result<(), BookFault>
-    requires { book.old.state ≡ no_session }
-{
-    book.open()?;
-    define(book, table(alloc)?)
-}
-
-fn define(book: &mut SeatBook, table: Table) -> Result<(), BookFault>
-    requires open { HasSession book.old.state }
-    requires sound { IsSound table }
-{
-    let answer = book.define(&table);
-    without(table, answer)?;
-    Ok(())
-}
-
 /// Makes the step in the pending transaction. Others than these can't be made there.
-pub fn act(book: &mut SeatBook, step: Step) -> Result<(), BookFault>
+pub fn act(book: &mut SeatBook, step: Step) -> Result<(), Stop>
     requires { IsBusy book.old }
 {
     match step {
         Step::Find(word) => read(book, presence(), word),
         Step::Read(word) => read(book, field(), word),
-        Step::Make => book.write(presence(), Value::Flag(true)),
-        Step::Write(number) => book.write(field(), Value::Int(number)),
+        Step::Make => told(book.write(presence(), Value::Flag(true))),
+        Step::Write(number) => told(book.write(field(), Value::Int(number))),
         Step::Commit => {
             book.commit();
             Ok(())
@@ -71,18 +50,29 @@ pub fn act(book: &mut SeatBook, step: Step) -> Result<(), BookFault>
             book.rollback();
             Ok(())
         }
-        _ => Err(BookFault::Memory),
+        _ => Err(misplaced(book.history())),
     }
 }
 
+fn told(came: Result<(), BookFault>) -> Result<(), Stop> {
+    Ok(came?)
+}
+
 /// Reads a cell, which the transaction hasn't written.
-fn read(book: &mut SeatBook, cell: Cell, word: u32) -> Result<(), BookFault>
+fn read(book: &mut SeatBook, cell: Cell, word: u32) -> Result<(), Stop>
     requires busy { IsBusy book.old }
     requires table { table_of cell ≡ 0 }
 {
-    if book.wrote(&cell) {
-        return Err(BookFault::Memory);
+    let read = read_at(book, &cell, word);
+    without(cell, read)
+}
+
+fn read_at(book: &mut SeatBook, cell: &Cell, word: u32) -> Result<(), Stop>
+    requires busy { IsBusy book.old }
+    requires table { table_of cell.now ≡ 0 }
+{
+    if book.wrote(cell) {
+        return Err(misplaced(book.history()));
     }
-    book.read(&cell, word)?;
-    Ok(())
+    Ok(let_go(book.read(cell, word))?)
 }

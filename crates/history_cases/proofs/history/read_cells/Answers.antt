@@ -8,9 +8,9 @@ pub push-requires-clause-follows : goal.push-requires-clause-follows
 push-requires-clause-follows c = rw c.requires.events (fits10 (codes "t") (KeyInt (pos 1)) (Int (pos 10)))
 
 pub push-requires-2-clause-follows : goal.push-requires-2-clause-follows
-push-requires-2-clause-follows c = rw (c.in_ok-push.ensures.ok, c.presence.ensures, c.requires.events, c.requires.initial) (fits11 (codes "t") (KeyInt (pos 1)) (Int (pos 10)))
+push-requires-2-clause-follows c = rw (c.in_ok-push.ensures.ok, c.presence.ensures.is, c.requires.events, c.requires.initial) (fits11 (codes "t") (KeyInt (pos 1)) (Int (pos 10)))
 
 pub push-requires-3-clause-follows : goal.push-requires-3-clause-follows
 push-requires-3-clause-follows c =
-    rw (c.in_ok-push-2.ensures.ok, c.in_ok-push.ensures.ok, c.presence.ensures, c.field.ensures, c.requires.events, c.requires.initial)
+    rw (c.in_ok-push-2.ensures.ok, c.in_ok-push.ensures.ok, c.presence.ensures.is, c.field.ensures.is, c.requires.events, c.requires.initial)
     (fits12 (codes "t") (KeyInt (pos 1)) (Int (pos 10)))

@@ -10,5 +10,5 @@ push-requires-3-clause-follows c =
 
 pub push-requires-4-clause-follows : goal.push-requires-4-clause-follows
 push-requires-4-clause-follows c =
-    rw (c.in_ok-push-3.ensures.ok, c.in_ok-push_define.ensures.ok, c.in_ok-push-2.ensures.ok, c.in_ok-push.ensures.ok, c.first_row.ensures, c.in_ok-table.ensures.value, c.requires.events, c.requires.initial)
+    rw (c.in_ok-push-3.ensures.ok, c.in_ok-push_define.ensures.ok, c.in_ok-push-2.ensures.ok, c.in_ok-push.ensures.ok, c.presence.ensures.is, c.in_ok-table.ensures.value, c.requires.events, c.requires.initial)
     (fits5 (codes "t") (KeyInt (pos 1)) (KeyInt (pos 2)))

@@ -1,4 +1,4 @@
-use Rattle.table_samples.specs.SessionStates.{IsReady}
+use Rattle.seat_samples.specs.SessionStates.{IsReady}
 use Rattle.store_trials.proofs.full.look_many.Given as goal
 
 abbrev pub invariant-loop : goal.invariant-loop

@@ -1,5 +1,0 @@
-use Rattle.table_samples.specs.SessionStates.{IsReady}
-use Rattle.store_trials.proofs.long.read_many.Given as goal
-
-abbrev pub invariant-loop : goal.invariant-loop
-invariant-loop l = IsReady l.book
