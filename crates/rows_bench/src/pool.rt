@@ -62,7 +62,7 @@ fn rows_of<T: Bits + Drop>(alloc: Global, size: u32) -> Result<Vec<T>, AllocErro
 /// A pool of so many rows.
 pub(crate) fn pool_of<T: Bits + Drop>(alloc: Global, size: u32) -> Result<Pool<T>, AllocError> {
     let ones = both(T::of_rest(alloc, 1), T::of_rest(alloc, 1));
-    let (rows, (probe, joined)) = both(rows_of(alloc, size), ones)?;
+    let (rows, (probe, joined)) = both(rows_of::<T>(alloc, size), ones)?;
     Ok(Pool {
         rows,
         probe,
