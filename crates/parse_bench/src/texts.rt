@@ -9,20 +9,10 @@ const ROWS: u32 = 190;
 /// How many statements of each kind the long text has.
 const STATEMENTS: u32 = 128;
 
-fn push_number(out: &mut String, number: u32) -> Result<(), AllocError> {
-    match write!(out, "{number}") {
-        Ok(()) => Ok(()),
-        Err(_) => Err(AllocError),
-    }
-}
-
 /// One row of an INSERT.
 fn push_row(out: &mut String, number: u32) -> Result<(), AllocError> {
     let third = number / 3;
-    match write!(out, "({number}, 'owner {number}', {third}, NULL)") {
-        Ok(()) => Ok(()),
-        Err(_) => Err(AllocError),
-    }
+    write!(out, "({number}, 'owner {number}', {third}, NULL)")
 }
 
 /// An INSERT of so many rows, and then at least one more.
@@ -39,8 +29,7 @@ fn push_insert(out: &mut String, number: u32, more: u32) -> Result<(), AllocErro
 /// A SELECT with a join, a condition and an order.
 fn push_select(out: &mut String, number: u32) -> Result<(), AllocError> {
     out.push_str("SELECT a.owner, a.balance + 10 AS raised, count(*) FROM accounts a ")?;
-    out.push_str("JOIN branches b ON a.branch = b.id WHERE a.id = ")?;
-    push_number(out, number)?;
+    write!(out, "JOIN branches b ON a.branch = b.id WHERE a.id = {number}")?;
     out.push_str(" AND (b.open OR NOT a.balance BETWEEN 0 AND 1000) ")?;
     out.push_str("ORDER BY a.owner DESC, 2 LIMIT 20;\n")
 }
