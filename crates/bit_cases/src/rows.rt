@@ -1,7 +1,7 @@
 //! Rows: lengths, unions, common members and counts.
 
-use super::{agree, alone, both};
-use crate::{ROW_BITS, Row};
+use crate::held::{agree, alone, both};
+use bit_rows::{ROW_BITS, Row};
 use std::alloc::{AllocError, Global};
 use std::test::Fail;
 

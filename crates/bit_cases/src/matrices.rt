@@ -2,8 +2,8 @@
 
 ghost use Rattle.std.specs.Prelude.{◌<◌, length};
 
-use super::{agree, alone};
-use crate::{BitMatrix, ROW_BITS, Row};
+use crate::held::{agree, alone};
+use bit_rows::{BitMatrix, ROW_BITS, Row};
 use std::alloc::{AllocError, Global};
 use std::test::Fail;
 
