@@ -1,60 +1,67 @@
 //! The buffer.
 
 use crate::cells::{COLUMNS, cell};
-use crate::meter;
+use crate::held::alone;
+use crate::measured::{Writes, measure};
 use anyhow::Result;
-use cell_base::Value;
-use std::alloc::AllocError;
+use cell_base::{Memory, Value};
 use std::time::CpuClock;
 use txn_buffer::TxnBuffer;
 
-/// Puts a value at each of so many cells, in room that is taken first.
-fn fill(buffer: &mut TxnBuffer, count: u32, value: i64) -> Result<(), AllocError> {
-    buffer.reserve(count as usize).map_err(|_| AllocError)?;
-    for place in 0..count {
-        buffer.reserve(1).map_err(|_| AllocError)?;
-        buffer.put(cell(place), Value::Int(value));
+impl Writes for TxnBuffer {
+    /// Puts the values in room that is taken first.
+    fn fill(&mut self, count: u32, value: i64) -> Result<(), Memory> {
+        self.reserve(count as usize)?;
+        for place in 0..count {
+            self.reserve(1)?;
+            self.put(cell(place), Value::Int(value));
+        }
+        Ok(())
     }
-    Ok(())
+
+    fn found(&self, count: u32) -> u32 {
+        let mut all = 0u32;
+        for place in 0..count {
+            if is_there(self, place) {
+                all = all.saturating_add(1);
+            }
+        }
+        all
+    }
 }
 
-/// How many of so many cells are found with a value.
-fn found(buffer: &TxnBuffer, count: u32) -> u32 {
-    let mut all = 0u32;
-    for place in 0..count {
-        if buffer.get(&cell(place)).is_some() {
-            all = all.saturating_add(1);
-        }
-    }
-    all
+fn is_there(buffer: &TxnBuffer, place: u32) -> bool {
+    let cell = cell(place);
+    let is_there = buffer.get(&cell).is_some();
+    alone(cell, is_there)
+}
+
+fn fill_twice(buffer: &mut TxnBuffer, count: u32) -> Result<(), Memory> {
+    buffer.fill(count, 1)?;
+    buffer.fill(count, 2)
+}
+
+/// How many writes there are, and how many of so many cells are found, where each is put twice.
+fn counts(buffer: &mut TxnBuffer, count: u32) -> Result<(usize, u32), Memory> {
+    fill_twice(buffer, count)?;
+    Ok((buffer.writes().len(), buffer.found(count)))
 }
 
 /// Puts the cells of so many rows, and says how many there are.
 pub(crate) fn show(rt: &(impl Print + AllocGlobal), rows: u32) -> Result<()> {
-    let count = rows.saturating_mul(COLUMNS);
     let mut buffer = TxnBuffer::new(rt.alloc());
-    fill(&mut buffer, count, 1)?;
-    fill(&mut buffer, count, 2)?;
-    let writes = buffer.writes().len();
-    println!(rt; "{writes} writes, {} found", found(&buffer, count))?;
+    let counted = counts(&mut buffer, rows.saturating_mul(COLUMNS));
+    let (writes, found) = alone(buffer, counted)?;
+    println!(rt; "{writes} writes, {found} found")?;
     Ok(())
 }
 
-/// Times puts of new cells, puts of cells that are there, and gets.
-pub(crate) fn measure(rt: &(impl CpuClock + Print + AllocGlobal), rows: u32) -> Result<()> {
-    let count = rows.saturating_mul(COLUMNS);
+/// Times the buffer.
+pub(crate) fn measure_buffer(
+    rt: &(impl CpuClock + Print + AllocGlobal),
+    rows: u32,
+) -> Result<()> {
     let mut buffer = TxnBuffer::new(rt.alloc());
-    let start = rt.thread_cpu_time()?;
-    fill(&mut buffer, count, 1)?;
-    let new = meter::each(rt, start, count)?;
-    let start = rt.thread_cpu_time()?;
-    fill(&mut buffer, count, 2)?;
-    let again = meter::each(rt, start, count)?;
-    let start = rt.thread_cpu_time()?;
-    let there = found(&buffer, count);
-    let got = meter::each(rt, start, count)?;
-    println!(rt;
-        "buffer: put of a new cell {new} ns, of one that is there {again} ns, get {got} ns, {there} found"
-    )?;
-    Ok(())
+    let measured = measure(rt, "buffer", &mut buffer, rows);
+    alone(buffer, measured)
 }

@@ -12,6 +12,8 @@ use std::time::CpuClock;
 
 mod buffered;
 mod cells;
+mod held;
+mod measured;
 mod meter;
 mod walked;
 
@@ -21,8 +23,8 @@ fn run(rt: &(impl Env + Print + CpuClock + AllocGlobal)) -> Result<()> {
     match words.next() {
         Some(rows) => {
             let rows = rows.parse::<u32>().unwrap_or(100);
-            buffered::measure(rt, rows)?;
-            walked::measure(rt, rows)
+            buffered::measure_buffer(rt, rows)?;
+            walked::measure_list(rt, rows)
         }
         None => buffered::show(rt, 100),
     }

@@ -1,59 +1,63 @@
 //! A list of cells and values that is walked, as the buffer was kept at first.
 
-use crate::cells::{COLUMNS, cell};
-use crate::meter;
+use crate::cells::cell;
+use crate::held::{alone, put};
+use crate::measured::{Writes, measure};
 use anyhow::Result;
-use cell_base::{Cell, Value};
-use std::alloc::AllocError;
+use cell_base::{Cell, Memory, Value};
 use std::time::CpuClock;
 
+/// The list.
+#[derive(Drop)]
+struct Walked {
+    entries: Vec<(Cell, Value)>,
+}
+
 /// Puts a value at the cell.
-fn put(list: &mut Vec<(Cell, Value)>, cell: Cell, value: Value) -> Result<(), AllocError> {
+fn put_at(list: &mut Vec<(Cell, Value)>, cell: Cell, value: Value) -> Result<(), Memory> {
     for entry in list.iter_mut() {
         if entry.0 == cell {
-            entry.1 = value;
-            return Ok(());
+            put(&mut entry.1, value);
+            return alone(cell, Ok(()));
         }
     }
     list.push((cell, value))?;
     Ok(())
 }
 
-/// Puts a value at each of so many cells.
-fn fill(list: &mut Vec<(Cell, Value)>, count: u32, value: i64) -> Result<(), AllocError> {
-    for place in 0..count {
-        put(list, cell(place), Value::Int(value))?;
-    }
-    Ok(())
+fn is_there(list: &[(Cell, Value)], place: u32) -> bool {
+    let cell = cell(place);
+    let is_there = list.iter().any(|entry| entry.0 == cell);
+    alone(cell, is_there)
 }
 
-/// How many of so many cells are found.
-fn found(list: &[(Cell, Value)], count: u32) -> u32 {
-    let mut all = 0u32;
-    for place in 0..count {
-        let cell = cell(place);
-        if list.iter().any(|entry| entry.0 == cell) {
-            all = all.saturating_add(1);
+impl Writes for Walked {
+    fn fill(&mut self, count: u32, value: i64) -> Result<(), Memory> {
+        for place in 0..count {
+            put_at(&mut self.entries, cell(place), Value::Int(value))?;
         }
+        Ok(())
     }
-    all
+
+    fn found(&self, count: u32) -> u32 {
+        let mut all = 0u32;
+        for place in 0..count {
+            if is_there(&self.entries, place) {
+                all = all.saturating_add(1);
+            }
+        }
+        all
+    }
 }
 
-/// Times puts of new cells, puts of cells that are there, and gets.
-pub(crate) fn measure(rt: &(impl CpuClock + Print + AllocGlobal), rows: u32) -> Result<()> {
-    let count = rows.saturating_mul(COLUMNS);
-    let mut list = Vec::new(rt.alloc());
-    let start = rt.thread_cpu_time()?;
-    fill(&mut list, count, 1)?;
-    let new = meter::each(rt, start, count)?;
-    let start = rt.thread_cpu_time()?;
-    fill(&mut list, count, 2)?;
-    let again = meter::each(rt, start, count)?;
-    let start = rt.thread_cpu_time()?;
-    let there = found(&list, count);
-    let got = meter::each(rt, start, count)?;
-    println!(rt;
-        "list: put of a new cell {new} ns, of one that is there {again} ns, get {got} ns, {there} found"
-    )?;
-    Ok(())
+/// Times the list.
+pub(crate) fn measure_list(
+    rt: &(impl CpuClock + Print + AllocGlobal),
+    rows: u32,
+) -> Result<()> {
+    let mut list = Walked {
+        entries: Vec::new(rt.alloc()),
+    };
+    let measured = measure(rt, "list", &mut list, rows);
+    alone(list, measured)
 }

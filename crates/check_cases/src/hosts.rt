@@ -3,6 +3,7 @@ ghost use Rattle.std.specs.Prelude.{◌≡◌, ◌<◌, IfOk};
 ghost use Rattle.link_traits.specs.Host.{objects_out};
 ghost use Rattle.link_traits.specs.Hosts.{mem_hosted};
 
+use crate::held::{alone, both, kept};
 use cell_base::{Items, Memory, Text};
 use check_command::check_file;
 use link_traits::{HostFile, MemHost, MemPlan, MemReturned, MemSink};
@@ -40,6 +41,20 @@ fn text(alloc: Global, bytes: &[u8]) -> Result<Text, Memory> {
     }
 }
 
+// One file, of the path `log`.
+fn files_of(alloc: Global, log: &[u8]) -> Result<Items<HostFile>, Memory> {
+    let (path, bytes) = both(text(alloc, b"log"), Items::from_slice(alloc, log))?;
+    let mut files = Items::new(alloc);
+    let pushed = files.push(HostFile { path, bytes });
+    kept(files, pushed)
+}
+
+// The numbers of the calls that are planned to fail.
+fn calls_of(alloc: Global, fails: Fails) -> Result<Items<u64>, Memory> {
+    let numbers: &[u64] = if fails == Fails::Opening { &[1] } else { &[] };
+    Items::from_slice(alloc, numbers)
+}
+
 // A host that has one file, of the path `log`, and no link. Nothing is out.
 fn host(alloc: Global, log: &[u8], fails: Fails) -> Result<MemHost, Memory>
     ensures { IfOk result (λ host. objects_out (mem_hosted host) ≡ 0) }
@@ -47,13 +62,7 @@ fn host(alloc: Global, log: &[u8], fails: Fails) -> Result<MemHost, Memory>
     let out = MemSink::new(alloc, plan(alloc, 64, fails == Fails::Printing)?)?;
     let opened = plan(alloc, 5, fails == Fails::Reading)?;
     let made = plan(alloc, 64, false)?;
-    let mut files = Items::new(alloc);
-    files.push(HostFile {
-        path: text(alloc, b"log")?,
-        bytes: Items::from_slice(alloc, log)?,
-    })?;
-    let numbers: &[u64] = if fails == Fails::Opening { &[1] } else { &[] };
-    let calls = Items::from_slice(alloc, numbers)?;
+    let (files, calls) = both(files_of(alloc, log), calls_of(alloc, fails))?;
     Ok(MemHost::new(alloc, None, files, out, calls, opened, made))
 }
 
@@ -75,15 +84,24 @@ fn ends(
     })
 }
 
+// Whether the check of the log prints this line, and the file came back.
+fn prints_line(host: &mut MemHost, alloc: Global, code: u8, line: &[u8]) -> Result<bool, Memory>
+    requires { objects_out (mem_hosted host.old) ≡ 0 }
+{
+    let right = ends(host, alloc, b"log", code, line)?;
+    Ok(right && matches!(host.back(), [MemReturned::File(_)]))
+}
+
 /// Whether the check of this log prints this line, and the file came back.
 pub fn prints(alloc: Global, log: &[u8], code: u8, line: &[u8]) -> Result<bool, Memory> {
     let mut host = host(alloc, log, Fails::Nothing)?;
-    let right = ends(&mut host, alloc, b"log", code, line)?;
-    Ok(right && matches!(host.back(), [MemReturned::File(_)]))
+    let right = prints_line(&mut host, alloc, code, line);
+    alone(host, right)
 }
 
 /// Whether the check of a path ends with this status where this fails, and prints nothing.
 pub fn ends_with(alloc: Global, path: &[u8], fails: Fails, code: u8) -> Result<bool, Memory> {
     let mut host = host(alloc, b"monkey-log 2 rc\norder 0\nend\n", fails)?;
-    ends(&mut host, alloc, path, code, b"")
+    let right = ends(&mut host, alloc, path, code, b"");
+    alone(host, right)
 }

@@ -131,12 +131,18 @@ fn judges_the_order(rt: HostRuntime) -> Result<(), Fail> {
     Ok(())
 }
 
+/// A path, what fails of its check, and the status.
+const FAILED: &[(&[u8], Fails, u8)] = &[
+    (b"log", Fails::Opening, 6),
+    (b"logs", Fails::Nothing, 6),
+    (b"log", Fails::Reading, 3),
+    (b"log", Fails::Printing, 4),
+];
+
 #[test]
 fn tells_what_fails(rt: HostRuntime) -> Result<(), Fail> {
-    let alloc = rt.alloc();
-    assert!(rt; ends_with(alloc, b"log", Fails::Opening, 6)?);
-    assert!(rt; ends_with(alloc, b"logs", Fails::Nothing, 6)?);
-    assert!(rt; ends_with(alloc, b"log", Fails::Reading, 3)?);
-    assert!(rt; ends_with(alloc, b"log", Fails::Printing, 4)?);
+    for (path, fails, code) in FAILED {
+        assert!(rt; ends_with(rt.alloc(), path, *fails, *code)?);
+    }
     Ok(())
 }

@@ -9,6 +9,8 @@
 #[cfg(test)]
 mod faults;
 #[cfg(test)]
+mod held;
+#[cfg(test)]
 mod lengths;
 #[cfg(test)]
 mod reading;

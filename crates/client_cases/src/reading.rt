@@ -1,31 +1,110 @@
 // A stream in pieces, and what is read from it in words.
+use crate::held::{alone, kept};
 use cell_base::{Items, Memory};
-use client_framing::{CopyMessage, Extended, FrontendMessage, Split, split_stream};
+use client_framing::{CopyMessage, Extended, FrameFault, FrontendMessage, Split, split_stream};
 use std::alloc::Global;
 
 /// The startup of user `a`, 16 bytes.
 pub const STARTUP: &[u8] = b"\x00\x00\x00\x10\x00\x03\x00\x00user\x00a\x00\x00";
 
-// A stream in pieces of this size.
-fn pieces_of(alloc: Global, stream: &[u8], size: usize) -> Result<Items<Items<u8>>, Memory> {
-    let mut pieces = Items::new(alloc);
+fn push_pieces(
+    pieces: &mut Items<Items<u8>>,
+    alloc: Global,
+    stream: &[u8],
+    size: usize,
+) -> Result<(), Memory> {
     for piece in stream.chunks(size.max(1)) {
         pieces.push(Items::from_slice(alloc, piece)?)?;
     }
-    Ok(pieces)
+    Ok(())
+}
+
+// A stream in pieces of this size.
+fn pieces_of(alloc: Global, stream: &[u8], size: usize) -> Result<Items<Items<u8>>, Memory> {
+    let mut pieces = Items::new(alloc);
+    let pushed = push_pieces(&mut pieces, alloc, stream, size);
+    kept(pieces, pushed)
 }
 
 /// What is read from a stream that comes in pieces of this size.
 pub fn read(alloc: Global, size: usize, stream: &[u8]) -> Result<Split, Memory> {
     let pieces = pieces_of(alloc, stream, size)?;
-    split_stream(alloc, pieces.as_slice())
+    let split = split_stream(alloc, pieces.as_slice());
+    alone(pieces, split)
 }
 
-/// The bytes after the startup of user `a`.
-pub fn after_startup(alloc: Global, bytes: &[u8]) -> Result<Vec<u8>, Memory> {
-    let mut stream = Vec::from_slice(alloc, STARTUP)?;
-    stream.extend_from_slice(bytes)?;
-    Ok(stream)
+fn push_parts(stream: &mut Vec<u8>, parts: &[&[u8]]) -> Result<(), Memory> {
+    for part in parts {
+        stream.extend_from_slice(part)?;
+    }
+    Ok(())
+}
+
+/// The stream of these parts.
+pub fn joined(alloc: Global, parts: &[&[u8]]) -> Result<Vec<u8>, Memory> {
+    let mut stream = Vec::new(alloc);
+    let pushed = push_parts(&mut stream, parts);
+    kept(stream, pushed)
+}
+
+/// What a test looks at of what is read.
+#[derive(Clone, Copy)]
+pub struct Seen {
+    /// How many messages there are.
+    pub messages: usize,
+    /// The name of the last one; empty where there is none.
+    pub name: &'static [u8],
+    /// How many bytes the last one's text has: a query's, or that of a startup's last value.
+    pub text: usize,
+    /// How many bytes are left.
+    pub rest: usize,
+    pub fault: Option<FrameFault>,
+}
+
+impl Seen {
+    /// Whether there are so many messages, and this fault or none.
+    pub fn has(self, messages: usize, fault: Option<FrameFault>) -> bool {
+        self.messages == messages && self.fault == fault
+    }
+}
+
+fn text_size(message: &FrontendMessage) -> usize {
+    match message {
+        FrontendMessage::Startup(pairs) => match pairs.as_slice().last() {
+            Some((_, value)) => value.len(),
+            None => 0,
+        },
+        FrontendMessage::Query(text) => text.len(),
+        _ => 0,
+    }
+}
+
+fn seen_of(split: &Split) -> Seen {
+    let (name, text) = match split.messages.as_slice().last() {
+        Some(message) => (name_of(message), text_size(message)),
+        None => (b"".as_slice(), 0),
+    };
+    Seen {
+        messages: split.messages.len(),
+        name,
+        text,
+        rest: split.rest,
+        fault: split.fault,
+    }
+}
+
+/// What is seen of a stream that comes in pieces of this size.
+pub fn see(alloc: Global, size: usize, stream: &[u8]) -> Result<Seen, Memory> {
+    let split = read(alloc, size, stream)?;
+    let seen = seen_of(&split);
+    Ok(alone(split, seen))
+}
+
+/// What is seen of the stream of these parts, byte by byte.
+pub fn see_parts(alloc: Global, parts: &[&[u8]]) -> Result<Seen, Memory> {
+    let stream = joined(alloc, parts)?;
+    let seen = see(alloc, 1, &stream);
+    alone(stream, seen)
 }
 
 /// A message's name.
@@ -90,14 +169,24 @@ fn append_pairs(out: &mut Vec<u8>, pairs: &[(Items<u8>, Items<u8>)]) -> Result<(
     Ok(())
 }
 
+fn push_told(out: &mut Vec<u8>, message: &FrontendMessage) -> Result<(), Memory> {
+    out.extend_from_slice(name_of(message))?;
+    out.push(b' ')?;
+    append_parts(out, message)?;
+    out.push(b';')?;
+    Ok(())
+}
+
+fn push_all_told(out: &mut Vec<u8>, messages: &[FrontendMessage]) -> Result<(), Memory> {
+    for message in messages {
+        push_told(out, message)?;
+    }
+    Ok(())
+}
+
 /// The messages in words: of each its name, what it holds, and a semicolon.
 pub fn told(alloc: Global, messages: &[FrontendMessage]) -> Result<Vec<u8>, Memory> {
     let mut out = Vec::new(alloc);
-    for message in messages {
-        out.extend_from_slice(name_of(message))?;
-        out.push(b' ')?;
-        append_parts(&mut out, message)?;
-        out.push(b';')?;
-    }
-    Ok(out)
+    let pushed = push_all_told(&mut out, messages);
+    kept(out, pushed)
 }

@@ -1,182 +1,160 @@
-// What each level lets a read see.
-use crate::verdict::{says, says_with};
-use cell_base::Memory;
+// What each level lets a read see. A row has the number of a line, the line, and what is said of the text with this line.
+use crate::verdict::are_judged;
+use std::test::Fail;
 
 // Transaction 1 writes two rows; transaction 2, of another session, reads the first from it and then the second.
-const TWO_ROWS: &[u8] =
-    b"monkey-log 2 rc\nopen 1\nopen 2\ndefine 1 x74\nbegin 1 rc\nwrite 1 p.0.1 true\nwrite 1 p.0.2 true\ncommit 1\nbegin 2 rc\nread 2 p.0.1 1 2 1 true\nread 2 p.0.2 1 2 1 true\ncommit 2\norder 0 1 2\nend\n";
+const TWO_ROWS: &str = "\
+monkey-log 2 rc
+open 1
+open 2
+define 1 x74
+begin 1 rc
+write 1 p.0.1 true
+write 1 p.0.2 true
+commit 1
+begin 2 rc
+read 2 p.0.1 1 2 1 true
+read 2 p.0.2 1 2 1 true
+commit 2
+order 0 1 2
+end
+";
+
+const OF_TWO_ROWS: &str = r"
+9 begin 2 ra => ok
+9 begin 2 cc => ok
+11 read 2 p.0.2 0 2 0 false => breach event 10 axiom 0 1 2 p.0.2
+";
 
 #[test]
-fn a_later_read_sees_what_was_read_from(rt: HostRuntime) -> Result<(), Memory> {
-    assert_eq!(&rt; says(rt.alloc(), TWO_ROWS, "ok"), true);
-    assert_eq!(&rt;
-        says_with(rt.alloc(), TWO_ROWS, 9, b"begin 2 ra", "ok"),
-        true
-    );
-    assert_eq!(&rt;
-        says_with(rt.alloc(), TWO_ROWS, 9, b"begin 2 cc", "ok"),
-        true
-    );
-    assert_eq!(&rt;
-        says_with(
-            rt.alloc(),
-            TWO_ROWS,
-            11,
-            b"read 2 p.0.2 0 2 0 false",
-            "breach event 10 axiom 0 1 2 p.0.2"
-        ),
-        true
-    );
-    Ok(())
+fn a_later_read_sees_what_was_read_from(rt: HostRuntime) -> Result<(), Fail> {
+    are_judged(rt.alloc(), TWO_ROWS, OF_TWO_ROWS)
 }
 
 /// Transaction 2 first reads the second row from the initial transaction, and then the first row from transaction 1.
-pub const FRACTURED: &[u8] =
-    b"monkey-log 2 rc\nopen 1\nopen 2\ndefine 1 x74\nbegin 1 rc\nwrite 1 p.0.1 true\nwrite 1 p.0.2 true\ncommit 1\nbegin 2 rc\nread 2 p.0.2 0 2 0 false\nread 2 p.0.1 1 2 1 true\ncommit 2\norder 0 1 2\nend\n";
+pub const FRACTURED: &str = "\
+monkey-log 2 rc
+open 1
+open 2
+define 1 x74
+begin 1 rc
+write 1 p.0.1 true
+write 1 p.0.2 true
+commit 1
+begin 2 rc
+read 2 p.0.2 0 2 0 false
+read 2 p.0.1 1 2 1 true
+commit 2
+order 0 1 2
+end
+";
+
+const OF_FRACTURED: &str = r"
+9 begin 2 ra => breach event 9 axiom 0 1 2 p.0.2
+9 begin 2 cc => breach event 9 axiom 0 1 2 p.0.2
+5 begin 1 cc => ok
+";
 
 #[test]
-fn an_earlier_read_sees_it_from_read_atomic_on(rt: HostRuntime) -> Result<(), Memory> {
-    assert_eq!(&rt; says(rt.alloc(), FRACTURED, "ok"), true);
-    assert_eq!(&rt;
-        says_with(
-            rt.alloc(),
-            FRACTURED,
-            9,
-            b"begin 2 ra",
-            "breach event 9 axiom 0 1 2 p.0.2"
-        ),
-        true
-    );
-    assert_eq!(&rt;
-        says_with(
-            rt.alloc(),
-            FRACTURED,
-            9,
-            b"begin 2 cc",
-            "breach event 9 axiom 0 1 2 p.0.2"
-        ),
-        true
-    );
-    assert_eq!(&rt;
-        says_with(rt.alloc(), FRACTURED, 5, b"begin 1 cc", "ok"),
-        true
-    );
-    Ok(())
+fn an_earlier_read_sees_it_from_read_atomic_on(rt: HostRuntime) -> Result<(), Fail> {
+    are_judged(rt.alloc(), FRACTURED, OF_FRACTURED)
 }
 
 // Transaction 2 reads from 1, and 3 reads from 2 but not from 1.
-const CHAIN: &[u8] =
-    b"monkey-log 2 ra\nopen 1\nopen 2\nopen 3\ndefine 1 x74\nbegin 1 rc\nwrite 1 p.0.1 true\ncommit 1\nbegin 2 rc\nread 2 p.0.1 1 2 1 true\nwrite 2 p.0.2 true\ncommit 2\nbegin 3 ra\nread 3 p.0.2 2 2 1 true\nread 3 p.0.1 0 2 0 false\ncommit 3\norder 0 1 2 3\nend\n";
+const CHAIN: &str = "\
+monkey-log 2 ra
+open 1
+open 2
+open 3
+define 1 x74
+begin 1 rc
+write 1 p.0.1 true
+commit 1
+begin 2 rc
+read 2 p.0.1 1 2 1 true
+write 2 p.0.2 true
+commit 2
+begin 3 ra
+read 3 p.0.2 2 2 1 true
+read 3 p.0.1 0 2 0 false
+commit 3
+order 0 1 2 3
+end
+";
+
+const OF_CHAIN: &str = r"
+13 begin 3 rc => ok
+13 begin 3 cc => breach event 14 axiom 0 1 3 p.0.1
+9 begin 2 cc => ok
+17 order 0 1 3 2 => breach event 13 read 2 3
+";
 
 #[test]
-fn the_causal_past_is_seen_at_causal_consistency(rt: HostRuntime) -> Result<(), Memory> {
-    assert_eq!(&rt; says(rt.alloc(), CHAIN, "ok"), true);
-    assert_eq!(&rt; says_with(rt.alloc(), CHAIN, 13, b"begin 3 rc", "ok"), true);
-    assert_eq!(&rt;
-        says_with(
-            rt.alloc(),
-            CHAIN,
-            13,
-            b"begin 3 cc",
-            "breach event 14 axiom 0 1 3 p.0.1"
-        ),
-        true
-    );
-    assert_eq!(&rt; says_with(rt.alloc(), CHAIN, 9, b"begin 2 cc", "ok"), true);
-    assert_eq!(&rt;
-        says_with(
-            rt.alloc(),
-            CHAIN,
-            17,
-            b"order 0 1 3 2",
-            "breach event 13 read 2 3"
-        ),
-        true
-    );
-    Ok(())
+fn the_causal_past_is_seen_at_causal_consistency(rt: HostRuntime) -> Result<(), Fail> {
+    are_judged(rt.alloc(), CHAIN, OF_CHAIN)
 }
 
 // A scan that lists no row, by a transaction that later reads a field of a row whose presence was committed meanwhile.
-const SCAN: &[u8] =
-    b"monkey-log 2 rc\nopen 1\nopen 2\ndefine 1 x74\nbegin 2 rc\nscan 2 0\nbegin 1 rc\nwrite 1 p.0.5 true\nwrite 1 p.0.3 true\nwrite 1 f.0.3.1 7\ncommit 1\nread 2 f.0.3.1 2 2 1 7\ncommit 2\norder 0 2 1\nend\n";
+const SCAN: &str = "\
+monkey-log 2 rc
+open 1
+open 2
+define 1 x74
+begin 2 rc
+scan 2 0
+begin 1 rc
+write 1 p.0.5 true
+write 1 p.0.3 true
+write 1 f.0.3.1 7
+commit 1
+read 2 f.0.3.1 2 2 1 7
+commit 2
+order 0 2 1
+end
+";
+
+const OF_SCAN: &str = r"
+5 begin 2 ra => breach event 5 axiom 0 2 1 p.0.3
+5 begin 2 cc => breach event 5 axiom 0 2 1 p.0.3
+14 order 0 1 2 => breach event 11 read 2 1
+";
 
 #[test]
-fn a_scan_reads_the_rows_that_it_does_not_list(rt: HostRuntime) -> Result<(), Memory> {
-    assert_eq!(&rt; says(rt.alloc(), SCAN, "ok"), true);
-    assert_eq!(&rt;
-        says_with(
-            rt.alloc(),
-            SCAN,
-            5,
-            b"begin 2 ra",
-            "breach event 5 axiom 0 2 1 p.0.3"
-        ),
-        true
-    );
-    assert_eq!(&rt;
-        says_with(
-            rt.alloc(),
-            SCAN,
-            5,
-            b"begin 2 cc",
-            "breach event 5 axiom 0 2 1 p.0.3"
-        ),
-        true
-    );
-    assert_eq!(&rt;
-        says_with(
-            rt.alloc(),
-            SCAN,
-            14,
-            b"order 0 1 2",
-            "breach event 11 read 2 1"
-        ),
-        true
-    );
-    Ok(())
+fn a_scan_reads_the_rows_that_it_does_not_list(rt: HostRuntime) -> Result<(), Fail> {
+    are_judged(rt.alloc(), SCAN, OF_SCAN)
 }
 
 // Two transactions of one session overwrite a row, and a third of the session reads it.
-const OVERWRITTEN: &[u8] =
-    b"monkey-log 2 ra\nopen 1\nopen 2\ndefine 1 x74\nbegin 1 ra\nwrite 1 f.0.1.1 1\ncommit 1\nbegin 2 rc\nwrite 2 f.0.1.1 2\ncommit 2\nbegin 1 ra\nwrite 1 f.0.1.1 3\ncommit 1\nbegin 1 ra\nread 1 f.0.1.1 3 4 0 3\ncommit 1\norder 0 1 2 3 4\nend\n";
+const OVERWRITTEN: &str = "\
+monkey-log 2 ra
+open 1
+open 2
+define 1 x74
+begin 1 ra
+write 1 f.0.1.1 1
+commit 1
+begin 2 rc
+write 2 f.0.1.1 2
+commit 2
+begin 1 ra
+write 1 f.0.1.1 3
+commit 1
+begin 1 ra
+read 1 f.0.1.1 3 4 0 3
+commit 1
+order 0 1 2 3 4
+end
+";
+
+// The other session's write is overtaken where it stands after, and seen by nobody where it stands before.
+const OF_OVERWRITTEN: &str = r"
+15 read 1 f.0.1.1 0 4 0 unset => breach event 14 axiom 0 1 4 f.0.1.1
+15 read 1 f.0.1.1 1 4 0 1 => breach event 14 axiom 1 3 4 f.0.1.1
+15 read 1 f.0.1.1 2 4 0 2 => breach event 14 axiom 2 3 4 f.0.1.1
+17 order 0 2 1 3 4 => ok
+";
 
 #[test]
-fn the_least_rival_is_told(rt: HostRuntime) -> Result<(), Memory> {
-    assert_eq!(&rt; says(rt.alloc(), OVERWRITTEN, "ok"), true);
-    assert_eq!(&rt;
-        says_with(
-            rt.alloc(),
-            OVERWRITTEN,
-            15,
-            b"read 1 f.0.1.1 0 4 0 unset",
-            "breach event 14 axiom 0 1 4 f.0.1.1"
-        ),
-        true
-    );
-    assert_eq!(&rt;
-        says_with(
-            rt.alloc(),
-            OVERWRITTEN,
-            15,
-            b"read 1 f.0.1.1 1 4 0 1",
-            "breach event 14 axiom 1 3 4 f.0.1.1"
-        ),
-        true
-    );
-    // The other session's write is overtaken where it stands after, and seen by nobody where it stands before.
-    assert_eq!(&rt;
-        says_with(
-            rt.alloc(),
-            OVERWRITTEN,
-            15,
-            b"read 1 f.0.1.1 2 4 0 2",
-            "breach event 14 axiom 2 3 4 f.0.1.1"
-        ),
-        true
-    );
-    assert_eq!(&rt;
-        says_with(rt.alloc(), OVERWRITTEN, 17, b"order 0 2 1 3 4", "ok"),
-        true
-    );
-    Ok(())
+fn the_least_rival_is_told(rt: HostRuntime) -> Result<(), Fail> {
+    are_judged(rt.alloc(), OVERWRITTEN, OF_OVERWRITTEN)
 }

@@ -9,6 +9,7 @@ mod turns;
 
 use locks::count_locks;
 use std::alloc::{AllocError, Global};
+use std::rt::Env;
 use std::sync::Wait;
 use std::thread::Threads;
 use std::time::{Clock, Duration, Instant};
@@ -38,24 +39,39 @@ fn measure<R: Threads + Wait + Clock + Sync>(
     Ok((turns, rate(threads, each, start.elapsed(rt)?)))
 }
 
-fn main(rt: HostRuntime) -> io::Result<()> {
-    let mut words = env::args(&rt)?;
+// How many turns each thread makes, where that is said.
+fn asked<R: Env>(rt: &R) -> io::Result<Option<u32>> {
+    let mut words = env::args(rt)?;
     let _program = words.next();
-    let each = words
-        .next()
-        .and_then(|word| word.as_str().parse::<u32>().ok());
+    match words.next() {
+        Some(word) => Ok(word.as_str().parse::<u32>().ok()),
+        None => Ok(None),
+    }
+}
+
+fn say_rates(rt: &impl Print, threads: u32, (turns, locks): (u128, u128)) -> io::Result<()> {
+    println!(rt; "{threads} threads: {turns} turns, {locks} locks of a mutex in a second")?;
+    Ok(())
+}
+
+fn say_counts(rt: &impl Print, threads: u32, turns: Option<u64>, locks: u64) -> io::Result<()> {
+    let turns = turns.ok_or(AllocError)?;
+    println!(rt; "{threads} threads: {turns} turns, {locks} locks of a mutex")?;
+    Ok(())
+}
+
+fn main(rt: HostRuntime) -> io::Result<()> {
+    let each = asked(&rt)?;
     for threads in CROWDS {
         match each {
             Some(each) => {
-                let (turns, locks) = measure(&rt, rt.alloc(), threads, each)?;
-                println!(rt;
-                    "{threads} threads: {turns} turns, {locks} locks of a mutex in a second"
-                )?;
+                let rates = measure(&rt, rt.alloc(), threads, each)?;
+                say_rates(&rt, threads, rates)?;
             }
             None => {
-                let turns = count_turns(&rt, rt.alloc(), threads, 1_000).ok_or(AllocError)?;
+                let turns = count_turns(&rt, rt.alloc(), threads, 1_000);
                 let locks = count_locks(&rt, threads, 1_000);
-                println!(rt; "{threads} threads: {turns} turns, {locks} locks of a mutex")?;
+                say_counts(&rt, threads, turns, locks)?;
             }
         }
     }

@@ -12,4 +12,8 @@ mod events;
 #[cfg(test)]
 mod faults;
 #[cfg(test)]
+mod held;
+#[cfg(test)]
+mod lines;
+#[cfg(test)]
 mod texts;

@@ -1,21 +1,31 @@
 // Texts that are read and printed again.
+use crate::held::alone;
 use cell_base::Memory;
 use history_log::{print, read};
 use std::alloc::Global;
 
+// Whether what was printed is this text.
+fn is_text(printed: &Result<Vec<u8>, Memory>, wanted: &[u8]) -> bool {
+    match printed {
+        Ok(printed) => printed.as_slice() == wanted,
+        Err(_) => false,
+    }
+}
+
 // Whether this is printed of what is read of the text.
 fn prints(alloc: Global, text: &[u8], wanted: &[u8]) -> bool {
     match read(alloc, text) {
-        Ok(trace) => match print(
-            alloc,
-            trace.level,
-            trace.initial.as_slice(),
-            trace.events.as_slice(),
-            trace.order.as_slice(),
-        ) {
-            Ok(printed) => printed.as_slice() == wanted,
-            Err(_) => false,
-        },
+        Ok(trace) => {
+            let printed = print(
+                alloc,
+                trace.level,
+                trace.initial.as_slice(),
+                trace.events.as_slice(),
+                trace.order.as_slice(),
+            );
+            let is_so = is_text(&printed, wanted);
+            alone((printed, trace), is_so)
+        }
         Err(_) => false,
     }
 }

@@ -10,6 +10,7 @@ use std::env;
 use std::rt::Env;
 use std::time::CpuClock;
 
+mod held;
 mod reading;
 mod texts;
 

@@ -2,6 +2,7 @@
 
 ghost use Rattle.std.specs.Prelude.{◌<◌, ◌^◌, length};
 
+use crate::held::alone;
 use crate::texts;
 use anyhow::Result;
 use cell_base::Text;
@@ -11,8 +12,11 @@ use std::io;
 use std::time::{CpuClock, Duration};
 
 /// The spelled text.
-fn text_of(alloc: Global, spelled: &String) -> Result<Text, AllocError> {
-    Text::from_bytes(alloc, spelled.as_bytes()).map_err(|_| AllocError)
+fn text_of(alloc: Global, spelled: &str) -> Result<Text, AllocError> {
+    match Text::from_bytes(alloc, spelled.as_bytes()) {
+        Ok(text) => Ok(text),
+        Err(_) => Err(AllocError),
+    }
 }
 
 /// How many statements the text has; 0 where it isn't read.
@@ -20,7 +24,10 @@ fn count(alloc: Global, text: &Text) -> usize
     requires { length text.now < 2 ^ 32 }
 {
     match statements(alloc, text) {
-        Ok(found) => found.len(),
+        Ok(found) => {
+            let number = found.len();
+            alone(found, number)
+        }
         Err(_) => 0,
     }
 }
@@ -43,34 +50,72 @@ fn speed(rt: &impl CpuClock, start: Duration, bytes: u64) -> io::Result<u64> {
     Ok(bytes / micros.max(1))
 }
 
+/// How many statements the spelled text has, read once.
+fn count_once(alloc: Global, spelled: &str) -> Result<usize, AllocError> {
+    let text = text_of(alloc, spelled)?;
+    let found = count_often(alloc, &text, 1);
+    Ok(alone(text, found))
+}
+
 /// The long text, read once.
 pub(crate) fn show(rt: &(impl Print + AllocGlobal)) -> Result<()> {
     let long = texts::long(rt.alloc())?;
     let bytes = long.len();
-    let text = text_of(rt.alloc(), &long)?;
-    let found = count_often(rt.alloc(), &text, 1);
+    let counted = count_once(rt.alloc(), long.as_str());
+    let found = alone(long, counted)?;
     println!(rt; "{found} statements in {bytes} bytes")?;
+    Ok(())
+}
+
+/// How many statements are read of a text of so many bytes, read so many times, and how fast.
+fn time_text<R: CpuClock + AllocGlobal>(
+    rt: &R,
+    text: &Text,
+    bytes: u64,
+    times: u32,
+) -> Result<(usize, u64)> {
+    let start = rt.thread_cpu_time()?;
+    let found = count_often(rt.alloc(), text, times);
+    let each = speed(rt, start, bytes.saturating_mul(u64::from(times)))?;
+    Ok((found, each))
+}
+
+/// The same of a spelled text.
+fn time_spelled<R: CpuClock + AllocGlobal>(
+    rt: &R,
+    spelled: &str,
+    times: u32,
+) -> Result<(usize, u64)> {
+    let text = text_of(rt.alloc(), spelled)?;
+    let timed = time_text(rt, &text, spelled.len() as u64, times);
+    alone(text, timed)
+}
+
+/// The long text, read so many times.
+fn measure_long(rt: &(impl CpuClock + Print + AllocGlobal), rounds: u32) -> Result<()> {
+    let long = texts::long(rt.alloc())?;
+    let timed = time_spelled(rt, long.as_str(), rounds);
+    let (found, whole) = alone(long, timed)?;
+    println!(rt; "one text: {found} statements read, {whole} MB/s")?;
+    Ok(())
+}
+
+/// A short text, read 5,000 times as often.
+fn measure_short(
+    rt: &(impl CpuClock + Print + AllocGlobal),
+    one: String,
+    rounds: u32,
+) -> Result<()> {
+    let bytes = one.len();
+    let timed = time_spelled(rt, one.as_str(), rounds.saturating_mul(5_000));
+    let (found, each) = alone(one, timed)?;
+    println!(rt; "texts of {bytes} bytes: {found} statements read, {each} MB/s")?;
     Ok(())
 }
 
 /// The long text and short ones, read so many times.
 pub(crate) fn measure(rt: &(impl CpuClock + Print + AllocGlobal), rounds: u32) -> Result<()> {
-    let long = texts::long(rt.alloc())?;
-    let bytes = long.len() as u64;
-    let text = text_of(rt.alloc(), &long)?;
-    let start = rt.thread_cpu_time()?;
-    let found = count_often(rt.alloc(), &text, rounds);
-    let whole = speed(rt, start, bytes.saturating_mul(u64::from(rounds)))?;
-    println!(rt; "one text: {found} statements read, {whole} MB/s")?;
-    let (insert, select) = texts::short(rt.alloc())?;
-    for one in [insert, select] {
-        let text = text_of(rt.alloc(), &one)?;
-        let bytes = one.len() as u64;
-        let times = rounds.saturating_mul(5_000);
-        let start = rt.thread_cpu_time()?;
-        let found = count_often(rt.alloc(), &text, times);
-        let each = speed(rt, start, bytes.saturating_mul(u64::from(times)))?;
-        println!(rt; "texts of {bytes} bytes: {found} statements read, {each} MB/s")?;
-    }
-    Ok(())
+    measure_long(rt, rounds)?;
+    measure_short(rt, texts::insert(rt.alloc())?, rounds)?;
+    measure_short(rt, texts::select(rt.alloc())?, rounds)
 }

@@ -1,39 +1,13 @@
-//! The calls of a `Reach` with tests in the place of their conditions: out of range or closing a cycle is an answer.
+//! Calls of a `Reach` beside those of `checked_reach`: with tests in the place of their conditions too, or where these hold each time.
 
-ghost use Rattle.std.specs.Prelude.{◌≡◌, ◌<◌, ◌≤◌, ◌+◌, ◌↔◌, [], All, OnOk, IsTrue};
-ghost use Rattle.graph_base.specs.Walk.{IsInRange};
-ghost use Rattle.graph_base.specs.Trial.{AllTouch};
+ghost use Rattle.std.specs.Prelude.{◌≡◌, ◌<◌, ◌+◌, [], OnOk};
 ghost use Rattle.bit_rows.specs.declared.TheConstants.{ROW_BITS};
 ghost use Rattle.reach_rows.specs.Ancestry.{IsLast};
-ghost use Rattle.reach_rows.specs.Stars.{IsStarInRange};
 
-use crate::held::kept;
 use bit_rows::{ROW_BITS, Row};
 use graph_base::Edge;
 use reach_rows::{Reach, Star};
 use std::alloc::{AllocError, Global};
-
-/// Reach of so many numbers, without edges.
-pub(crate) fn grown(alloc: Global, size: u32) -> Result<Reach, AllocError>
-    requires some { 1 ≤ size }
-    requires few { size ≤ ROW_BITS }
-{
-    let mut reach = Reach::new(alloc)?;
-    let done = grow_to(&mut reach, size);
-    kept(reach, done)
-}
-
-/// Adds numbers until there are so many.
-fn grow_to(reach: &mut Reach, size: u32) -> Result<(), AllocError>
-    requires one { reach.old.size ≡ 1 }
-    requires some { 1 ≤ size }
-    requires few { size ≤ ROW_BITS }
-{
-    for _number in 1..size {
-        reach.grow()?;
-    }
-    Ok(())
-}
 
 /// Adds a number where there is room for one. Whether there is.
 pub(crate) fn try_grow(reach: &mut Reach) -> Result<bool, AllocError> {
@@ -111,45 +85,6 @@ pub(crate) fn has_pair(reach: &Reach, from: u32, to: u32) -> bool {
     reach.reaches(from, to)
 }
 
-/// Whether each member is below the size.
-fn all_below(size: u32, members: &[u32]) -> bool
-    ensures { IsTrue result ↔ All (λ m. m < size) members.now }
-{
-    members.iter().all(|member| *member < size)
-}
-
-/// Whether the star's target and its members are below the size.
-fn star_below(size: u32, star: &Star) -> bool
-    ensures { IsTrue result ↔ IsStarInRange size star.now }
-{
-    star.target < size && all_below(size, &star.members)
-}
-
-/// Whether all numbers of the stars are below the size.
-fn stars_below(size: u32, stars: &[Star]) -> bool
-    ensures { IsTrue result ↔ All (IsStarInRange size) stars.now }
-{
-    stars.iter().all(|star| star_below(size, star))
-}
-
-/// Whether all numbers of the trial are below the size.
-fn edges_below(size: u32, trial: &[Edge]) -> bool
-    ensures { IsTrue result ↔ IsInRange size trial.now }
-{
-    trial
-        .iter()
-        .all(|edge| edge.before < size && edge.after < size)
-}
-
-/// Whether each edge of the trial begins or ends at the hub.
-fn all_touch(hub: u32, trial: &[Edge]) -> bool
-    ensures { IsTrue result ↔ AllTouch hub trial.now }
-{
-    trial
-        .iter()
-        .all(|edge| edge.before == hub || edge.after == hub)
-}
-
 /// Adds an edge where it is in range and closes no cycle. Whether it did.
 pub(crate) fn try_add(reach: &mut Reach, edge: Edge) -> bool {
     let size = reach.size();
@@ -165,62 +100,6 @@ pub(crate) fn try_add(reach: &mut Reach, edge: Edge) -> bool {
     }
     reach.add_edge(edge);
     true
-}
-
-/// Adds a star where it is in range and closes no cycle. Whether it did.
-pub(crate) fn try_star(reach: &mut Reach, members: &[u32], target: u32) -> bool {
-    let size = reach.size();
-    if target >= size {
-        return false;
-    }
-    if !all_below(size, members) {
-        return false;
-    }
-    if reach.star_closes_cycle(members, target) {
-        return false;
-    }
-    reach.add_star(members, target);
-    true
-}
-
-/// Adds the stars where they are in range and close no cycle. Whether it did.
-pub(crate) fn try_stars(reach: &mut Reach, stars: &[Star]) -> Result<bool, AllocError> {
-    if !stars_below(reach.size(), stars) {
-        return Ok(false);
-    }
-    if reach.stars_close_cycle(stars)? {
-        return Ok(false);
-    }
-    reach.add_stars(stars);
-    Ok(true)
-}
-
-/// Whether the answer of `closes_cycle` is this; no where the trial is out of range.
-pub(crate) fn closes(reach: &Reach, trial: &[Edge], want: bool) -> Result<bool, AllocError> {
-    if !edges_below(reach.size(), trial) {
-        return Ok(false);
-    }
-    Ok(reach.closes_cycle(trial)? == want)
-}
-
-/// Whether the answer of `would_cycle` is this; no where the trial is out of range or misses the
-/// hub.
-pub(crate) fn would(reach: &Reach, trial: &[Edge], hub: u32, want: bool) -> bool {
-    if !edges_below(reach.size(), trial) {
-        return false;
-    }
-    if all_touch(hub, trial) {
-        return reach.would_cycle(trial) == want;
-    }
-    false
-}
-
-/// Whether so many numbers come before the members, by one union; no where they are out of range.
-pub(crate) fn unites(reach: &Reach, members: &[u32], want: u32) -> Result<bool, AllocError> {
-    if !all_below(reach.size(), members) {
-        return Ok(false);
-    }
-    Ok(reach.union_of(members)?.count() == want)
 }
 
 /// Whether so many numbers come before two others, by two unions; no where they are out of range.

@@ -1,21 +1,17 @@
-//! Edges and trials: worked graphs with answers found by hand, and pseudo-random graphs beside a closure computed by lists.
+//! Edges and trials: worked graphs with answers found by hand, and a pseudo-random graph beside a closure computed by lists.
 
 ghost use Rattle.std.specs.Prelude.{◌≡◌, ◌≤◌, []};
 
-use crate::calls::{closes, edge, grow_and_take_back, grown, try_add, would};
-use crate::held::alone;
+use crate::calls::{edge, grow_and_take_back, try_add};
 use crate::pairs::compare_pairs;
-use crate::plain::{MOST, Numbers, lead_back};
+use crate::plain::{MOST, lead_back};
 use crate::steps::Step::{Add, Closes, Grow, Pair, Size, Would};
 use crate::steps::{Step, go_on, play};
 use crate::stop::{Stop, agree};
+use checked_reach::{Numbers, alone, closes, would};
 use graph_base::Edge;
 use reach_rows::Reach;
 use std::alloc::Global;
-use std::test::Fail;
-
-/// How many pseudo-random graphs are tried.
-const GRAPHS: u32 = 120;
 
 const FROM_2_TO_3: Edge = Edge {
     before: 2,
@@ -78,7 +74,7 @@ fn compare_trial(
     trial: &[Edge],
 ) -> Result<bool, Stop> {
     let is_back = lead_back(alloc, edges, trial)?;
-    agree(closes(reach, trial, is_back)?, Stop::At(edges.len()))?;
+    agree(closes(reach, trial)? == Some(is_back), Stop::At(edges.len()))?;
     Ok(is_back)
 }
 
@@ -91,7 +87,10 @@ fn compare_star(
     hub: u32,
 ) -> Result<bool, Stop> {
     let is_back = compare_trial(alloc, edges, reach, trial)?;
-    agree(would(reach, trial, hub, is_back), Stop::At(edges.len()))?;
+    agree(
+        would(reach, trial, hub) == Some(is_back),
+        Stop::At(edges.len()),
+    )?;
     Ok(is_back)
 }
 
@@ -183,7 +182,8 @@ fn compare_trials(
     Ok(differ)
 }
 
-fn compare_graph(
+/// A graph, built edge by edge, each pair, and trials. How often two of these come to different answers.
+pub(crate) fn compare_edges(
     alloc: Global,
     numbers: &mut Numbers,
     size: u32,
@@ -196,36 +196,6 @@ fn compare_graph(
     add_edges(alloc, numbers, size, edges, reach)?;
     compare_pairs(alloc, size, edges, reach)?;
     compare_trials(alloc, numbers, size, edges, reach)
-}
-
-/// A graph of so many numbers: how often two trials of it come to different answers.
-fn random_graph(alloc: Global, numbers: &mut Numbers, size: u32) -> Result<u32, Stop>
-    requires some { 1 ≤ size }
-    requires few { size ≤ MOST }
-{
-    let mut reach = grown(alloc, size)?;
-    let mut edges = Vec::new(alloc);
-    let compared = compare_graph(alloc, numbers, size, &mut edges, &mut reach);
-    alone((edges, reach), compared)
-}
-
-/// How often two trials of a graph come to different answers, in all graphs.
-fn random_graphs(alloc: Global, numbers: &mut Numbers) -> Result<u32, Stop> {
-    let mut differ = 0u32;
-    for _ in 0..GRAPHS {
-        let size = 2 + numbers.below(MOST - 1);
-        differ = differ.saturating_add(random_graph(alloc, numbers, size)?);
-    }
-    Ok(differ)
-}
-
-/// Pseudo-random graphs of up to 40 numbers: each pair, and trials of both kinds.
-#[test]
-fn random_graphs_beside_lists(rt: HostRuntime) -> Result<(), Fail> {
-    let mut numbers = Numbers { state: 2019 };
-    let differ = random_graphs(rt.alloc(), &mut numbers)?;
-    assert!(&rt; differ > 0);
-    Ok(())
 }
 
 const TAKEN_BACK: &[Step] = &[Size(1), Grow, Add(1, 0, true), Pair(1, 0, true), Size(2)];

@@ -4,7 +4,8 @@
 //! The contracts of `reach_rows` say what each call does. No clause says that memory is left, and a definition could say something
 //! else than its reader thinks. The crate has nothing but tests, so that `reach_rows` is proved once.
 //!
-//! A `Reach` or a list that is held where a step may fail costs much to check, so each is handed on whole (`held`).
+//! A `Reach` or a list that is held where a step may fail costs much to check, so each is handed on whole (`kept` and `alone` of
+//! `checked_reach`).
 #![tactic(auto)]
 
 #[cfg(test)]
@@ -12,7 +13,7 @@ mod calls;
 #[cfg(test)]
 mod edges;
 #[cfg(test)]
-mod held;
+mod graphs;
 #[cfg(test)]
 mod pairs;
 #[cfg(test)]

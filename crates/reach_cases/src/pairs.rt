@@ -1,9 +1,9 @@
 //! Each pair of a graph's numbers, beside a closure computed by lists.
 
 use crate::calls::has_pair;
-use crate::held::alone;
 use crate::plain::reached;
 use crate::stop::{Stop, agree};
+use checked_reach::alone;
 use graph_base::Edge;
 use reach_rows::Reach;
 use std::alloc::Global;

@@ -1,34 +1,12 @@
-//! Closures found by following lists of edges, and pseudo-random graphs.
+//! Closures found by following lists of edges.
 
-ghost use Rattle.std.specs.Prelude.{◌<◌};
-
-use crate::held::{alone, kept};
+use checked_reach::{alone, kept};
 use graph_base::Edge;
 use reach_rows::Star;
 use std::alloc::{AllocError, Global};
 
 /// How many numbers a pseudo-random graph has at most.
 pub(crate) const MOST: u32 = 40;
-
-/// Pseudo-random numbers, the same at each run.
-#[derive(Drop)]
-pub(crate) struct Numbers {
-    pub(crate) state: u64,
-}
-
-impl Numbers {
-    /// The next number below a bound.
-    pub(crate) fn below(&mut self, bound: u32) -> u32
-        requires { 0 < bound }
-        ensures { result < bound }
-    {
-        self.state = self
-            .state
-            .wrapping_mul(6_364_136_223_846_793_005)
-            .wrapping_add(1_442_695_040_888_963_407);
-        ((self.state >> 33) % u64::from(bound)) as u32
-    }
-}
 
 /// All numbers that one number reaches along the edges, found by following them.
 pub(crate) fn reached(alloc: Global, edges: &[Edge], from: u32) -> Result<Vec<u32>, AllocError> {

@@ -1,22 +1,18 @@
-//! Stars: worked stars with answers found by hand, pseudo-random stars beside a closure computed by lists, and unions of
+//! Stars: worked stars with answers found by hand, a pseudo-random graph of stars beside a closure computed by lists, and unions of
 //! ancestors. And that a caller can keep what `add_into_last` asks.
 
-ghost use Rattle.std.specs.Prelude.{◌≡◌, ◌<◌, ◌≤◌};
+ghost use Rattle.std.specs.Prelude.{◌≡◌, ◌<◌};
 
-use crate::calls::{begin, begin_and_read, grown, try_stars};
-use crate::held::{alone, kept};
+use crate::calls::{begin, begin_and_read};
 use crate::pairs::compare_pairs;
-use crate::plain::{MOST, Numbers, lead_back, listed};
+use crate::plain::{lead_back, listed};
 use crate::steps::Step::{Ancestors, AtOnce, OneByOne, Pair, Stars};
 use crate::steps::{Step, go_on, play};
 use crate::stop::{Stop, agree};
+use checked_reach::{Numbers, alone, kept, try_stars};
 use graph_base::Edge;
 use reach_rows::{Reach, Star};
 use std::alloc::{AllocError, Global};
-use std::test::Fail;
-
-/// How many pseudo-random graphs are tried.
-const GRAPHS: u32 = 60;
 
 const WORKED_STAR: &[Step] = &[
     Step::Star(&[1, 2], 3, true),
@@ -166,7 +162,7 @@ fn add_any(
 }
 
 /// A graph, built star by star, and then each pair. How many times no stars were added.
-fn compare_graph(
+pub(crate) fn compare_stars(
     alloc: Global,
     numbers: &mut Numbers,
     size: u32,
@@ -183,36 +179,6 @@ fn compare_graph(
     }
     compare_pairs(alloc, size, edges, reach)?;
     Ok(refused)
-}
-
-/// A graph of so many numbers: how many times no stars were added.
-fn random_graph(alloc: Global, numbers: &mut Numbers, size: u32) -> Result<u32, Stop>
-    requires some { 1 ≤ size }
-    requires few { size ≤ MOST }
-{
-    let mut reach = grown(alloc, size)?;
-    let mut edges = Vec::new(alloc);
-    let compared = compare_graph(alloc, numbers, size, &mut edges, &mut reach);
-    alone((edges, reach), compared)
-}
-
-/// How many times no stars were added, in all graphs.
-fn random_graphs(alloc: Global, numbers: &mut Numbers) -> Result<u32, Stop> {
-    let mut refused = 0u32;
-    for _ in 0..GRAPHS {
-        let size = 2 + numbers.below(MOST - 1);
-        refused = refused.saturating_add(random_graph(alloc, numbers, size)?);
-    }
-    Ok(refused)
-}
-
-/// Pseudo-random graphs of up to 40 numbers, star by star, and then each pair.
-#[test]
-fn random_stars_beside_lists(rt: HostRuntime) -> Result<(), Fail> {
-    let mut numbers = Numbers { state: 2019 };
-    let refused = random_graphs(rt.alloc(), &mut numbers)?;
-    assert!(&rt; refused > 0);
-    Ok(())
 }
 
 const UNIONS: &[Step] = &[

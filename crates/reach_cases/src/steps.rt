@@ -3,12 +3,11 @@
 ghost use Rattle.std.specs.Prelude.{◌≤◌};
 ghost use Rattle.bit_rows.specs.declared.TheConstants.{ROW_BITS};
 
-use crate::calls::{
-    adds_up, closes, edge, grown, has_ancestors, has_pair, star, try_add, try_grow, try_star,
-    try_stars, unites, would,
-};
-use crate::held::{alone, kept};
+use crate::calls::{adds_up, edge, has_ancestors, has_pair, star, try_add, try_grow};
 use crate::stop::{Stop, agree};
+use checked_reach::{
+    alone, closes, count_ancestors, kept, try_star, try_stars, without_edges, would,
+};
 use graph_base::Edge;
 use reach_rows::{Reach, Star};
 use std::alloc::{AllocError, Global};
@@ -49,7 +48,7 @@ pub(crate) fn play(alloc: Global, size: u32, steps: &[Step]) -> Result<(), Stop>
     requires some { 1 ≤ size }
     requires few { size ≤ ROW_BITS }
 {
-    let mut reach = grown(alloc, size)?;
+    let mut reach = without_edges(alloc, size)?;
     let played = go_on(alloc, &mut reach, steps);
     alone(reach, played)
 }
@@ -71,9 +70,9 @@ fn holds(alloc: Global, reach: &mut Reach, step: Step) -> Result<bool, AllocErro
         Step::Star(members, target, want) => Ok(try_star(reach, members, target) == want),
         Step::Stars(stars, want) => adds(alloc, reach, stars, want),
         Step::Pair(from, to, want) => Ok(has_pair(reach, from, to) == want),
-        Step::Would(trial, hub, want) => Ok(would(reach, trial, hub, want)),
-        Step::Closes(trial, want) => closes(reach, trial, want),
-        Step::AtOnce(members, want) => unites(reach, members, want),
+        Step::Would(trial, hub, want) => Ok(would(reach, trial, hub) == Some(want)),
+        Step::Closes(trial, want) => Ok(closes(reach, trial)? == Some(want)),
+        Step::AtOnce(members, want) => Ok(count_ancestors(reach, members)? == Some(want)),
         Step::OneByOne(first, second, want) => adds_up(alloc, reach, first, second, want),
         Step::Ancestors(number, want) => has_ancestors(alloc, reach, number, want),
     }

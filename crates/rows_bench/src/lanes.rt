@@ -1,27 +1,37 @@
 //! The kernels of rows, each as one call, as the plain loops are.
 
-use bit_rows::Row;
+use crate::pool::Bits;
+use bit_rows::{ROW_BITS, Row};
+use std::alloc::{AllocError, Global};
 
-/// Adds the bits of another row.
-#[inline(never)]
-pub(crate) fn join(row: &mut Row, other: &Row) {
-    row.or_into(other);
-}
+impl Bits for Row {
+    fn of_rest(alloc: Global, rest: u32) -> Result<Row, AllocError> {
+        let mut row = Row::new(alloc)?;
+        for number in 0..ROW_BITS {
+            if number % 3 == rest {
+                row.set(number);
+            }
+        }
+        Ok(row)
+    }
 
-/// Whether two rows have a bit in common.
-#[inline(never)]
-pub(crate) fn meet(left: &Row, right: &Row) -> bool {
-    left.meets(right)
-}
+    #[inline(never)]
+    fn add_bits(&mut self, other: &Row) {
+        self.or_into(other);
+    }
 
-/// Whether three rows have a bit in common.
-#[inline(never)]
-pub(crate) fn meet_three(first: &Row, second: &Row, third: &Row) -> bool {
-    first.and_any(second, third)
-}
+    #[inline(never)]
+    fn meets_one(&self, other: &Row) -> bool {
+        self.meets(other)
+    }
 
-/// How many bits are set.
-#[inline(never)]
-pub(crate) fn count(row: &Row) -> u32 {
-    row.count()
+    #[inline(never)]
+    fn meets_two(&self, second: &Row, third: &Row) -> bool {
+        self.and_any(second, third)
+    }
+
+    #[inline(never)]
+    fn count_bits(&self) -> u32 {
+        self.count()
+    }
 }

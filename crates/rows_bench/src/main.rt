@@ -15,6 +15,7 @@ mod kernels;
 mod lanes;
 mod meter;
 mod plain;
+mod pool;
 mod reaching;
 
 fn run(rt: &(impl Env + Print + CpuClock + AllocGlobal)) -> Result<()> {

@@ -1,5 +1,4 @@
-//! What was made, held over a step that may fail. What lets go of a value costs much to check wherever it stands, so it is let go
-//! here.
+//! What was made, held over a step that may fail. What lets go of a value costs much to check wherever it stands, so it is let go here.
 
 /// What is held, if the step could be taken.
 pub(crate) fn kept<T: Drop, E>(held: T, step: Result<(), E>) -> Result<T, E> {

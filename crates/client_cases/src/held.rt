@@ -1,0 +1,21 @@
+// What was made, held over a step that may fail. What lets go of a value costs much to check wherever it stands, so it is let go here.
+use std::test::Fail;
+
+/// What is held, if the step could be taken.
+pub fn kept<T: Drop, E>(held: T, step: Result<(), E>) -> Result<T, E> {
+    step?;
+    Ok(held)
+}
+
+/// The answer, without what it was asked of.
+pub fn alone<T: Drop, A>(_held: T, answer: A) -> A {
+    answer
+}
+
+/// Ends the test where this isn't so, by the place in its table.
+pub fn right_at(place: usize, is_so: bool) -> Result<(), Fail> {
+    if is_so {
+        return Ok(());
+    }
+    Err(Fail::new(format_args!("row {place}")))
+}
