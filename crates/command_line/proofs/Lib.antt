@@ -6,3 +6,4 @@ pub mod Names
 pub mod One
 pub mod Plain
 pub mod OneCommand
+pub mod Built

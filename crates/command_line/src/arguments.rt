@@ -1,7 +1,8 @@
 // The commands' names, and the arguments of each as a command of `clap`.
 ghost use Rattle.std.specs.Prelude.{◌≡◌, ◌≢◌, ◌∷◌, List, IfOk, IfSome, IsNone, false};
-ghost use Rattle.clap.specs.Words.{app_of, rule_of, Text as Bytes};
+ghost use Rattle.clap.specs.Words.{app_of, rule_of, with_rule, Text as Bytes};
 ghost use Rattle.command_line.specs.declared.arguments.Name.{Name as Named};
+ghost use Rattle.command_line.specs.Rules.{rule_for};
 ghost use Rattle.command_line.specs.Arguments.{word_of, place, last_place, text_option, flag, bare, arguments_of, pipe_arguments, serve_arguments, check_arguments, sim_arguments, stop_arguments};
 
 use cell_base::{Memory, Text};
@@ -16,6 +17,19 @@ pub enum Name {
     Check,
     Sim,
     Stop,
+}
+
+/// How an argument is given.
+#[derive(Clone, Copy)]
+pub enum Kind {
+    /// By its place, which has to be there.
+    Place,
+    /// By its place, which may be left out.
+    LastPlace,
+    /// As an option that takes one text.
+    Valued,
+    /// As an option without a value.
+    Flag,
 }
 
 // The name that the word is.
@@ -89,59 +103,120 @@ fn bare<'a>(alloc: Global, name: &'a str) -> Command<'a>
         .disable_help_flag(true)
 }
 
+// An argument that is given so.
+fn argument<'a>(alloc: Global, kind: Kind, name: &'a str) -> Arg<'a>
+    ensures rule { rule_of result ≡ rule_for kind name.entry.now }
+    ensures local { result.global ≡ false }
+{
+    match kind {
+        Kind::Place => place(alloc, name),
+        Kind::LastPlace => last_place(alloc, name),
+        Kind::Valued => text_option(alloc, name),
+        Kind::Flag => flag(alloc, name),
+    }
+}
+
+// The command with one argument more. A command costs much to check wherever a step may fail, so each step is made here.
+fn with_one<'a>(
+    alloc: Global,
+    command: Command<'a>,
+    kind: Kind,
+    name: &'a str,
+) -> Result<Command<'a>, Memory>
+    ensures { IfOk result (λ more. app_of more ≡ with_rule (app_of command.entry) (rule_for kind name.entry.now)) }
+{
+    match command.arg(argument(alloc, kind, name)) {
+        Ok(more) => Ok(more),
+        Err(_) => Err(Memory),
+    }
+}
+
+// The command with two arguments more.
+fn with_two<'a>(
+    alloc: Global,
+    command: Command<'a>,
+    kind: Kind,
+    first: &'a str,
+    second: &'a str,
+) -> Result<Command<'a>, Memory>
+    ensures { IfOk result (λ more. app_of more ≡
+        with_rule (with_rule (app_of command.entry) (rule_for kind first.entry.now)) (rule_for kind second.entry.now)) }
+{
+    let more = with_one(alloc, command, kind, first)?;
+    with_one(alloc, more, kind, second)
+}
+
+// The command with four arguments more.
+fn with_four<'a>(
+    alloc: Global,
+    command: Command<'a>,
+    kind: Kind,
+    first: &'a str,
+    second: &'a str,
+    third: &'a str,
+    fourth: &'a str,
+) -> Result<Command<'a>, Memory>
+    ensures { IfOk result (λ more. app_of more ≡
+        with_rule (with_rule (with_rule (with_rule (app_of command.entry) (rule_for kind first.entry.now)) (rule_for kind second.entry.now))
+        (rule_for kind third.entry.now)) (rule_for kind fourth.entry.now)) }
+{
+    let more = with_two(alloc, command, kind, first, second)?;
+    with_two(alloc, more, kind, third, fourth)
+}
+
 // The arguments of `pipe`.
 fn pipe_arguments<'a>(alloc: Global) -> Result<Command<'a>, Memory>
     ensures { IfOk result (λ command. app_of command ≡ pipe_arguments) }
 {
-    let command = bare(alloc, "pipe")
-        .arg(place(alloc, "level"))?
-        .arg(place(alloc, "words"))?;
-    Ok(command)
+    with_two(alloc, bare(alloc, "pipe"), Kind::Place, "level", "words")
 }
 
 // The arguments of `serve`.
 fn serve_arguments<'a>(alloc: Global) -> Result<Command<'a>, Memory>
     ensures { IfOk result (λ command. app_of command ≡ serve_arguments) }
 {
-    let command = bare(alloc, "serve")
-        .arg(text_option(alloc, "level"))?
-        .arg(text_option(alloc, "seed"))?
-        .arg(text_option(alloc, "listen"))?
-        .arg(text_option(alloc, "workers"))?
-        .arg(text_option(alloc, "accept"))?
-        .arg(text_option(alloc, "log"))?
-        .arg(text_option(alloc, "setup"))?
-        .arg(flag(alloc, "quiet"))?;
-    Ok(command)
+    let first = with_four(
+        alloc,
+        bare(alloc, "serve"),
+        Kind::Valued,
+        "level",
+        "seed",
+        "listen",
+        "workers",
+    )?;
+    let further = with_two(alloc, first, Kind::Valued, "accept", "log")?;
+    let valued = with_one(alloc, further, Kind::Valued, "setup")?;
+    with_one(alloc, valued, Kind::Flag, "quiet")
 }
 
 // The arguments of `check`.
 fn check_arguments<'a>(alloc: Global) -> Result<Command<'a>, Memory>
     ensures { IfOk result (λ command. app_of command ≡ check_arguments) }
 {
-    let command = bare(alloc, "check").arg(place(alloc, "path"))?;
-    Ok(command)
+    with_one(alloc, bare(alloc, "check"), Kind::Place, "path")
 }
 
 // The arguments of `sim`.
 fn sim_arguments<'a>(alloc: Global) -> Result<Command<'a>, Memory>
     ensures { IfOk result (λ command. app_of command ≡ sim_arguments) }
 {
-    let command = bare(alloc, "sim")
-        .arg(place(alloc, "level"))?
-        .arg(place(alloc, "seed"))?
-        .arg(place(alloc, "sessions"))?
-        .arg(place(alloc, "queries"))?
-        .arg(text_option(alloc, "log"))?;
-    Ok(command)
+    let placed = with_four(
+        alloc,
+        bare(alloc, "sim"),
+        Kind::Place,
+        "level",
+        "seed",
+        "sessions",
+        "queries",
+    )?;
+    with_one(alloc, placed, Kind::Valued, "log")
 }
 
 // The arguments of `stop`.
 fn stop_arguments<'a>(alloc: Global) -> Result<Command<'a>, Memory>
     ensures { IfOk result (λ command. app_of command ≡ stop_arguments) }
 {
-    let command = bare(alloc, "stop").arg(last_place(alloc, "address"))?;
-    Ok(command)
+    with_one(alloc, bare(alloc, "stop"), Kind::LastPlace, "address")
 }
 
 /// The arguments of the command.

@@ -12,6 +12,7 @@ ghost use Rattle.shared_book.specs.Entries.{chronicle_of, event_lists};
 ghost use Rattle.shared_book.specs.Fronts.{GoesOnFrom};
 ghost use Rattle.serve_command.specs.Serving.{status_of as status_following, Ran, Ends, GoesOn, Serves};
 
+use crate::let_go::without;
 use crate::line::line_of;
 use crate::manning::{leave, man, rooms};
 use crate::start::{start, status_of, tell_fault};
@@ -137,6 +138,59 @@ fn tell_log<R: Eprint>(rt: &R, options: &ServeOptions, code: u8) {
     };
 }
 
+// The status of a server that opened no door.
+fn status_unopened(fault: HostFault) -> Status
+    ensures { result.code ≡ status_following (Some fault) 0 }
+{
+    match fault {
+        HostFault::Memory => Status { code: 5 },
+        HostFault::Failed => Status { code: 6 },
+    }
+}
+
+// Ends with the store of the history, and lets go of it. The workers have this fault, if they have one.
+fn conclude<R: Eprint, H: Host>(
+    rt: &R,
+    alloc: Global,
+    host: &mut H,
+    options: &ServeOptions,
+    store: Store,
+    fault: Option<HostFault>,
+) -> Status
+    requires none_out { objects_out (H.hosted host.old) ≡ 0 }
+    ensures ends { (end_code : ℕ) × Ends options.now store (H.hosted host.old) end_code (H.hosted host.new) × (result.code ≡ status_following fault end_code) }
+    ensures none_out { objects_out (H.hosted host.new) ≡ 0 }
+{
+    let status = end(alloc, host, options, &store);
+    tell_log(rt, options, status.code);
+    without(store, status_after(fault, status))
+}
+
+// Serves over this shared history, of which the pass has all parts, and ends.
+fn serve_shared<R: Threads + Wait + Eprint + Sync, H: Host, N: Network>(
+    rt: &R,
+    alloc: Global,
+    host: &mut H,
+    network: &mut N,
+    options: &ServeOptions,
+    shared: Shared,
+    mut pass: Pass,
+) -> Status
+    requires workers { options.now.workers ≤ 64 }
+    requires pass { pass ≡ first_pass shared }
+    requires none_out { objects_out (H.hosted host.old) ≡ 0 }
+    ensures goes_on { GoesOn options.now (chronicle_of shared.start) (N.networked network.old) (H.hosted host.old) result.code (N.networked network.new) (H.hosted host.new) }
+    ensures none_out { objects_out (H.hosted host.new) ≡ 0 }
+{
+    match run(rt, alloc, network, &shared, &mut pass, options) {
+        Ok(fault) => {
+            let store = shared.finish(pass);
+            conclude(rt, alloc, host, options, store, fault)
+        }
+        Err(fault) => without((shared, pass), status_unopened(fault)),
+    }
+}
+
 // Serves with this store, and ends.
 fn serve_with<R: Threads + Wait + Eprint + Sync, H: Host, N: Network>(
     rt: &R,
@@ -151,18 +205,10 @@ fn serve_with<R: Threads + Wait + Eprint + Sync, H: Host, N: Network>(
     ensures goes_on { GoesOn options.now store (N.networked network.old) (H.hosted host.old) result.code (N.networked network.new) (H.hosted host.new) }
     ensures none_out { objects_out (H.hosted host.new) ≡ 0 }
 {
-    let Ok((shared, mut pass)) = Shared::new(alloc, store) else {
-        return Status { code: 5 };
-    };
-    let fault = match run(rt, alloc, network, &shared, &mut pass, options) {
-        Ok(fault) => fault,
-        Err(HostFault::Failed) => return Status { code: 6 },
-        Err(HostFault::Memory) => return Status { code: 5 },
-    };
-    let store = shared.finish(pass);
-    let status = end(alloc, host, options, &store);
-    tell_log(rt, options, status.code);
-    status_after(fault, status)
+    match Shared::new(alloc, store) {
+        Ok((shared, pass)) => serve_shared(rt, alloc, host, network, options, shared, pass),
+        Err(back) => without(back, Status { code: 5 }),
+    }
 }
 
 /// Serves the links that come in at an address, each as a session over one history, until each worker has accepted as many links as it may or no

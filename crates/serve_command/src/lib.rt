@@ -8,6 +8,7 @@
 
 mod command;
 mod law;
+mod let_go;
 mod line;
 mod manning;
 mod start;

@@ -1,6 +1,7 @@
 // What a server starts from: nothing, or what a setup left.
-ghost use Rattle.std.specs.Prelude.{◌≡◌, Some, IfOk, IfErr};
+ghost use Rattle.std.specs.Prelude.{◌≡◌, ◌⊎◌, Some, None, Ok, IfOk, IfErr};
 ghost use Rattle.link_traits.specs.Host.{objects_out};
+ghost use Rattle.committed_rows.specs.Start.{StartsAfter, HasNoRoom};
 ghost use Rattle.serve_command.specs.Starting.{StartsBy, Unstarted, status_of_start};
 
 use cell_base::{Level, Memory, Text};
@@ -64,6 +65,30 @@ impl From<SetupFault> for StartFault {
     }
 }
 
+// What was begun, where there was room for it, once what it was begun after is let go. A store costs much to check wherever it is let go.
+fn with_room<S: Drop, T: Drop>(
+    _setup: S,
+    begun: Result<Option<T>, Memory>,
+) -> Result<T, StartFault>
+    ensures ok { IfOk result (λ made. begun ≡ Ok (Some made)) }
+    ensures err { IfErr result (λ e. ((e ≡ StartFault.Heavy) × (begun ≡ Ok None)) ⊎ (e ≡ StartFault.Memory)) }
+{
+    match begun {
+        Ok(Some(made)) => Ok(made),
+        Ok(None) => Err(StartFault::Heavy),
+        Err(Memory) => Err(StartFault::Memory),
+    }
+}
+
+// The store that starts after what a setup left.
+fn store_after(alloc: Global, level: Level, setup: Store) -> Result<Store, StartFault>
+    ensures ok { IfOk result (λ store. StartsAfter level setup store) }
+    ensures err { IfErr result (λ e. ((e ≡ StartFault.Heavy) × HasNoRoom level setup) ⊎ (e ≡ StartFault.Memory)) }
+{
+    let begun = start_after(alloc, level, setup.history());
+    with_room(setup, begun)
+}
+
 // Runs the statements of the file of a path, and answers the store that starts after them.
 fn set_up<H: Host>(
     alloc: Global,
@@ -78,10 +103,7 @@ fn set_up<H: Host>(
 {
     let text = read_file(alloc, host, path, MOST_TEXT)?;
     let setup = run_setup(alloc, &text)?;
-    match start_after(alloc, level, setup.history())? {
-        Some(store) => Ok(store),
-        None => Err(StartFault::Heavy),
-    }
+    store_after(alloc, level, setup)
 }
 
 /// The store that a server starts with: at its level, and after the setup of its options, where there is one.

@@ -9,6 +9,7 @@
 mod asking;
 mod client;
 mod hall;
+mod handing;
 mod seat;
 mod telling;
 

@@ -10,6 +10,7 @@ ghost use Rattle.sim_command.specs.Runs.{Moment};
 ghost use Rattle.sim_command.specs.Simulations.{numbers_from, IsSchedule, IsFront, IsSimulation, IsCutOff, Simulates};
 ghost use Rattle.sim_command.specs.Playing.{StandsAt, Goes, IsNewHall};
 
+use crate::handing::{kept, without};
 use crate::playing::{SimFault, go_to_end, play};
 use cell_base::{Level, Memory, Text};
 use choice_stream::SeedWords;
@@ -96,6 +97,28 @@ fn play_all(alloc: Global, hall: &mut Hall, plan: Plan, left: &mut u32) -> Resul
     }
 }
 
+// Lets all clients of a new hall go on to their ends, in as many steps as are made at most.
+fn play_out(alloc: Global, hall: &mut Hall, plan: Plan) -> Result<(), SimFault>
+    requires hall { IsHall hall.old }
+    requires count { clients_of hall.old ≡ plan.sessions + 1 }
+    requires sessions { plan.sessions ≤ 64 }
+    requires new { IsNewHall plan.level plan.seed plan.sessions plan.queries hall.old }
+    ensures ok { OnOk result ((history : Chronicle) → hall.new.store ≡ Some history → IsSimulation plan.level plan.seed plan.sessions plan.queries history) }
+    ensures hall { IsHall hall.new }
+    ensures cut { IfErr result (λ e. e ≡ SimFault.Steps → IsCutOff plan.level plan.seed plan.sessions plan.queries) }
+{
+    let mut left = u32::MAX;
+    match play_all(alloc, hall, plan, &mut left) {
+        Ok(()) => {}
+        Err(fault) => return Err(fault),
+    }
+    if are_at_rest(hall, plan.sessions + 1) {
+        Ok(())
+    } else {
+        Err(SimFault::Memory)
+    }
+}
+
 // The hall after all its clients have ended.
 fn played(alloc: Global, plan: Plan) -> Result<Hall, SimFault>
     requires queries { plan.queries ≤ 200 }
@@ -104,18 +127,28 @@ fn played(alloc: Global, plan: Plan) -> Result<Hall, SimFault>
     ensures hall { IfOk result IsHall }
     ensures cut { IfErr result (λ e. e ≡ SimFault.Steps → IsCutOff plan.level plan.seed plan.sessions plan.queries) }
 {
-    let Ok(mut hall) = new_hall(alloc, plan) else {
-        return Err(SimFault::Memory);
-    };
-    let mut left = u32::MAX;
-    match play_all(alloc, &mut hall, plan, &mut left) {
-        Ok(()) => {}
-        Err(fault) => return Err(fault),
-    }
-    if are_at_rest(&hall, plan.sessions + 1) {
-        Ok(hall)
-    } else {
-        Err(SimFault::Memory)
+    let mut hall = new_hall(alloc, plan)?;
+    let step = play_out(alloc, &mut hall, plan);
+    kept(hall, step)
+}
+
+// Writes the log of a hall's history to the file of a path, where one is given, and prints its summary.
+fn tell<H: Host>(
+    alloc: Global,
+    host: &mut H,
+    plan: Plan,
+    log: &Option<Text>,
+    hall: &Hall,
+) -> Status
+    requires hall { IsHall hall.now }
+    requires simulation { (history : Chronicle) → hall.now.store ≡ Some history → IsSimulation plan.level plan.seed plan.sessions plan.queries history }
+    requires none_out { objects_out (H.hosted host.old) ≡ 0 }
+    ensures simulates { Simulates plan.level plan.seed plan.sessions plan.queries log.now (H.hosted host.old) result.code (H.hosted host.new) }
+    ensures none_out { objects_out (H.hosted host.new) ≡ 0 }
+{
+    match summary(alloc, plan.level, plan.seed, hall.history()) {
+        Ok(line) => log_and_print(alloc, host, log, hall.store(), &line),
+        Err(Memory) => Status { code: 5 },
     }
 }
 
@@ -131,13 +164,12 @@ pub fn simulate<H: Host>(alloc: Global, host: &mut H, plan: Plan, log: &Option<T
     ensures simulates { Simulates plan.level plan.seed plan.sessions plan.queries log.now (H.hosted host.old) result.code (H.hosted host.new) }
     ensures none_out { objects_out (H.hosted host.new) ≡ 0 }
 {
-    let hall = match played(alloc, plan) {
-        Ok(hall) => hall,
-        Err(SimFault::Steps) => return Status { code: 1 },
-        Err(SimFault::Memory) => return Status { code: 5 },
-    };
-    match summary(alloc, plan.level, plan.seed, hall.history()) {
-        Ok(line) => log_and_print(alloc, host, log, hall.store(), &line),
-        Err(Memory) => Status { code: 5 },
+    match played(alloc, plan) {
+        Ok(hall) => {
+            let status = tell(alloc, host, plan, log, &hall);
+            without(hall, status)
+        }
+        Err(SimFault::Steps) => Status { code: 1 },
+        Err(SimFault::Memory) => Status { code: 5 },
     }
 }

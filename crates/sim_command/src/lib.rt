@@ -2,6 +2,7 @@
 #![tactic(auto)]
 
 mod command;
+mod handing;
 mod playing;
 
 pub use command::{Plan, simulate};

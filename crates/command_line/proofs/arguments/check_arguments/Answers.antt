@@ -1,7 +1,8 @@
 -- The command of `clap` that is built for `check`.
-use Rattle.std.proofs.Common.{◌≡◌, ◌∙◌, ap₂, refl, codes}
-use Rattle.clap.specs.Words.{with_rule}
+use Rattle.std.proofs.Common.{◌≡◌, refl, codes}
+use Rattle.clap.specs.Words.{App, with_rule}
 use Rattle.command_line.specs.Arguments.{place, bare, check_arguments}
+use Rattle.command_line.proofs.Built.{built_on}
 use Rattle.command_line.proofs.arguments.check_arguments.Goals as goal
 
 whole : with_rule (bare (codes "check")) (place (codes "path")) ≡ check_arguments
@@ -10,4 +11,5 @@ whole = refl
 
 pub returns : goal.returns
 returns c =
-    c.in_ok-command.ensures.shape c.place.ensures.local ∙ ap₂ with_rule c.bare.ensures c.place.ensures.rule ∙ whole
+    built_on c.with_one.result _ (bare (codes "check")) check_arguments (λ (app : App). with_rule app (place (codes "path"))) c.bare.ensures whole
+    c.with_one.ensures

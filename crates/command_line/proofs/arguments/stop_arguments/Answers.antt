@@ -1,7 +1,8 @@
 -- The command of `clap` that is built for `stop`.
-use Rattle.std.proofs.Common.{◌≡◌, ◌∙◌, ap₂, refl, codes}
-use Rattle.clap.specs.Words.{with_rule}
+use Rattle.std.proofs.Common.{◌≡◌, refl, codes}
+use Rattle.clap.specs.Words.{App, with_rule}
 use Rattle.command_line.specs.Arguments.{last_place, bare, stop_arguments}
+use Rattle.command_line.proofs.Built.{built_on}
 use Rattle.command_line.proofs.arguments.stop_arguments.Goals as goal
 
 whole : with_rule (bare (codes "stop")) (last_place (codes "address")) ≡ stop_arguments
@@ -10,4 +11,5 @@ whole = refl
 
 pub returns : goal.returns
 returns c =
-    c.in_ok-command.ensures.shape c.last_place.ensures.local ∙ ap₂ with_rule c.bare.ensures c.last_place.ensures.rule ∙ whole
+    built_on c.with_one.result _ (bare (codes "stop")) stop_arguments (λ (app : App). with_rule app (last_place (codes "address"))) c.bare.ensures whole
+    c.with_one.ensures

@@ -1,19 +1,9 @@
-use Rattle.std.proofs.Common.{◌≡◌, ℕ, List, Some, inr, subst, sym, ◌∙◌}
-use Rattle.history_core.specs.Chronicle.{Chronicle}
-use Rattle.log_file.specs.Logging.{LogsAndPrints}
+use Rattle.std.proofs.Common.{sym, subst}
+use Rattle.host_calls.specs.declared.status.Status.{Status}
+use Rattle.sim_command.specs.Simulations.{Simulates}
 use Rattle.sim_command.proofs.command.simulate.Goals as goal
 
-pub returns-in-Ok-summary-clause-simulates : goal.returns-in-Ok-summary-clause-simulates
-returns-in-Ok-summary-clause-simulates g c =
-    let both : Some c.store.result.now ≡ Some c.history.result.now = sym c.store.ensures.is ∙ c.history.ensures.is in
-    let same : c.store.result.now ≡ c.history.result.now = cc in
-    inr (inr (record {
-      history = c.history.result.now;
-      simulation = c.in-Ok.ensures.ok c.history.result.now c.history.ensures.is;
-      line = c.in-Ok-summary.line.items;
-      summary = c.in-Ok-summary.ensures;
-      told = subst (λ (h : Chronicle). LogsAndPrints c.args.log.now h c.in-Ok-summary.line.items (g.H.Host.hosted c.args.host.now)
-          c.log_and_print.result.code (g.H.Host.hosted c.log_and_print.new.host)) same
-          (subst (λ (line : List ℕ). LogsAndPrints c.args.log.now c.store.result.now line (g.H.Host.hosted c.args.host.now)
-          c.log_and_print.result.code (g.H.Host.hosted c.log_and_print.new.host)) c.deref.ensures.value c.log_and_print.ensures.told);
-    }))
+pub returns-in-Ok-clause-simulates : goal.returns-in-Ok-clause-simulates
+returns-in-Ok-clause-simulates g c =
+    subst (λ (status : Status). Simulates c.args.plan.level c.args.plan.seed c.args.plan.sessions c.args.plan.queries c.args.log.now
+    (g.H.Host.hosted c.args.host.now) status.code (g.H.Host.hosted c.tell-status.new.host)) (sym c.without.ensures) c.tell-status.ensures.simulates
