@@ -5,5 +5,6 @@ pub mod Doors
 pub mod Serving
 pub mod Verdicts
 pub mod Checking
+pub mod CutLogs
 pub mod Simulating
 pub mod Statuses

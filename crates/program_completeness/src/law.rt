@@ -2,6 +2,7 @@
 ghost use Rattle.program_completeness.specs.Visits.{VisitsAreComplete};
 ghost use Rattle.program_completeness.specs.Programs.{PipedAreComplete, PipesAreComplete, ServersAreComplete, ServeRunsAreComplete};
 ghost use Rattle.program_completeness.specs.Checking.{OneVerdict, ZeroIsRight, LegalLogsAreRight, WrittenLogsAreLegal, LegalLogsCheck, ChecksAreComplete, CheckRunsAreComplete, CheckRunsAreExact};
+ghost use Rattle.program_completeness.specs.CutLogs.{CutLogsAreNoLogs, CutLogsAreCut, CutLogsHaveFaults, FailedWritesLeaveCutLogs, CutLogsCheck};
 ghost use Rattle.program_completeness.specs.Simulating.{SimulationsAreComplete, SimRunsAreComplete};
 ghost use Rattle.program_completeness.specs.Statuses.{StatusesHaveCauses};
 
@@ -50,6 +51,18 @@ pub fn own_logs_are_right()
     ensures verdict { LegalLogsAreRight }
     ensures written { WrittenLogsAreLegal }
     ensures program { LegalLogsCheck }
+{}
+
+/// A text that is the beginning of a log, and lacks one byte of it at least, is no log. With at most 268,435,456 bytes it has the fault `Cut` and the
+/// verdict `log fault: cut`, with more `log fault: too long`, and status 1. What a failed write of the log of `serve` or `sim` left in the file is the
+/// whole log or such a text. The whole program, with the words `check PATH` and a host that tells such a file's bytes, prints that line with status 1,
+/// or the status is 5.
+pub fn cut_logs_have_faults()
+    ensures no_log { CutLogsAreNoLogs }
+    ensures fault { CutLogsAreCut }
+    ensures verdict { CutLogsHaveFaults }
+    ensures left { FailedWritesLeaveCutLogs }
+    ensures program { CutLogsCheck }
 {}
 
 /// `sim LEVEL SEED SESSIONS QUERIES` serves all clients of the seed to their ends, writes the log of their history, where one is asked for, and
