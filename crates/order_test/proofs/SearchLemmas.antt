@@ -1,8 +1,9 @@
 -- What the order doesn't keep of the events, one after another.
 use Rattle.std.proofs.Common.{◌≡◌, ℕ, ◌+◌, ◌<◌, ◌≤◌, List, Some, length, get_or, take, arith, refl, ap, sym, ◌∙◌, subst, inl, inr, ◌⊎◌}
-use Rattle.std.specs.Prelude.{Option, None, IfSome, IfNone, is_some, true, false}
+use Rattle.std.specs.Prelude.{Option, None, IsTrue, IfSome, IfNone, is_some, true, false}
 use Rattle.std.specs.List.{slice_get}
 use Rattle.std.proofs.lemmas.List.{length-take-le, take-take}
+use Rattle.std.proofs.lemmas.List.Sums.{count_by-le-length}
 use Rattle.std.proofs.lemmas.Option.{slice_get_within}
 use Rattle.std.proofs.lemmas.Bool.{cases_eq, cases_lt}
 use Rattle.std.specs.declared.cmp.Ordering.TheVariants.{Greater}
@@ -14,7 +15,7 @@ use Rattle.history_core.specs.declared.event.Event.{Event}
 use Rattle.history_core.specs.declared.event.Event.TheVariants.{Open, Close, Define, Look, Begin, Scan, Read, Own, Write, Commit, Rollback, Show}
 use Rattle.history_core.specs.declared.txn.Txn.{Txn}
 use Rattle.history_core.specs.declared.txn.TxnState.TheVariants.{Committed}
-use Rattle.history_core.specs.Events.{begun, session_in}
+use Rattle.history_core.specs.Events.{begun, is_begin, session_in}
 use Rattle.history_core.specs.Transactions.{IsOf, IsPending, IsCommitted, HasPending}
 use Rattle.history_core.specs.Relations.{Gives, Reads, IsVisible, Meets}
 use Rattle.history_core.specs.Records.{IsRecordOf}
@@ -23,12 +24,19 @@ use Rattle.history_core.proofs.Prefixes.{start_positive, start_bounded}
 use Rattle.history_core.proofs.Offers.{pending_unique, writer_bounded}
 use Rattle.saturation.proofs.Sights.{written_from_record, none_from_record, writes_later}
 use Rattle.saturation.proofs.Decides.{committed_bounded}
+use Rattle.cell_writers.specs.Numbered.{AreWriters}
+use Rattle.order_test.specs.declared.read_at.ReadAt.{ReadAt}
+use Rattle.order_test.specs.declared.survey.Survey.{Survey}
 use Rattle.order_test.specs.declared.unkept.Unkept.{Unkept}
 use Rattle.order_test.specs.declared.unkept.Unkept.TheVariants as unkept
 use Rattle.order_test.specs.Settled.{IsOrderly, HasReader, HasSettledSource}
-use Rattle.order_test.specs.Unkept.{HoldsTransactions, StandsBefore, IsReadEarly, IsUnmet, IsKeptAt, IsKeptBelow, KeepsSessions, IsFound}
-use Rattle.order_test.specs.Glance.{AreOwners}
-use Rattle.order_test.specs.Sights.{origin_of, IsReading, IsRivalCell, IsFirstRivalCell, IsReadAt, IsRival, IsAxiomOf, IsFoundAt, IsFoundAmong}
+use Rattle.order_test.specs.Unkept.{HoldsTransactions, StandsBefore, IsReadEarly, IsUnmet, IsKeptAt, IsKeptBelow, KeepsSessions, IsFoundOfOrder}
+use Rattle.order_test.specs.Firsts.{HoldCommitted}
+use Rattle.order_test.specs.Glance.{AreOwners, IsGlance}
+use Rattle.order_test.specs.Places.{ArePlaces}
+use Rattle.order_test.specs.Reaches.{AreReaches}
+use Rattle.order_test.specs.Scenes.{IsSurvey, IsReadIn, IsRivalOf, IsUnrivalled}
+use Rattle.order_test.specs.Sights.{origin_of, IsNumber, IsReading, IsRivalCell, IsFirstRivalCell, IsReadAt, IsRival, IsAxiomOf, IsFoundAt, IsFoundAmong}
 use Rattle.order_test.proofs.PastSteps.{sound_from}
 use Rattle.order_test.proofs.Owners.{owner_pending, of_front}
 use Rattle.order_test.proofs.SightLemmas.{first_before}
@@ -129,6 +137,10 @@ reader_number events place event reader read =
     let of = read.of in
     (start_positive events reader (session_in event) of.start of.starts, start_bounded events reader (session_in event) of.start of.starts)
 
+-- the reader of a read of the survey
+pub reader_of : (survey : Survey) (read : ReadAt) → IsReadIn survey read → IsNumber survey.events.now read.reader
+reader_of survey read is = reader_number survey.events.now read.place read.event.now read.reader is
+
 pub rival_from :
     (events : List Event) (order : List ℕ) (place : ℕ) (event : Event) (reader rival : ℕ) (txn : Txn) (cell : Cell) → IsReadAt events place event reader →
     IsRecordOf events rival txn → txn.state ≡ Committed → (rival ≡ origin_of event → ⊥) → (StandsBefore order rival (origin_of event) → ⊥) →
@@ -168,23 +180,24 @@ rival_bounds events order place event reader rival holds read (cell, unmet) =
           (first_before (begun events + 1) order holds (origin_of event) positive (omega arith))))
     ]
 
-abbrev pub NoRivalUpTo : List Event → List ℕ → ℕ → Event → ℕ → ℕ → Type 0
-NoRivalUpTo events order place event reader n = (other : ℕ) → 0 < other → other ≤ n → IsRival events order place (origin_of event) reader other → ⊥
+pub bounds_of : (survey : Survey) (read : ReadAt) → IsSurvey survey → IsReadIn survey read → (other : ℕ) → IsRivalOf survey read other → IsNumber survey.events.now other
+bounds_of survey read light is_read other rival = rival_bounds survey.events.now survey.order.now read.place read.event.now read.reader other light.holds is_read rival
+
+abbrev pub NoRivalUpTo : Survey → ReadAt → ℕ → Type 0
+NoRivalUpTo survey read n = (other : ℕ) → 0 < other → other ≤ n → IsRivalOf survey read other → ⊥
 
 pub no_rival_step :
-    (events : List Event) (order : List ℕ) (place : ℕ) (event : Event) (reader n : ℕ) → (IsRival events order place (origin_of event) reader (n + 1) → ⊥) →
-    NoRivalUpTo events order place event reader n → NoRivalUpTo events order place event reader (n + 1)
-no_rival_step events order place event reader n none before other positive within rival =
+    (survey : Survey) (read : ReadAt) (n : ℕ) → (IsRivalOf survey read (n + 1) → ⊥) → NoRivalUpTo survey read n → NoRivalUpTo survey read (n + 1)
+no_rival_step survey read n none before other positive within rival =
     elim (cases_eq other (n + 1)) [
-      | inl same ↦ none (subst (λ (m : ℕ). IsRival events order place (origin_of event) reader m) same rival)
+      | inl same ↦ none (subst (λ (m : ℕ). IsRivalOf survey read m) same rival)
       | inr apart ↦ before other positive (omega arith) rival
     ]
 
 pub rival_least :
-    (events : List Event) (order : List ℕ) (place : ℕ) (event : Event) (reader n : ℕ) → HoldsTransactions events order → IsReadAt events place event reader →
-    NoRivalUpTo events order place event reader n → (other : ℕ) → IsRival events order place (origin_of event) reader other → n + 1 ≤ other
-rival_least events order place event reader n holds read none other rival =
-    let h = rival_bounds events order place event reader other holds read rival in
+    (survey : Survey) (read : ReadAt) (n : ℕ) → IsSurvey survey → IsReadIn survey read → NoRivalUpTo survey read n → (other : ℕ) → IsRivalOf survey read other → n + 1 ≤ other
+rival_least survey read n light is_read none other rival =
+    let h = bounds_of survey read light is_read other rival in
     elim (cases_lt n other) [
       | inl above ↦ omega arith
       | inr within ↦ absurd (none other h.0 within rival)
@@ -255,27 +268,33 @@ unmet_here events order place event reader orderly read from rival by cell unmet
     (subst (λ (n : ℕ). IsUnmet events order place from rival n cell) here.reader_is unmet)
 
 pub kept_is :
-    (events : List Event) (order : List ℕ) (place : ℕ) (event : Event) (reader : ℕ) → IsOrderly events → IsReadAt events place event reader →
-    ((StandsBefore order (origin_of event) reader → ⊥) → ⊥) → ((other : ℕ) → IsRival events order place (origin_of event) reader other → ⊥) → IsKeptAt events order place
-kept_is events order place event reader orderly read none no_rival = record {
-  reads = none_early events order place event reader orderly read none;
-  sights = λ from rival by cell unmet. no_rival rival (cell, unmet_here events order place event reader orderly read from rival by cell unmet);
+    (survey : Survey) (read : ReadAt) → IsSurvey survey → IsReadIn survey read → ((StandsBefore survey.order.now (origin_of read.event.now) read.reader → ⊥) → ⊥) →
+    IsUnrivalled survey read → IsKeptAt survey.events.now survey.order.now read.place
+kept_is survey read light is_read none no_rival = record {
+  reads = none_early survey.events.now survey.order.now read.place read.event.now read.reader light.orderly is_read none;
+  sights = λ from rival by cell unmet.
+      no_rival rival (cell, unmet_here survey.events.now survey.order.now read.place read.event.now read.reader light.orderly is_read from rival by cell unmet);
 }
 
 pub first_axiom_is :
-    (events : List Event) (order : List ℕ) (place : ℕ) (event : Event) (reader rival : ℕ) (found : Unkept) → IsOrderly events → IsReadAt events place event reader →
-    ((StandsBefore order (origin_of event) reader → ⊥) → ⊥) → ((other : ℕ) → IsRival events order place (origin_of event) reader other → rival ≤ other) →
-    IsAxiomOf events order place (origin_of event) rival reader found → IsFoundAt events order place (Some found)
-first_axiom_is events order place event reader rival found orderly read none least of_rival =
-    subst (λ (u : Unkept). IsFoundAt events order place (Some u)) (sym of_rival.told) (
+    (survey : Survey) (read : ReadAt) (rival : ℕ) (found : Unkept) → IsSurvey survey → IsReadIn survey read →
+    ((StandsBefore survey.order.now (origin_of read.event.now) read.reader → ⊥) → ⊥) → ((other : ℕ) → IsRivalOf survey read other → rival ≤ other) →
+    IsAxiomOf survey.events.now survey.order.now read.place (origin_of read.event.now) rival read.reader found →
+    IsFoundAt survey.events.now survey.order.now read.place (Some found)
+first_axiom_is survey read rival found light is_read none least of_rival =
+    subst (λ (u : Unkept). IsFoundAt survey.events.now survey.order.now read.place (Some u)) (sym of_rival.told) (
       refl,
-      none_early events order place event reader orderly read none,
+      none_early survey.events.now survey.order.now read.place read.event.now read.reader light.orderly is_read none,
       record {
         is = of_rival.is;
-        least = λ from other by of unmet. least other (of, unmet_here events order place event reader orderly read from other by of unmet);
-        first = λ from by of unmet. of_rival.least of (unmet_here events order place event reader orderly read from rival by of unmet);
+        least = λ from other by of unmet. least other (of, here from other by of unmet);
+        first = λ from by of unmet. of_rival.least of (here from rival by of unmet);
       },
     )
+  where
+    here : (from other by : ℕ) (cell : Cell) → IsUnmet survey.events.now survey.order.now read.place from other by cell →
+        IsUnmet survey.events.now survey.order.now read.place (origin_of read.event.now) other read.reader cell
+    here from other by cell unmet = unmet_here survey.events.now survey.order.now read.place read.event.now read.reader light.orderly is_read from other by cell unmet
 
 -- ---- one event after another
 
@@ -327,7 +346,7 @@ meets_from_kept events order holds sessions kept = record {
 }
 
 pub found_is :
-    (events : List Event) (order : List ℕ) (found : Option Unkept) → HoldsTransactions events order → KeepsSessions events order → IsFoundAmong events order found → IsFound events order found
+    (events : List Event) (order : List ℕ) (found : Option Unkept) → HoldsTransactions events order → KeepsSessions events order → IsFoundAmong events order found → IsFoundOfOrder events order found
 found_is events order None holds sessions kept = meets_from_kept events order holds sessions kept
 found_is events order (Some unkept.Order) holds sessions none = absurd none
 found_is events order (Some (unkept.Session a b)) holds sessions none = absurd none
@@ -383,6 +402,25 @@ read_at events owners place event are orderly is reading = record {
 
 pub place_small : (events : List Event) (place : ℕ) (event : Event) (reader : ℕ) → IsReadAt events place event reader → place < length events
 place_small events place event reader read = slice_get_within events place event read.of.is
+
+-- ---- what is light
+
+pub survey_is :
+    (survey : Survey) → length survey.events.now < 4294967296 → IsOrderly survey.events.now → HoldsTransactions survey.events.now survey.order.now →
+    ArePlaces (begun survey.events.now + 1) survey.order.now survey.places.now.at.items → AreWriters survey.events.now survey.cells.now →
+    IsGlance survey.events.now survey.order.now survey.glance.now → AreReaches survey.places.now.at.items survey.cells.now survey.reaches.now →
+    (IsTrue survey.glance.now.scans → HoldCommitted survey.cells.now survey.reaches.now.firsts) → IsSurvey survey
+survey_is survey few orderly holds places writers glance reaches firsts = record {
+  few_events = few;
+  few = let less : begun survey.events.now ≤ length survey.events.now = count_by-le-length is_begin survey.events.now in omega arith;
+  orderly = orderly;
+  holds = holds;
+  places_are = places;
+  writers_are = writers;
+  glance_is = glance;
+  reaches_are = reaches;
+  firsts_are = firsts;
+}
 
 -- ---- answers
 

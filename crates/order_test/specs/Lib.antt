@@ -7,5 +7,6 @@ pub mod Records
 pub mod Sights
 pub mod Listed
 pub mod Reaches
+pub mod Scenes
 pub mod Entries
 pub mod Firsts

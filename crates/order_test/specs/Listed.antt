@@ -6,10 +6,7 @@ use Rattle.cell_writers.specs.declared.writers.CellWriters.{CellWriters}
 use Rattle.cell_writers.specs.Writers.{numbers_at, AreAscending, GainsWrites, IsLastUpTo}
 use Rattle.history_core.specs.declared.event.Event.{Event}
 use Rattle.history_core.specs.declared.txn.Txn.{Txn}
-use Rattle.history_core.specs.declared.txn.Seen.{Seen}
 use Rattle.history_core.specs.declared.txn.TxnState.TheVariants.{Committed}
-use Rattle.history_core.specs.Relations.{Precedes}
-use Rattle.saturation.specs.Views.{IsReadFrom}
 use Rattle.order_test.specs.Sights.{IsRival, origin_of}
 
 -- each session's lists ascend
@@ -63,15 +60,3 @@ HasNoLate places numbers limit from =
 -- no transaction is a rival of the read
 abbrev pub HasNoRival : List Event → List ℕ → ℕ → Event → ℕ → Type 0
 HasNoRival events order place event reader = (other : ℕ) → ¬ IsRival events order place (origin_of event) reader other
-
--- no rival is one from which this was read
-abbrev pub IsHarmless : List Event → List ℕ → ℕ → Event → ℕ → Seen → Type 0
-IsHarmless events order place event reader seen = (other : ℕ) → IsReadFrom seen other → ¬ IsRival events order place (origin_of event) reader other
-
--- so it is with the first n of these
-abbrev pub AreHarmless : List Event → List ℕ → ℕ → Event → ℕ → ℕ → List Seen → Type 0
-AreHarmless events order place event reader n all = (at : ℕ) (seen : Seen) → at < n → slice_get all at ≡ Some seen → IsHarmless events order place event reader seen
-
--- none that directly precedes the reader is a rival of its read
-abbrev pub HasNoDirectRival : List Event → List ℕ → ℕ → Event → ℕ → Type 0
-HasNoDirectRival events order place event reader = (other : ℕ) → Precedes events other reader → ¬ IsRival events order place (origin_of event) reader other

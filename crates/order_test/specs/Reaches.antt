@@ -1,17 +1,8 @@
 -- How far the committed writers of each cell reach in the order.
-use Rattle.std.specs.Prelude.{◌≡◌, ◌<◌, ◌≤◌, ◌+◌, ℕ, Some, IsTrue, List, Contains, length, slice_get, slice_index}
-use Rattle.history_core.specs.declared.event.Event.{Event}
-use Rattle.history_core.specs.Events.{begun}
+use Rattle.std.specs.Prelude.{◌≡◌, ◌<◌, ◌≤◌, ◌+◌, ℕ, Some, List, Contains, length, slice_get, slice_index}
 use Rattle.cell_writers.specs.declared.cell_note.CellNote.{CellNote}
 use Rattle.cell_writers.specs.declared.cell_note.CellNotes.{CellNotes}
-use Rattle.cell_writers.specs.Numbered.{AreWriters}
-use Rattle.order_test.specs.declared.glance.Glance.{Glance}
-use Rattle.order_test.specs.declared.places.Places.{Places}
 use Rattle.order_test.specs.declared.reaches.CellReaches.{CellReaches}
-use Rattle.order_test.specs.Firsts.{HoldCommitted}
-use Rattle.order_test.specs.Glance.{IsGlance}
-use Rattle.order_test.specs.Places.{ArePlaces}
-use Rattle.order_test.specs.Unkept.{HoldsTransactions}
 
 -- the first n of the numbers stand for places from the start on, none of which is before the place of such a number up to it
 pub record IsReachUpTo (places numbers highest : List ℕ) (start n : ℕ) : Type 0 where
@@ -40,12 +31,3 @@ AreReaches places cells reaches = AreReachesUpTo places cells.notes.items (lengt
 abbrev pub StandNoFurther : List ℕ → List ℕ → ℕ → ℕ → Type 0
 StandNoFurther places numbers limit from =
     (number : ℕ) → Contains numbers number → number ≤ limit → slice_index places number ≤ slice_index places from
-
--- a history, an order that holds its transactions, and what is light of both
-pub record IsSurvey (events : List Event) (order : List ℕ) (places : Places) (cells : CellNotes) (glance : Glance) (reaches : CellReaches) : Type 0 where
-  pub holds : HoldsTransactions events order
-  pub places_are : ArePlaces (begun events + 1) order places.at.items
-  pub writers_are : AreWriters events cells
-  pub glance_is : IsGlance events order glance
-  pub reaches_are : AreReaches places.at.items cells reaches
-  pub firsts_are : IsTrue glance.scans → HoldCommitted cells reaches.firsts

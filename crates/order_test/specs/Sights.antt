@@ -7,24 +7,13 @@ use Rattle.cell_base.specs.declared.cell.Cell.{Cell}
 use Rattle.cell_base.specs.declared.value.Value.{Value}
 use Rattle.history_core.specs.declared.event.Event.{Event}
 use Rattle.history_core.specs.declared.event.Event.TheVariants.{Read, Scan}
-use Rattle.history_core.specs.declared.txn.Txn.{Txn}
 use Rattle.history_core.specs.Events.{begun}
 use Rattle.history_core.specs.Transactions.{IsOf}
 use Rattle.history_core.specs.Relations.{Gives}
-use Rattle.history_core.specs.Kept.{StandsForTxns}
 use Rattle.saturation.specs.Views.{IsUnlisted}
-use Rattle.order_test.specs.declared.places.Places.{Places}
 use Rattle.order_test.specs.declared.unkept.Unkept.{Unkept}
 use Rattle.order_test.specs.declared.unkept.Unkept.TheVariants as unkept
-use Rattle.order_test.specs.Unkept.{HoldsTransactions, IsReadEarly, IsUnmet, IsFirstUnmet, IsKeptAt, IsFirstReadEarly, IsFirstAxiom}
-use Rattle.order_test.specs.Places.{ArePlaces}
-
--- a history, an order that holds its transactions, and what stands for them
-pub record IsScene (events : List Event) (order : List ℕ) (txns : List Txn) (places : Places) : Type 0 where
-  pub few : begun events < 4294967296
-  pub records : StandsForTxns events txns
-  pub holds : HoldsTransactions events order
-  pub places_are : ArePlaces (begun events + 1) order places.at.items
+use Rattle.order_test.specs.Unkept.{IsReadEarly, IsUnmet, IsFirstUnmet, IsKeptAt, IsFirstReadEarly, IsFirstAxiom}
 
 -- the number is that of a transaction after the initial one
 abbrev pub IsNumber : List Event → ℕ → Type 0

@@ -90,6 +90,6 @@ IsFirstUnkept events order (Axiom event origin rival reader cell) =
     HoldsTransactions events order × KeepsSessions events order × ((place : ℕ) × (event ≡ place + 1) × IsFirstAxiom events order place origin rival reader cell)
 
 -- what is found of an order: nothing where it meets the events, and else the first that it doesn't keep
-abbrev pub IsFound : List Event → List ℕ → Option Unkept → Type 0
-IsFound events order None = Meets events order
-IsFound events order (Some unkept) = IsFirstUnkept events order unkept
+abbrev pub IsFoundOfOrder : List Event → List ℕ → Option Unkept → Type 0
+IsFoundOfOrder events order None = Meets events order
+IsFoundOfOrder events order (Some unkept) = IsFirstUnkept events order unkept

@@ -14,11 +14,14 @@ mod places;
 mod presences;
 mod quick;
 mod reaches;
+mod read_at;
 mod records;
 mod rivals;
+mod scene;
 mod search;
 mod sessions;
 mod sight;
+mod survey;
 mod unkept;
 mod unmet;
 

@@ -1,57 +1,55 @@
 // The first that an order doesn't keep.
-ghost use Rattle.std.specs.Prelude.{◌≡◌, ◌≤◌, ◌<◌, ◌+◌, ◌↔◌, ℕ, Some, IsTrue, IfOk, IfSome, IfNone, length};
+ghost use Rattle.std.specs.Prelude.{◌≡◌, ◌≤◌, ◌<◌, ◌+◌, ◌↔◌, ℕ, Some, IsTrue, IfOk, IfSome, IfNone, length, slice_get};
 ghost use Rattle.history_core.specs.Events.{begun};
+ghost use Rattle.history_core.specs.Kept.{StandsForTxns};
 ghost use Rattle.cell_writers.specs.Numbered.{AreWriters};
 ghost use Rattle.order_test.specs.Settled.{IsOrderly, AreOwned};
-ghost use Rattle.order_test.specs.Unkept.{HoldsAll, HoldsTransactions, KeepsSessions, IsFirstOutOfSession, IsFound, IsKeptAt, IsKeptBelow};
+ghost use Rattle.order_test.specs.Unkept.{HoldsAll, HoldsTransactions, KeepsSessions, IsFirstOutOfSession, IsFoundOfOrder, IsKeptAt, IsKeptBelow};
 ghost use Rattle.order_test.specs.Places.{ArePlaces};
-ghost use Rattle.order_test.specs.Pasts.{ArePasts};
-ghost use Rattle.order_test.specs.Sights.{IsScene, IsNumber, IsReadAt, IsReading, IsRival, IsAxiomOf, IsFoundAt, IsFoundAmong, origin_of};
+ghost use Rattle.order_test.specs.Sights.{IsNumber, IsReading, IsAxiomOf, IsFoundAt, IsFoundAmong, origin_of};
 ghost use Rattle.order_test.specs.Glance.{IsGlance};
-ghost use Rattle.order_test.specs.Reaches.{IsSurvey};
-ghost use Rattle.order_test.specs.Listed.{AreTxnsWithin, ListsCommitted};
-ghost use Rattle.order_test.specs.Firsts.{AreIndexes};
+ghost use Rattle.order_test.specs.Scenes.{IsSurvey, IsScene, IsReadIn, IsRivalOf};
 
 use crate::Unkept;
 use crate::glance::{Glance, glance_of};
-use crate::listed::{Lists, lists_of};
-use crate::pasts::{Pasts, pasts_of};
+use crate::listed::lists_of;
+use crate::pasts::pasts_of;
 use crate::places::{Places, places_of, stands_before};
 use crate::quick::{is_clear, is_reached};
-use crate::reaches::{CellReaches, reaches_of};
+use crate::reaches::reaches_of;
+use crate::read_at::ReadAt;
 use crate::records::txns_of;
 use crate::rivals::{is_reading, origin, rival_cell, source_of};
+use crate::scene::Scene;
 use crate::sessions::{first_out_of_session, is_late, txn_of};
+use crate::survey::Survey;
 use crate::unmet::is_rival;
 use cell_base::Memory;
 use cell_writers::CellNotes;
 use history_core::{Event, Txn};
 use std::alloc::Global;
 
-/// The first rival of the read: it writes a cell of it, is seen, and doesn't stand before its origin.
-fn first_rival(
-    events: &[Event],
-    order: &[u32],
-    txns: &[Txn],
-    places: &Places,
-    pasts: &Pasts,
-    place: usize,
-    event: &Event,
-    reader: u32,
-) -> Option<u32>
-    requires scene { IsScene events.now order.now txns.now places.now }
-    requires pasts { ArePasts events.now pasts.now }
-    requires read { IsReadAt events.now place event.now reader }
-    ensures number { IfSome result (IsNumber events.now) }
-    ensures is { IfSome result (IsRival events.now order.now place (origin_of event.now) reader) }
-    ensures least { IfSome result (λ rival. (other : ℕ) → IsRival events.now order.now place (origin_of event.now) reader other → rival ≤ other) }
-    ensures none { IfNone result ((other : ℕ) → ¬ IsRival events.now order.now place (origin_of event.now) reader other) }
+/// The event at the place.
+fn event_at<'a>(survey: &Survey<'a>, place: usize) -> &'a Event
+    requires { place < length survey.now.events.now }
+    ensures { slice_get survey.now.events.now place ≡ Some result.now }
 {
-    for at in 0..txns.len() {
+    &survey.events[place]
+}
+
+/// The first rival of the read: it writes a cell of it, is seen, and doesn't stand before its origin.
+fn first_rival(survey: &Survey<'_>, scene: &Scene<'_>, read: &ReadAt<'_>) -> Option<u32>
+    requires survey { IsSurvey survey.now }
+    requires scene { IsScene survey.now scene.now }
+    requires read { IsReadIn survey.now read.now }
+    ensures number { IfSome result (IsNumber survey.now.events.now) }
+    ensures is { IfSome result (IsRivalOf survey.now read.now) }
+    ensures least { IfSome result (λ rival. (other : ℕ) → IsRivalOf survey.now read.now other → rival ≤ other) }
+    ensures none { IfNone result ((other : ℕ) → ¬ IsRivalOf survey.now read.now other) }
+{
+    for at in 0..scene.txns.len() {
         let rival = at as u32 + 1;
-        if is_rival(
-            events, order, txns, places, pasts, place, event, reader, rival,
-        ) {
+        if is_rival(survey, scene, read, rival) {
             return Some(rival);
         }
     }
@@ -61,29 +59,25 @@ fn first_rival(
 /// What is told of the rival: its least cell.
 fn axiom_of(
     alloc: Global,
-    events: &[Event],
-    order: &[u32],
-    txns: &[Txn],
-    places: &Places,
-    place: usize,
-    event: &Event,
-    reader: u32,
+    survey: &Survey<'_>,
+    scene: &Scene<'_>,
+    read: &ReadAt<'_>,
     rival: u32,
 ) -> Result<Unkept, Memory>
-    requires scene { IsScene events.now order.now txns.now places.now }
-    requires read { IsReadAt events.now place event.now reader }
-    requires number { IsNumber events.now rival }
-    requires rival { IsRival events.now order.now place (origin_of event.now) reader rival }
-    requires few { length events.now < 4294967296 }
-    ensures { IfOk result (IsAxiomOf events.now order.now place (origin_of event.now) rival reader) }
+    requires survey { IsSurvey survey.now }
+    requires scene { IsScene survey.now scene.now }
+    requires read { IsReadIn survey.now read.now }
+    requires number { IsNumber survey.now.events.now rival }
+    requires rival { IsRivalOf survey.now read.now rival }
+    ensures { IfOk result (IsAxiomOf survey.now.events.now survey.now.order.now read.now.place (origin_of read.now.event.now) rival read.now.reader) }
 {
-    let writer = txn_of(events, order, txns, places, rival);
-    match rival_cell(event, writer) {
+    let writer = txn_of(survey, scene.txns, rival);
+    match rival_cell(read.event, writer) {
         Some(cell) => Ok(Unkept::Axiom {
-            event: place as u32 + 1,
-            origin: origin(event),
+            event: read.place as u32 + 1,
+            origin: origin(read.event),
             rival,
-            reader,
+            reader: read.reader,
             cell: cell.copy(alloc)?,
         }),
         None => unreachable!(),
@@ -91,128 +85,80 @@ fn axiom_of(
 }
 
 /// Whether it is clear from what is light that the order keeps what the read or scan asks, which is from the source.
-fn read_is_reached(
-    events: &[Event],
-    order: &[u32],
-    places: &Places,
-    cells: &CellNotes,
-    glance: &Glance,
-    reaches: &CellReaches,
-    place: usize,
-    event: &Event,
-    reader: u32,
-    source: u32,
-) -> bool
-    requires survey { IsSurvey events.now order.now places.now cells.now glance.now reaches.now }
-    requires orderly { IsOrderly events.now }
-    requires read { IsReadAt events.now place event.now reader }
-    requires source { source ≡ origin_of event.now }
-    ensures { IsTrue result → IsKeptAt events.now order.now place }
+fn read_is_reached(survey: &Survey<'_>, read: &ReadAt<'_>, source: u32) -> bool
+    requires survey { IsSurvey survey.now }
+    requires read { IsReadIn survey.now read.now }
+    requires source { source ≡ origin_of read.now.event.now }
+    ensures { IsTrue result → IsKeptAt survey.now.events.now survey.now.order.now read.now.place }
 {
-    if !stands_before(places, source, reader) {
+    if !stands_before(survey.places, source, read.reader) {
         return false;
     }
-    is_reached(
-        events, order, places, cells, glance, reaches, place, event, reader,
-    )
+    is_reached(survey, read)
 }
 
 /// The same of the event at the place.
-fn event_is_reached(
-    events: &[Event],
-    order: &[u32],
-    places: &Places,
-    cells: &CellNotes,
-    glance: &Glance,
-    reaches: &CellReaches,
-    place: usize,
-) -> bool
-    requires survey { IsSurvey events.now order.now places.now cells.now glance.now reaches.now }
-    requires orderly { IsOrderly events.now }
-    requires within { place < length events.now }
-    ensures { IsTrue result → IsKeptAt events.now order.now place }
+fn event_is_reached(survey: &Survey<'_>, place: usize) -> bool
+    requires survey { IsSurvey survey.now }
+    requires within { place < length survey.now.events.now }
+    ensures { IsTrue result → IsKeptAt survey.now.events.now survey.now.order.now place }
 {
-    let event = &events[place];
+    let event = event_at(survey, place);
     match source_of(event) {
         Some(source) => {
-            let reader = glance.owners[place];
-            read_is_reached(
-                events, order, places, cells, glance, reaches, place, event, reader, source,
-            )
+            let reader = survey.glance.owners[place];
+            let read = ReadAt {
+                place,
+                event,
+                reader,
+            };
+            read_is_reached(survey, &read, source)
         }
         None => true,
     }
 }
 
 /// The first event of which what is light doesn't show that the order keeps what it asks, or the end.
-fn first_unreached(
-    events: &[Event],
-    order: &[u32],
-    places: &Places,
-    cells: &CellNotes,
-    glance: &Glance,
-    reaches: &CellReaches,
-) -> usize
-    requires survey { IsSurvey events.now order.now places.now cells.now glance.now reaches.now }
-    requires orderly { IsOrderly events.now }
-    ensures within { result ≤ length events.now }
-    ensures kept { IsKeptBelow events.now order.now result }
+fn first_unreached(survey: &Survey<'_>) -> usize
+    requires { IsSurvey survey.now }
+    ensures within { result ≤ length survey.now.events.now }
+    ensures kept { IsKeptBelow survey.now.events.now survey.now.order.now result }
 {
-    for place in 0..events.len() {
-        if !event_is_reached(events, order, places, cells, glance, reaches, place) {
+    for place in 0..survey.events.len() {
+        if !event_is_reached(survey, place) {
             return place;
         }
     }
-    events.len()
+    survey.events.len()
 }
 
 /// What is found of a read or a scan.
 fn found_of(
     alloc: Global,
-    events: &[Event],
-    order: &[u32],
-    txns: &[Txn],
-    places: &Places,
-    pasts: &Pasts,
-    cells: &CellNotes,
-    glance: &Glance,
-    reaches: &CellReaches,
-    lists: &Lists,
-    place: usize,
-    event: &Event,
-    reader: u32,
+    survey: &Survey<'_>,
+    scene: &Scene<'_>,
+    read: &ReadAt<'_>,
 ) -> Result<Option<Unkept>, Memory>
-    requires scene { IsScene events.now order.now txns.now places.now }
-    requires pasts { ArePasts events.now pasts.now }
-    requires sessions { KeepsSessions events.now order.now }
-    requires survey { IsSurvey events.now order.now places.now cells.now glance.now reaches.now }
-    requires lists { ListsCommitted txns.now (length txns.now) lists.now.writers.items }
-    requires firsts { AreIndexes lists.now.writers.items (length txns.now) lists.now.firsts.items }
-    requires txns_within { AreTxnsWithin (length lists.now.writers.items) txns.now }
-    requires orderly { IsOrderly events.now }
-    requires read { IsReadAt events.now place event.now reader }
-    requires reading { IsReading event.now }
-    requires few { length events.now < 4294967296 }
-    ensures { IfOk result (IsFoundAt events.now order.now place) }
+    requires survey { IsSurvey survey.now }
+    requires scene { IsScene survey.now scene.now }
+    requires read { IsReadIn survey.now read.now }
+    requires reading { IsReading read.now.event.now }
+    ensures { IfOk result (IsFoundAt survey.now.events.now survey.now.order.now read.now.place) }
 {
-    let from = origin(event);
-    if is_late(events, order, txns, places, from, reader) {
+    let from = origin(read.event);
+    if is_late(survey, from, read.reader) {
         return Ok(Some(Unkept::Read {
-            event: place as u32 + 1,
+            event: read.place as u32 + 1,
             origin: from,
-            reader,
+            reader: read.reader,
         }));
     }
-    if is_clear(
-        events, order, txns, places, pasts, cells, glance, reaches, lists, place, event, reader,
-    ) {
+    if is_clear(survey, scene, read) {
         return Ok(None);
     }
-    match first_rival(events, order, txns, places, pasts, place, event, reader) {
+    match first_rival(survey, scene, read) {
         Some(rival) => {
-            let axiom = axiom_of(
-                alloc, events, order, txns, places, place, event, reader, rival,
-            )?;
+            let axiom = axiom_of(alloc, survey, scene, read, rival)?;
             Ok(Some(axiom))
         }
         None => Ok(None),
@@ -222,70 +168,42 @@ fn found_of(
 /// What is found of the event at the place.
 fn found_at(
     alloc: Global,
-    events: &[Event],
-    order: &[u32],
-    txns: &[Txn],
-    places: &Places,
-    pasts: &Pasts,
-    cells: &CellNotes,
-    glance: &Glance,
-    reaches: &CellReaches,
-    lists: &Lists,
+    survey: &Survey<'_>,
+    scene: &Scene<'_>,
     place: usize,
 ) -> Result<Option<Unkept>, Memory>
-    requires scene { IsScene events.now order.now txns.now places.now }
-    requires pasts { ArePasts events.now pasts.now }
-    requires sessions { KeepsSessions events.now order.now }
-    requires survey { IsSurvey events.now order.now places.now cells.now glance.now reaches.now }
-    requires lists { ListsCommitted txns.now (length txns.now) lists.now.writers.items }
-    requires firsts { AreIndexes lists.now.writers.items (length txns.now) lists.now.firsts.items }
-    requires txns_within { AreTxnsWithin (length lists.now.writers.items) txns.now }
-    requires orderly { IsOrderly events.now }
-    requires within { place < length events.now }
-    requires few { length events.now < 4294967296 }
-    ensures { IfOk result (IsFoundAt events.now order.now place) }
+    requires survey { IsSurvey survey.now }
+    requires scene { IsScene survey.now scene.now }
+    requires within { place < length survey.now.events.now }
+    ensures { IfOk result (IsFoundAt survey.now.events.now survey.now.order.now place) }
 {
-    let event = &events[place];
+    let event = event_at(survey, place);
     if !is_reading(event) {
         return Ok(None);
     }
-    let reader = glance.owners[place];
-    found_of(
-        alloc, events, order, txns, places, pasts, cells, glance, reaches, lists, place, event,
+    let reader = survey.glance.owners[place];
+    let read = ReadAt {
+        place,
+        event,
         reader,
-    )
+    };
+    found_of(alloc, survey, scene, &read)
 }
 
 /// The first of the events of which the order doesn't keep what it asks. It keeps what those before the start ask.
 fn found_among(
     alloc: Global,
-    events: &[Event],
-    order: &[u32],
-    txns: &[Txn],
-    places: &Places,
-    pasts: &Pasts,
-    cells: &CellNotes,
-    glance: &Glance,
-    reaches: &CellReaches,
-    lists: &Lists,
+    survey: &Survey<'_>,
+    scene: &Scene<'_>,
     start: usize,
 ) -> Result<Option<Unkept>, Memory>
-    requires scene { IsScene events.now order.now txns.now places.now }
-    requires pasts { ArePasts events.now pasts.now }
-    requires sessions { KeepsSessions events.now order.now }
-    requires survey { IsSurvey events.now order.now places.now cells.now glance.now reaches.now }
-    requires lists { ListsCommitted txns.now (length txns.now) lists.now.writers.items }
-    requires firsts { AreIndexes lists.now.writers.items (length txns.now) lists.now.firsts.items }
-    requires txns_within { AreTxnsWithin (length lists.now.writers.items) txns.now }
-    requires orderly { IsOrderly events.now }
-    requires kept { IsKeptBelow events.now order.now start }
-    requires few { length events.now < 4294967296 }
-    ensures { IfOk result (IsFoundAmong events.now order.now) }
+    requires survey { IsSurvey survey.now }
+    requires scene { IsScene survey.now scene.now }
+    requires kept { IsKeptBelow survey.now.events.now survey.now.order.now start }
+    ensures { IfOk result (IsFoundAmong survey.now.events.now survey.now.order.now) }
 {
-    for place in start..events.len() {
-        match found_at(
-            alloc, events, order, txns, places, pasts, cells, glance, reaches, lists, place,
-        )? {
+    for place in start..survey.events.len() {
+        match found_at(alloc, survey, scene, place)? {
             Some(unkept) => return Ok(Some(unkept)),
             None => {}
         }
@@ -294,95 +212,76 @@ fn found_among(
 }
 
 /// The least pair that session order has, and the order hasn't. It is looked for only where the order may not keep session order.
-fn session_breach(
-    events: &[Event],
-    order: &[u32],
-    txns: &[Txn],
-    places: &Places,
-    glance: &Glance,
-) -> Option<(u32, u32)>
-    requires scene { IsScene events.now order.now txns.now places.now }
-    requires keeps { IsTrue glance.now.keeps → KeepsSessions events.now order.now }
-    ensures some { IfSome result (λ pair. IsFirstOutOfSession events.now order.now pair.0 pair.1) }
-    ensures none { IfNone result (KeepsSessions events.now order.now) }
+fn session_breach(survey: &Survey<'_>, txns: &[Txn]) -> Option<(u32, u32)>
+    requires survey { IsSurvey survey.now }
+    requires txns { StandsForTxns survey.now.events.now txns.now }
+    ensures some { IfSome result (λ pair. IsFirstOutOfSession survey.now.events.now survey.now.order.now pair.0 pair.1) }
+    ensures none { IfNone result (KeepsSessions survey.now.events.now survey.now.order.now) }
 {
-    if glance.keeps {
+    if survey.glance.keeps {
         return None;
     }
-    first_out_of_session(events, order, txns, places)
+    first_out_of_session(survey, txns)
 }
 
 /// The first of the events of which the order, which keeps session order, doesn't keep what it asks. It keeps what those before the start ask.
 fn found_after(
     alloc: Global,
-    events: &[Event],
-    order: &[u32],
+    survey: &Survey<'_>,
     txns: &[Txn],
-    places: &Places,
-    cells: &CellNotes,
-    glance: &Glance,
-    reaches: &CellReaches,
     start: usize,
 ) -> Result<Option<Unkept>, Memory>
-    requires scene { IsScene events.now order.now txns.now places.now }
-    requires sessions { KeepsSessions events.now order.now }
-    requires survey { IsSurvey events.now order.now places.now cells.now glance.now reaches.now }
-    requires orderly { IsOrderly events.now }
-    requires kept { IsKeptBelow events.now order.now start }
-    requires few { length events.now < 4294967296 }
-    ensures { IfOk result (IsFoundAmong events.now order.now) }
+    requires survey { IsSurvey survey.now }
+    requires txns { StandsForTxns survey.now.events.now txns.now }
+    requires sessions { KeepsSessions survey.now.events.now survey.now.order.now }
+    requires kept { IsKeptBelow survey.now.events.now survey.now.order.now start }
+    ensures { IfOk result (IsFoundAmong survey.now.events.now survey.now.order.now) }
 {
-    let width = glance.last.len();
-    let pasts = pasts_of(alloc, events, &glance.owners, width)?;
+    let width = survey.glance.last.len();
+    let pasts = pasts_of(alloc, survey.events, &survey.glance.owners, width)?;
     let lists = lists_of(alloc, txns, width)?;
-    found_among(
-        alloc, events, order, txns, places, &pasts, cells, glance, reaches, &lists, start,
-    )
+    let scene = Scene {
+        txns,
+        pasts: &pasts,
+        lists: &lists,
+    };
+    found_among(alloc, survey, &scene, start)
 }
 
 /// The first that the order doesn't keep, by the records of the transactions. It keeps what the events before the start ask.
 fn found_by_records(
     alloc: Global,
-    events: &[Event],
-    order: &[u32],
-    places: &Places,
-    cells: &CellNotes,
-    glance: &Glance,
-    reaches: &CellReaches,
+    survey: &Survey<'_>,
     start: usize,
 ) -> Result<Option<Unkept>, Memory>
-    requires survey { IsSurvey events.now order.now places.now cells.now glance.now reaches.now }
-    requires orderly { IsOrderly events.now }
-    requires owned { AreOwned events.now }
-    requires kept { IsKeptBelow events.now order.now start }
-    requires few { length events.now < 4294967296 }
-    ensures { IfOk result (IsFound events.now order.now) }
+    requires survey { IsSurvey survey.now }
+    requires owned { AreOwned survey.now.events.now }
+    requires kept { IsKeptBelow survey.now.events.now survey.now.order.now start }
+    ensures { IfOk result (IsFoundOfOrder survey.now.events.now survey.now.order.now) }
 {
-    let txns = txns_of(alloc, events, &glance.owners)?;
-    match session_breach(events, order, &txns, places, glance) {
+    let txns = txns_of(alloc, survey.events, &survey.glance.owners)?;
+    match session_breach(survey, &txns) {
         Some((earlier, later)) => Ok(Some(Unkept::Session { earlier, later })),
-        None => found_after(
-            alloc, events, order, &txns, places, cells, glance, reaches, start,
-        ),
+        None => found_after(alloc, survey, &txns, start),
     }
 }
 
 /// Whether the order keeps session order and what all events ask.
-fn is_over(events: &[Event], glance: &Glance, start: usize) -> bool
-    ensures { IsTrue result → IsTrue glance.now.keeps × (start ≡ length events.now) }
+fn is_over(survey: &Survey<'_>, start: usize) -> bool
+    ensures { IsTrue result → IsTrue survey.now.glance.now.keeps × (start ≡ length survey.now.events.now) }
 {
-    glance.keeps && start == events.len()
+    survey.glance.keeps && start == survey.events.len()
 }
 
 /// The first that the order doesn't keep, where it holds each transaction once and the initial one first. The records of the transactions are made
 /// only where the order isn't clear from what is light.
-fn found_by_glance(
+fn found_by_glance<'a>(
     alloc: Global,
-    events: &[Event],
-    order: &[u32],
-    places: &Places,
-    cells: &CellNotes,
-    glance: &Glance,
+    events: &'a [Event],
+    order: &'a [u32],
+    places: &'a Places,
+    cells: &'a CellNotes,
+    glance: &'a Glance,
 ) -> Result<Option<Unkept>, Memory>
     requires holds { HoldsTransactions events.now order.now }
     requires places { ArePlaces (begun events.now + 1) order.now places.now.at.items }
@@ -391,14 +290,22 @@ fn found_by_glance(
     requires writers { AreWriters events.now cells.now }
     requires glance { IsGlance events.now order.now glance.now }
     requires few { length events.now < 4294967296 }
-    ensures { IfOk result (IsFound events.now order.now) }
+    ensures { IfOk result (IsFoundOfOrder events.now order.now) }
 {
     let reaches = reaches_of(alloc, cells, places, glance.scans)?;
-    let start = first_unreached(events, order, places, cells, glance, &reaches);
-    if is_over(events, glance, start) {
+    let survey = Survey {
+        events,
+        order,
+        places,
+        cells,
+        glance,
+        reaches: &reaches,
+    };
+    let start = first_unreached(&survey);
+    if is_over(&survey, start) {
         return Ok(None);
     }
-    found_by_records(alloc, events, order, places, cells, glance, &reaches, start)
+    found_by_records(alloc, &survey, start)
 }
 
 /// Whether the order has as many numbers as there are transactions, the initial one among them.
@@ -422,7 +329,7 @@ fn found_in(
     requires owned { AreOwned events.now }
     requires writers { AreWriters events.now cells.now }
     requires few { length events.now < 4294967296 }
-    ensures { IfOk result (IsFound events.now order.now) }
+    ensures { IfOk result (IsFoundOfOrder events.now order.now) }
 {
     let glance = glance_of(alloc, events, order, places)?;
     if !has_as_many(&glance, order) {
@@ -444,7 +351,7 @@ pub fn first_unkept(
     requires owned { AreOwned events.now }
     requires writers { AreWriters events.now cells.now }
     requires few { length events.now < 4294967296 }
-    ensures { IfOk result (IsFound events.now order.now) }
+    ensures { IfOk result (IsFoundOfOrder events.now order.now) }
 {
     match places_of(alloc, order)? {
         Some(places) => found_in(alloc, events, order, &places, cells),

@@ -1,14 +1,18 @@
 // What a read sees.
 ghost use Rattle.std.specs.Prelude.{◌≡◌, ◌≤◌, ◌<◌, ◌+◌, ◌↔◌, IsTrue, Any, length, slice_index};
 ghost use Rattle.history_core.specs.Events.{begun};
+ghost use Rattle.history_core.specs.Kept.{StandsForTxns};
 ghost use Rattle.history_core.specs.Relations.{Precedes, PrecedesCausally, ReadsBefore, IsVisible};
 ghost use Rattle.saturation.specs.Views.{number_of, IsReadFrom};
 ghost use Rattle.order_test.specs.Pasts.{ArePasts, IsPastOf};
-ghost use Rattle.order_test.specs.Sights.{IsScene, IsNumber};
+ghost use Rattle.order_test.specs.Sights.{IsNumber};
+ghost use Rattle.order_test.specs.Scenes.{IsScene};
 
 use crate::pasts::{Past, Pasts};
-use crate::places::Places;
+use crate::read_at::ReadAt;
+use crate::scene::Scene;
 use crate::sessions::{is_session_ordered, txn_of};
+use crate::survey::Survey;
 use cell_base::Level;
 use history_core::{Event, Seen, Txn};
 
@@ -46,43 +50,28 @@ fn has_read_before(all: &[Seen], place: usize, source: u32) -> bool
     all.iter().any(|seen| number_in(seen) as usize <= place && is_read_from(seen, source))
 }
 
-/// Whether the reader has read from the writer before the event at the place.
-fn reads_before(
-    events: &[Event],
-    order: &[u32],
-    txns: &[Txn],
-    places: &Places,
-    reader: u32,
-    place: usize,
-    writer: u32,
-) -> bool
-    requires scene { IsScene events.now order.now txns.now places.now }
-    requires reader { IsNumber events.now reader }
-    requires writer { IsNumber events.now writer }
-    ensures { IsTrue result ↔ ReadsBefore events.now reader place writer }
+/// Whether the reader has read from the writer before the read.
+fn reads_before(survey: &Survey<'_>, txns: &[Txn], read: &ReadAt<'_>, writer: u32) -> bool
+    requires txns { StandsForTxns survey.now.events.now txns.now }
+    requires reader { IsNumber survey.now.events.now read.now.reader }
+    requires writer { IsNumber survey.now.events.now writer }
+    ensures { IsTrue result ↔ ReadsBefore survey.now.events.now read.now.reader read.now.place writer }
 {
-    let txn = txn_of(events, order, txns, places, reader);
-    has_read_before(txn.seen.as_slice(), place, writer)
+    let txn = txn_of(survey, txns, read.reader);
+    has_read_before(txn.seen.as_slice(), read.place, writer)
 }
 
 /// Whether the writer precedes the reader, by session order or by the write-read relation.
-fn precedes(
-    events: &[Event],
-    order: &[u32],
-    txns: &[Txn],
-    places: &Places,
-    writer: u32,
-    reader: u32,
-) -> bool
-    requires scene { IsScene events.now order.now txns.now places.now }
-    requires writer { IsNumber events.now writer }
-    requires reader { IsNumber events.now reader }
-    ensures { IsTrue result ↔ Precedes events.now writer reader }
+fn precedes(survey: &Survey<'_>, txns: &[Txn], writer: u32, reader: u32) -> bool
+    requires txns { StandsForTxns survey.now.events.now txns.now }
+    requires writer { IsNumber survey.now.events.now writer }
+    requires reader { IsNumber survey.now.events.now reader }
+    ensures { IsTrue result ↔ Precedes survey.now.events.now writer reader }
 {
-    if is_session_ordered(events, order, txns, places, writer, reader) {
+    if is_session_ordered(survey, txns, writer, reader) {
         return true;
     }
-    let txn = txn_of(events, order, txns, places, reader);
+    let txn = txn_of(survey, txns, reader);
     has_read(txn.seen.as_slice(), writer)
 }
 
@@ -106,46 +95,27 @@ pub fn top_of(past: &Past, session: usize) -> u32
 }
 
 /// Whether the writer is in the causal past of the reader.
-fn precedes_causally(
-    events: &[Event],
-    order: &[u32],
-    txns: &[Txn],
-    places: &Places,
-    pasts: &Pasts,
-    writer: u32,
-    reader: u32,
-) -> bool
-    requires scene { IsScene events.now order.now txns.now places.now }
-    requires pasts { ArePasts events.now pasts.now }
-    requires writer { IsNumber events.now writer }
-    requires reader { reader ≤ begun events.now }
-    ensures { IsTrue result ↔ PrecedesCausally events.now writer reader }
+fn precedes_causally(survey: &Survey<'_>, scene: &Scene<'_>, writer: u32, reader: u32) -> bool
+    requires scene { IsScene survey.now scene.now }
+    requires writer { IsNumber survey.now.events.now writer }
+    requires reader { reader ≤ begun survey.now.events.now }
+    ensures { IsTrue result ↔ PrecedesCausally survey.now.events.now writer reader }
 {
-    let session = txn_of(events, order, txns, places, writer).session;
-    let past = past_of(pasts, events, reader);
+    let session = txn_of(survey, scene.txns, writer).session;
+    let past = past_of(scene.pasts, survey.events, reader);
     top_of(past, session as usize) >= writer
 }
 
-/// Whether the read of the reader at the place sees the writer, at the level of the reader.
-pub fn sees(
-    events: &[Event],
-    order: &[u32],
-    txns: &[Txn],
-    places: &Places,
-    pasts: &Pasts,
-    reader: u32,
-    place: usize,
-    writer: u32,
-) -> bool
-    requires scene { IsScene events.now order.now txns.now places.now }
-    requires pasts { ArePasts events.now pasts.now }
-    requires reader { IsNumber events.now reader }
-    requires writer { IsNumber events.now writer }
-    ensures { IsTrue result ↔ IsVisible events.now reader place writer }
+/// Whether the read sees the writer, at the level of the reader.
+pub fn sees(survey: &Survey<'_>, scene: &Scene<'_>, read: &ReadAt<'_>, writer: u32) -> bool
+    requires scene { IsScene survey.now scene.now }
+    requires reader { IsNumber survey.now.events.now read.now.reader }
+    requires writer { IsNumber survey.now.events.now writer }
+    ensures { IsTrue result ↔ IsVisible survey.now.events.now read.now.reader read.now.place writer }
 {
-    match txn_of(events, order, txns, places, reader).level {
-        Level::Rc => reads_before(events, order, txns, places, reader, place, writer),
-        Level::Ra => precedes(events, order, txns, places, writer, reader),
-        Level::Cc => precedes_causally(events, order, txns, places, pasts, writer, reader),
+    match txn_of(survey, scene.txns, read.reader).level {
+        Level::Rc => reads_before(survey, scene.txns, read, writer),
+        Level::Ra => precedes(survey, scene.txns, writer, read.reader),
+        Level::Cc => precedes_causally(survey, scene, writer, read.reader),
     }
 }

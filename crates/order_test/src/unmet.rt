@@ -1,46 +1,36 @@
 // Whether a read has a rival.
 ghost use Rattle.std.specs.Prelude.{◌↔◌, IsTrue};
-ghost use Rattle.order_test.specs.Pasts.{ArePasts};
-ghost use Rattle.order_test.specs.Sights.{IsScene, IsNumber, IsReadAt, IsRival, origin_of};
+ghost use Rattle.order_test.specs.Sights.{IsNumber};
+ghost use Rattle.order_test.specs.Scenes.{IsSurvey, IsScene, IsReadIn, IsRivalOf};
 
-use crate::pasts::Pasts;
-use crate::places::Places;
+use crate::read_at::ReadAt;
 use crate::rivals::{is_committed, origin, rival_cell};
+use crate::scene::Scene;
 use crate::sessions::{is_late, txn_of};
 use crate::sight::sees;
-use history_core::{Event, Txn};
+use crate::survey::Survey;
 
-/// Whether the read of the reader at the place sees the rival, which writes a cell of it and doesn't stand before its origin.
-pub fn is_rival(
-    events: &[Event],
-    order: &[u32],
-    txns: &[Txn],
-    places: &Places,
-    pasts: &Pasts,
-    place: usize,
-    event: &Event,
-    reader: u32,
-    rival: u32,
-) -> bool
-    requires scene { IsScene events.now order.now txns.now places.now }
-    requires pasts { ArePasts events.now pasts.now }
-    requires read { IsReadAt events.now place event.now reader }
-    requires rival { IsNumber events.now rival }
-    ensures { IsTrue result ↔ IsRival events.now order.now place (origin_of event.now) reader rival }
+/// Whether the read sees the rival, which writes a cell of it and doesn't stand before its origin.
+pub fn is_rival(survey: &Survey<'_>, scene: &Scene<'_>, read: &ReadAt<'_>, rival: u32) -> bool
+    requires survey { IsSurvey survey.now }
+    requires scene { IsScene survey.now scene.now }
+    requires read { IsReadIn survey.now read.now }
+    requires rival { IsNumber survey.now.events.now rival }
+    ensures { IsTrue result ↔ IsRivalOf survey.now read.now rival }
 {
-    let from = origin(event);
+    let from = origin(read.event);
     if rival == from {
         return false;
     }
-    if !is_late(events, order, txns, places, rival, from) {
+    if !is_late(survey, rival, from) {
         return false;
     }
-    let writer = txn_of(events, order, txns, places, rival);
+    let writer = txn_of(survey, scene.txns, rival);
     if !is_committed(writer) {
         return false;
     }
-    if rival_cell(event, writer).is_none() {
+    if rival_cell(read.event, writer).is_none() {
         return false;
     }
-    sees(events, order, txns, places, pasts, reader, place, rival)
+    sees(survey, scene, read, rival)
 }

@@ -7,14 +7,16 @@ use Rattle.order_test.proofs.search.axiom_of.Goals as goal
 
 pub unreachable-requires : goal.unreachable-requires
 unreachable-requires c =
-    no_rival_from c.args.events.now c.args.order.now c.args.place c.args.event.now c.args.reader c.args.rival c.txn_of-writer.result.now c.requires.read c.requires.number.0
-    c.txn_of-writer.ensures c.in-None.ensures.none c.requires.rival.0 c.requires.rival.1
+    no_rival_from c.args.survey.now.events.now c.args.survey.now.order.now c.args.read.now.place c.args.read.now.event.now c.args.read.now.reader c.args.rival c.txn_of-writer.result.now
+    c.requires.read c.requires.number.0 c.txn_of-writer.ensures c.in-None.ensures.none c.requires.rival.0 c.requires.rival.1
 
 pub returns : goal.returns
 returns c =
-    subst (λ (cell : Cell). IsAxiomOf c.args.events.now c.args.order.now c.args.place (origin_of c.args.event.now) c.args.rival c.args.reader (unkept.Axiom (c.args.place + 1) c.origin.result c.args.rival c.args.reader cell))
+    subst (λ (cell : Cell). IsAxiomOf c.args.survey.now.events.now c.args.survey.now.order.now c.args.read.now.place (origin_of c.args.read.now.event.now) c.args.rival c.args.read.now.reader
+    (unkept.Axiom (c.args.read.now.place + 1) c.origin.result c.args.rival c.args.read.now.reader cell))
     (sym c.in_ok-copy-in-Some.ensures)
-    (subst (λ (from : ℕ). IsAxiomOf c.args.events.now c.args.order.now c.args.place (origin_of c.args.event.now) c.args.rival c.args.reader (unkept.Axiom (c.args.place + 1) from c.args.rival c.args.reader c.in-Some.cell.now))
+    (subst (λ (from : ℕ). IsAxiomOf c.args.survey.now.events.now c.args.survey.now.order.now c.args.read.now.place (origin_of c.args.read.now.event.now) c.args.rival c.args.read.now.reader
+    (unkept.Axiom (c.args.read.now.place + 1) from c.args.rival c.args.read.now.reader c.in-Some.cell.now))
     (sym c.origin.ensures)
-    (axiom_is c.args.events.now c.args.order.now c.args.place c.args.event.now c.args.reader c.args.rival c.txn_of-writer.result.now c.in-Some.cell.now c.requires.read c.requires.number.0
-    c.txn_of-writer.ensures c.requires.rival c.in-Some.ensures.some))
+    (axiom_is c.args.survey.now.events.now c.args.survey.now.order.now c.args.read.now.place c.args.read.now.event.now c.args.read.now.reader c.args.rival c.txn_of-writer.result.now
+    c.in-Some.cell.now c.requires.read c.requires.number.0 c.txn_of-writer.ensures c.requires.rival c.in-Some.ensures.some))

@@ -2,4 +2,4 @@ use Rattle.order_test.specs.Unkept.{IsKeptBelow}
 use Rattle.order_test.proofs.search.first_unreached.Given as goal
 
 abbrev pub invariant-loop-place : goal.invariant-loop-place
-invariant-loop-place l = IsKeptBelow l.events l.order l.place
+invariant-loop-place l = IsKeptBelow l.survey.events.now l.survey.order.now l.place

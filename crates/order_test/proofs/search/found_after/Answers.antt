@@ -9,17 +9,25 @@ pasts_of-requires-clause-some c = let some = c.requires.survey.glance_is.last.so
 
 pub pasts_of-requires-clause-within : goal.pasts_of-requires-clause-within
 pasts_of-requires-clause-within c =
-    let width : length c.args.glance.now.last.items ≡ c.len-width.result = let len = c.len-width.ensures in omega arith in
-    subst (λ (n : ℕ). AreWithin n c.args.events.now) width c.requires.survey.glance_is.last.within
+    let width : length c.args.survey.now.glance.now.last.items ≡ c.len-width.result = let len = c.len-width.ensures in omega arith in
+    subst (λ (n : ℕ). AreWithin n c.args.survey.now.events.now) width c.requires.survey.glance_is.last.within
 
 pub lists_of-requires-clause-within : goal.lists_of-requires-clause-within
 lists_of-requires-clause-within c =
-    let width : length c.args.glance.now.last.items ≡ c.len-width.result = let len = c.len-width.ensures in omega arith in
+    let width : length c.args.survey.now.glance.now.last.items ≡ c.len-width.result = let len = c.len-width.ensures in omega arith in
     subst (λ (n : ℕ). AreTxnsWithin n c.args.txns.now) width
-    (txns_within c.args.events.now (length c.args.glance.now.last.items) c.args.txns.now c.requires.survey.glance_is.last.within c.requires.scene.records)
+    (txns_within c.args.survey.now.events.now (length c.args.survey.now.glance.now.last.items) c.args.txns.now c.requires.survey.glance_is.last.within c.requires.txns)
 
-pub found_among-requires-clause-txns_within : goal.found_among-requires-clause-txns_within
-found_among-requires-clause-txns_within c =
-    let width : length c.args.glance.now.last.items ≡ c.len-width.result = let len = c.len-width.ensures in omega arith in
-    subst (λ (n : ℕ). AreTxnsWithin n c.args.txns.now) (width ∙ sym c.in_ok-lists.ensures.width)
-    (txns_within c.args.events.now (length c.args.glance.now.last.items) c.args.txns.now c.requires.survey.glance_is.last.within c.requires.scene.records)
+pub found_among-requires-clause-scene : goal.found_among-requires-clause-scene
+found_among-requires-clause-scene c =
+    let width : length c.args.survey.now.glance.now.last.items ≡ c.len-width.result = let len = c.len-width.ensures in omega arith in
+    record {
+      txns_are = c.requires.txns;
+      pasts_are = c.in_ok-pasts.ensures;
+      sessions = c.requires.sessions;
+      lists_are = c.in_ok-lists.ensures.lists;
+      firsts_are = c.in_ok-lists.ensures.firsts;
+      within =
+          subst (λ (n : ℕ). AreTxnsWithin n c.args.txns.now) (width ∙ sym c.in_ok-lists.ensures.width)
+          (txns_within c.args.survey.now.events.now (length c.args.survey.now.glance.now.last.items) c.args.txns.now c.requires.survey.glance_is.last.within c.requires.txns);
+    }

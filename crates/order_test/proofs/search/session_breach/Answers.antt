@@ -1,4 +1,4 @@
 use Rattle.order_test.proofs.search.session_breach.Goals as goal
 
-pub returns-then-glance-clause-none : goal.returns-then-glance-clause-none
-returns-then-glance-clause-none c = c.requires.keeps c.if-glance.true
+pub returns-then-survey-clause-none : goal.returns-then-survey-clause-none
+returns-then-survey-clause-none c = c.requires.survey.glance_is.keeps c.if-survey.true
