@@ -16,4 +16,4 @@ mod Taking
 mod Pursuing
 mod Writing
 mod Zeros
-pub mod Prepared
+mod Listed
