@@ -1,5 +1,5 @@
-mod Passes
-mod Somes
+pub mod Passes
+pub mod Somes
 mod Holding
 mod Answered
 mod Tables
@@ -16,3 +16,4 @@ mod Taking
 mod Pursuing
 mod Writing
 mod Zeros
+mod Listed

@@ -17,6 +17,7 @@ mod driving;
 mod end;
 mod ending;
 mod errors;
+mod fixed;
 mod kept;
 mod known;
 mod let_go;

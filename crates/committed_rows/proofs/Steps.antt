@@ -1,6 +1,6 @@
 -- The first session of a history, as it is opened, defines tables, and is closed.
 use Rattle.std.proofs.Common.{◌≡◌, ◌≢◌, ℕ, ◌+◌, ◌<◌, ◌≤◌, zero, suc, All, get_or, List, [], ◌∷◌, ◌++◌, Option, Some, None, Ok, Err, Result, length, map, take, arith, refl, ap, sym, ◌∙◌, subst, inl, inr, nat_le}
-use Rattle.std.specs.Prelude.{IfOk, IsErrAnd}
+use Rattle.std.specs.Prelude.{IfOk}
 use Rattle.std.specs.Bool.{if◌then◌else◌}
 use Rattle.std.specs.List.{Contains, slice_get}
 use Rattle.std.proofs.lemmas.Bool.{cases_lt}
@@ -18,7 +18,6 @@ use Rattle.sound_table.specs.Sound.{IsSound}
 use Rattle.history_core.specs.declared.event.Event.{Event}
 use Rattle.history_core.specs.declared.event.Event.TheVariants.{Open, Close, Define, Look}
 use Rattle.history_core.specs.declared.fault.BookFault.{BookFault}
-use Rattle.history_core.specs.declared.fault.BookFault.TheVariants.{Full}
 use Rattle.history_core.specs.declared.fault.DefineAnswer.{DefineAnswer}
 use Rattle.history_core.specs.declared.fault.DefineAnswer.TheVariants.{Defined, Taken}
 use Rattle.history_core.specs.declared.fault.Limit.{Limit}
@@ -74,12 +73,6 @@ module _ (old new : Past) (alone : OwnsAllThatComes old new) where
   no_event goes =
       let none : alone.added ≡ [] = append_cancel_left old.own alone.added [] (sym alone.own ∙ goes.own ∙ sym (append-nil old.own)) in
       alone.seen ∙ ap (λ (l : List Event). old.seen.events ++ l) none ∙ append-nil old.seen.events
-
--- the call is refused because the history is full
-pub fault_is : {A B : Type 0} (r : Result A BookFault) (given : Result B BookFault) (fault : BookFault) (limit : Limit) → r ≡ Err fault →
-    IsErrAnd given (λ e. e ≡ fault) → given ≡ Err (Full limit) → r ≡ Err (Full limit)
-fault_is r (Ok x) fault limit is gives same = absurd gives
-fault_is r (Err e) fault limit is gives same = let here : e ≡ Full limit = cc in is ∙ ap (λ (f : BookFault). Err f) (sym gives ∙ here)
 
 -- ---- opened
 

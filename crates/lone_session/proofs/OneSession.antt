@@ -24,7 +24,7 @@ use Rattle.history_core.proofs.Prefixes.{start_positive, sound_of, begun-push_ot
 use Rattle.history_core.proofs.Offers.{pending_unique, precedes_read}
 use Rattle.history_core.proofs.Next.{of_new}
 use Rattle.lone_session.specs.Passed.{MaySee}
-use Rattle.lone_session.proofs.Further.{writes_kept, precedes_kept, before_kept, before_back}
+use Rattle.saturation.proofs.After.{writes_kept, precedes_kept, before_kept, before_back}
 
 pub opened-take-le : (events : List Event) (i : ℕ) → opened (take i events) ≤ opened events
 opened-take-le events i = sum_by-take-le (λ e. cond (is_open_event e) 1 0) events i

@@ -28,7 +28,7 @@ use Rattle.session_core.specs.Replies.{no_encryption, startup_reply, fatal_reply
 use Rattle.session_core.specs.Told as told
 use Rattle.session_core.specs.Told.{outside_of, owed_by, stop_end, refusal_end, told as told_is}
 use Rattle.session_ends.proofs.Scripts.{Is, EndsIn, Holds, IsFit, ask_ends, tell_ends}
-use Rattle.session_ends.proofs.SessionsEnd.{broken_ends}
+use Rattle.session_ends.proofs.SessionsEnd.{broken_ends, write_ends}
 use Rattle.session_completeness.specs.Conversations.{IsReply, AreAnswered, none, replied, refused as is_refused, IsAnswer, opening, serving, discarding, Tells, TellsReady, Converses, IsClientsEnd, MessagesAreAnswered}
 use Rattle.session_completeness.proofs.Replied.{both_fine}
 use Rattle.session_completeness.proofs.Telling.{IsFine, IsOver, Adds, Told, Otherwise, told_more, lost_told, otherwise_told, ask_told, tell_told, short_told, opened_told}
@@ -62,13 +62,9 @@ done_otherwise end other said (e ∷ entries) = tt
 fit : IsFit Otherwise
 fit = record { lifts = λ e end entries h. h; unsent_is = λ n entries good. good }
 
-write_at : (said : Said) (entries : List Entry) → Holds (Is ends.WriteFault) entries (told.done ends.WriteFault said entries).1
-write_at said [] = refl
-write_at said (e ∷ entries) = tt
-
 fatal_otherwise : (state : SqlState) (end : End) → (IsClientsEnd end → ⊥) → EndsIn Otherwise (told.fatal state end)
 fatal_otherwise state end other =
-    tell_ends Otherwise fit (fatal_reply state) (told.done ends.WriteFault) (told.done end) (record { at = write_at }) (record { at = done_otherwise end other })
+    tell_ends Otherwise fit (fatal_reply state) (told.done ends.WriteFault) (told.done end) write_ends (record { at = done_otherwise end other })
 
 closed_otherwise : (end : End) → (IsClientsEnd end → ⊥) → EndsIn Otherwise (told.closed end)
 closed_otherwise (ends.Protocol fault) other = fatal_otherwise states.S08P01 (ends.Protocol fault) other

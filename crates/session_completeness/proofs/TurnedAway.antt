@@ -12,7 +12,7 @@ use Rattle.pg_framing.specs.declared.replies.TransactionState.TheVariants as blo
 use Rattle.block_machine.specs.Calls as calls
 use Rattle.block_machine.specs.Knowledge.{Knowledge, at_start}
 use Rattle.block_machine.specs.Messages.{owed_between, block_at, message as told_message}
-use Rattle.block_machine.specs.Script.{Entry, did, refused, short, unsent, stop, Said, Next, more, call, ended, astray, Script, lost, with_bytes, with_call, on_opened, tell, unless_short, unless_unsent}
+use Rattle.block_machine.specs.Script.{Entry, did, refused, short, unsent, stop, Said, Next, more, call, ended, astray, Script, lost, with_bytes, with_call, tell, unless_short, unless_unsent}
 use Rattle.block_machine.specs.declared.block.Owed.{Owed}
 use Rattle.block_machine.specs.declared.block.Owed.TheVariants as owes
 use Rattle.block_machine.specs.declared.call.Answer.{Answer}
@@ -27,11 +27,11 @@ use Rattle.session_core.specs.declared.phase.Phase.TheVariants as phases
 use Rattle.session_core.specs.Requests.{Request, encryption, cancel, start, userless, version, query, unread_query, terminate, sync, nothing, extended, function, Requests, asks, partial, faulty, unread}
 use Rattle.session_core.specs.Replies.{no_encryption, startup_reply, fatal_reply}
 use Rattle.session_core.specs.Told as told
-use Rattle.session_core.specs.Told.{outside_of, owed_by, stop_end, refusal_end, told as told_is}
+use Rattle.session_core.specs.Told.{outside_of, owed_by, stop_end, told as told_is}
 use Rattle.session_ends.proofs.Scripts.{Why, Is, IsFit, Holds, EndsIn, lost_ends, ask_ends, tell_ends, short_ends, after_short}
 use Rattle.session_ends.proofs.StatementsEnd.{fails}
 use Rattle.session_ends.proofs.MessagesEnd.{Encloses, readied, message}
-use Rattle.session_ends.proofs.SessionsEnd.{broken_ends}
+use Rattle.session_ends.proofs.SessionsEnd.{broken_ends, write_at, write_ends, opened}
 
 -- ---- any other end
 
@@ -51,13 +51,6 @@ done_at end other said (e ∷ entries) = tt
 
 done_other : (end : End) → IsOther end → EndsIn Other (told.done end)
 done_other end other = record { at = done_at end other }
-
-write_at : (said : Said) (entries : List Entry) → Holds (Is ends.WriteFault) entries (told.done ends.WriteFault said entries).1
-write_at said [] = refl
-write_at said (e ∷ entries) = tt
-
-write_ends : EndsIn (Is ends.WriteFault) (told.done ends.WriteFault)
-write_ends = record { at = write_at }
 
 fatal_other : (state : SqlState) (end : End) → IsOther end → EndsIn Other (told.fatal state end)
 fatal_other state end other = tell_ends Other fit (fatal_reply state) (told.done ends.WriteFault) (told.done end) write_ends (done_other end other)
@@ -250,9 +243,6 @@ closes said (unsent n ∷ entries) all is =
 closes said (stop cause ∷ entries) all is = absurd (subst (λ (x : Said × Next). IsEndedSo x.1) (sym is) tt)
 
 -- the session that is opened, or the refusal
-abbrev opened : Script → Answer → Script
-opened rest a = on_opened a (λ session. told.tells_startup session rest) (λ why. told.closed (refusal_end why))
-
 tells_startup : (session : ℕ) (rest : Script) → EndsIn Other rest → EndsIn Other (told.tells_startup session rest)
 tells_startup session rest h =
     short_ends Other true (told.closing ends.Memory) _ (after_short Other fit true (told.closing ends.Memory) (closing_other ends.Memory tt))

@@ -96,11 +96,11 @@ or_is_fit end = record {
 fit_write : IsFit (Is ends.WriteFault)
 fit_write = record { lifts = λ e found entries h. h; unsent_is = λ n entries. refl }
 
-write_at : (said : Said) (entries : List Entry) → Holds (Is ends.WriteFault) entries (told.done ends.WriteFault said entries).1
+pub write_at : (said : Said) (entries : List Entry) → Holds (Is ends.WriteFault) entries (told.done ends.WriteFault said entries).1
 write_at said [] = refl
 write_at said (e ∷ entries) = tt
 
-write_ends : EndsIn (Is ends.WriteFault) (told.done ends.WriteFault)
+pub write_ends : EndsIn (Is ends.WriteFault) (told.done ends.WriteFault)
 write_ends = record { at = write_at }
 
 broken_closing : EndsIn (Is ends.WriteFault) (told.closing ends.WriteFault)
@@ -184,7 +184,7 @@ tells_startup requests session rest h =
     (tell_ends (By requests) (by_is_fit requests) (startup_reply session) (told.broken owes.Close) rest (broken_ends owes.Close) h)
 
 -- the session that is opened, or the refusal
-abbrev opened : Script → Answer → Script
+abbrev pub opened : Script → Answer → Script
 opened rest a = on_opened a (λ session. told.tells_startup session rest) (λ why. told.closed (refusal_end why))
 
 opened_at : (requests : Requests) (rest : Script) → EndsIn (By requests) rest → (a : Answer) (event : Event) (said : Said) (entries : List Entry) →

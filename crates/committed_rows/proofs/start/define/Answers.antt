@@ -1,4 +1,5 @@
-use Rattle.committed_rows.proofs.Steps.{defines, define_full, fault_is}
+use Rattle.committed_rows.proofs.Steps.{defines, define_full}
+use Rattle.valid_writes.proofs.Legality.{fault_is}
 use Rattle.committed_rows.proofs.start.define.Goals as goal
 
 pub returns-clause-ok : goal.returns-clause-ok

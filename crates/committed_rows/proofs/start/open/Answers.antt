@@ -1,4 +1,5 @@
-use Rattle.committed_rows.proofs.Steps.{opens, open_has_room, fault_is}
+use Rattle.committed_rows.proofs.Steps.{opens, open_has_room}
+use Rattle.valid_writes.proofs.Legality.{fault_is}
 use Rattle.committed_rows.proofs.start.open.Goals as goal
 
 pub returns-clause-ok : goal.returns-clause-ok
