@@ -8,7 +8,7 @@
 #![tactic(auto)]
 
 #[cfg(test)]
-mod held;
+mod agreed;
 #[cfg(test)]
 mod matrices;
 #[cfg(test)]

@@ -2,8 +2,9 @@
 
 ghost use Rattle.std.specs.Prelude.{◌<◌, length};
 
-use crate::held::{agree, alone};
+use crate::agreed::agree;
 use bit_rows::{BitMatrix, ROW_BITS, Row};
+use held_values::without;
 use std::alloc::{AllocError, Global};
 use std::test::Fail;
 
@@ -76,7 +77,7 @@ fn count_of(matrix: &BitMatrix, alloc: Global, number: u32) -> Result<u32, Alloc
     row.set(65_535);
     matrix.copy_to(number, &mut row);
     let count = row.count();
-    Ok(alone(row, count))
+    Ok(without(row, count))
 }
 
 /// What is found of a row of the matrix; none where there is no such row.
@@ -121,7 +122,7 @@ fn go_through(alloc: Global, matrix: &mut BitMatrix, parts: &[&[Step]]) -> Resul
 fn play(alloc: Global, parts: &[&[Step]]) -> Result<(), Fail> {
     let mut matrix = BitMatrix::new(alloc);
     let taken = go_through(alloc, &mut matrix, parts);
-    alone(matrix, taken)
+    without(matrix, taken)
 }
 
 const MATRIX: &[Step] = &[

@@ -1,7 +1,8 @@
 //! Rows: lengths, unions, common members and counts.
 
-use crate::held::{agree, alone, both};
+use crate::agreed::agree;
 use bit_rows::{ROW_BITS, Row};
+use held_values::{both, without};
 use std::alloc::{AllocError, Global};
 use std::test::Fail;
 
@@ -66,13 +67,13 @@ fn row_of(alloc: Global, bits: &[u32]) -> Result<Row, AllocError> {
 fn or(alloc: Global, row: &mut Row, bits: &[u32]) -> Result<bool, AllocError> {
     let other = row_of(alloc, bits)?;
     row.or_into(&other);
-    Ok(alone(other, true))
+    Ok(without(other, true))
 }
 
 fn copy(alloc: Global, row: &mut Row, bits: &[u32]) -> Result<bool, AllocError> {
     let other = row_of(alloc, bits)?;
     row.copy_from(&other);
-    Ok(alone(other, true))
+    Ok(without(other, true))
 }
 
 /// Whether the number is a member; no where it isn't below `ROW_BITS`.
@@ -102,7 +103,7 @@ fn has_only(row: &Row, bits: &[u32]) -> bool {
 fn meets(alloc: Global, row: &Row, bits: &[u32], wanted: bool) -> Result<bool, AllocError> {
     let other = row_of(alloc, bits)?;
     let meets = row.meets(&other);
-    Ok(alone(other, meets == wanted))
+    Ok(without(other, meets == wanted))
 }
 
 fn and_any(
@@ -114,7 +115,7 @@ fn and_any(
 ) -> Result<bool, AllocError> {
     let (left, right) = both(row_of(alloc, left), row_of(alloc, right))?;
     let meet = row.and_any(&left, &right);
-    Ok(alone((left, right), meet == wanted))
+    Ok(without((left, right), meet == wanted))
 }
 
 /// Whether what is to come of the step does.
@@ -144,7 +145,7 @@ fn go_on(alloc: Global, row: &mut Row, steps: &[Step]) -> Result<(), Fail> {
 fn play(alloc: Global, bits: &[u32], steps: &[Step]) -> Result<(), Fail> {
     let mut row = row_of(alloc, bits)?;
     let taken = go_on(alloc, &mut row, steps);
-    alone(row, taken)
+    without(row, taken)
 }
 
 const EMPTY: Bits = &[];

@@ -20,7 +20,6 @@ mod errors;
 mod fixed;
 mod kept;
 mod known;
-mod let_go;
 mod message;
 mod message_runner;
 pub mod parameters;

@@ -5,10 +5,10 @@ ghost use Rattle.block_machine.specs.Replies.{ready_reply, error_reply, bytes_of
 
 use crate::errors::Errors;
 use crate::fixed::FixedReplies;
-use crate::let_go::beside;
 use crate::ready::ReadyReplies;
 use crate::reply::StatementReply;
 use cell_base::{Memory, SqlState};
+use held_values::beside;
 use pg_framing::TransactionState;
 use std::alloc::Global;
 

@@ -1,10 +1,10 @@
 //! The buffer.
 
 use crate::cells::{COLUMNS, cell};
-use crate::held::alone;
 use crate::measured::{Writes, measure};
 use anyhow::Result;
 use cell_base::{Memory, Value};
+use held_values::without;
 use std::time::CpuClock;
 use txn_buffer::TxnBuffer;
 
@@ -33,7 +33,7 @@ impl Writes for TxnBuffer {
 fn is_there(buffer: &TxnBuffer, place: u32) -> bool {
     let cell = cell(place);
     let is_there = buffer.get(&cell).is_some();
-    alone(cell, is_there)
+    without(cell, is_there)
 }
 
 fn fill_twice(buffer: &mut TxnBuffer, count: u32) -> Result<(), Memory> {
@@ -51,7 +51,7 @@ fn counts(buffer: &mut TxnBuffer, count: u32) -> Result<(usize, u32), Memory> {
 pub(crate) fn show(rt: &(impl Print + AllocGlobal), rows: u32) -> Result<()> {
     let mut buffer = TxnBuffer::new(rt.alloc());
     let counted = counts(&mut buffer, rows.saturating_mul(COLUMNS));
-    let (writes, found) = alone(buffer, counted)?;
+    let (writes, found) = without(buffer, counted)?;
     println!(rt; "{writes} writes, {found} found")?;
     Ok(())
 }
@@ -63,5 +63,5 @@ pub(crate) fn measure_buffer(
 ) -> Result<()> {
     let mut buffer = TxnBuffer::new(rt.alloc());
     let measured = measure(rt, "buffer", &mut buffer, rows);
-    alone(buffer, measured)
+    without(buffer, measured)
 }

@@ -12,7 +12,6 @@ use std::time::CpuClock;
 
 mod buffered;
 mod cells;
-mod held;
 mod measured;
 mod meter;
 mod walked;

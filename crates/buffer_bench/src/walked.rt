@@ -1,10 +1,10 @@
 //! A list of cells and values that is walked, as the buffer was kept at first.
 
 use crate::cells::cell;
-use crate::held::{alone, put};
 use crate::measured::{Writes, measure};
 use anyhow::Result;
 use cell_base::{Cell, Memory, Value};
+use held_values::{put, without};
 use std::time::CpuClock;
 
 /// The list.
@@ -18,7 +18,7 @@ fn put_at(list: &mut Vec<(Cell, Value)>, cell: Cell, value: Value) -> Result<(),
     for entry in list.iter_mut() {
         if entry.0 == cell {
             put(&mut entry.1, value);
-            return alone(cell, Ok(()));
+            return without(cell, Ok(()));
         }
     }
     list.push((cell, value))?;
@@ -28,7 +28,7 @@ fn put_at(list: &mut Vec<(Cell, Value)>, cell: Cell, value: Value) -> Result<(),
 fn is_there(list: &[(Cell, Value)], place: u32) -> bool {
     let cell = cell(place);
     let is_there = list.iter().any(|entry| entry.0 == cell);
-    alone(cell, is_there)
+    without(cell, is_there)
 }
 
 impl Writes for Walked {
@@ -59,5 +59,5 @@ pub(crate) fn measure_list(
         entries: Vec::new(rt.alloc()),
     };
     let measured = measure(rt, "list", &mut list, rows);
-    alone(list, measured)
+    without(list, measured)
 }

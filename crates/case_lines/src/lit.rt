@@ -1,8 +1,8 @@
 // Constants of cases.
 ghost use Rattle.std.specs.Prelude.{◌≡◌, IfOk};
 
-use crate::held::kept;
 use cell_base::{Items, Memory, Text, Value};
+use held_values::kept;
 use std::alloc::Global;
 
 /// A constant.

@@ -3,8 +3,8 @@ ghost use Rattle.std.specs.Prelude.{◌≡◌, true};
 ghost use Rattle.typing_parts.specs.Narrow.{AreFewAndNarrow};
 
 use crate::reading::read;
-use case_lines::kept;
 use cell_base::{Items, Memory, SqlFault};
+use held_values::kept;
 use sql_statements::ParseFault;
 use sql_tree::{Statement, Table};
 use std::alloc::Global;

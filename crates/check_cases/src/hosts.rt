@@ -3,9 +3,9 @@ ghost use Rattle.std.specs.Prelude.{◌≡◌, ◌<◌, IfOk};
 ghost use Rattle.link_traits.specs.Host.{objects_out};
 ghost use Rattle.link_traits.specs.Hosts.{mem_hosted};
 
-use crate::held::{alone, both, kept};
 use cell_base::{Items, Memory, Text};
 use check_command::check_file;
+use held_values::{both, kept, without};
 use link_traits::{HostFile, MemHost, MemPlan, MemReturned, MemSink};
 use std::alloc::Global;
 
@@ -96,12 +96,12 @@ fn prints_line(host: &mut MemHost, alloc: Global, code: u8, line: &[u8]) -> Resu
 pub fn prints(alloc: Global, log: &[u8], code: u8, line: &[u8]) -> Result<bool, Memory> {
     let mut host = host(alloc, log, Fails::Nothing)?;
     let right = prints_line(&mut host, alloc, code, line);
-    alone(host, right)
+    without(host, right)
 }
 
 /// Whether the check of a path ends with this status where this fails, and prints nothing.
 pub fn ends_with(alloc: Global, path: &[u8], fails: Fails, code: u8) -> Result<bool, Memory> {
     let mut host = host(alloc, b"monkey-log 2 rc\norder 0\nend\n", fails)?;
     let right = ends(&mut host, alloc, path, code, b"");
-    alone(host, right)
+    without(host, right)
 }

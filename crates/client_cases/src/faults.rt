@@ -1,8 +1,9 @@
 // Each fault at the byte that shows it.
-use crate::held::{alone, right_at};
+use crate::rows::right_at;
 use crate::reading::{STARTUP, Seen, joined, see};
 use cell_base::Memory;
 use client_framing::FrameFault;
+use held_values::without;
 use std::alloc::Global;
 use std::test::Fail;
 
@@ -81,14 +82,14 @@ fn is_shown(
 fn see_longer(alloc: Global, stream: &[u8]) -> Result<Seen, Memory> {
     let longer = joined(alloc, &[stream, STARTUP])?;
     let seen = see(alloc, 7, &longer);
-    alone(longer, seen)
+    without(longer, seen)
 }
 
 // The same after the startup of user `a`.
 fn is_shown_after_startup(alloc: Global, bytes: &[u8], fault: FrameFault) -> Result<bool, Memory> {
     let stream = joined(alloc, &[STARTUP, bytes])?;
     let answer = is_shown(alloc, &stream, 1, fault);
-    alone(stream, answer)
+    without(stream, answer)
 }
 
 fn openings_are_judged(alloc: Global) -> Result<(), Fail> {

@@ -1,5 +1,5 @@
 // Each length from 0 of each type of message, and of each code before the startup's end.
-use crate::held::right_at;
+use crate::rows::right_at;
 use crate::reading::{STARTUP, Seen, see_parts};
 use cell_base::Memory;
 use client_framing::FrameFault;

@@ -9,7 +9,7 @@
 #[cfg(test)]
 mod faults;
 #[cfg(test)]
-mod held;
+mod rows;
 #[cfg(test)]
 mod lengths;
 #[cfg(test)]

@@ -1,7 +1,7 @@
 // A stream in pieces, and what is read from it in words.
-use crate::held::{alone, kept};
 use cell_base::{Items, Memory};
 use client_framing::{CopyMessage, Extended, FrameFault, FrontendMessage, Split, split_stream};
+use held_values::{kept, without};
 use std::alloc::Global;
 
 /// The startup of user `a`, 16 bytes.
@@ -30,7 +30,7 @@ fn pieces_of(alloc: Global, stream: &[u8], size: usize) -> Result<Items<Items<u8
 pub fn read(alloc: Global, size: usize, stream: &[u8]) -> Result<Split, Memory> {
     let pieces = pieces_of(alloc, stream, size)?;
     let split = split_stream(alloc, pieces.as_slice());
-    alone(pieces, split)
+    without(pieces, split)
 }
 
 fn push_parts(stream: &mut Vec<u8>, parts: &[&[u8]]) -> Result<(), Memory> {
@@ -97,14 +97,14 @@ fn seen_of(split: &Split) -> Seen {
 pub fn see(alloc: Global, size: usize, stream: &[u8]) -> Result<Seen, Memory> {
     let split = read(alloc, size, stream)?;
     let seen = seen_of(&split);
-    Ok(alone(split, seen))
+    Ok(without(split, seen))
 }
 
 /// What is seen of the stream of these parts, byte by byte.
 pub fn see_parts(alloc: Global, parts: &[&[u8]]) -> Result<Seen, Memory> {
     let stream = joined(alloc, parts)?;
     let seen = see(alloc, 1, &stream);
-    alone(stream, seen)
+    without(stream, seen)
 }
 
 /// A message's name.

@@ -1,8 +1,9 @@
 // Streams of many messages in any pieces, and messages at the limits.
-use crate::held::{alone, kept, right_at};
+use crate::rows::right_at;
 use crate::reading::{STARTUP, name_of, read, see, told};
 use cell_base::Memory;
 use client_framing::{FrameFault, Frames, Split};
+use held_values::{kept, without};
 use std::alloc::Global;
 use std::test::Fail;
 
@@ -18,14 +19,14 @@ const ALL_TOLD: &[u8] =
 fn is_all(alloc: Global, split: &Split) -> Result<bool, Memory> {
     let words = told(alloc, split.messages.as_slice())?;
     let same = words.as_slice() == ALL_TOLD;
-    Ok(alone(words, same) && split.rest == 3 && split.fault == None)
+    Ok(without(words, same) && split.rest == 3 && split.fault == None)
 }
 
 // Whether all messages are read in pieces of this size.
 fn all_are_read(alloc: Global, size: usize) -> Result<bool, Memory> {
     let split = read(alloc, size, ALL)?;
     let is_all = is_all(alloc, &split);
-    alone(split, is_all)
+    without(split, is_all)
 }
 
 // A long stream: what stands before its last message, how that begins, how many times `a` comes then, and how it ends; how many messages the
@@ -100,7 +101,7 @@ fn is_read_so(alloc: Global, stream: &[u8], long: &Long) -> Result<bool, Memory>
 fn is_read(alloc: Global, long: &Long) -> Result<bool, Memory> {
     let stream = long_stream(alloc, long)?;
     let is_read = is_read_so(alloc, &stream, long);
-    alone(stream, is_read)
+    without(stream, is_read)
 }
 
 fn longest_are_read(alloc: Global) -> Result<(), Fail> {
@@ -115,7 +116,7 @@ fn next_name(frames: &mut Frames) -> Result<&'static [u8], FrameFault> {
     match frames.next()? {
         Some(message) => {
             let name = name_of(&message);
-            Ok(alone(message, name))
+            Ok(without(message, name))
         }
         None => Ok(b"nothing"),
     }
@@ -138,7 +139,7 @@ fn is_taken(frames: &mut Frames) -> Result<bool, FrameFault> {
 fn one_piece_is_taken(alloc: Global) -> Result<bool, FrameFault> {
     let mut frames = Frames::new(alloc);
     let is_taken = is_taken(&mut frames);
-    alone(frames, is_taken)
+    without(frames, is_taken)
 }
 
 fn any_pieces_are_read(alloc: Global) -> Result<(), Fail> {

@@ -3,9 +3,10 @@ ghost use Rattle.std.specs.Prelude.{◌≡◌, IfOk, OnOk};
 ghost use Rattle.sound_table.specs.Sound.{IsSound};
 ghost use Rattle.history_core.specs.Book.{no_session, IsIdle};
 
-use crate::held::{alone, right};
+use crate::held::right;
 use cell_base::{Level, Memory};
 use created_tables::table_of;
+use held_values::without;
 use history_core::{Book, BookFault, DefineAnswer, Event, History, InitialState, Limit};
 use sql_tree::Table;
 use std::alloc::Global;
@@ -116,5 +117,5 @@ fn defines_all(alloc: Global, book: &mut SeatBook) -> Result<bool, BookFault>
 fn refuses_a_table_beyond_the_last(rt: HostRuntime) -> Result<(), Fail> {
     let mut book = new_book(rt.alloc())?;
     let defines_all = defines_all(rt.alloc(), &mut book);
-    right("definitions", alone(book, defines_all)?)
+    right("definitions", without(book, defines_all)?)
 }

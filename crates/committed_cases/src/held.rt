@@ -5,17 +5,6 @@ use cell_base::Memory;
 use history_core::BookFault;
 use std::test::Fail;
 
-/// What is held, if the step could be taken.
-pub fn kept<T: Drop>(held: T, step: Result<(), BookFault>) -> Result<T, BookFault> {
-    step?;
-    Ok(held)
-}
-
-/// The answer, without what it was asked of.
-pub fn alone<T: Drop, A>(_held: T, answer: A) -> A {
-    answer
-}
-
 /// A call that can't be made, once what it was to be made with is let go.
 pub fn refused<T: Drop>(_held: T) -> Result<(), BookFault>
     ensures { IsErr result }

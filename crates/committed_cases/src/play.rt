@@ -5,9 +5,10 @@ ghost use Rattle.history_core.specs.Initial.{IsStorable};
 ghost use Rattle.history_core.specs.Book.{no_session, IsIdle, IsInTransaction, HasTable};
 
 use crate::cells::{Put, cell_of, value_of};
-use crate::held::{alone, kept, refused};
+use crate::held::refused;
 use cell_base::{Cell, Level, Value};
 use created_tables::table_of;
+use held_values::{kept, without};
 use history_core::{Book, BookFault, InitialState};
 use std::alloc::Global;
 use valid_writes::{SeatBook, Store};
@@ -67,7 +68,7 @@ fn define(alloc: Global, book: &mut SeatBook, text: &[u8]) -> Result<(), BookFau
 {
     let table = table_of(alloc, text)?;
     let answer = book.define(&table);
-    alone(table, answer)?;
+    without(table, answer)?;
     Ok(())
 }
 

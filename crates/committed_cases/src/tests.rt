@@ -1,9 +1,10 @@
 // What is committed at the end, and what starts with it.
 use crate::cells::{Put, Row, are_cells};
-use crate::held::{alone, none, right, some};
+use crate::held::{none, right, some};
 use crate::play::{Transaction, played};
 use cell_base::{Cell, Level, Value};
 use committed_rows::{committed_rows, start_after};
+use held_values::without;
 use history_core::{BookFault, Event, History};
 use std::alloc::Global;
 use std::test::Fail;
@@ -100,14 +101,14 @@ fn are_rows(alloc: Global, cells: &[(Cell, Value)]) -> Result<bool, BookFault> {
 fn ends_with_rows(alloc: Global, history: &History) -> Result<bool, BookFault> {
     let cells = committed_rows(alloc, history)?;
     let are_rows = are_rows(alloc, cells.as_slice());
-    alone(cells, are_rows)
+    without(cells, are_rows)
 }
 
 /// Whether the rows are found at the end.
 fn finds_rows(alloc: Global) -> Result<bool, BookFault> {
     let store = all_played(alloc)?;
     let ends_with_rows = ends_with_rows(alloc, store.history());
-    alone(store, ends_with_rows)
+    without(store, ends_with_rows)
 }
 
 /// Whether the event opens session 1, defines the table of the name in it, or closes it.
@@ -142,7 +143,7 @@ fn started(alloc: Global, level: Level, setup: &History) -> Result<Store, BookFa
 fn starts_with_rows(alloc: Global, level: Level, setup: &History) -> Result<bool, BookFault> {
     let store = started(alloc, level, setup)?;
     let has_rows = has_rows(alloc, level, store.history());
-    alone(store, has_rows)
+    without(store, has_rows)
 }
 
 /// Whether the history begins with the rows and the tables.
@@ -164,21 +165,21 @@ fn has_rows_twice(alloc: Global, level: Level, history: &History) -> Result<bool
 fn starts_from(alloc: Global, setup: &History) -> Result<bool, BookFault> {
     let store = started(alloc, Level::Ra, setup)?;
     let has_rows = has_rows_twice(alloc, Level::Ra, store.history());
-    alone(store, has_rows)
+    without(store, has_rows)
 }
 
 /// Whether what starts after what was played has the rows, and what starts after that.
 fn starts_twice(alloc: Global) -> Result<bool, BookFault> {
     let setup = all_played(alloc)?;
     let starts = starts_from(alloc, setup.history());
-    alone(setup, starts)
+    without(setup, starts)
 }
 
 /// Whether nothing starts after a row without its field.
 fn half_a_row_is_refused(alloc: Global) -> Result<bool, BookFault> {
     let setup = played(alloc, HALF)?;
     let refused = none(start_after(alloc, Level::Cc, setup.history()));
-    alone(setup, refused)
+    without(setup, refused)
 }
 
 #[test]

@@ -1,5 +1,7 @@
-//! No tests, but a library of those: values that are held over a step that may fail, or let go, whatever they hold. What lets go of a store, a
-//! history or a table costs much to check wherever it stands, so they are let go here.
+//! Values that are held over a step that may fail, handed on, or let go, whatever they hold.
+//!
+//! Where a function holds a value and answers a fault, it lets go of the value there. What lets go of a store, a history, a tree or a table costs
+//! much to check wherever it stands, so it is done here, once for all types.
 #![tactic(auto)]
 
 ghost use Rattle.std.specs.Prelude.{◌≡◌, Ok, Err, IfOk, OnOk, IfErr, IsOk};
@@ -28,6 +30,19 @@ pub fn beside<T: Drop, U, E>(held: T, step: Result<U, E>) -> Result<(T, U), E>
     }
 }
 
+/// Both, if both could be made.
+pub fn both<A: Drop, B: Drop, E: Drop>(
+    first: Result<A, E>,
+    second: Result<B, E>,
+) -> Result<(A, B), E>
+    ensures left { IfOk result (λ both. first ≡ Ok both.0) }
+    ensures right { IfOk result (λ both. second ≡ Ok both.1) }
+{
+    let a = first?;
+    let b = second?;
+    Ok((a, b))
+}
+
 /// The answer, once what was asked is let go.
 pub fn without<T: Drop, A>(asked: T, answer: A) -> A
     ensures { result ≡ answer }
@@ -45,4 +60,11 @@ pub fn let_go<T: Drop, E>(step: Result<T, E>) -> Result<(), E>
         Ok(_given) => Ok(()),
         Err(fault) => Err(fault),
     }
+}
+
+/// Puts a value in the place of another, which is let go.
+pub fn put<T: Drop>(place: &mut T, value: T)
+    ensures { place.new ≡ value }
+{
+    *place = value;
 }

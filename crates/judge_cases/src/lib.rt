@@ -10,8 +10,6 @@ mod breaches;
 #[cfg(test)]
 mod events;
 #[cfg(test)]
-mod held;
-#[cfg(test)]
 mod levels;
 #[cfg(test)]
 mod verdict;

@@ -1,5 +1,5 @@
 // What is printed of a text, and of texts in which one line is another.
-use crate::held::{alone, kept};
+use held_values::{kept, without};
 use history_check::{CheckFault, check, check_events};
 use history_log::{Trace, read};
 use std::alloc::{AllocError, Global};
@@ -54,7 +54,7 @@ fn judges(alloc: Global, trace: &Trace, wanted: &str) -> bool {
     }
     let found = check(alloc, trace);
     let is_so = is_said(alloc, &found, wanted);
-    alone(found, is_so)
+    without(found, is_so)
 }
 
 // Whether the judge says this of the events of the trace.
@@ -64,7 +64,7 @@ fn judges_events(alloc: Global, trace: &Trace, wanted: &str) -> bool {
     }
     let found = check_events(alloc, trace);
     let is_so = is_said(alloc, &found, wanted);
-    alone(found, is_so)
+    without(found, is_so)
 }
 
 // Whether this is said of the text.
@@ -72,7 +72,7 @@ fn says(alloc: Global, text: &str, wanted: &str) -> bool {
     match read(alloc, text.as_bytes()) {
         Ok(trace) => {
             let is_so = judges(alloc, &trace, wanted);
-            alone(trace, is_so)
+            without(trace, is_so)
         }
         Err(_) => false,
     }
@@ -83,7 +83,7 @@ fn says_of_events(alloc: Global, text: &str, wanted: &str) -> bool {
     match read(alloc, text.as_bytes()) {
         Ok(trace) => {
             let is_so = judges_events(alloc, &trace, wanted);
-            alone(trace, is_so)
+            without(trace, is_so)
         }
         Err(_) => false,
     }

@@ -1,7 +1,7 @@
 // The lines before and after the events: initial lines, and the order.
 use crate::events::is_shown;
-use crate::held::alone;
 use cell_base::Memory;
+use held_values::without;
 use history_log::read;
 use std::alloc::Global;
 use std::fmt::Display;
@@ -119,7 +119,7 @@ fn has_order(alloc: Global, text: &[u8], wanted: &str) -> bool {
     match read(alloc, text) {
         Ok(trace) => {
             let is_so = is_shown(alloc, &trace.order, wanted);
-            alone(trace, is_so)
+            without(trace, is_so)
         }
         Err(fault) => is_printed(alloc, &fault, wanted),
     }
@@ -130,7 +130,7 @@ fn has_rows(alloc: Global, text: &[u8], wanted: &str) -> bool {
     match read(alloc, text) {
         Ok(trace) => {
             let is_so = is_shown(alloc, &trace.initial, wanted);
-            alone(trace, is_so)
+            without(trace, is_so)
         }
         Err(fault) => is_printed(alloc, &fault, wanted),
     }

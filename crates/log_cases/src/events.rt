@@ -1,7 +1,7 @@
 // Lines of events: by themselves, and inside a whole text.
-use crate::held::alone;
 use crate::lines::{cells, forms, integers, keys, kinds, numbers, values};
 use cell_base::{Level, Memory};
+use held_values::without;
 use history_log::{LogFault, Misread, Version, read, read_event};
 use std::alloc::Global;
 use std::fmt::Debug;
@@ -20,7 +20,7 @@ fn reads(alloc: Global, version: Version, head: Level, line: &str, event: &str) 
     match read_event(alloc, version, head, line.as_bytes()) {
         Ok(found) => {
             let is_so = is_shown(alloc, &found, event);
-            alone(found, is_so)
+            without(found, is_so)
         }
         Err(fault) => fault == Misread::Form && event == "none",
     }
@@ -39,7 +39,7 @@ fn has_third(alloc: Global, text: &[u8], event: &str) -> bool {
     match read(alloc, text) {
         Ok(trace) => {
             let is_so = is_third(alloc, trace.events.as_slice(), event);
-            alone(trace, is_so)
+            without(trace, is_so)
         }
         Err(fault) => fault == LogFault::Line(3) && event == "none",
     }

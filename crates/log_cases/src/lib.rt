@@ -12,8 +12,6 @@ mod events;
 #[cfg(test)]
 mod faults;
 #[cfg(test)]
-mod held;
-#[cfg(test)]
 mod lines;
 #[cfg(test)]
 mod texts;

@@ -1,6 +1,6 @@
 // Texts that are read and printed again.
-use crate::held::alone;
 use cell_base::Memory;
+use held_values::without;
 use history_log::{print, read};
 use std::alloc::Global;
 
@@ -24,7 +24,7 @@ fn prints(alloc: Global, text: &[u8], wanted: &[u8]) -> bool {
                 trace.order.as_slice(),
             );
             let is_so = is_text(&printed, wanted);
-            alone((printed, trace), is_so)
+            without((printed, trace), is_so)
         }
         Err(_) => false,
     }

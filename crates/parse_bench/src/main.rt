@@ -10,7 +10,6 @@ use std::env;
 use std::rt::Env;
 use std::time::CpuClock;
 
-mod held;
 mod reading;
 mod texts;
 

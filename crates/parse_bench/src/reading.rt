@@ -2,10 +2,10 @@
 
 ghost use Rattle.std.specs.Prelude.{◌<◌, ◌^◌, length};
 
-use crate::held::alone;
 use crate::texts;
 use anyhow::Result;
 use cell_base::Text;
+use held_values::without;
 use sql_statements::statements;
 use std::alloc::{AllocError, Global};
 use std::io;
@@ -26,7 +26,7 @@ fn count(alloc: Global, text: &Text) -> usize
     match statements(alloc, text) {
         Ok(found) => {
             let number = found.len();
-            alone(found, number)
+            without(found, number)
         }
         Err(_) => 0,
     }
@@ -54,7 +54,7 @@ fn speed(rt: &impl CpuClock, start: Duration, bytes: u64) -> io::Result<u64> {
 fn count_once(alloc: Global, spelled: &str) -> Result<usize, AllocError> {
     let text = text_of(alloc, spelled)?;
     let found = count_often(alloc, &text, 1);
-    Ok(alone(text, found))
+    Ok(without(text, found))
 }
 
 /// The long text, read once.
@@ -62,7 +62,7 @@ pub(crate) fn show(rt: &(impl Print + AllocGlobal)) -> Result<()> {
     let long = texts::long(rt.alloc())?;
     let bytes = long.len();
     let counted = count_once(rt.alloc(), long.as_str());
-    let found = alone(long, counted)?;
+    let found = without(long, counted)?;
     println!(rt; "{found} statements in {bytes} bytes")?;
     Ok(())
 }
@@ -88,14 +88,14 @@ fn time_spelled<R: CpuClock + AllocGlobal>(
 ) -> Result<(usize, u64)> {
     let text = text_of(rt.alloc(), spelled)?;
     let timed = time_text(rt, &text, spelled.len() as u64, times);
-    alone(text, timed)
+    without(text, timed)
 }
 
 /// The long text, read so many times.
 fn measure_long(rt: &(impl CpuClock + Print + AllocGlobal), rounds: u32) -> Result<()> {
     let long = texts::long(rt.alloc())?;
     let timed = time_spelled(rt, long.as_str(), rounds);
-    let (found, whole) = alone(long, timed)?;
+    let (found, whole) = without(long, timed)?;
     println!(rt; "one text: {found} statements read, {whole} MB/s")?;
     Ok(())
 }
@@ -108,7 +108,7 @@ fn measure_short(
 ) -> Result<()> {
     let bytes = one.len();
     let timed = time_spelled(rt, one.as_str(), rounds.saturating_mul(5_000));
-    let (found, each) = alone(one, timed)?;
+    let (found, each) = without(one, timed)?;
     println!(rt; "texts of {bytes} bytes: {found} statements read, {each} MB/s")?;
     Ok(())
 }

@@ -1,6 +1,6 @@
 //! The texts that are read.
 
-use crate::held::kept;
+use held_values::kept;
 use std::alloc::{AllocError, Global};
 
 /// How many rows an INSERT of the long text has.

@@ -3,8 +3,9 @@ ghost use Rattle.std.specs.Prelude.{◌<◌, ◌^◌, length};
 
 use crate::expr::Plain;
 use crate::tokens::push_tokens;
-use case_lines::{Line, alone, each, named};
+use case_lines::{Line, each, named};
 use cell_base::{Items, Memory, Text};
+use held_values::without;
 use sql_lexer::{LexFault, tokens};
 use sql_statements::{ParseFault, parse, statements};
 use sql_tree::{Statement, Token};
@@ -141,5 +142,5 @@ pub fn answer_to(
 ) -> Result<String, Memory> {
     let spelled = spelled?;
     let given = answer(alloc, spelled.as_str(), ask);
-    alone(spelled, given)
+    without(spelled, given)
 }

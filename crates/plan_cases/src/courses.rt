@@ -5,9 +5,10 @@ ghost use Rattle.std.specs.List.{All};
 use crate::shown::push_demand;
 use crate::statements::{Statement, typed_of};
 use crate::trees::two_tables;
-use case_lines::{Line, alone, is, kept};
+use case_lines::{Line, is};
 use cell_base::{Cell, Items, Key, Memory, Value};
 use cell_compile::Plan;
+use held_values::{kept, without};
 use sql_tree::Table;
 use statement_course::{Demand, PlanAnswer};
 use std::alloc::Global;
@@ -29,7 +30,7 @@ pub fn hold(alloc: Global, cases: &[Case]) -> Result<(), Fail> {
 fn demands(alloc: Global, case: &Case) -> Result<String, Memory> {
     let tables = two_tables(alloc)?;
     let told = demands_over(alloc, tables.as_slice(), case);
-    alone(tables, told)
+    without(tables, told)
 }
 
 fn are_narrow(tables: &[Table]) -> bool
@@ -44,7 +45,7 @@ fn demands_over(alloc: Global, tables: &[Table], case: &Case) -> Result<String, 
     }
     let mut plan = planned(alloc, case.0, tables)?;
     let told = told(alloc, &mut plan, case.1, case.2);
-    alone(plan, told)
+    without(plan, told)
 }
 
 fn planned(alloc: Global, statement: Statement, tables: &[Table]) -> Result<Plan, Memory>

@@ -1,7 +1,8 @@
 // Statements over the tables.
 use crate::trees::{column, equal, integer, sum};
-use case_lines::{both, kept, text_of};
+use case_lines::text_of;
 use cell_base::{Items, Key, Memory, SqlType};
+use held_values::{both, kept};
 use sql_tree::{OutField, Typed, TypedChange, TypedExpr, TypedInsert, TypedSelect};
 use std::alloc::Global;
 

@@ -1,6 +1,7 @@
 // The tables of all cases, and expressions over them.
-use case_lines::{both, boxed, kept, text_of};
+use case_lines::{boxed, text_of};
 use cell_base::{Items, Memory, SqlType, Value};
+use held_values::{both, kept};
 use sql_tree::{Column, Op, Table, TypedExpr, TypedNode};
 use std::alloc::Global;
 

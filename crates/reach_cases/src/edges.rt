@@ -8,8 +8,9 @@ use crate::plain::{MOST, lead_back};
 use crate::steps::Step::{Add, Closes, Grow, Pair, Size, Would};
 use crate::steps::{Step, go_on, play};
 use crate::stop::{Stop, agree};
-use checked_reach::{Numbers, alone, closes, would};
+use checked_reach::{Numbers, closes, would};
 use graph_base::Edge;
+use held_values::without;
 use reach_rows::Reach;
 use std::alloc::Global;
 
@@ -212,5 +213,5 @@ fn take_back_and_go_on(alloc: Global, reach: &mut Reach) -> Result<(), Stop>
 fn takes_back(rt: HostRuntime) -> Result<(), Stop> {
     let mut reach = Reach::new(rt.alloc())?;
     let played = take_back_and_go_on(rt.alloc(), &mut reach);
-    alone(reach, played)
+    without(reach, played)
 }

@@ -6,8 +6,9 @@ use crate::edges::compare_edges;
 use crate::plain::MOST;
 use crate::stars::compare_stars;
 use crate::stop::Stop;
-use checked_reach::{Numbers, alone, without_edges};
+use checked_reach::{Numbers, without_edges};
 use graph_base::Edge;
+use held_values::without;
 use reach_rows::Reach;
 use std::alloc::Global;
 use std::test::Fail;
@@ -58,7 +59,7 @@ fn random_graph(
     let mut reach = without_edges(alloc, size)?;
     let mut edges = Vec::new(alloc);
     let compared = compare_graph(alloc, numbers, size, parts, &mut edges, &mut reach);
-    alone((edges, reach), compared)
+    without((edges, reach), compared)
 }
 
 /// So many graphs of up to 40 numbers, the same at each run: what is counted of the parts of all.

@@ -3,8 +3,8 @@
 use crate::calls::has_pair;
 use crate::plain::reached;
 use crate::stop::{Stop, agree};
-use checked_reach::alone;
 use graph_base::Edge;
+use held_values::without;
 use reach_rows::Reach;
 use std::alloc::Global;
 
@@ -31,7 +31,7 @@ fn compare_from(
 ) -> Result<(), Stop> {
     let by_lists = reached(alloc, edges, from)?;
     let compared = compare_ends(size, &by_lists, reach, from);
-    alone(by_lists, compared)
+    without(by_lists, compared)
 }
 
 fn compare_ends(size: u32, by_lists: &[u32], reach: &Reach, from: u32) -> Result<(), Stop> {

@@ -1,7 +1,7 @@
 //! Closures found by following lists of edges.
 
-use checked_reach::{alone, kept};
 use graph_base::Edge;
+use held_values::{kept, without};
 use reach_rows::Star;
 use std::alloc::{AllocError, Global};
 
@@ -41,7 +41,7 @@ fn add_next(reached: &mut Vec<u32>, edges: &[Edge], number: u32) -> Result<(), A
 pub(crate) fn lead_back(alloc: Global, edges: &[Edge], trial: &[Edge]) -> Result<bool, AllocError> {
     let all = joined(alloc, edges, trial)?;
     let is_back = some_leads_back(alloc, &all);
-    alone(all, is_back)
+    without(all, is_back)
 }
 
 /// The edges and then the trial, in one list.

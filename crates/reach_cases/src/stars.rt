@@ -9,8 +9,9 @@ use crate::plain::{lead_back, listed};
 use crate::steps::Step::{Ancestors, AtOnce, OneByOne, Pair, Stars};
 use crate::steps::{Step, go_on, play};
 use crate::stop::{Stop, agree};
-use checked_reach::{Numbers, alone, kept, try_stars};
+use checked_reach::{Numbers, try_stars};
 use graph_base::Edge;
+use held_values::{kept, without};
 use reach_rows::{Reach, Star};
 use std::alloc::{AllocError, Global};
 
@@ -68,7 +69,7 @@ fn read_and_go_on(alloc: Global, reach: &mut Reach) -> Result<(), Stop>
 fn worked_reads(rt: HostRuntime) -> Result<(), Stop> {
     let mut reach = Reach::new(rt.alloc())?;
     let played = read_and_go_on(rt.alloc(), &mut reach);
-    alone(reach, played)
+    without(reach, played)
 }
 
 fn push_members(members: &mut Vec<u32>, numbers: &mut Numbers, size: u32) -> Result<(), AllocError>
@@ -142,7 +143,7 @@ fn add_stars(
 ) -> Result<bool, Stop> {
     let trial = listed(alloc, stars)?;
     let added = add_listed(alloc, edges, reach, stars, &trial);
-    alone(trial, added)
+    without(trial, added)
 }
 
 /// One or two stars, added where the list of all edges says that they close no cycle. Whether they
@@ -158,7 +159,7 @@ fn add_any(
 {
     let stars = random_stars(alloc, numbers, size)?;
     let added = add_stars(alloc, edges, reach, &stars);
-    alone(stars, added)
+    without(stars, added)
 }
 
 /// A graph, built star by star, and then each pair. How many times no stars were added.

@@ -5,10 +5,9 @@ ghost use Rattle.bit_rows.specs.declared.TheConstants.{ROW_BITS};
 
 use crate::calls::{adds_up, edge, has_ancestors, has_pair, star, try_add, try_grow};
 use crate::stop::{Stop, agree};
-use checked_reach::{
-    alone, closes, count_ancestors, kept, try_star, try_stars, without_edges, would,
-};
+use checked_reach::{closes, count_ancestors, try_star, try_stars, without_edges, would};
 use graph_base::Edge;
+use held_values::{kept, without};
 use reach_rows::{Reach, Star};
 use std::alloc::{AllocError, Global};
 
@@ -50,7 +49,7 @@ pub(crate) fn play(alloc: Global, size: u32, steps: &[Step]) -> Result<(), Stop>
 {
     let mut reach = without_edges(alloc, size)?;
     let played = go_on(alloc, &mut reach, steps);
-    alone(reach, played)
+    without(reach, played)
 }
 
 /// Takes the steps.
@@ -87,7 +86,7 @@ fn adds(
 ) -> Result<bool, AllocError> {
     let stars = made(alloc, stars)?;
     let added = try_stars(reach, &stars);
-    Ok(alone(stars, added)? == want)
+    Ok(without(stars, added)? == want)
 }
 
 /// The stars.

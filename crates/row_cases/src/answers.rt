@@ -1,8 +1,9 @@
 // What a statement comes to over rows, as text: the values of a row stand between commas, the rows between semicolons.
 use crate::slow;
-use case_lines::{Line, alone, both, fault_shown, named};
+use case_lines::{Line, fault_shown, named};
 use case_tables::{are_narrow, read};
 use cell_base::{Items, Memory, SqlFault, Value};
+use held_values::{both, without};
 use row_assembly::rows_of;
 use row_meaning::TableRows;
 use sql_statements::ParseFault;
@@ -80,7 +81,7 @@ fn compared(
     let slow = shown(alloc, slow::rows_of(alloc, select, picture));
     let (fast, slow) = both(fast, slow)?;
     let judged = judged(alloc, fast.as_str(), slow.as_str());
-    alone((fast, slow), judged)
+    without((fast, slow), judged)
 }
 
 fn answered(
@@ -124,7 +125,7 @@ fn answer_to_one(
     }
     let made = typed(alloc, found, tables);
     let answer = answer_to_typed(alloc, &made, picture, ask);
-    alone(made, answer)
+    without(made, answer)
 }
 
 fn answer_to_all(

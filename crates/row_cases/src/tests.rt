@@ -4,8 +4,9 @@ use crate::cases::{AGGREGATES, FAULTS, FILTERS, JOINS, ORDERS};
 use crate::chance::Chance;
 use crate::made;
 use crate::world::{long_picture, picture_of, tables};
-use case_lines::{alone, both, is, is_remark};
+use case_lines::{is, is_remark};
 use cell_base::{Items, Memory};
+use held_values::{both, without};
 use row_meaning::TableRows;
 use sql_tree::Table;
 use std::alloc::Global;
@@ -42,7 +43,7 @@ fn have_rows_over(
 fn have_rows(alloc: Global, cases: &str) -> Result<(), Fail> {
     let (tables, picture) = both(tables(alloc), picture_of(alloc))?;
     let have_rows = have_rows_over(alloc, cases, tables.as_slice(), picture.as_slice());
-    alone((tables, picture), have_rows)
+    without((tables, picture), have_rows)
 }
 
 #[test]
@@ -99,7 +100,7 @@ fn have_counts(alloc: Global, tables: &[Table]) -> Result<(), Fail> {
 fn bounds_the_bytes_of_a_result(rt: HostRuntime) -> Result<(), Fail> {
     let tables = tables(rt.alloc())?;
     let have_counts = have_counts(rt.alloc(), tables.as_slice());
-    alone(tables, have_counts)
+    without(tables, have_counts)
 }
 
 // ---- by chance
@@ -126,7 +127,7 @@ fn agrees_at(
 ) -> Result<bool, Fail> {
     let given = answer(alloc, spelled.as_str(), tables, picture, Ask::Same);
     let judged = judged(spelled.as_str(), given);
-    alone(spelled, judged)
+    without(spelled, judged)
 }
 
 fn agrees_over(
@@ -137,7 +138,7 @@ fn agrees_over(
 ) -> Result<bool, Fail> {
     let spelled = made::statement(alloc, chance)?;
     let agrees = agrees_at(alloc, spelled, tables, picture.as_slice());
-    alone(picture, agrees)
+    without(picture, agrees)
 }
 
 /// Whether one statement by chance, which has the rows of the slow program, has some.
@@ -169,5 +170,5 @@ fn are_many(with_rows: u32) -> Result<(), Fail> {
 fn agrees_with_a_slow_program(rt: HostRuntime) -> Result<(), Fail> {
     let tables = tables(rt.alloc())?;
     let with_rows = agree(rt.alloc(), tables.as_slice());
-    are_many(alone(tables, with_rows)?)
+    are_many(without(tables, with_rows)?)
 }

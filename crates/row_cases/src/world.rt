@@ -1,8 +1,9 @@
 // The tables that the cases stand over, and rows of them.
 use crate::list::List;
-use case_lines::{Lit, both, value_of};
+use case_lines::{Lit, value_of};
 use case_tables::tables_of;
 use cell_base::{Items, Key, SqlFault, Text, Value};
+use held_values::both;
 use row_meaning::TableRows;
 use sql_tree::Table;
 use std::alloc::Global;

@@ -3,7 +3,8 @@
 ghost use Rattle.std.specs.Prelude.{◌≡◌, ◌<◌, ◌≤◌, ◌+◌, OnOk};
 ghost use Rattle.bit_rows.specs.declared.TheConstants.{ROW_BITS};
 
-use checked_reach::{Numbers, kept, without_edges};
+use checked_reach::{Numbers, without_edges};
+use held_values::kept;
 use reach_rows::Reach;
 use std::alloc::{AllocError, Global};
 

@@ -5,7 +5,7 @@ use crate::plain::Words;
 use crate::pool::{Bits, Kernel, Pool, count_joined, pass, pool_of};
 use anyhow::Result;
 use bit_rows::Row;
-use checked_reach::{alone, both};
+use held_values::{both, without};
 use std::io;
 use std::time::CpuClock;
 
@@ -76,7 +76,7 @@ fn measure_pool(rt: &(impl CpuClock + Print + AllocGlobal), size: u32, rounds: u
         pool_of::<Words>(rt.alloc(), size),
     )?;
     let measured = measure_kernels(rt, &mut rows, &mut words, rounds, calls);
-    alone((rows, words), measured)
+    without((rows, words), measured)
 }
 
 /// Times each kernel, over each pool so many times.

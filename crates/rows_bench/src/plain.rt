@@ -2,7 +2,7 @@
 
 use crate::pool::Bits;
 use bit_rows::{ROW_BITS, Row};
-use checked_reach::{alone, kept};
+use held_values::{kept, without};
 use std::alloc::{AllocError, Global};
 
 /// A row as words.
@@ -76,7 +76,7 @@ impl Bits for Words {
     fn of_rest(alloc: Global, rest: u32) -> Result<Words, AllocError> {
         let row = Row::of_rest(alloc, rest)?;
         let words = words_of(alloc, &row);
-        let words = alone(row, words)?;
+        let words = without(row, words)?;
         Ok(Words { words })
     }
 

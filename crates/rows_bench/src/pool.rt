@@ -1,6 +1,6 @@
 //! A pool of rows, and its kernels.
 
-use checked_reach::{both, kept};
+use held_values::{both, kept};
 use std::alloc::{AllocError, Global};
 
 /// A row of bits, with its kernels.

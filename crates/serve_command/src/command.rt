@@ -12,7 +12,6 @@ ghost use Rattle.shared_book.specs.Entries.{chronicle_of, event_lists};
 ghost use Rattle.shared_book.specs.Fronts.{GoesOnFrom};
 ghost use Rattle.serve_command.specs.Serving.{status_of as status_following, Ran, Ends, GoesOn, Serves};
 
-use crate::let_go::without;
 use crate::line::line_of;
 use crate::manning::{leave, man, rooms};
 use crate::start::{start, status_of, tell_fault};
@@ -20,6 +19,7 @@ use cell_base::{Level, Memory};
 use command_line::{Progress as Verbosity, ServeOptions};
 use door_workers::{Progress, serve_doors};
 use doors::Network;
+use held_values::without;
 use host_calls::Status;
 use link_traits::{Host, HostFault};
 use log_file::log_and_print;

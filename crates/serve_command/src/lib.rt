@@ -8,7 +8,6 @@
 
 mod command;
 mod law;
-mod let_go;
 mod line;
 mod manning;
 mod start;

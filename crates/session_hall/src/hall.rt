@@ -13,11 +13,11 @@ ghost use Rattle.session_hall.specs.Halls.{AreSeated, IsSeated, StandsFor, IsHal
 
 use crate::asking;
 use crate::client::{Client, Stepped};
-use crate::handing::{beside, without};
 use crate::seat::Seat;
 use block_machine::End;
 use cell_base::{Items, Level, Memory};
 use choice_stream::ListWords;
+use held_values::{beside, without};
 use history_core::{History, InitialState};
 use session_core::Session;
 use std::alloc::Global;

@@ -9,7 +9,6 @@
 mod asking;
 mod client;
 mod hall;
-mod handing;
 mod seat;
 mod telling;
 

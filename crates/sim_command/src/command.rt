@@ -10,10 +10,10 @@ ghost use Rattle.sim_command.specs.Runs.{Moment};
 ghost use Rattle.sim_command.specs.Simulations.{numbers_from, IsSchedule, IsFront, IsSimulation, IsCutOff, Simulates};
 ghost use Rattle.sim_command.specs.Playing.{StandsAt, Goes, IsNewHall};
 
-use crate::handing::{kept, without};
 use crate::playing::{SimFault, go_to_end, play};
 use cell_base::{Level, Memory, Text};
 use choice_stream::SeedWords;
+use held_values::{kept, without};
 use history_summary::summary;
 use host_calls::Status;
 use link_traits::Host;

@@ -2,7 +2,6 @@
 #![tactic(auto)]
 
 mod command;
-mod handing;
 mod playing;
 
 pub use command::{Plan, simulate};

@@ -1,7 +1,8 @@
 // The typed expressions of the cases.
 use crate::cases::Shape;
-use case_lines::{both, boxed, kept};
+use case_lines::boxed;
 use cell_base::{Boxed, Items, Memory, SqlType, Value};
+use held_values::{both, kept};
 use sql_tree::{Aggregate, Op, TypedExpr, TypedNode};
 use std::alloc::Global;
 

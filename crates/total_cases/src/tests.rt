@@ -3,8 +3,9 @@ use crate::cases::{Case, OF_EXPRESSIONS, OF_FAULTS, OF_NUMBERS, OF_OTHERS};
 use crate::exprs::exprs_of;
 use crate::orders::{CUTS, ORDERS, Order};
 use crate::samples::{answer_shown, rows_shown};
-use case_lines::{Lit, alone, both, is, is_in, kept, value_of, values_of};
+use case_lines::{Lit, is, is_in, value_of, values_of};
 use cell_base::{Items, Memory, SqlFault, Value};
+use held_values::{both, kept, without};
 use row_order::{SortedRow, cut_rows, sort_rows};
 use row_totals::Totals;
 use sql_tree::TypedExpr;
@@ -39,7 +40,7 @@ fn given(alloc: Global, case: &Case) -> Result<String, Memory> {
     let (kind, shapes, cells, _) = *case;
     let exprs = exprs_of(alloc, kind, shapes)?;
     let answer = answer_shown(alloc, totals_of(alloc, exprs.as_slice(), cells));
-    Ok(alone(exprs, answer)?)
+    Ok(without(exprs, answer)?)
 }
 
 fn are_given(alloc: Global, table: &str, cases: &[Case]) -> Result<(), Fail> {
@@ -80,7 +81,7 @@ fn numbered(alloc: Global, number: usize, terms: &[Lit]) -> Result<SortedRow, Me
 /// The numbers of the rows.
 fn numbers(alloc: Global, rows: Vec<SortedRow>) -> Result<String, Memory> {
     let shown = rows_shown(alloc, rows.as_slice());
-    Ok(alone(rows, shown)?)
+    Ok(without(rows, shown)?)
 }
 
 fn push_rows(

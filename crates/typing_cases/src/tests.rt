@@ -4,9 +4,10 @@ use crate::cases::{
     QUERIES, SPACED, TABLES,
 };
 use crate::shown::{WithTypes, text};
-use case_lines::{Line, Shown, alone, fault_shown, is, is_of_long, is_remark, named};
+use case_lines::{Line, Shown, fault_shown, is, is_of_long, is_remark, named};
 use case_tables::{are_narrow, read, tables_of};
 use cell_base::{Items, Memory, SqlFault};
+use held_values::without;
 use sql_statements::ParseFault;
 use sql_tree::{Statement, Table};
 use sql_types::typed;
@@ -78,7 +79,7 @@ fn are_typed_over(alloc: Global, tables: &[Table], cases: &str) -> Result<(), Fa
 fn are_typed(alloc: Global, cases: &str) -> Result<(), Fail> {
     let tables = tables_of(alloc, TABLES)?;
     let are_typed = are_typed_over(alloc, tables.as_slice(), cases);
-    alone(tables, are_typed)
+    without(tables, are_typed)
 }
 
 #[test]
@@ -107,7 +108,7 @@ fn spaced_are_typed(alloc: Global, tables: &[Table]) -> Result<(), Fail> {
 fn types_spaced_texts(rt: HostRuntime) -> Result<(), Fail> {
     let tables = tables_of(rt.alloc(), TABLES)?;
     let are_typed = spaced_are_typed(rt.alloc(), tables.as_slice());
-    alone(tables, are_typed)
+    without(tables, are_typed)
 }
 
 #[test]
@@ -153,7 +154,7 @@ fn long_text(alloc: Global, long: &Long) -> Result<String, AllocError> {
 fn long_outcome(alloc: Global, long: &Long, tables: &[Table]) -> Result<String, Memory> {
     let spelled = long_text(alloc, long)?;
     let given = outcome(alloc, spelled.as_str(), tables);
-    alone(spelled, given)
+    without(spelled, given)
 }
 
 fn is_limited(alloc: Global, long: &Long, tables: &[Table]) -> Result<(), Fail> {
@@ -172,5 +173,5 @@ fn are_limited(alloc: Global, tables: &[Table]) -> Result<(), Fail> {
 fn keeps_its_limits(rt: HostRuntime) -> Result<(), Fail> {
     let tables = tables_of(rt.alloc(), TABLES)?;
     let are_limited = are_limited(rt.alloc(), tables.as_slice());
-    alone(tables, are_limited)
+    without(tables, are_limited)
 }

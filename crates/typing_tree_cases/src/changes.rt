@@ -1,9 +1,10 @@
 // INSERT, UPDATE and DELETE over t (k integer PRIMARY KEY, a integer DEFAULT 5, b integer, CHECK (a = b)).
 use crate::samples::{code_of, is_constant, is_key};
-use case_lines::{alone, right};
+use case_lines::right;
 use case_tables::{are_narrow, read, tables_of};
 use cell_base::SqlState;
 use change_typing::{typed_delete, typed_insert, typed_update};
+use held_values::without;
 use sql_tree::{Delete, Insert, Statement, Table, TypedChange, TypedExpr, TypedInsert, Update};
 use std::alloc::Global;
 use std::test::Fail;
@@ -180,5 +181,5 @@ fn are_typed(alloc: Global, tables: &[Table]) -> Result<(), Fail> {
 fn types_changes(rt: HostRuntime) -> Result<(), Fail> {
     let tables = tables_of(rt.alloc(), TABLES)?;
     let are_typed = are_typed(rt.alloc(), tables.as_slice());
-    alone(tables, are_typed)
+    without(tables, are_typed)
 }

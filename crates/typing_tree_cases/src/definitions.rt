@@ -1,8 +1,9 @@
 // The table of a CREATE TABLE or its code, and the list of tables.
 use crate::samples::code_of;
-use case_lines::{alone, right, text_of};
+use case_lines::{right, text_of};
 use case_tables::read;
 use cell_base::{Items, Memory, SqlState, Value};
+use held_values::without;
 use sql_tree::{CreateTable, Statement, Table};
 use std::alloc::Global;
 use std::test::Fail;
@@ -150,10 +151,10 @@ fn bare(alloc: Global, name: &str) -> Result<Table, Memory> {
 /// Puts the table after the others, where it is new and there is room for it.
 fn define(catalogue: &mut Catalogue, table: Table) -> Result<(), Memory> {
     if catalogue.tables().len() >= 64 {
-        return alone(table, Ok(()));
+        return without(table, Ok(()));
     }
     match catalogue.find(&table.name) {
-        Some(_) => alone(table, Ok(())),
+        Some(_) => without(table, Ok(())),
         None => catalogue.add(table),
     }
 }
@@ -192,5 +193,5 @@ fn finds(alloc: Global, catalogue: &mut Catalogue) -> Result<(), Fail> {
 fn finds_tables(rt: HostRuntime) -> Result<(), Fail> {
     let mut catalogue = Catalogue::new(rt.alloc());
     let finds = finds(rt.alloc(), &mut catalogue);
-    alone(catalogue, finds)
+    without(catalogue, finds)
 }

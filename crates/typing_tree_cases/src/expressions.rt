@@ -1,9 +1,10 @@
 // Conditions over one row of t (n integer), and constants of a type.
 use crate::samples::{code_of, is_column, is_constant};
-use case_lines::{alone, right};
+use case_lines::right;
 use case_tables::{read, tables_of};
 use cell_base::{SqlState, SqlType, Value};
 use expr_typing::{Entry, typed_constant, typed_flag};
+use held_values::without;
 use sql_tree::{Expr, Item, Op, Statement, Table, TypedExpr, TypedNode};
 use std::alloc::Global;
 use std::test::Fail;
@@ -69,7 +70,7 @@ fn types_a_condition(rt: HostRuntime) -> Result<(), Fail> {
         "DELETE FROM t WHERE n = ' 7 '",
         tables.as_slice(),
     );
-    right("n = ' 7 '", alone(tables, holds))
+    right("n = ' 7 '", without(tables, holds))
 }
 
 // ---- constants

@@ -1,10 +1,11 @@
 // What the typing of statements shares: tables and columns by name, WHERE, the key of a point read, and the columns that an
 // expression mentions. All stands over s and t (k integer key, n integer).
 use crate::samples::code_of;
-use case_lines::{alone, right};
+use case_lines::right;
 use case_tables::{read, tables_of};
 use cell_base::{Key, SqlState, Text, TextFault};
 use expr_typing::Entry;
+use held_values::without;
 use sql_tree::{Delete, Expr, Statement, Table, TypedExpr};
 use std::alloc::Global;
 use std::test::Fail;
@@ -60,7 +61,7 @@ fn are_found(alloc: Global, tables: &[Table]) -> Result<(), Fail> {
 fn finds_tables_and_columns(rt: HostRuntime) -> Result<(), Fail> {
     let tables = tables_of(rt.alloc(), TABLES)?;
     let are_found = are_found(rt.alloc(), tables.as_slice());
-    alone(tables, are_found)
+    without(tables, are_found)
 }
 
 // ---- conditions
@@ -192,5 +193,5 @@ fn are_typed(alloc: Global, tables: &[Table]) -> Result<(), Fail> {
 fn types_where(rt: HostRuntime) -> Result<(), Fail> {
     let tables = tables_of(rt.alloc(), TABLES)?;
     let are_typed = are_typed(rt.alloc(), tables.as_slice());
-    alone(tables, are_typed)
+    without(tables, are_typed)
 }

@@ -1,8 +1,9 @@
 // SELECT over t (k integer key, v text, n integer) and u (k integer key, v text).
 use crate::samples::{is_column, is_key};
-use case_lines::{alone, right};
+use case_lines::right;
 use case_tables::{are_narrow, read, tables_of};
 use cell_base::{Items, SqlFault, SqlState};
+use held_values::without;
 use select_typing::typed_select;
 use sql_tree::{Select, Statement, Table, TypedSelect};
 use std::alloc::Global;
@@ -179,5 +180,5 @@ fn are_typed(alloc: Global, tables: &[Table]) -> Result<(), Fail> {
 fn types_selects(rt: HostRuntime) -> Result<(), Fail> {
     let tables = tables_of(rt.alloc(), TABLES)?;
     let are_typed = are_typed(rt.alloc(), tables.as_slice());
-    alone(tables, are_typed)
+    without(tables, are_typed)
 }

@@ -1,8 +1,9 @@
 // The typing of a statement of each kind, over t (k integer key, n integer).
 use crate::samples::{code_of, is_key};
-use case_lines::{alone, right};
+use case_lines::right;
 use case_tables::{are_narrow, read, tables_of};
 use cell_base::{SqlFault, SqlState};
+use held_values::without;
 use sql_tree::{Statement, Table, Typed, TypedChange, TypedInsert, TypedSelect};
 use sql_types::typed;
 use std::alloc::Global;
@@ -95,5 +96,5 @@ fn are_typed(alloc: Global, tables: &[Table]) -> Result<(), Fail> {
 fn types_each_kind_of_statement(rt: HostRuntime) -> Result<(), Fail> {
     let tables = tables_of(rt.alloc(), TABLES)?;
     let are_typed = are_typed(rt.alloc(), tables.as_slice());
-    alone(tables, are_typed)
+    without(tables, are_typed)
 }

@@ -1,9 +1,10 @@
 // What no clause says of `assign`: that a call with ample memory succeeds, and values worked out by hand.
 use crate::cases::{ASSIGNED, LongCase, OF_BYTES, WITHOUT_SPACES};
 use crate::samples::shown;
-use case_lines::{Line, Lit, alone, is_in, named, text_of, value_of};
+use case_lines::{Line, Lit, is_in, named, text_of, value_of};
 use cell_base::{Memory, SqlFault, SqlType, Text, Value};
 use expr_eval::assign;
+use held_values::without;
 use std::alloc::{AllocError, Global};
 use std::test::Fail;
 
@@ -31,7 +32,7 @@ fn long_text(alloc: Global, case: &LongCase) -> Result<String, AllocError> {
 fn long_value(alloc: Global, case: &LongCase) -> Result<Value, Memory> {
     let spelled = long_text(alloc, case)?;
     let text = text_of(alloc, spelled.as_str().as_bytes());
-    Ok(Value::Text(alone(spelled, text)?))
+    Ok(Value::Text(without(spelled, text)?))
 }
 
 fn length_of(alloc: Global, text: &Text) -> Result<String, Memory> {

@@ -7,9 +7,10 @@ use crate::samples::shown;
 use crate::trees::{
     among, among_failing, binary, constant, equality, failing, integer, of_one, operation,
 };
-use case_lines::{Lit, alone, both, is_in, kept, text_of};
+use case_lines::{Lit, is_in, text_of};
 use cell_base::{Items, Memory, SqlType, Value};
 use expr_eval::eval;
+use held_values::{both, kept, without};
 use sql_tree::{Op, TypedExpr, TypedNode};
 use std::alloc::Global;
 use std::test::Fail;
@@ -18,7 +19,7 @@ use std::test::Fail;
 fn given(alloc: Global, expr: Result<TypedExpr, Memory>) -> Result<String, Memory> {
     let expr = expr?;
     let answer = eval(alloc, &expr, &[]);
-    alone(expr, shown(alloc, answer))
+    without(expr, shown(alloc, answer))
 }
 
 fn operation_given(alloc: Global, case: &Case) -> Result<String, Memory> {
@@ -187,14 +188,14 @@ fn column_over(
 
 fn given_over(alloc: Global, expr: TypedExpr, entries: &[&[Value]]) -> Result<String, Memory> {
     let answer = eval(alloc, &expr, entries);
-    alone(expr, shown(alloc, answer))
+    without(expr, shown(alloc, answer))
 }
 
 fn column(alloc: Global, kind: SqlType, entry: u32, place: u32) -> Result<String, Memory> {
     let (first, second) = both(first_entry(alloc), second_entry(alloc))?;
     let entries = [first.as_slice(), second.as_slice()];
     let given = column_over(alloc, kind, entry, place, &entries);
-    alone((first, second), given)
+    without((first, second), given)
 }
 
 #[test]

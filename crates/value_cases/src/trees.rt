@@ -1,7 +1,8 @@
 // Expressions over constants.
 use crate::cases::{Form, Operation};
-use case_lines::{Lit, both, kept, value_of};
+use case_lines::{Lit, value_of};
 use cell_base::{Boxed, Items, Memory, SqlType};
+use held_values::{both, kept};
 use sql_tree::{Op, TypedExpr, TypedNode};
 use std::alloc::Global;
 

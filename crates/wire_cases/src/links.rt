@@ -7,8 +7,8 @@ use crate::files::{Call, Row, hold};
 use crate::made::{host, link, sink, source};
 use crate::steps::Step::{Read as Reads, Send, Write as Writes};
 use crate::steps::{Step, reads, sends, take, writes};
-use case_lines::alone;
 use cell_base::Memory;
+use held_values::without;
 use link_traits::{
     FileSource, Host, HostFault, MemHost, MemLink, MemReturned, MemSink, MemSource, StdHost,
     StdLink, StdOut,
@@ -45,7 +45,7 @@ fn has_ended(link: &MemLink) -> bool {
 fn copy_has_ended(alloc: Global, link: &MemLink) -> Result<bool, Memory> {
     let copy = link.copy(alloc)?;
     let has_ended = has_ended(&copy);
-    alone(copy, Ok(has_ended))
+    without(copy, Ok(has_ended))
 }
 
 fn goes_by_plan(alloc: Global, link: &mut MemLink) -> Result<(), Fail> {
@@ -59,7 +59,7 @@ fn goes_by_plan(alloc: Global, link: &mut MemLink) -> Result<(), Fail> {
 fn reads_and_writes_by_plan(rt: HostRuntime) -> Result<(), Fail> {
     let mut link = link(rt.alloc())?;
     let goes = goes_by_plan(rt.alloc(), &mut link);
-    alone(link, goes)
+    without(link, goes)
 }
 
 /// A source with room for one byte reads no more.
@@ -79,10 +79,10 @@ fn takes_a_part(sink: &mut MemSink) -> bool {
 fn sends_all_or_a_part(rt: HostRuntime) -> Result<(), Fail> {
     let mut source = source(rt.alloc())?;
     let reads = reads_a_part(&mut source);
-    right("source", 0, alone(source, reads))?;
+    right("source", 0, without(source, reads))?;
     let mut sink = sink(rt.alloc())?;
     let takes = takes_a_part(&mut sink);
-    right("sink", 0, alone(sink, takes))
+    right("sink", 0, without(sink, takes))
 }
 
 /// Whether the standard link fails.
@@ -141,7 +141,7 @@ fn lends(host: &mut MemHost) -> bool
 fn hands_out_and_takes_back(rt: HostRuntime) -> Result<(), Fail> {
     let mut host = host(rt.alloc())?;
     let lends = lends(&mut host);
-    right("host", 0, alone(host, lends))
+    right("host", 0, without(host, lends))
 }
 
 /// The first call is to fail; the second opens the file, the third finds none of its path, the fourth makes one, the fifth opens the file
@@ -169,7 +169,7 @@ fn lends_files(alloc: Global, host: &mut MemHost) -> Result<(), Fail> {
 fn opens_and_makes_files(rt: HostRuntime) -> Result<(), Fail> {
     let mut host = host(rt.alloc())?;
     let lends = lends_files(rt.alloc(), &mut host);
-    alone(host, lends)
+    without(host, lends)
 }
 
 /// A stream whose reads fail, and whose writes take nothing.
@@ -224,10 +224,10 @@ fn fails_broken() -> bool {
 fn passes_bytes_on(rt: HostRuntime) -> Result<(), Fail> {
     let mut writer: Vec<u8> = Vec::new(rt.alloc());
     let passes = passes_on(&mut writer);
-    alone(writer, passes)?;
+    without(writer, passes)?;
     let mut printed: Vec<u8> = Vec::new(rt.alloc());
     let prints = prints_on(&mut printed);
-    right("printed", 0, alone(printed, prints))?;
+    right("printed", 0, without(printed, prints))?;
     right("broken", 0, fails_broken())
 }
 
@@ -276,7 +276,7 @@ fn lends_streams_and_files(rt: HostRuntime) -> Result<(), Fail> {
     let mut host = StdHost::new(alloc, &rt, rt.stdin(), rt.stdout());
     let lends = lends_of_system(&mut host);
     let holds = hold(alloc, &mut host, "of the system", OF_SYSTEM);
-    let holds = alone(host, holds);
+    let holds = without(host, holds);
     let removed = fs::remove_file(&rt, "host_log");
     holds?;
     removed?;

@@ -2,8 +2,9 @@
 ghost use Rattle.std.specs.Prelude.{◌≡◌, IfOk, IsSome};
 ghost use Rattle.link_traits.specs.Hosts.{mem_hosted};
 
-use case_lines::{both, kept, text_of};
+use case_lines::text_of;
 use cell_base::{Items, Memory};
+use held_values::{both, kept};
 use link_traits::{HostFile, MemHost, MemLink, MemPlan, MemSink, MemSource};
 use std::alloc::Global;
 

@@ -4,8 +4,8 @@ ghost use Rattle.pg_framing.specs.Replies.{FitsModifier, value_bytes};
 ghost use Rattle.cell_base.specs.Texts.{HasNoZero};
 
 use crate::compared::{is, right};
-use case_lines::{alone, kept};
 use cell_base::{Memory, SqlState, SqlType, Text, Value};
+use held_values::{kept, without};
 use itoa::Buffer;
 use pg_framing::{
     Severity, TransactionState, append_authentication_ok, append_backend_key_data,
@@ -79,7 +79,7 @@ fn is_welcome(given: &[u8]) -> Result<(), Fail> {
 fn welcomes(alloc: Global) -> Result<(), Fail> {
     let welcome = welcome(alloc)?;
     let is_so = is_welcome(&welcome);
-    alone(welcome, is_so)
+    without(welcome, is_so)
 }
 
 // The column `v` of each type, and what describes it.

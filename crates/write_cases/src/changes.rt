@@ -4,9 +4,10 @@ use crate::changes::Term::{Constant, Field, Sum};
 use crate::changes::Verb::{Delete, Update};
 use crate::shown;
 use crate::trees::{column, compared, constant, divides_ten, shown_to, sum, table};
-use case_lines::Lit::{Int, Null, Str};
-use case_lines::{Lit, alone, both, fault_shown, is, kept};
+use case_lines::{Lit::{Int, Null, Str};
+use case_lines::{Lit, fault_shown, is};
 use cell_base::{Items, Key, Memory, Value};
+use held_values::{both, kept, without};
 use row_writes::changes_of;
 use sql_tree::{Op, Table, TypedChange, TypedExpr};
 use std::alloc::{AllocError, Global};
@@ -124,7 +125,7 @@ fn answer_over(alloc: Global, rows: &[Row], verb: Verb, filter: Filter) -> Resul
     let scene = both(table(alloc, 0), shown_to(alloc, rows));
     let (change, scene) = both(change_of(alloc, verb, filter), scene)?;
     let given = answer(alloc, &scene.0, &change, scene.1.as_slice());
-    Ok(alone((change, scene), given)?)
+    Ok(without((change, scene), given)?)
 }
 
 fn hold(alloc: Global, rows: &[Row], cases: &[Case]) -> Result<(), Fail> {

@@ -1,9 +1,10 @@
 // The rows that an INSERT makes.
 use crate::shown;
 use crate::trees::{constants, rows_of, table};
-use case_lines::Lit::{Int, Null, Str};
-use case_lines::{Lit, alone, both, fault_shown, is, kept, text_of};
+use case_lines::{Lit::{Int, Null, Str};
+use case_lines::{Lit, fault_shown, is, text_of};
 use cell_base::{Items, Memory, SqlType, Text, Value};
+use held_values::{both, kept, without};
 use row_writes::rows_to_insert;
 use sql_tree::{Table, TypedExpr, TypedNode};
 use std::alloc::{AllocError, Global};
@@ -27,7 +28,7 @@ fn answer_over(
 ) -> Result<String, Memory> {
     let (rows, table) = both(rows, table(alloc, key))?;
     let given = answer(alloc, &table, rows.as_slice());
-    Ok(alone((rows, table), given)?)
+    Ok(without((rows, table), given)?)
 }
 
 /// Inserts into the table with this column for its key.

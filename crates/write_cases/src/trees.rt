@@ -1,6 +1,7 @@
 // The table of all cases, and expressions over it.
-use case_lines::{Lit, both, boxed, kept, text_of, value_of, values_of};
+use case_lines::{Lit, boxed, text_of, value_of, values_of};
 use cell_base::{Items, Key, Memory, SqlType, Value};
+use held_values::{both, kept};
 use sql_tree::{Column, Op, Table, TypedExpr, TypedNode};
 use std::alloc::Global;
 

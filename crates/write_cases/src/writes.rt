@@ -1,9 +1,10 @@
 // The cells that are written.
 use crate::shown;
 use crate::trees::{rows_of, table};
-use case_lines::Lit::{Int, Null, Str};
-use case_lines::{Lit, alone, both, is, kept, text_of};
+use case_lines::{Lit::{Int, Null, Str};
+use case_lines::{Lit, is, text_of};
 use cell_base::{Cell, Items, Key, Memory, Value};
+use held_values::{both, kept, without};
 use row_writes::{RowChange, delete_writes, insert_writes, rows_to_insert, update_writes};
 use sql_tree::{Table, TypedExpr};
 use std::alloc::{AllocError, Global};
@@ -39,7 +40,7 @@ const ROWS: &[&[Lit]] = &[
 fn inserts(alloc: Global, key: u32) -> Result<String, Memory> {
     let (rows, table) = both(rows_of(alloc, ROWS), table(alloc, key))?;
     let given = answer(alloc, written(alloc, &table, rows.as_slice()));
-    Ok(alone((rows, table), given)?)
+    Ok(without((rows, table), given)?)
 }
 
 /// The column of the key, and what is written.
