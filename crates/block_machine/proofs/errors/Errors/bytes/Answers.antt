@@ -1,5 +1,5 @@
 -- The place of the code is one of the list, and holds its reply.
-use Rattle.std.proofs.Common.{◌<◌, arith, sym, ◌∙◌}
+use Rattle.std.proofs.Common.{◌<◌, arith, ◌∙◌}
 use Rattle.std.proofs.lemmas.Option.{slice_get_within}
 use Rattle.block_machine.specs.Replies.{error_reply}
 use Rattle.block_machine.specs.Prepared.{all_codes}
