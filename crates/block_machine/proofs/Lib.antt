@@ -1,5 +1,5 @@
-pub mod Passes
-pub mod Somes
+mod Passes
+mod Somes
 mod Holding
 mod Answered
 mod Tables
@@ -16,4 +16,3 @@ mod Taking
 mod Pursuing
 mod Writing
 mod Zeros
-mod Listed

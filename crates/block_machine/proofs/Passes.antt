@@ -5,10 +5,10 @@ use Rattle.std.specs.Prelude.{◌==◌}
 use Rattle.block_machine.specs.Script.{Entry, did, refused, short, unsent, stop, Said, Script, unless_short}
 use Rattle.block_machine.specs.Stages.{IsFrom}
 
-pub eqb-ne : (a b : ℕ) → a ≢ b → (a == b) ≡ false
+eqb-ne : (a b : ℕ) → a ≢ b → (a == b) ≡ false
 eqb-ne a b h = grind (arith, nat_tests)
 
-pub eqb-eq : (a b : ℕ) → a ≡ b → (a == b) ≡ true
+eqb-eq : (a b : ℕ) → a ≡ b → (a == b) ≡ true
 eqb-eq a b h = grind (arith, nat_tests)
 
 -- no lack of memory stands here any more

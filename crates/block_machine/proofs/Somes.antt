@@ -16,11 +16,11 @@ use Rattle.block_machine.specs.declared.reply.Fixed.{Fixed}
 use Rattle.block_machine.specs.declared.reply.Fixed.TheVariants as fixed
 use Rattle.block_machine.specs.Replies.{ready_reply, error_reply, empty_reply, done_reply, warned_reply, show_reply, fixed_reply}
 
-pub framed-some : (kind : ℕ) (body : List ℕ) → 0 < length (framed kind body)
+framed-some : (kind : ℕ) (body : List ℕ) → 0 < length (framed kind body)
 unfolding framed
 framed-some kind body = omega arith
 
-pub first-some : (bytes more : List ℕ) → 0 < length bytes → 0 < length (bytes ++ more)
+first-some : (bytes more : List ℕ) → 0 < length bytes → 0 < length (bytes ++ more)
 first-some bytes more some = omega (arith, length-append bytes more)
 
 second-some : (more bytes : List ℕ) → 0 < length bytes → 0 < length (more ++ bytes)
@@ -30,7 +30,7 @@ complete-some : (tag : List ℕ) → 0 < length (command_complete tag)
 unfolding command_complete
 complete-some tag = framed-some _ _
 
-pub report-some : (severity : Severity) (state : SqlState) → 0 < length (error_response severity state)
+report-some : (severity : Severity) (state : SqlState) → 0 < length (error_response severity state)
 unfolding error_response
 report-some severity state = framed-some _ _
 

@@ -3,7 +3,6 @@ pub mod Calls
 pub mod Script
 pub mod Settings
 pub mod Replies
-pub mod Prepared
 pub mod Statements
 pub mod Messages
 pub mod Stages

@@ -9,7 +9,7 @@ use Rattle.statement_course.specs.Reading.{Part, part_before, parts_from}
 use Rattle.course_laws.proofs.MentionsOnce.{IsOnce}
 use Rattle.course_laws.proofs.ReadingOnce.{AreApart}
 
-abbrev pub IsNew : List ℕ → Part → Type 0
+abbrev IsNew : List ℕ → Part → Type 0
 IsNew before part = list_any (λ n. n == part.table) before ≡ false
 
 -- parts of different tables, none of them among those that stand before
@@ -17,11 +17,11 @@ pub record ArePicked (before : List ℕ) (parts : List Part) : Type 0 where
   pub new : AllByRecursion (IsNew before) parts
   pub apart : AreApart parts
 
-pub still_new : (number : ℕ) (before : List ℕ) (parts : List Part) → AllByRecursion (IsNew (number ∷ before)) parts → AllByRecursion (IsNew before) parts
+still_new : (number : ℕ) (before : List ℕ) (parts : List Part) → AllByRecursion (IsNew (number ∷ before)) parts → AllByRecursion (IsNew before) parts
 still_new number before [] h = tt
 still_new number before (p ∷ ps) h = ((or_parts (number == p.table) (list_any (λ n. n == p.table) before) h.0).1, still_new number before ps h.1)
 
-pub others_new : (number : ℕ) (before : List ℕ) (parts : List Part) → AllByRecursion (IsNew (number ∷ before)) parts
+others_new : (number : ℕ) (before : List ℕ) (parts : List Part) → AllByRecursion (IsNew (number ∷ before)) parts
     → AllByRecursion (λ (p : Part). p.table ≢ number) parts
 others_new number before [] h = tt
 others_new number before (p ∷ ps) h =

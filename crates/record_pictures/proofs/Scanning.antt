@@ -2,7 +2,7 @@
 use Rattle.std.proofs.Common.{◌≡◌, ◌≢◌, ℕ, zero, suc, ◌==◌, Bool, true, false, List, [], ◌∷◌, ◌++◌, length, map, Option, Some, None, Ok, Err, sym, arith}
 use Rattle.std.specs.Prelude.{slice_get}
 use Rattle.std.specs.List.{list_any, AllByRecursion, Contains}
-use Rattle.std.proofs.lemmas.Bool.{cond_both}
+use Rattle.std.proofs.lemmas.Bool.{cond_both, or_parts, eqb-false}
 use Rattle.cell_base.specs.declared.cell.Cell.{Cell}
 use Rattle.cell_base.specs.declared.key.Key.{Key}
 use Rattle.cell_base.specs.declared.value.Value.{Value}
@@ -25,7 +25,6 @@ use Rattle.statement_course.specs.Statements.{parts_of_select, course_of_rows, c
 use Rattle.statement_course.specs.Writing.{write_all, read_presences, insert_rows, inserts, updates, deletes}
 use Rattle.record_pictures.specs.Scans.{ScansOnce}
 use Rattle.record_pictures.specs.Laws.{StatementScansOnce}
-use Rattle.course_laws.proofs.PartsOnce.{IsNew, still_new, others_new}
 
 -- ---- what reads cells alone
 
@@ -98,10 +97,23 @@ none_before (p ∷ ps) = ((λ there. absurd (omega (arith, there.1))), none_befo
 
 -- ---- the parts of a SELECT
 
+abbrev IsNew : List ℕ → Part → Type 0
+IsNew before part = list_any (λ n. n == part.table) before ≡ false
+
 -- parts of different tables, none of them among those that stand before
 record ArePicked (before : List ℕ) (parts : List Part) : Type 0 where
   new : AllByRecursion (IsNew before) parts
   apart : AreApart parts
+
+still_new : (number : ℕ) (before : List ℕ) (parts : List Part) → AllByRecursion (IsNew (number ∷ before)) parts → AllByRecursion (IsNew before) parts
+still_new number before [] h = tt
+still_new number before (p ∷ ps) h = ((or_parts (number == p.table) (list_any (λ n. n == p.table) before) h.0).1, still_new number before ps h.1)
+
+others_new : (number : ℕ) (before : List ℕ) (parts : List Part) → AllByRecursion (IsNew (number ∷ before)) parts
+    → AllByRecursion (λ (p : Part). p.table ≢ number) parts
+others_new number before [] h = tt
+others_new number before (p ∷ ps) h =
+    ((λ e. eqb-false number p.table (or_parts (number == p.table) (list_any (λ n. n == p.table) before) h.0).0 (sym e)), others_new number before ps h.1)
 
 picked_one : (number : ℕ) (found : Option Table) (columns : List ℕ) (point : Option Key) (before : List ℕ) (parts : List Part)
     → list_any (λ n. n == number) before ≡ false → ArePicked (number ∷ before) parts

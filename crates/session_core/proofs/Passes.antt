@@ -1,5 +1,6 @@
 -- What holds of scripts where no lack of memory and no failed write stands, and where one does.
-use Rattle.std.proofs.Common.{◌≡◌, Bool, true, false, ℕ, ◌<◌, ◌≤◌, List, [], ◌∷◌, ◌++◌, length, refl, arith, Option, Some, None, length-append}
+use Rattle.std.proofs.Common.{◌≡◌, ◌≢◌, Bool, true, false, ℕ, ◌<◌, ◌≤◌, List, [], ◌∷◌, ◌++◌, length, refl, arith, Option, Some, None, length-append}
+use Rattle.std.proofs.lemmas.Bool.Decides.{nat_tests}
 use Rattle.std.specs.Prelude.{◌==◌, if◌then◌else◌}
 use Rattle.block_machine.specs.Script.{Entry, did, refused, short, unsent, stop, Said, Script, unless_short, unless_unsent}
 use Rattle.block_machine.specs.Stages.{IsFrom}
@@ -9,7 +10,12 @@ use Rattle.session_core.specs.declared.turns.Shortage.{Shortage}
 use Rattle.session_core.specs.declared.turns.Shortage.TheVariants as shortages
 use Rattle.session_core.specs.Stands.{least, IsLast, IsBusy, IsFed}
 use Rattle.session_core.specs.Steps.{with_out_of_memory, IsShort, IsPassing}
-use Rattle.block_machine.proofs.Passes.{eqb-ne, eqb-eq}
+
+pub eqb-ne : (a b : ℕ) → a ≢ b → (a == b) ≡ false
+eqb-ne a b h = grind (arith, nat_tests)
+
+pub eqb-eq : (a b : ℕ) → a ≡ b → (a == b) ≡ true
+eqb-eq a b h = grind (arith, nat_tests)
 
 pub least-busy : (stage : SessionStage) → IsBusy stage → least stage ≡ 1
 least-busy (stages.Waiting phase) h = absurd h

@@ -84,7 +84,7 @@ sound_after : (before tables : List Table) → All IsSound (before ++ tables) �
 sound_after [] tables h = h
 sound_after (b ∷ bs) tables h = sound_after bs tables (All-tail IsSound b (bs ++ tables) h)
 
-pub formed_of : (history : Chronicle) → IsLegalChronicle history → IsFormedChronicle history
+formed_of : (history : Chronicle) → IsLegalChronicle history → IsFormedChronicle history
 formed_of history legal = record { initial = legal.initial; formed = legal.legal.formed; tables = legal.tables }
 
 pub look_fits : (c : Call) (p q : Past) (known : ℕ) (tables : List Table) → c ≡ calls.Look known → AnswersTables p known tables q →

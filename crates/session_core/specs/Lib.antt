@@ -2,7 +2,6 @@ pub mod Users
 pub mod Wants
 pub mod Requests
 pub mod Replies
-pub mod Prepared
 pub mod Told
 pub mod Record
 pub mod Plays

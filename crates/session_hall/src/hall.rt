@@ -17,7 +17,6 @@ use crate::seat::Seat;
 use block_machine::End;
 use cell_base::{Items, Level, Memory};
 use choice_stream::ListWords;
-use held_values::{beside, without};
 use history_core::{History, InitialState};
 use session_core::Session;
 use std::alloc::Global;
@@ -64,39 +63,6 @@ fn seats_for(alloc: Global, level: Level, clients: Vec<Client>) -> Result<Vec<Se
     Ok(seats)
 }
 
-// The store of a new history.
-fn new_store(alloc: Global, level: Level) -> Result<Store, Memory>
-    ensures is { IfOk result (λ store. store ≡ empty_history level) }
-    ensures legal { IfOk result IsLegalChronicle }
-{
-    let store = Store::new(alloc, level, InitialState::empty(alloc))?;
-    // Only for its contract: the history is legal.
-    let _ = store.history();
-    Ok(store)
-}
-
-// The hall of the store of a new history.
-fn hall_of(
-    alloc: Global,
-    level: Level,
-    store: Store,
-    clients: Vec<Client>,
-) -> Result<Hall, Memory>
-    requires pieces { All (λ (c : Known). 0 < c.piece) clients.items }
-    requires is { store ≡ empty_history level }
-    requires legal { IsLegalChronicle store }
-    ensures stands { IfOk result (λ hall. StandsFor level (empty_history level) clients.items (λ k. nothing) hall) }
-    ensures hall { IfOk result IsHall }
-    ensures range { IfOk result (λ hall. clients_of hall ≡ length clients.items) }
-{
-    let seats = seats_for(alloc, level, clients);
-    let (store, seats) = beside(store, seats)?;
-    Ok(Hall {
-        store: Some(store),
-        seats,
-    })
-}
-
 impl Hall {
     /// A hall at a level, over a history without a row at first and without an event. Nothing was heard of any client yet. Clients have
     /// numbers from 0. An error is out of memory.
@@ -106,10 +72,13 @@ impl Hall {
         ensures hall { IfOk result IsHall }
         ensures range { IfOk result (λ hall. clients_of hall ≡ length clients.items) }
     {
-        match new_store(alloc, level) {
-            Ok(store) => hall_of(alloc, level, store, clients),
-            Err(Memory) => without(clients, Err(Memory)),
-        }
+        let store = Store::new(alloc, level, InitialState::empty(alloc))?;
+        // Only for its contract: the history is legal.
+        let _ = store.history();
+        Ok(Hall {
+            store: Some(store),
+            seats: seats_for(alloc, level, clients)?,
+        })
     }
 
     /// Lets a client go on until its session has made one call of its book other than whether it wrote a cell, or has ended; all that is

@@ -21,7 +21,7 @@ use Rattle.history_core.specs.Events.{begun, defined, defined_name, names}
 use Rattle.history_core.specs.Initial.{HoldsWholeRows, WritesInitially}
 use Rattle.history_core.specs.Transactions.{IsOf, IsCommitted}
 use Rattle.history_core.specs.Relations.{HasWritten, LastWrites}
-use Rattle.history_core.specs.Chronicle.{Chronicle, IsLegalChronicle}
+use Rattle.history_core.specs.Chronicle.{Chronicle, IsLegalChronicle, IsFormedChronicle}
 use Rattle.history_core.proofs.Greatest.{greatest}
 use Rattle.history_core.proofs.Prefixes.{start_bounded}
 use Rattle.history_core.proofs.Searches.{cell_cmp, cell_total, cell_exact}
@@ -30,7 +30,6 @@ use Rattle.whole_rows.specs.Rows.{IsField, KeepsRows}
 use Rattle.whole_rows.proofs.Prefixed.{commits_after}
 use Rattle.committed_rows.specs.Rows.{IsNewest, AreCommittedRows}
 use Rattle.setup_rows.proofs.Records.{WritesField}
-use Rattle.session_core.proofs.Playing.{formed_of}
 
 -- a legal history without a row at first, whose transactions keep rows whole and write fields of its tables
 pub record IsKept (history : Chronicle) : Type 0 where
@@ -123,6 +122,9 @@ defined_before events k =
     let whole : defined events ≡ defined (take k events) + defined (drop k events) =
     ap defined (sym (take-append-drop k events)) ∙ ap length (filter_map-append defined_name (take k events) (drop k events))
     ∙ length-append (names (take k events)) (names (drop k events)) in omega arith
+
+formed_of : (history : Chronicle) → IsLegalChronicle history → IsFormedChronicle history
+formed_of history legal = record { initial = legal.initial; formed = legal.legal.formed; tables = legal.tables }
 
 row_known : (history : Chronicle) (table : ℕ) (key : Key) (n : ℕ) → IsKept history → LastWrites history.events n (Presence table key) (Flag true) →
     table < length history.tables

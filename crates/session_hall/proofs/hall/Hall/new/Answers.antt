@@ -1,14 +1,15 @@
-use Rattle.std.proofs.Common.{◌≡◌, Some, ap, subst, ◌∙◌}
+use Rattle.std.proofs.Common.{◌≡◌, List, [], Some, ap, subst, ◌∙◌}
 use Rattle.history_core.specs.Chronicle.{Chronicle, IsLegalChronicle}
 use Rattle.valid_writes.specs.Beginnings.{empty_history}
 use Rattle.session_hall.specs.Accounts.{nothing}
 use Rattle.session_hall.proofs.Opening.{hall_new}
-use Rattle.session_hall.proofs.hall.hall_of.Goals as goal
+use Rattle.session_hall.proofs.hall.Hall.new.Goals as goal
 
 pub returns-clause-stands : goal.returns-clause-stands
 returns-clause-stands c =
-    hall_new c.args.level c.args.clients.items _ (ap (λ (h : Chronicle). Some h) (c.in_ok-store.ensures.same ∙ c.requires.is))
-    (subst IsLegalChronicle c.requires.is c.requires.legal) (rw c.in_ok-store.ensures.taken at c.seats_for-seats.ensures)
+    let is : c.in_ok-store.store ≡ empty_history c.args.level =
+    c.in_ok-store.ensures ∙ ap (λ (rows : List _). record { level = c.args.level; initial = rows; events = []; tables = [] }) c.empty.ensures in
+    hall_new c.args.level c.args.clients.items _ (ap (λ (h : Chronicle). Some h) is) (subst IsLegalChronicle is c.history.ensures.legal) c.in_ok-seats_for.ensures
 
 pub returns-clause-hall : goal.returns-clause-hall
 returns-clause-hall c = (c.args.level, empty_history c.args.level, c.args.clients.items, (λ k. nothing), returns-clause-stands c)
