@@ -81,11 +81,7 @@ fn count_of(matrix: &BitMatrix, alloc: Global, number: u32) -> Result<u32, Alloc
 }
 
 /// What is found of a row of the matrix; none where there is no such row.
-fn read_row(
-    matrix: &BitMatrix,
-    alloc: Global,
-    number: u32,
-) -> Result<Option<Found>, AllocError> {
+fn read_row(matrix: &BitMatrix, alloc: Global, number: u32) -> Result<Option<Found>, AllocError> {
     if (number as usize) >= matrix.len() {
         return Ok(None);
     }

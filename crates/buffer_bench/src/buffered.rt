@@ -57,10 +57,7 @@ pub(crate) fn show(rt: &(impl Print + AllocGlobal), rows: u32) -> Result<()> {
 }
 
 /// Times the buffer.
-pub(crate) fn measure_buffer(
-    rt: &(impl CpuClock + Print + AllocGlobal),
-    rows: u32,
-) -> Result<()> {
+pub(crate) fn measure_buffer(rt: &(impl CpuClock + Print + AllocGlobal), rows: u32) -> Result<()> {
     let mut buffer = TxnBuffer::new(rt.alloc());
     let measured = measure(rt, "buffer", &mut buffer, rows);
     without(buffer, measured)

@@ -51,10 +51,7 @@ impl Writes for Walked {
 }
 
 /// Times the list.
-pub(crate) fn measure_list(
-    rt: &(impl CpuClock + Print + AllocGlobal),
-    rows: u32,
-) -> Result<()> {
+pub(crate) fn measure_list(rt: &(impl CpuClock + Print + AllocGlobal), rows: u32) -> Result<()> {
     let mut list = Walked {
         entries: Vec::new(rt.alloc()),
     };

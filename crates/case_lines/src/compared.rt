@@ -46,7 +46,11 @@ pub fn is_of_long(
     given: Result<String, Memory>,
     want: &str,
 ) -> Result<(), Fail> {
-    is(format_args!("{times} times {part} after {first}"), given, want)
+    is(
+        format_args!("{times} times {part} after {first}"),
+        given,
+        want,
+    )
 }
 
 /// Ends the test at a line that is no case and tells nothing of cases.

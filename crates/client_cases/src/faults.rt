@@ -1,6 +1,6 @@
 // Each fault at the byte that shows it.
-use crate::rows::right_at;
 use crate::reading::{STARTUP, Seen, joined, see};
+use crate::rows::right_at;
 use cell_base::Memory;
 use client_framing::FrameFault;
 use held_values::without;
@@ -73,9 +73,7 @@ fn is_shown(
     let early = see(alloc, 1, begun)?;
     let shown = see(alloc, 1, stream)?;
     let later = see_longer(alloc, stream)?;
-    Ok(early.has(before, None)
-        && shown.has(before, Some(fault))
-        && later.has(before, Some(fault)))
+    Ok(early.has(before, None) && shown.has(before, Some(fault)) && later.has(before, Some(fault)))
 }
 
 // What is seen where a startup comes after the stream.

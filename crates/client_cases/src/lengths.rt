@@ -1,6 +1,6 @@
 // Each length from 0 of each type of message, and of each code before the startup's end.
-use crate::rows::right_at;
 use crate::reading::{STARTUP, Seen, see_parts};
+use crate::rows::right_at;
 use cell_base::Memory;
 use client_framing::FrameFault;
 use std::alloc::Global;

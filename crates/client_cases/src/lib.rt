@@ -9,10 +9,10 @@
 #[cfg(test)]
 mod faults;
 #[cfg(test)]
-mod rows;
-#[cfg(test)]
 mod lengths;
 #[cfg(test)]
 mod reading;
+#[cfg(test)]
+mod rows;
 #[cfg(test)]
 mod streams;

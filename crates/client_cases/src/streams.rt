@@ -1,6 +1,6 @@
 // Streams of many messages in any pieces, and messages at the limits.
-use crate::rows::right_at;
 use crate::reading::{STARTUP, name_of, read, see, told};
+use crate::rows::right_at;
 use cell_base::Memory;
 use client_framing::{FrameFault, Frames, Split};
 use held_values::{kept, without};
@@ -50,14 +50,7 @@ const LONGEST: &[Long] = &[
         1,
         9_988,
     ),
-    (
-        b"",
-        b"\x00\x00\x27\x10\x00\x02\x00\x00",
-        9_992,
-        b"",
-        1,
-        0,
-    ),
+    (b"", b"\x00\x00\x27\x10\x00\x02\x00\x00", 9_992, b"", 1, 0),
     (
         STARTUP,
         b"Q\x00\x10\x00\x00",

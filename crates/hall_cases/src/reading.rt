@@ -192,11 +192,7 @@ fn push_made<T: Drop>(out: &mut Vec<T>, made: Result<T, Unread>) -> Result<(), U
 }
 
 // Adds the session of each text.
-fn push_clients(
-    alloc: Global,
-    texts: &[String],
-    clients: &mut Vec<Session>,
-) -> Result<(), Unread> {
+fn push_clients(alloc: Global, texts: &[String], clients: &mut Vec<Session>) -> Result<(), Unread> {
     for text in texts {
         push_made(clients, last(read_sessions(alloc, text.as_str())))?;
     }

@@ -10,12 +10,7 @@ fn push_line(changed: &mut String, line: &str) -> Result<(), AllocError> {
     changed.push_str("\n")
 }
 
-fn push_lines(
-    changed: &mut String,
-    text: &str,
-    number: u32,
-    line: &str,
-) -> Result<(), AllocError> {
+fn push_lines(changed: &mut String, text: &str, number: u32, line: &str) -> Result<(), AllocError> {
     let mut at = 1u32;
     for part in text.lines() {
         push_line(changed, if at == number { line } else { part })?;

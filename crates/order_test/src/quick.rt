@@ -191,12 +191,7 @@ fn is_harmless(survey: &Survey<'_>, scene: &Scene<'_>, read: &ReadAt<'_>, seen: 
 }
 
 /// Whether none of these was read from a rival.
-fn all_are_harmless(
-    survey: &Survey<'_>,
-    scene: &Scene<'_>,
-    read: &ReadAt<'_>,
-    all: &[Seen],
-) -> bool
+fn all_are_harmless(survey: &Survey<'_>, scene: &Scene<'_>, read: &ReadAt<'_>, all: &[Seen]) -> bool
     requires survey { IsSurvey survey.now }
     requires scene { IsScene survey.now scene.now }
     requires read { IsReadIn survey.now read.now }
@@ -222,12 +217,7 @@ fn sources_are_clear(survey: &Survey<'_>, scene: &Scene<'_>, read: &ReadAt<'_>) 
 }
 
 /// Whether this wasn't read from a rival before the read. Events are numbered from 1.
-fn is_harmless_early(
-    survey: &Survey<'_>,
-    scene: &Scene<'_>,
-    read: &ReadAt<'_>,
-    seen: &Seen,
-) -> bool
+fn is_harmless_early(survey: &Survey<'_>, scene: &Scene<'_>, read: &ReadAt<'_>, seen: &Seen) -> bool
     requires survey { IsSurvey survey.now }
     requires scene { IsScene survey.now scene.now }
     requires read { IsReadIn survey.now read.now }

@@ -29,7 +29,10 @@ fn push_insert(out: &mut String, number: u32, more: u32) -> Result<(), AllocErro
 /// A SELECT with a join, a condition and an order.
 fn push_select(out: &mut String, number: u32) -> Result<(), AllocError> {
     out.push_str("SELECT a.owner, a.balance + 10 AS raised, count(*) FROM accounts a ")?;
-    write!(out, "JOIN branches b ON a.branch = b.id WHERE a.id = {number}")?;
+    write!(
+        out,
+        "JOIN branches b ON a.branch = b.id WHERE a.id = {number}"
+    )?;
     out.push_str(" AND (b.open OR NOT a.balance BETWEEN 0 AND 1000) ")?;
     out.push_str("ORDER BY a.owner DESC, 2 LIMIT 20;\n")
 }

@@ -75,7 +75,10 @@ fn compare_trial(
     trial: &[Edge],
 ) -> Result<bool, Stop> {
     let is_back = lead_back(alloc, edges, trial)?;
-    agree(closes(reach, trial)? == Some(is_back), Stop::At(edges.len()))?;
+    agree(
+        closes(reach, trial)? == Some(is_back),
+        Stop::At(edges.len()),
+    )?;
     Ok(is_back)
 }
 

@@ -47,12 +47,7 @@ fn compare_graph(
 }
 
 /// A graph of so many numbers: what is counted of its parts.
-fn random_graph(
-    alloc: Global,
-    numbers: &mut Numbers,
-    size: u32,
-    parts: Parts,
-) -> Result<u32, Stop>
+fn random_graph(alloc: Global, numbers: &mut Numbers, size: u32, parts: Parts) -> Result<u32, Stop>
     requires some { 1 ≤ size }
     requires few { size ≤ MOST }
 {

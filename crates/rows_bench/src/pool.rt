@@ -46,7 +46,11 @@ pub(crate) struct Pool<T> {
     joined: T,
 }
 
-fn push_rows<T: Bits + Drop>(rows: &mut Vec<T>, alloc: Global, size: u32) -> Result<(), AllocError> {
+fn push_rows<T: Bits + Drop>(
+    rows: &mut Vec<T>,
+    alloc: Global,
+    size: u32,
+) -> Result<(), AllocError> {
     for _ in 0..size {
         rows.push(T::of_rest(alloc, 0)?)?;
     }

@@ -258,12 +258,7 @@ fn say_of_trial(
     Ok(())
 }
 
-fn time_trial(
-    rt: &(impl CpuClock + Print),
-    reach: &Reach,
-    trial: &[Edge],
-    hub: u32,
-) -> Result<()> {
+fn time_trial(rt: &(impl CpuClock + Print), reach: &Reach, trial: &[Edge], hub: u32) -> Result<()> {
     let start = rt.thread_cpu_time()?;
     let found = count_hub_cycles(reach, trial, hub);
     say_of_trial(rt, "would_cycle", start, TRIALS, found)?;

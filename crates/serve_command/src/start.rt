@@ -66,10 +66,7 @@ impl From<SetupFault> for StartFault {
 }
 
 // What was begun, where there was room for it, once what it was begun after is let go. A store costs much to check wherever it is let go.
-fn with_room<S: Drop, T: Drop>(
-    _setup: S,
-    begun: Result<Option<T>, Memory>,
-) -> Result<T, StartFault>
+fn with_room<S: Drop, T: Drop>(_setup: S, begun: Result<Option<T>, Memory>) -> Result<T, StartFault>
     ensures ok { IfOk result (λ made. begun ≡ Ok (Some made)) }
     ensures err { IfErr result (λ e. ((e ≡ StartFault.Heavy) × (begun ≡ Ok None)) ⊎ (e ≡ StartFault.Memory)) }
 {

@@ -110,6 +110,9 @@ fn refuses_a_session_beyond_the_last(rt: HostRuntime) -> Result<(), Fail> {
         end: End::Refused(SqlState::S54000),
         events: 8192,
     };
-    assert_eq!(rt; first_after_others(rt.alloc(), CLIENT, 4096)?, Some(expected));
+    assert_eq!(rt;
+        first_after_others(rt.alloc(), CLIENT, 4096)?,
+        Some(expected)
+    );
     Ok(())
 }

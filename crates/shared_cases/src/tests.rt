@@ -184,11 +184,7 @@ fn play_on<R: Wait>(
 }
 
 /// The same on a new history.
-fn play_new<R: Wait>(
-    rt: &R,
-    alloc: Global,
-    table: &Table,
-) -> Result<(Store, [bool; 4]), BookFault>
+fn play_new<R: Wait>(rt: &R, alloc: Global, table: &Table) -> Result<(Store, [bool; 4]), BookFault>
     requires { IsSound table.now }
 {
     let store = Store::new(alloc, Level::Rc, InitialState::empty(alloc))?;
@@ -321,7 +317,10 @@ fn difference(events: &[Event], a: u32, b: u32) -> &'static str {
 }
 
 /// The same of two sessions in two threads.
-fn difference_in_two<R: Threads + Wait + Sync>(rt: &R, alloc: Global) -> Result<&'static str, Stop> {
+fn difference_in_two<R: Threads + Wait + Sync>(
+    rt: &R,
+    alloc: Global,
+) -> Result<&'static str, Stop> {
     let (store, a, b) = work_in_two(rt, alloc, prepared(alloc)?, 50)?;
     let difference = difference(store.history().events(), a, b);
     Ok(without(store, difference))

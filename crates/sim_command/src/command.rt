@@ -133,13 +133,7 @@ fn played(alloc: Global, plan: Plan) -> Result<Hall, SimFault>
 }
 
 // Writes the log of a hall's history to the file of a path, where one is given, and prints its summary.
-fn tell<H: Host>(
-    alloc: Global,
-    host: &mut H,
-    plan: Plan,
-    log: &Option<Text>,
-    hall: &Hall,
-) -> Status
+fn tell<H: Host>(alloc: Global, host: &mut H, plan: Plan, log: &Option<Text>, hall: &Hall) -> Status
     requires hall { IsHall hall.now }
     requires simulation { (history : Chronicle) → hall.now.store ≡ Some history → IsSimulation plan.level plan.seed plan.sessions plan.queries history }
     requires none_out { objects_out (H.hosted host.old) ≡ 0 }

@@ -9,12 +9,7 @@ use seat_samples::Stop;
 use std::alloc::Global;
 
 /// The line of a level and a seed, for what sessions do one after another.
-fn line_of(
-    alloc: Global,
-    level: Level,
-    seed: u64,
-    steps: &[(u32, Step)],
-) -> Result<Vec<u8>, Stop> {
+fn line_of(alloc: Global, level: Level, seed: u64, steps: &[(u32, Step)]) -> Result<Vec<u8>, Stop> {
     let store = play(alloc, level, steps)?;
     let line = summary(alloc, level, seed, store.history());
     Ok(without(store, line)?)

@@ -1,6 +1,6 @@
 // Aggregates over a column x, with the values that they give, worked out by hand from PostgreSQL's documentation.
 use case_lines::Lit;
-use case_lines::{Lit::{Flag, Int, Null, Str};
+use case_lines::Lit::{Flag, Int, Null, Str};
 use cell_base::SqlType;
 use cell_base::SqlType::{Bigint, Boolean, Integer, Text, Varchar};
 use sql_tree::Aggregate;

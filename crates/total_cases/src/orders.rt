@@ -1,6 +1,6 @@
 // Rows with terms, and the order that they are put in: by the number of each row, from 0. True stands for DESC.
 use case_lines::Lit;
-use case_lines::{Lit::{Flag, Int, Null, Str};
+use case_lines::Lit::{Flag, Int, Null, Str};
 
 /// The terms of each row, the directions, and the rows' numbers in order.
 pub type Order = (&'static [&'static [Lit]], &'static [bool], &'static str);

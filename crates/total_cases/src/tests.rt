@@ -25,11 +25,7 @@ fn add_all(alloc: Global, totals: &mut Totals, cells: &[Lit]) -> Result<(), SqlF
 }
 
 /// The values of the expressions over the rows.
-fn totals_of(
-    alloc: Global,
-    exprs: &[TypedExpr],
-    cells: &[Lit],
-) -> Result<Items<Value>, SqlFault> {
+fn totals_of(alloc: Global, exprs: &[TypedExpr], cells: &[Lit]) -> Result<Items<Value>, SqlFault> {
     let mut totals = Totals::new(alloc, exprs)?;
     let added = add_all(alloc, &mut totals, cells);
     let totals = kept(totals, added)?;
@@ -84,11 +80,7 @@ fn numbers(alloc: Global, rows: Vec<SortedRow>) -> Result<String, Memory> {
     Ok(without(rows, shown)?)
 }
 
-fn push_rows(
-    made: &mut Items<SortedRow>,
-    alloc: Global,
-    rows: &[&[Lit]],
-) -> Result<(), Memory> {
+fn push_rows(made: &mut Items<SortedRow>, alloc: Global, rows: &[&[Lit]]) -> Result<(), Memory> {
     for (number, terms) in rows.iter().enumerate() {
         made.push(numbered(alloc, number, terms)?)?;
     }

@@ -4,7 +4,7 @@ use crate::changes::Term::{Constant, Field, Sum};
 use crate::changes::Verb::{Delete, Update};
 use crate::shown;
 use crate::trees::{column, compared, constant, divides_ten, shown_to, sum, table};
-use case_lines::{Lit::{Int, Null, Str};
+use case_lines::Lit::{Int, Null, Str};
 use case_lines::{Lit, fault_shown, is};
 use cell_base::{Items, Key, Memory, Value};
 use held_values::{both, kept, without};

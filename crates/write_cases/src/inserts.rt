@@ -1,7 +1,7 @@
 // The rows that an INSERT makes.
 use crate::shown;
 use crate::trees::{constants, rows_of, table};
-use case_lines::{Lit::{Int, Null, Str};
+use case_lines::Lit::{Int, Null, Str};
 use case_lines::{Lit, fault_shown, is, text_of};
 use cell_base::{Items, Memory, SqlType, Text, Value};
 use held_values::{both, kept, without};

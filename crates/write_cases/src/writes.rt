@@ -1,7 +1,7 @@
 // The cells that are written.
 use crate::shown;
 use crate::trees::{rows_of, table};
-use case_lines::{Lit::{Int, Null, Str};
+use case_lines::Lit::{Int, Null, Str};
 use case_lines::{Lit, is, text_of};
 use cell_base::{Cell, Items, Key, Memory, Value};
 use held_values::{both, kept, without};
