@@ -92,7 +92,7 @@ fn push_plain_line(alloc: Global, parts: &mut Parts, line: &str) -> Result<(), U
 // The lines of a set-up for the session.
 fn filled(alloc: Global, head: &str, session: &str, lines: &str) -> Result<String, Unread> {
     let lines = lines.replace(alloc, "{session}", session)?;
-    let filled = lines.as_str().replace(alloc, "{level}", level_name(head));
+    let filled: Result<String, _> = lines.as_str().replace(alloc, "{level}", level_name(head));
     Ok(without(lines, filled)?)
 }
 

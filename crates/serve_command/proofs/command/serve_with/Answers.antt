@@ -5,7 +5,7 @@ use Rattle.serve_command.specs.Serving.{GoesOn}
 use Rattle.serve_command.proofs.command.serve_with.Goals as goal
 
 pub serve_shared-requires-clause-pass : goal.serve_shared-requires-clause-pass
-serve_shared-requires-clause-pass g c = c.in-Ok.ensures.pass.0
+serve_shared-requires-clause-pass g c κs within = c.in-Ok.ensures.pass.0
 
 pub returns-in-Ok-clause-goes_on : goal.returns-in-Ok-clause-goes_on
 returns-in-Ok-clause-goes_on g c =
