@@ -7,10 +7,9 @@ use crate::grown::{FREE, grown};
 use crate::meter;
 use anyhow::Result;
 use bit_rows::ROW_BITS;
-use checked_reach::{
-    alone, close_stars, closes, closes_star, count_ancestors, kept, try_star, would,
-};
+use checked_reach::{close_stars, closes, closes_star, count_ancestors, try_star, would};
 use graph_base::Edge;
+use held_values::{kept, without};
 use reach_rows::{Reach, Star};
 use std::alloc::{AllocError, Global};
 use std::time::{CpuClock, Duration};
@@ -51,7 +50,7 @@ fn add_star(alloc: Global, reach: &mut Reach, number: u32, target: u32) -> Resul
 {
     let members = members_from(alloc, 1 + number * MEMBERS)?;
     let is_added = try_star(reach, &members, target);
-    Ok(alone(members, is_added))
+    Ok(without(members, is_added))
 }
 
 /// Adds all stars of free numbers. How many were added.
@@ -132,7 +131,7 @@ fn measure_star_trial(
 {
     let members = members_from(rt.alloc(), target)?;
     let timed = time_star(rt, reach, &members);
-    alone(members, timed)
+    without(members, timed)
 }
 
 fn push_stars(
@@ -200,7 +199,7 @@ fn measure_star_lists(
 {
     let stars = stars_into(rt.alloc(), target, count)?;
     let timed = time_star_list(rt, reach, &stars, count);
-    alone(stars, timed)
+    without(stars, timed)
 }
 
 fn push_edges(trial: &mut Vec<Edge>, hub: u32) -> Result<(), AllocError>
@@ -273,7 +272,7 @@ fn measure_trials(rt: &(impl CpuClock + Print + AllocGlobal), reach: &Reach, hub
 {
     let trial = trial_at(rt.alloc(), hub)?;
     let timed = time_trial(rt, reach, &trial, hub);
-    alone(trial, timed)
+    without(trial, timed)
 }
 
 /// Says how many numbers there are, and what each took since `start`.
@@ -308,5 +307,5 @@ pub(crate) fn measure(rt: &(impl CpuClock + Print + AllocGlobal), size: u32) -> 
     let said = say_of_size(rt, size, start);
     let mut reach = kept(reach, said)?;
     let measured = measure_calls(rt, &mut reach, size / 2);
-    alone(reach, measured)
+    without(reach, measured)
 }
