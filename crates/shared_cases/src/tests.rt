@@ -9,7 +9,7 @@ ghost use Rattle.shared_cases.specs.Passes.{SamePass, ArePassesOf};
 use crate::calls::{begin, close, commit, define, look, open, read, write};
 use crate::lines::{Line, are_lines, is_whole};
 use cell_base::{Level, Value};
-use held_values::{beside, without};
+use held_values::without;
 use history_core::{BookFault, Event, InitialState};
 use seat_samples::{Stop, with_table};
 use shared_book::{Pass, Shared, SharedBook};
@@ -178,9 +178,9 @@ fn play_on<R: Wait>(
     let (shared, pass, other) = shared_by_two(alloc, store)?;
     let mut first = shared.book(rt, pass);
     let mut second = shared.book(rt, other);
-    let found = play(&mut first, &mut second, table);
+    let found = play(&mut first, &mut second, table)?;
     let (pass, other) = (first.into_pass(), second.into_pass());
-    beside(store_of(shared, pass, other), found)
+    Ok((store_of(shared, pass, other), found))
 }
 
 /// The same on a new history.
@@ -254,25 +254,15 @@ fn write_many<R: Wait>(book: &mut SharedBook<'_, R>, count: u32) -> Result<(), B
     Ok(())
 }
 
-/// A session that opens, looks, writes in so many transactions and closes. The answer is its number.
-fn work_on<R: Wait>(book: &mut SharedBook<'_, R>, count: u32) -> Result<u32, BookFault>
-    requires { book.old.state ≡ no_session }
-    ensures { SamePass book.old.pass book.new.pass }
-{
-    let session = enter(book)?;
-    write_many(book, count)?;
-    close(book);
-    Ok(session)
-}
-
-/// The same of a book of one's own. The answer has its pass.
+/// A session that opens, looks, writes in so many transactions and closes. The answer has its number.
 fn work<R: Wait>(mut book: SharedBook<'_, R>, count: u32) -> Result<(Pass, u32), BookFault>
     requires { book.state ≡ no_session }
     ensures { IfOk result (λ done. SamePass book.entry.pass done.0) }
 {
-    let worked = work_on(&mut book, count);
-    let (pass, session) = beside(book.into_pass(), worked)?;
-    Ok((pass, session))
+    let session = enter(&mut book)?;
+    write_many(&mut book, count)?;
+    close(&mut book);
+    Ok((book.into_pass(), session))
 }
 
 /// Two workers in two threads. The answer is the store and their sessions.
