@@ -1,5 +1,5 @@
 // Two books on one history: in one thread by turns, and in two threads.
-ghost use Rattle.std.specs.Prelude.{◌≡◌, ◌+◌, ◌≤◌, IfOk, OnOk};
+ghost use Rattle.std.specs.Prelude.{◌≡◌, ◌+◌, IfOk, OnOk};
 ghost use Rattle.sound_table.specs.Sound.{IsSound};
 ghost use Rattle.history_core.specs.Book.{no_session, IsIdle};
 ghost use Rattle.shared_book.specs.Books.{past_of};
