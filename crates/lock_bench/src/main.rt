@@ -9,7 +9,6 @@ mod turns;
 
 use locks::count_locks;
 use std::alloc::{AllocError, Global};
-use std::rt::Env;
 use std::sync::Wait;
 use std::thread::Threads;
 use std::time::{Clock, Duration, Instant};
@@ -39,16 +38,6 @@ fn measure<R: Threads + Wait + Clock + Sync>(
     Ok((turns, rate(threads, each, start.elapsed(rt)?)))
 }
 
-// How many turns each thread makes, where that is said.
-fn asked<R: Env>(rt: &R) -> io::Result<Option<u32>> {
-    let mut words = env::args(rt)?;
-    let _program = words.next();
-    match words.next() {
-        Some(word) => Ok(word.as_str().parse::<u32>().ok()),
-        None => Ok(None),
-    }
-}
-
 fn say_rates(rt: &impl Print, threads: u32, (turns, locks): (u128, u128)) -> io::Result<()> {
     println!(rt; "{threads} threads: {turns} turns, {locks} locks of a mutex in a second")?;
     Ok(())
@@ -61,7 +50,11 @@ fn say_counts(rt: &impl Print, threads: u32, turns: Option<u64>, locks: u64) -> 
 }
 
 fn main(rt: HostRuntime) -> io::Result<()> {
-    let each = asked(&rt)?;
+    let mut words = env::args(&rt)?;
+    let _program = words.next();
+    let each = words
+        .next()
+        .and_then(|word| word.as_str().parse::<u32>().ok());
     for threads in CROWDS {
         match each {
             Some(each) => {
