@@ -53,3 +53,16 @@ pub record AreWriters (events : List Event) (cells : CellNotes) : Type 0 where
   pub ascending : (i : ℕ) (note : CellNote) → slice_get cells.notes.items i ≡ Some note → IsStrictlyIncreasing note.committed
   pub exact : (i : ℕ) (cell : Cell) (note : CellNote) (number : ℕ) → slice_get cells.numbers.cells.keys i ≡ Some cell → slice_get cells.notes.items i ≡ Some note →
       Contains note.committed number ↔ ((0 < number) × Writes events number cell)
+
+-- where there are more cells than notes a note is put after the others that says nothing
+abbrev pub AddsNote : ℕ → List CellNote → List CellNote → Type 0
+AddsNote cells old new =
+    ((cells ≤ length old) × (new ≡ old)) ⊎ ((length old < cells) × ((blank : CellNote) × ((blank.places ≡ []) × ((blank.committed ≡ []) × (new ≡ old ++ blank ∷ [])))))
+
+-- the cell was there with its note, or is the last with a note that says nothing; its number stands at the next event
+pub record TakesCell (old : CellNotes) (cell : Cell) (number : ℕ) (new : CellNotes) : Type 0 where
+  pub is : slice_get new.numbers.cells.keys number ≡ Some cell
+  pub pushed : new.numbers.of_events.items ≡ old.numbers.of_events.items ++ number ∷ []
+  pub adds : ((new.numbers.cells.keys ≡ old.numbers.cells.keys) × (new.notes.items ≡ old.notes.items))
+      ⊎ ((new.numbers.cells.keys ≡ old.numbers.cells.keys ++ cell ∷ []) × ((¬ Contains old.numbers.cells.keys cell)
+      × ((blank : CellNote) × ((blank.places ≡ []) × ((blank.committed ≡ []) × (new.notes.items ≡ old.notes.items ++ blank ∷ []))))))

@@ -38,7 +38,7 @@ fn cell_of(event: &Event) -> Option<&Cell>
 }
 
 /// The number of the cell, which is the next one where it has none yet.
-fn number_cell(numbers: &mut CellNumbers, cell: &Cell) -> Result<u32, Memory>
+pub fn number_cell(numbers: &mut CellNumbers, cell: &Cell) -> Result<u32, Memory>
     requires few { length numbers.old.cells.keys < 4294967296 }
     ensures kept { numbers.new.of_events ≡ numbers.old.of_events }
     ensures ok { OnOk result (AddsCell numbers.old.cells.keys cell.now numbers.new.cells.keys) }

@@ -11,7 +11,7 @@ mod numbers;
 mod txn_places;
 mod writers;
 
-pub use cell_note::{CellNote, CellNotes, blank_cells};
+pub use cell_note::{CellNote, CellNotes, blank_cells, no_cells, take_cell};
 pub use cell_numbers::{CellNumbers, number_of};
 pub use numbers::Numbers;
 pub use txn_places::TxnPlaces;

@@ -38,7 +38,7 @@ pub fn note_commit(
 }
 
 /// Sets the flag of the transaction.
-fn set_committed(flags: &mut Vec<bool>, number: u32)
+pub fn set_committed(flags: &mut Vec<bool>, number: u32)
     requires some { 0 < number }
     requires begun { number ≤ length flags.old.items }
     ensures { flags.new.items ≡ slice_set flags.old.items (number - 1) true }

@@ -27,6 +27,13 @@ mod table_keys;
 mod writers;
 
 pub use breach::{Breach, CheckFault};
+pub use commits::set_committed;
 pub use events::check_events;
 pub use laws::{event_laws, legal_laws, trace_laws};
 pub use order::check;
+pub use pending_writes::{PendingWrites, add_place, clear};
+pub use session_note::SessionNote;
+pub use session_notes::{close, set_pending};
+pub use shape::{is_storable, table_in};
+pub use sources::is_absent_value;
+pub use writers::{note_all_committed, set_place};

@@ -47,7 +47,7 @@ pub fn note_pending(
 }
 
 /// Adds the place to those of the session.
-fn add_place(lists: &mut Vec<PendingWrites>, session: u32, place: u32) -> Result<(), Memory>
+pub fn add_place(lists: &mut Vec<PendingWrites>, session: u32, place: u32) -> Result<(), Memory>
     requires some { 0 < session }
     requires opened { session ≤ length lists.old.items }
     ensures { OnOk result (IsChangedTo lists.old.items session (λ old new. new ≡ old ++ place ∷ []) lists.new.items) }
@@ -57,7 +57,7 @@ fn add_place(lists: &mut Vec<PendingWrites>, session: u32, place: u32) -> Result
 }
 
 /// Leaves no place to the session, and the room that it has.
-fn clear(lists: &mut Vec<PendingWrites>, session: u32)
+pub fn clear(lists: &mut Vec<PendingWrites>, session: u32)
     requires some { 0 < session }
     requires opened { session ≤ length lists.old.items }
     ensures { IsChangedTo lists.old.items session (λ old new. new ≡ []) lists.new.items }

@@ -45,7 +45,7 @@ pub fn note_session(
 }
 
 /// Sets what is pending in the session.
-fn set_pending(session_notes: &mut Vec<SessionNote>, session: u32, pending: Option<u32>)
+pub fn set_pending(session_notes: &mut Vec<SessionNote>, session: u32, pending: Option<u32>)
     requires some { 0 < session }
     requires opened { session ≤ length session_notes.old.items }
     ensures { TakesPending session_notes.old.items session pending session_notes.new.items }
@@ -54,7 +54,7 @@ fn set_pending(session_notes: &mut Vec<SessionNote>, session: u32, pending: Opti
 }
 
 /// Closes the session.
-fn close(session_notes: &mut Vec<SessionNote>, session: u32)
+pub fn close(session_notes: &mut Vec<SessionNote>, session: u32)
     requires some { 0 < session }
     requires opened { session ≤ length session_notes.old.items }
     ensures { IsClosed session_notes.old.items session session_notes.new.items }

@@ -144,7 +144,7 @@ fn may_write(notes: &Notes, before: &[Event], session: u32, cell: &Cell, value: 
 }
 
 /// The table of the cell.
-fn table_in(cell: &Cell) -> u32
+pub fn table_in(cell: &Cell) -> u32
     ensures { result ≡ table_of cell.now }
 {
     match cell {
@@ -154,7 +154,7 @@ fn table_in(cell: &Cell) -> u32
 }
 
 /// Whether the value is neither unset nor wide.
-fn is_storable(value: &Value) -> bool
+pub fn is_storable(value: &Value) -> bool
     ensures { IsTrue result ↔ IsStorable value.now }
 {
     !matches!(value, Value::Unset | Value::Wide(_))

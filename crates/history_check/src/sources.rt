@@ -127,7 +127,7 @@ pub fn count_writers(note: &CellNote, before: &[Event], cell: &Cell) -> u32
 }
 
 /// Whether the value is what stands in a cell that the initial state doesn't have.
-fn is_absent_value(cell: &Cell, value: &Value) -> bool
+pub fn is_absent_value(cell: &Cell, value: &Value) -> bool
     ensures { IsTrue result ↔ (value.now ≡ absent_value cell.now) }
 {
     match cell {

@@ -15,7 +15,7 @@ use cell_writers::{CellNote, CellNotes};
 use history_core::Event;
 
 /// Sets where the transaction has written the cell of the number last.
-fn set_place(notes: &mut Vec<CellNote>, at: usize, number: u32, place: u32) -> Result<(), Memory>
+pub fn set_place(notes: &mut Vec<CellNote>, at: usize, number: u32, place: u32) -> Result<(), Memory>
     requires { at < length notes.old.items }
     ensures { OnOk result (SetsPlaceAt at number place notes.old.items notes.new.items) }
 {
@@ -34,7 +34,7 @@ fn note_committed(notes: &mut Vec<CellNote>, at: usize, number: u32) -> Result<(
 }
 
 /// Notes the transaction as one that has committed, at the cells of the events at the places.
-fn note_all_committed(
+pub fn note_all_committed(
     notes: &mut Vec<CellNote>,
     of_events: &[u32],
     places: &[u32],

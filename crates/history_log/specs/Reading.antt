@@ -20,7 +20,7 @@ use Rattle.history_log.specs.declared.version.Version.{Version}
 use Rattle.history_log.specs.declared.version.Version.TheVariants.{One, Two, Three}
 use Rattle.history_log.specs.declared.misread.Misread.{Misread}
 use Rattle.history_log.specs.declared.misread.Misread.TheVariants.{Form, Memory}
-use Rattle.history_log.specs.Spelling.{text_word, key_word, kind_word, cell_parts, cell_word, value_word, level_word, begin_words, keyword_of, fields, event_line}
+use Rattle.history_log.specs.Spelling.{text_word, key_word, kind_word, cell_parts, cell_word, value_word, level_word, begin_words, keyword_of, fields, event_line, order_line}
 
 abbrev pub IsU32 : ℕ → Type 0
 IsU32 n = n < 2 ^ 32
@@ -177,3 +177,7 @@ IsEventAfter v head keyword event words = FitsEvent event × IsEventIn v head ev
 -- the line is the event's, without its line feed
 abbrev pub IsEventLine : Version → Level → Event → List ℕ → Type 0
 IsEventLine v head event text = FitsEvent event × IsEventIn v head event × (text ≡ event_line v event)
+
+-- the line is the order's, without its line feed
+abbrev pub IsOrderLine : List ℕ → List ℕ → Type 0
+IsOrderLine order text = AllByRecursion IsU32 order × (text ≡ order_line order)

@@ -56,7 +56,7 @@ pub fn read(alloc: Global, bytes: &[u8]) -> Result<Trace, LogFault>
 }
 
 /// The version and the level of a head.
-fn head_of(line: &[u8]) -> Option<(Version, Level)>
+pub fn head_of(line: &[u8]) -> Option<(Version, Level)>
     ensures { Finds (λ x written. written ≡ head_line x.0 x.1) result line.now }
 {
     match line {

@@ -101,7 +101,7 @@ fn note_begin(glance: &mut Glance, places: &Places, session: u32, last: u32) -> 
 }
 
 /// Notes that the reader reads from the source.
-fn note_read(limits: &mut Vec<u32>, reader: u32, source: u32)
+pub fn note_read(limits: &mut Vec<u32>, reader: u32, source: u32)
     requires reader { reader < length limits.old.items }
     requires source { source < length limits.old.items }
     ensures { RaisesLimit reader source limits.old.items limits.new.items }

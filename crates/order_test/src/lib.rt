@@ -25,6 +25,9 @@ mod survey;
 mod unkept;
 mod unmet;
 
+pub use glance::note_read;
 pub use laws::order_laws;
+pub use places::{Places, places_of, stands_before};
+pub use reaches::{CellReaches, cell_is_clear, reaches_of};
 pub use search::first_unkept;
 pub use unkept::Unkept;

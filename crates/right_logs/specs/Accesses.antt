@@ -1,0 +1,23 @@
+-- What the notes say of a read by themselves.
+use Rattle.std.specs.Prelude.{◌≡◌, ◌<◌, ◌≤◌, ◌+◌, ◌-◌, ◌⊎◌, ℕ, Bool, true, Some, None, List, length, slice_get}
+use Rattle.cell_base.specs.declared.cell.Cell.{Cell}
+use Rattle.cell_base.specs.declared.value.Value.{Value}
+use Rattle.cell_writers.specs.declared.cell_note.CellNote.{CellNote}
+use Rattle.cell_writers.specs.Pairs.{get}
+use Rattle.history_core.specs.Initial.{absent_value}
+
+-- the write that stands last for the transaction has the value
+abbrev pub GivesLast : CellNote → List Value → ℕ → Value → Type 0
+GivesLast note values txn value = (place : ℕ) × ((get note.places txn ≡ Some place) × (slice_get values place ≡ Some value))
+
+-- the source is the initial transaction, which wrote nothing there, or has committed and gives the value
+abbrev pub GivesValue : CellNote → List Value → List Bool → Cell → ℕ → Value → Type 0
+GivesValue note values committed cell source value =
+    ((source ≡ 0) × (value ≡ absent_value cell)) ⊎ ((0 < source) × ((slice_get committed (source - 1) ≡ Some true) × GivesLast note values source value))
+
+-- the reader hasn't written the cell, the source gives the value, and so many sources may have been offered
+pub record IsClearRead (note : CellNote) (values : List Value) (committed : List Bool) (cell : Cell) (reader source count : ℕ) (value : Value) : Type 0 where
+  pub external : get note.places reader ≡ None
+  pub gives : GivesValue note values committed cell source value
+  pub some : 0 < count
+  pub upto : count ≤ length note.committed + 1

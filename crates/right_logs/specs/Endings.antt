@@ -1,0 +1,29 @@
+-- The parts of a text.
+use Rattle.std.specs.Prelude.{◌≡◌, ℕ, List, ◌∷◌, ◌++◌, [], codes, map}
+use Rattle.std.specs.List.{AllByRecursion}
+use Rattle.cell_base.specs.declared.level.Level.{Level}
+use Rattle.history_core.specs.declared.event.Event.{Event}
+use Rattle.history_core.specs.Relations.{Meets}
+use Rattle.history_log.specs.declared.version.Version.{Version}
+use Rattle.history_log.specs.Spelling.{event_line, order_line, whole_lines}
+use Rattle.history_log.specs.Reading.{IsU32, FitsEvent, IsEventIn}
+use Rattle.history_log.specs.Log.{AreEventsIn}
+use Rattle.history_check.specs.Breaches.{AreRight}
+
+-- the text is the body, a line, and the line of the end
+abbrev pub IsEnded : List ℕ → List ℕ → List ℕ → Type 0
+IsEnded text body last = text ≡ body ++ (last ++ codes "\nend\n")
+
+-- the text is the line of the event, its line feed, and the rest
+abbrev pub IsFirstEvent : Version → Level → List ℕ → Event → List ℕ → Type 0
+IsFirstEvent v head text event rest = FitsEvent event × (IsEventIn v head event × (text ≡ event_line v event ++ 10 ∷ rest))
+
+-- the text, after a head of the version and the level, is that of right events and of an order that meets them
+pub record AreRightLines (v : Version) (head : Level) (text : List ℕ) : Type 0 where
+  pub events : List Event
+  pub order : List ℕ
+  pub fit : AreEventsIn v head events
+  pub numbers : AllByRecursion IsU32 order
+  pub spelled : text ≡ whole_lines (map (event_line v) events) ++ (order_line order ++ codes "\nend\n")
+  pub right : AreRight [] events
+  pub meets : Meets events order

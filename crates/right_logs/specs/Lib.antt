@@ -1,0 +1,4 @@
+pub mod Accesses
+pub mod Endings
+pub mod Passes
+pub mod Seats

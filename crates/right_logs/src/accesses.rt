@@ -1,0 +1,182 @@
+// Reads and writes of cells.
+ghost use Rattle.std.specs.Prelude.{◌≡◌, ◌<◌, ℕ, IsTrue, IfOk, IsNone, length, slice_get};
+ghost use Rattle.cell_writers.specs.Pairs.{get};
+ghost use Rattle.right_logs.specs.Accesses.{GivesLast, GivesValue, IsClearRead};
+ghost use Rattle.right_logs.specs.Passes.{Goes, Stands};
+
+use crate::pass::{Pass, ReadNote};
+use crate::seats::pending_of;
+use cell_base::{Cell, Memory, Value};
+use cell_writers::{CellNote, take_cell};
+use history_check::{add_place, is_absent_value, is_storable, set_place, table_in};
+use history_core::Event;
+use order_test::{Places, note_read};
+
+/// Whether the transaction has written the cell, and the value last.
+fn gives_last(note: &CellNote, values: &[Value], txn: u32, value: &Value) -> bool
+    ensures { IsTrue result → GivesLast note.now values.now txn value.now }
+{
+    match note.places.get(txn) {
+        Some(place) => match values.get(place as usize) {
+            Some(written) => written.is_same(value),
+            None => false,
+        },
+        None => false,
+    }
+}
+
+/// Whether the transaction has committed.
+fn is_committed(committed: &[bool], txn: u32) -> bool
+    requires { 0 < txn }
+    ensures { IsTrue result → slice_get committed.now (txn - 1) ≡ Some true }
+{
+    if txn as usize > committed.len() {
+        return false;
+    }
+    committed[txn as usize - 1]
+}
+
+/// Whether the source is the initial transaction, which left the cell without a value, or has committed, and wrote the value last.
+fn gives_value(
+    note: &CellNote,
+    values: &[Value],
+    committed: &[bool],
+    cell: &Cell,
+    source: u32,
+    value: &Value,
+) -> bool
+    ensures { IsTrue result → GivesValue note.now values.now committed.now cell.now source value.now }
+{
+    if source == 0 {
+        return is_absent_value(cell, value);
+    }
+    is_committed(committed, source) && gives_last(note, values, source, value)
+}
+
+/// Whether so many sources may have been offered.
+fn fits_count(note: &CellNote, count: u32) -> bool
+    ensures { IsTrue result → (0 < count) × (count ≤ length note.now.committed + 1) }
+{
+    count != 0 && count as usize - 1 <= note.committed.as_slice().len()
+}
+
+/// Whether the notes show that a read is right.
+fn is_clear_read(
+    note: &CellNote,
+    values: &[Value],
+    committed: &[bool],
+    cell: &Cell,
+    reader: u32,
+    source: u32,
+    count: u32,
+    value: &Value,
+) -> bool
+    ensures { IsTrue result → IsClearRead note.now values.now committed.now cell.now reader source count value.now }
+{
+    if note.places.get(reader).is_some() {
+        return false;
+    }
+    if !fits_count(note, count) {
+        return false;
+    }
+    gives_value(note, values, committed, cell, source, value)
+}
+
+/// Takes an external read.
+pub fn take_read(
+    pass: &mut Pass,
+    places: &Places,
+    session: u32,
+    cell: &Cell,
+    source: u32,
+    count: u32,
+    word: u32,
+    value: &Value,
+) -> Result<bool, Memory>
+    requires stands { Stands places.now.at.items pass.old }
+    requires few { length pass.old.values.items < 4294967295 }
+    ensures { IfOk result (λ goes. IsTrue goes → Goes places.now.at.items (Event.Read session cell.now source count word value.now) pass.old pass.new) }
+{
+    let Some(reader) = pending_of(&pass.session_notes, session) else {
+        return Ok(false);
+    };
+    if table_in(cell) as usize >= pass.names.len() {
+        return Ok(false);
+    }
+    let at = take_cell(&mut pass.cells, cell)?;
+    if !is_clear_read(
+        &pass.cells.notes[at as usize],
+        &pass.values,
+        &pass.committed,
+        cell,
+        reader,
+        source,
+        count,
+        value,
+    ) {
+        return Ok(false);
+    }
+    pass.values.push(Value::Unset)?;
+    note_read(&mut pass.limits, reader, source);
+    pass.reads.push(ReadNote {
+        cell: at,
+        source,
+        reader,
+    })?;
+    Ok(true)
+}
+
+/// Takes an internal read.
+pub fn take_own(
+    pass: &mut Pass,
+    places: &Places,
+    session: u32,
+    cell: &Cell,
+    value: &Value,
+) -> Result<bool, Memory>
+    requires stands { Stands places.now.at.items pass.old }
+    requires few { length pass.old.values.items < 4294967295 }
+    ensures { IfOk result (λ goes. IsTrue goes → Goes places.now.at.items (Event.Own session cell.now value.now) pass.old pass.new) }
+{
+    let Some(reader) = pending_of(&pass.session_notes, session) else {
+        return Ok(false);
+    };
+    if table_in(cell) as usize >= pass.names.len() {
+        return Ok(false);
+    }
+    let at = take_cell(&mut pass.cells, cell)?;
+    if !gives_last(&pass.cells.notes[at as usize], &pass.values, reader, value) {
+        return Ok(false);
+    }
+    pass.values.push(Value::Unset)?;
+    Ok(true)
+}
+
+/// Takes a write.
+pub fn take_write(
+    pass: &mut Pass,
+    places: &Places,
+    session: u32,
+    cell: &Cell,
+    value: &Value,
+) -> Result<bool, Memory>
+    requires stands { Stands places.now.at.items pass.old }
+    requires few { length pass.old.values.items < 4294967295 }
+    ensures { IfOk result (λ goes. IsTrue goes → Goes places.now.at.items (Event.Write session cell.now value.now) pass.old pass.new) }
+{
+    let Some(writer) = pending_of(&pass.session_notes, session) else {
+        return Ok(false);
+    };
+    if table_in(cell) as usize >= pass.names.len() {
+        return Ok(false);
+    }
+    if !is_storable(value) {
+        return Ok(false);
+    }
+    let at = take_cell(&mut pass.cells, cell)?;
+    let place = pass.values.len() as u32;
+    set_place(&mut pass.cells.notes, at as usize, writer, place)?;
+    add_place(&mut pass.pending, session, place)?;
+    pass.values.push(value.copy(pass.alloc)?)?;
+    Ok(true)
+}

@@ -1,0 +1,24 @@
+// The place of an event that neither reads nor writes a cell.
+ghost use Rattle.std.specs.Prelude.{◌≡◌, ◌<◌, ◌∷◌, ◌++◌, [], OnOk, IsTrue, length};
+
+use cell_base::{Memory, Value};
+
+/// The greatest number of events.
+pub const MOST_EVENTS: usize = 4_294_967_295;
+
+/// Whether there is room for one event more.
+pub fn has_room(values: &[Value]) -> bool
+    ensures { IsTrue result → length values.now < 4294967295 }
+{
+    values.len() < MOST_EVENTS
+}
+
+/// Notes an event that neither reads nor writes a cell.
+pub fn note_place(of_events: &mut Vec<u32>, values: &mut Vec<Value>) -> Result<(), Memory>
+    ensures number { OnOk result (of_events.new.items ≡ of_events.old.items ++ 0 ∷ []) }
+    ensures value { OnOk result (values.new.items ≡ values.old.items ++ Value.Unset ∷ []) }
+{
+    of_events.push(0)?;
+    values.push(Value::Unset)?;
+    Ok(())
+}
