@@ -1,5 +1,5 @@
 -- How what a pass has noted goes on standing for the events, with one event more.
-use Rattle.std.proofs.Common.{◌≡◌, ℕ, ◌+◌, ◌<◌, ◌≤◌, List, [], ◌∷◌, ◌++◌, Option, Some, None, false, length, take, arith, refl, ap, sym, ◌∙◌, subst, inl, inr, append-nil}
+use Rattle.std.proofs.Common.{◌≡◌, ℕ, ◌+◌, ◌<◌, ◌≤◌, List, [], ◌∷◌, ◌++◌, Option, Some, None, false, length, take, arith, refl, ap, sym, ◌∙◌, subst, inl, inr, append-nil, IfSome}
 use Rattle.std.specs.List.{slice_get, cons_option}
 use Rattle.std.proofs.lemmas.List.{length_push, take-append-le, take_all}
 use Rattle.std.proofs.lemmas.List.Elements.{filter_map-append}
@@ -60,6 +60,12 @@ idle_from events notes s stands is =
 
 pub pending_from : (events : List Event) (notes : List SessionNote) (s txn : ℕ) → StandsForSessionNotes events notes → IsPendingIn notes s txn → IsPending events txn s
 pending_from events notes s txn stands is = ((note_from events notes s is.0 stands is.1).pending txn).0 is.2
+
+-- what is pending in the session, if anything
+pub some_pending :
+    (notes : List SessionNote) (s : ℕ) (note : SessionNote) (pending : Option ℕ) → IsNotedAt notes s note → note.pending ≡ pending → IfSome pending (λ txn. IsPendingIn notes s txn)
+some_pending notes s note (Some txn) at is = (note, at, is)
+some_pending notes s note None at is = tt
 
 -- such a session has its place among the notes
 pub noted_in_place : (notes : List SessionNote) (s : ℕ) (note : SessionNote) → IsNotedAt notes s note → (0 < s) × (s ≤ length notes)
@@ -253,6 +259,23 @@ quiet_goes order places events e old new quiet right changes session_notes pendi
           (λ i cell is. subst (λ (cells : List Cell). slice_get cells i ≡ Some cell) (sym changes.keys) is) (no_read e quiet.forces) stands.reads);
     }
 
+-- ---- what isn't touched
+
+pub pending_same :
+    (events : List Event) (e : Event) (old new : List PendingWrites) → LeavesPending e → new ≡ old → StandsForPendingWrites events old → StandsForPendingWrites (events ++ e ∷ []) new
+pending_same events e old new leaves same stands =
+    subst (λ (lists : List PendingWrites). StandsForPendingWrites (events ++ e ∷ []) lists) (sym same) (pending_other events e old leaves stands)
+
+pub names_same : (events : List Event) (e : Event) (old new : List (List ℕ)) → defined_name e ≡ None → new ≡ old → old ≡ names events → new ≡ names (events ++ e ∷ [])
+names_same events e old new none same are = same ∙ are ∙ sym (names_still events e none)
+
+pub room_same :
+    (events : List Event) (e : Event) (old new : List ℕ) → is_open_event e ≡ false → new ≡ old → length old ≡ opened events + 1 → length new ≡ opened (events ++ e ∷ []) + 1
+room_same events e old new other same room = room_still events e new other (ap length same ∙ room)
+
+pub last_same : (events : List Event) (old new : List ℕ) → new ≡ old → HoldsLast events old → HoldsLast events new
+last_same events old new same holds = subst (λ (last : List ℕ). HoldsLast events last) (sym same) holds
+
 -- nothing is noted of the sessions either
 pub record NotesNothing (old new : Pass) : Type 0 where
   pub place : NotesPlace old new
@@ -269,8 +292,7 @@ plain_goes order places events e old new quiet plain leaves no_name right nothin
     quiet_goes order places events e old new quiet right nothing.place
     (subst (λ (notes : List SessionNote). StandsForSessionNotes (events ++ e ∷ []) notes) (sym nothing.session_notes)
     (session_notes_plain events e old.session_notes.items plain stands.session_notes))
-    (subst (λ (lists : List PendingWrites). StandsForPendingWrites (events ++ e ∷ []) lists) (sym nothing.pending)
-    (pending_other events e old.pending.items leaves stands.pending))
-    (nothing.names_are ∙ stands.names_are ∙ sym (names_still events e no_name))
-    (room_still events e new.last.items plain.opens_none (ap length nothing.last ∙ stands.room))
-    (subst (λ (last : List ℕ). HoldsLast events last) (sym nothing.last) stands.last) stands
+    (pending_same events e old.pending.items new.pending.items leaves nothing.pending stands.pending)
+    (names_same events e old.names.items new.names.items no_name nothing.names_are stands.names_are)
+    (room_same events e old.last.items new.last.items plain.opens_none nothing.last stands.room)
+    (last_same events old.last.items new.last.items nothing.last stands.last) stands
