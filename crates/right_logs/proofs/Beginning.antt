@@ -1,19 +1,13 @@
 -- A pass that has noted nothing stands for no events.
-use Rattle.std.proofs.Common.{◌≡◌, ℕ, ◌+◌, List, [], ◌∷◌, Some, None, true, false, length, arith, ap, sym, ◌∙◌, subst}
+use Rattle.std.proofs.Common.{◌≡◌, ℕ, List, [], ◌∷◌, Some, true, false, length, ap, sym, ◌∙◌, subst}
 use Rattle.std.specs.List.{slice_get}
-use Rattle.cell_base.specs.declared.cell.Cell.{Cell}
-use Rattle.cell_base.specs.declared.value.Value.{Value}
 use Rattle.history_core.specs.declared.event.Event.{Event}
 use Rattle.history_core.specs.declared.event.Event.TheVariants.{Read, Write}
-use Rattle.cell_writers.specs.declared.cell_note.CellNote.{CellNote}
 use Rattle.cell_writers.proofs.Numbering.{numbered_none}
 use Rattle.order_test.specs.Settled.{IsSettled}
 use Rattle.order_test.specs.Places.{ArePlaces}
 use Rattle.order_test.specs.Glance.{IsGlance}
-use Rattle.order_test.specs.declared.glance.Glance.{Glance}
 use Rattle.order_test.proofs.GlanceLemmas.{glance_none, keeps_none}
-use Rattle.history_check.specs.declared.session_note.SessionNote.{SessionNote}
-use Rattle.history_check.specs.declared.pending_writes.PendingWrites.{PendingWrites}
 use Rattle.history_check.proofs.CellSteps.{cells_none}
 use Rattle.right_logs.specs.declared.pass.Pass.{Pass}
 use Rattle.right_logs.specs.Passes.{StandsFor}

@@ -1,0 +1,18 @@
+use Rattle.std.proofs.Common.{rules}
+use Rattle.right_logs.proofs.Beginning.{blank_stands}
+use Rattle.right_logs.proofs.pass.no_pass.Goals as goal
+
+pub returns : goal.returns
+returns c = λ order places placed. blank_stands order places _ placed (record {
+  session_notes = search rules;
+  pending = search rules;
+  committed = search rules;
+  names_are = search rules;
+  keys = search rules;
+  of_events = search rules;
+  notes = search rules;
+  values = search rules;
+  last = search rules;
+  limits = search rules;
+  reads = search rules;
+})

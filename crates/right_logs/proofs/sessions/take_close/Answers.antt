@@ -1,0 +1,28 @@
+use Rattle.std.proofs.Common.{refl}
+use Rattle.right_logs.proofs.Still.{idle_in_place}
+use Rattle.right_logs.proofs.SessionLemmas.{close_goes}
+use Rattle.right_logs.proofs.sessions.take_close.Goals as goal
+
+pub close-requires-clause-some : goal.close-requires-clause-some
+close-requires-clause-some c = (idle_in_place c.args.pass.now.session_notes.items c.args.session (rw c.deref.ensures.value at (c.is_idle.ensures c.if-not-is_idle.false))).0
+
+pub close-requires-clause-opened : goal.close-requires-clause-opened
+close-requires-clause-opened c = (idle_in_place c.args.pass.now.session_notes.items c.args.session (rw c.deref.ensures.value at (c.is_idle.ensures c.if-not-is_idle.false))).1
+
+pub returns-in_ok-note_place : goal.returns-in_ok-note_place
+returns-in_ok-note_place c = λ goes order events stands.
+    close_goes order c.args.places.now.at.items events c.args.session c.args.pass.now _ (rw c.deref.ensures.value at (c.is_idle.ensures c.if-not-is_idle.false)) (record {
+      session_notes = c.close.ensures;
+      pending = refl;
+      names_are = refl;
+      last = refl;
+      place = record {
+        committed = refl;
+        keys = refl;
+        of_events = c.in_ok-note_place.ensures.number;
+        notes = refl;
+        values = c.in_ok-note_place.ensures.value;
+        limits = refl;
+        reads = refl;
+      };
+    }) stands

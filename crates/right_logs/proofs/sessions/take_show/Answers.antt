@@ -1,0 +1,22 @@
+use Rattle.std.proofs.Common.{refl, rules}
+use Rattle.right_logs.proofs.SessionLemmas.{show_goes}
+use Rattle.right_logs.proofs.sessions.take_show.Goals as goal
+
+pub returns-in_ok-note_place : goal.returns-in_ok-note_place
+returns-in_ok-note_place c = λ goes order events stands.
+    show_goes order c.args.places.now.at.items events c.args.session c.args.number c.args.pass.now _
+    (rw c.deref.ensures.value at (c.is_open.ensures c.if-not-is_open.false)) (search rules) (record {
+      place = record {
+        committed = refl;
+        keys = refl;
+        of_events = c.in_ok-note_place.ensures.number;
+        notes = refl;
+        values = c.in_ok-note_place.ensures.value;
+        limits = refl;
+        reads = refl;
+      };
+      session_notes = refl;
+      pending = refl;
+      names_are = refl;
+      last = refl;
+    }) stands
