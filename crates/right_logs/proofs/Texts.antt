@@ -78,8 +78,8 @@ stands_now v head order places text rest pass taken = (order, (taken.events, tak
 
 pub met_events : (v : Version) (head : Level) (text places : List ℕ) (old new : Pass) (r : Result Bool Memory)
     → ((order : List ℕ) → StandsFor order places [] old → AreTaken v head order places text [] new)
-    → IfOk r (λ met. IsTrue met → (order : List ℕ) (events : List Event) → HoldsAll (length order) order → StandsFor order places events new → Meets events order)
-    → IfOk r (λ right. IsTrue right → (order : List ℕ) → StandsFor order places [] old → HoldsAll (length order) order → AreRightEvents v head text order)
+    → IfOk r (λ met. IsTrue met → (order : List ℕ) (events : List Event) → HoldsAll (length places) order → StandsFor order places events new → Meets events order)
+    → IfOk r (λ right. IsTrue right → (order : List ℕ) → StandsFor order places [] old → HoldsAll (length places) order → AreRightEvents v head text order)
 met_events v head text places old new (Ok met) taken meets = λ is order stands holds.
     let all = taken order stands in
     record {
@@ -93,8 +93,8 @@ met_events v head text places old new (Err memory) taken meets = tt
 
 pub fresh_events : (v : Version) (head : Level) (text places : List ℕ) (fresh : Pass) (r : Result Bool Memory)
     → ((order spots : List ℕ) → ArePlaces (length spots) order spots → StandsFor order spots [] fresh)
-    → IfOk r (λ right. IsTrue right → (order : List ℕ) → StandsFor order places [] fresh → HoldsAll (length order) order → AreRightEvents v head text order)
-    → IfOk r (λ right. IsTrue right → (order : List ℕ) → ArePlaces (length places) order places → HoldsAll (length order) order → AreRightEvents v head text order)
+    → IfOk r (λ right. IsTrue right → (order : List ℕ) → StandsFor order places [] fresh → HoldsAll (length places) order → AreRightEvents v head text order)
+    → IfOk r (λ right. IsTrue right → (order : List ℕ) → ArePlaces (length places) order places → HoldsAll (length places) order → AreRightEvents v head text order)
 fresh_events v head text places fresh (Ok right) stands are = λ is order placed holds. are is order (stands order places placed) holds
 fresh_events v head text places fresh (Err memory) stands are = tt
 
@@ -102,9 +102,10 @@ pub own_places : (order places : List ℕ) → ArePlaces (length order) order pl
 own_places order places placed = subst (λ (n : ℕ). ArePlaces n order places) (sym placed.count) placed
 
 pub placed_events : (v : Version) (head : Level) (text order places : List ℕ) (r : Result Bool Memory) → HoldsAll (length order) order → ArePlaces (length order) order places
-    → IfOk r (λ right. IsTrue right → (own : List ℕ) → ArePlaces (length places) own places → HoldsAll (length own) own → AreRightEvents v head text own)
+    → IfOk r (λ right. IsTrue right → (own : List ℕ) → ArePlaces (length places) own places → HoldsAll (length places) own → AreRightEvents v head text own)
     → IfOk r (λ right. IsTrue right → AreRightEvents v head text order)
-placed_events v head text order places (Ok right) holds placed are = λ is. are is order (own_places order places placed) holds
+placed_events v head text order places (Ok right) holds placed are =
+    λ is. are is order (own_places order places placed) (subst (λ (n : ℕ). HoldsAll n order) (sym placed.count) holds)
 placed_events v head text order places (Err memory) holds placed are = tt
 
 lines_of : (v : Version) (head : Level) (text body last order : List ℕ) → IsEnded text body last → IsOrderLine order last → AreRightEvents v head body order → AreRightLines v head text

@@ -1,4 +1,4 @@
-// The end of a text, found from behind.
+// The end of a text, found from its last byte.
 ghost use Rattle.std.specs.Prelude.{◌≡◌, ◌≤◌, ◌++◌, IsTrue, IfSome, codes, length};
 ghost use Rattle.right_logs.specs.Endings.{IsEnded};
 

@@ -95,7 +95,7 @@ fn are_right_at(
 ) -> Result<bool, Memory>
     requires { (order : List ℕ) × ArePlaces (length places.now.at.items) order places.now.at.items }
     ensures { IfOk result (λ right. IsTrue right → (order : List ℕ) → ArePlaces (length places.now.at.items) order places.now.at.items →
-        HoldsAll (length order) order → AreRightEvents version level text.now order) }
+        HoldsAll (length places.now.at.items) order → AreRightEvents version level text.now order) }
 {
     let mut pass = no_pass(alloc)?;
     let right = are_taken_right(alloc, version, level, text, places, &mut pass);
@@ -113,7 +113,7 @@ fn are_taken_right(
 ) -> Result<bool, Memory>
     requires { (order : List ℕ) × StandsFor order places.now.at.items [] pass.old }
     ensures { IfOk result (λ right. IsTrue right → (order : List ℕ) → StandsFor order places.now.at.items [] pass.old →
-        HoldsAll (length order) order → AreRightEvents version level text.now order) }
+        HoldsAll (length places.now.at.items) order → AreRightEvents version level text.now order) }
 {
     let taken = take_lines(alloc, version, level, pass, places, text)?;
     if taken {
