@@ -12,7 +12,7 @@ use Rattle.history_log.specs.declared.version.Version.TheVariants.{One, Two, Thr
 use Rattle.history_log.specs.Spelling.{event_line, order_line, head_line, end_line, whole_lines}
 use Rattle.history_log.specs.Reading.{FitsEvent, IsEventIn, IsEventLine, IsOrderLine}
 use Rattle.history_log.specs.Log.{IsLog, IsInitialIn}
-use Rattle.history_log.specs.Leading.{IsLeading}
+use Rattle.history_log.specs.Leading.{IsLeading, IsLeadingIn}
 use Rattle.history_log.specs.Faults.{HasFewBytes}
 use Rattle.history_check.specs.Orders.{IsRightTrace}
 use Rattle.order_test.specs.Places.{ArePlaces}
@@ -33,6 +33,9 @@ ended text front end body last cut is split =
 
 pub leading_first : (v : Version) (head : Level) (event : Event) (text rest : List ℕ) → IsLeading event text rest → IsFirstEvent v head text event rest
 leading_first v head event text rest is = (is.fits, (is.anywhere v head, is.line v))
+
+pub begin_first : (v : Version) (head : Level) (event : Event) (text rest : List ℕ) → IsLeadingIn v head event text rest → IsFirstEvent v head text event rest
+begin_first v head event text rest is = (is.fits, (is.own, is.line))
 
 pub line_first : (v : Version) (head : Level) (event : Event) (text line rest : List ℕ) → text ≡ line ++ 10 ∷ rest → IsEventLine v head event line → IsFirstEvent v head text event rest
 line_first v head event text line rest cut is = (is.0, (is.1, cut ∙ ap (λ (l : List ℕ). l ++ 10 ∷ rest) is.2))

@@ -8,7 +8,7 @@ use crate::take::take;
 use cell_base::{Level, Memory};
 use held_values::without;
 use history_core::Event;
-use history_log::{Misread, Version, first_part, leading_event, read_event};
+use history_log::{Misread, Version, first_part, leading_begin, leading_event, read_event};
 use order_test::Places;
 use std::alloc::Global;
 
@@ -22,6 +22,21 @@ fn next_event(
     ensures { IfOk result (λ found. IfSome found (λ x. IsFirstEvent version level text.now x.0 x.1.now)) }
 {
     match leading_event(text) {
+        Some(read) => Ok(Some(read)),
+        None => other_event(alloc, version, level, text),
+    }
+}
+
+/// The same, where the text may begin with a begin.
+fn other_event(
+    alloc: Global,
+    version: Version,
+    level: Level,
+    text: &[u8],
+) -> Result<Option<(Event, &[u8])>, Memory>
+    ensures { IfOk result (λ found. IfSome found (λ x. IsFirstEvent version level text.now x.0 x.1.now)) }
+{
+    match leading_begin(version, level, text) {
         Some(read) => Ok(Some(read)),
         None => event_of_line(alloc, version, level, text),
     }
