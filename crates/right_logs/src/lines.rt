@@ -1,5 +1,5 @@
 // The lines of the events.
-ghost use Rattle.std.specs.Prelude.{◌≡◌, ℕ, List, [], IsTrue, IfOk, IfSome};
+ghost use Rattle.std.specs.Prelude.{ℕ, List, [], IsTrue, IfOk, IfSome};
 ghost use Rattle.right_logs.specs.Passes.{Goes, Stands, StandsFor};
 ghost use Rattle.right_logs.specs.Endings.{IsFirstEvent, IsTaken, AreTaken};
 
