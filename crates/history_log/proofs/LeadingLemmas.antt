@@ -1,13 +1,16 @@
--- What reads and writes at the front of a text are made of.
-use Rattle.std.proofs.Common.{◌≡◌, ℕ, ◌+◌, ◌<◌, ◌≤◌, List, [], ◌∷◌, ◌++◌, length, get_or, take, decimal, sym, ap, ◌∙◌, append_assoc}
+-- What events at the front of a text are made of.
+use Rattle.std.proofs.Common.{◌≡◌, ◌≢◌, refl, ℕ, ◌+◌, ◌<◌, ◌≤◌, List, [], ◌∷◌, ◌++◌, length, get_or, take, decimal, sym, ap, ◌∙◌, append_assoc}
 use Rattle.std.proofs.lemmas.List.{take_more, take_all}
 use Rattle.std.specs.Prelude.{codes}
 use Rattle.cell_base.specs.declared.cell.Cell.{Cell}
+use Rattle.cell_base.specs.declared.level.Level.{Level}
 use Rattle.cell_base.specs.declared.value.Value.{Value}
-use Rattle.history_core.specs.declared.event.Event.TheVariants.{Read, Write}
-use Rattle.history_log.specs.Spelling.{cell_word, value_word}
+use Rattle.history_core.specs.declared.event.Event.TheVariants.{Begin, Read, Own, Write, Commit}
+use Rattle.history_log.specs.declared.version.Version.{Version}
+use Rattle.history_log.specs.declared.version.Version.TheVariants.{One, Two, Three}
+use Rattle.history_log.specs.Spelling.{cell_word, value_word, level_word}
 use Rattle.history_log.specs.Reading.{IsU32, FitsCell, FitsValue}
-use Rattle.history_log.specs.Leading.{IsLeading}
+use Rattle.history_log.specs.Leading.{IsLeading, IsLeadingIn}
 
 -- a text begins with a word as far as its letters have been found
 
@@ -49,4 +52,40 @@ read_leads s cell source count word value text middle late rest fs fc fo fn fw f
   line = λ v. ap (λ (t : List ℕ). codes "read " ++ t)
       (before ∙ joined_access s (cell_word cell) (decimal source ++ 32 ∷ (decimal count ++ 32 ∷ (decimal word ++ 32 ∷ value_word value))) (10 ∷ rest) middle
       (between ∙ joined_numbers source count word (value_word value) (10 ∷ rest) late after));
+}
+
+pub own_leads : (s : ℕ) (cell : Cell) (value : Value) (text middle rest : List ℕ) → IsU32 s → FitsCell cell → FitsValue value
+    → text ≡ decimal s ++ 32 ∷ (cell_word cell ++ 32 ∷ middle) → middle ≡ value_word value ++ 10 ∷ rest → IsLeading (Own s cell value) (codes "own " ++ text) rest
+own_leads s cell value text middle rest fs fc fv before after = record {
+  fits = (fs, fc, fv);
+  anywhere = λ v head. tt;
+  line = λ v. ap (λ (t : List ℕ). codes "own " ++ t) (before ∙ joined_access s (cell_word cell) (value_word value) (10 ∷ rest) middle after);
+}
+
+pub commit_leads : (s : ℕ) (text rest : List ℕ) → IsU32 s → text ≡ decimal s ++ 10 ∷ rest → IsLeading (Commit s) (codes "commit " ++ text) rest
+commit_leads s text rest fs is = record {
+  fits = fs;
+  anywhere = λ v head. tt;
+  line = λ v. ap (λ (t : List ℕ). codes "commit " ++ t) is;
+}
+
+pub head_begins : (head : Level) (s : ℕ) (text rest : List ℕ) → IsU32 s → text ≡ decimal s ++ 10 ∷ rest → IsLeadingIn One head (Begin s head) (codes "begin " ++ text) rest
+head_begins head s text rest fs is = record {
+  fits = fs;
+  own = refl;
+  line = ap (λ (t : List ℕ). codes "begin " ++ t) is;
+}
+
+pub level_begins : (v : Version) (head : Level) (s : ℕ) (level : Level) (text middle rest : List ℕ) → v ≢ One → IsU32 s → text ≡ decimal s ++ 32 ∷ middle → middle ≡ level_word level ++ 10 ∷ rest
+    → IsLeadingIn v head (Begin s level) (codes "begin " ++ text) rest
+level_begins One head s level text middle rest other fs before after = absurd (other refl)
+level_begins Two head s level text middle rest other fs before after = record {
+  fits = fs;
+  own = tt;
+  line = ap (λ (t : List ℕ). codes "begin " ++ t) (before ∙ joined (decimal s) (level_word level) (10 ∷ rest) middle after);
+}
+level_begins Three head s level text middle rest other fs before after = record {
+  fits = fs;
+  own = tt;
+  line = ap (λ (t : List ℕ). codes "begin " ++ t) (before ∙ joined (decimal s) (level_word level) (10 ∷ rest) middle after);
 }

@@ -15,6 +15,7 @@ pub mod SameLine
 pub mod Spelled
 pub mod Strip
 pub mod WholeEvents
+pub mod WholeOrders
 pub mod Written
 pub mod DigitLemmas
 pub mod LeadingLemmas

@@ -1,25 +1,45 @@
-// Reads and writes of short numbers, read with their line feed off the front of a text.
-ghost use Rattle.std.specs.Prelude.{◌≡◌, ◌∷◌, ◌++◌, codes, decimal, IfSome};
-ghost use Rattle.history_log.specs.Spelling.{cell_word, value_word};
+// Events of few digits, read with their line feed off the front of a text.
+ghost use Rattle.std.specs.Prelude.{◌≡◌, ◌≢◌, ◌∷◌, ◌++◌, codes, decimal, IfSome};
+ghost use Rattle.history_log.specs.Spelling.{cell_word, value_word, level_word};
 ghost use Rattle.history_log.specs.Reading.{IsU32, FitsCell, FitsValue};
-ghost use Rattle.history_log.specs.Leading.{IsLeading};
+ghost use Rattle.history_log.specs.Leading.{IsLeading, IsLeadingIn};
 
 use crate::cells::leading_cell;
 use crate::digits::number_before;
+use crate::version::Version;
 use crate::words::{after_byte, after_word};
-use cell_base::{Cell, Value};
+use cell_base::{Cell, Level, Value};
 use history_core::Event;
 
-/// The read or the write that the text begins with, with its line feed, and what stands after it. `None` says nothing of the
-/// text.
+/// The read, the write, the own read or the commit that the text begins with, with its line feed, and what stands after it.
+/// `None` says nothing of the text.
 pub fn leading_event(text: &[u8]) -> Option<(Event, &[u8])>
     ensures { IfSome result (λ x. IsLeading x.0 text.now x.1.now) }
 {
     if let Some(rest) = after_word(text, b"read ") {
         return leading_read(rest);
     }
-    let rest = after_word(text, b"write ")?;
-    leading_write(rest)
+    if let Some(rest) = after_word(text, b"write ") {
+        return leading_write(rest);
+    }
+    if let Some(rest) = after_word(text, b"own ") {
+        return leading_own(rest);
+    }
+    let rest = after_word(text, b"commit ")?;
+    leading_commit(rest)
+}
+
+/// The begin that the text begins with, in a text of this version whose head has this level, with its line feed, and what stands
+/// after it. `None` says nothing of the text.
+pub fn leading_begin(version: Version, head: Level, text: &[u8]) -> Option<(Event, &[u8])>
+    ensures { IfSome result (λ x. IsLeadingIn version head x.0 text.now x.1.now) }
+{
+    let rest = after_word(text, b"begin ")?;
+    match version {
+        Version::One => begin_of_head(head, rest),
+        Version::Two => begin_of_level(version, head, rest),
+        Version::Three => begin_of_level(version, head, rest),
+    }
 }
 
 /// The read whose line begins before the text, with its keyword, and what stands after its line feed. `None` says nothing of
@@ -54,6 +74,68 @@ fn leading_write(text: &[u8]) -> Option<(Event, &[u8])>
         value,
     };
     Some((event, rest))
+}
+
+/// The own read whose line begins before the text, with its keyword, and what stands after its line feed. `None` says nothing of
+/// the text.
+fn leading_own(text: &[u8]) -> Option<(Event, &[u8])>
+    ensures { IfSome result (λ x. IsLeading x.0 (codes "own " ++ text.now) x.1.now) }
+{
+    let (session, cell, rest) = session_and_cell(text)?;
+    let (value, rest) = value_and_feed(rest)?;
+    let event = Event::Own {
+        session,
+        cell,
+        value,
+    };
+    Some((event, rest))
+}
+
+/// The commit whose line begins before the text, with its keyword, and what stands after its line feed. `None` says nothing of the
+/// text.
+fn leading_commit(text: &[u8]) -> Option<(Event, &[u8])>
+    ensures { IfSome result (λ x. IsLeading x.0 (codes "commit " ++ text.now) x.1.now) }
+{
+    let (session, rest) = number_before(text, b'\n')?;
+    Some((Event::Commit { session }, rest))
+}
+
+/// The begin whose line begins before the text, with its keyword, in version 1, which leaves the level to the head, and what stands
+/// after its line feed. `None` says nothing of the text.
+fn begin_of_head(head: Level, text: &[u8]) -> Option<(Event, &[u8])>
+    ensures { IfSome result (λ x. IsLeadingIn Version.One head x.0 (codes "begin " ++ text.now) x.1.now) }
+{
+    let (session, rest) = number_before(text, b'\n')?;
+    let event = Event::Begin {
+        session,
+        level: head,
+    };
+    Some((event, rest))
+}
+
+/// The begin whose line begins before the text, with its keyword, in a version that says its level, and what stands after its line
+/// feed. `None` says nothing of the text.
+fn begin_of_level(_version: Version, _head: Level, text: &[u8]) -> Option<(Event, &[u8])>
+    requires { _version ≢ Version.One }
+    ensures { IfSome result (λ x. IsLeadingIn _version _head x.0 (codes "begin " ++ text.now) x.1.now) }
+{
+    let (session, rest) = number_before(text, b' ')?;
+    let (level, rest) = level_and_feed(rest)?;
+    Some((Event::Begin { session, level }, rest))
+}
+
+/// The level and the line feed that the text begins with, and what stands after them. `None` says nothing of the text.
+fn level_and_feed(text: &[u8]) -> Option<(Level, &[u8])>
+    ensures { IfSome result (λ x. text.now ≡ level_word x.0 ++ 10 ∷ x.1.now) }
+{
+    if let Some(rest) = after_word(text, b"rc\n") {
+        return Some((Level::Rc, rest));
+    }
+    if let Some(rest) = after_word(text, b"ra\n") {
+        return Some((Level::Ra, rest));
+    }
+    let rest = after_word(text, b"cc\n")?;
+    Some((Level::Cc, rest))
 }
 
 /// The session and the cell, each before a blank, that the text begins with, and what stands after them. `None` says nothing of

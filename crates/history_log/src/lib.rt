@@ -26,7 +26,7 @@ mod version;
 mod words;
 
 pub use laws::{one_trace, one_word};
-pub use leading::leading_event;
+pub use leading::{leading_begin, leading_event};
 pub use line_event::read_event;
 pub use log_fault::LogFault;
 pub use misread::Misread;

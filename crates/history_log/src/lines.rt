@@ -31,7 +31,7 @@ pub fn take_line(alloc: Global, draft: &mut Draft, line: &[u8]) -> Result<(), Mi
     }
 }
 
-/// Takes the lines that the text begins with, as long as each is of a read or a write of short numbers. Gives the number of
+/// Takes the lines that the text begins with, as long as each is of an event that `leading_event` finds. Gives the number of
 /// the last line that has been taken, where `number` is that of the line before the text, and what stands after it.
 pub fn take_leading<'a>(
     draft: &mut Draft,

@@ -1,3 +1,4 @@
-pub mod Still
-pub mod SessionLemmas
 pub mod Beginning
+pub mod SessionLemmas
+pub mod Still
+pub mod Texts

@@ -1,16 +1,14 @@
 // The lines of the events.
-ghost use Rattle.std.specs.Prelude.{◌≡◌, ℕ, List, [], IsTrue, IfOk, IfSome, map};
-ghost use Rattle.history_core.specs.declared.event.Event.{Event as EventOf};
-ghost use Rattle.history_log.specs.Log.{AreEventsIn};
-ghost use Rattle.history_log.specs.Spelling.{event_line, whole_lines};
-ghost use Rattle.right_logs.specs.Passes.{StandsFor};
-ghost use Rattle.right_logs.specs.Endings.{IsFirstEvent};
+ghost use Rattle.std.specs.Prelude.{ℕ, List, [], IsTrue, IfOk, IfSome};
+ghost use Rattle.right_logs.specs.Passes.{Goes, Stands, StandsFor};
+ghost use Rattle.right_logs.specs.Endings.{IsFirstEvent, IsTaken, AreTaken};
 
 use crate::pass::Pass;
 use crate::take::take;
 use cell_base::{Level, Memory};
+use held_values::without;
 use history_core::Event;
-use history_log::{Misread, Version, first_part, leading_event, read_event};
+use history_log::{Misread, Version, first_part, leading_begin, leading_event, read_event};
 use order_test::Places;
 use std::alloc::Global;
 
@@ -23,9 +21,36 @@ fn next_event(
 ) -> Result<Option<(Event, &[u8])>, Memory>
     ensures { IfOk result (λ found. IfSome found (λ x. IsFirstEvent version level text.now x.0 x.1.now)) }
 {
-    if let Some(read) = leading_event(text) {
-        return Ok(Some(read));
+    match leading_event(text) {
+        Some(read) => Ok(Some(read)),
+        None => other_event(alloc, version, level, text),
     }
+}
+
+/// The same, where the text may begin with a begin.
+fn other_event(
+    alloc: Global,
+    version: Version,
+    level: Level,
+    text: &[u8],
+) -> Result<Option<(Event, &[u8])>, Memory>
+    ensures { IfOk result (λ found. IfSome found (λ x. IsFirstEvent version level text.now x.0 x.1.now)) }
+{
+    match leading_begin(version, level, text) {
+        Some(read) => Ok(Some(read)),
+        None => event_of_line(alloc, version, level, text),
+    }
+}
+
+/// The same, by the first line as a whole.
+fn event_of_line(
+    alloc: Global,
+    version: Version,
+    level: Level,
+    text: &[u8],
+) -> Result<Option<(Event, &[u8])>, Memory>
+    ensures { IfOk result (λ found. IfSome found (λ x. IsFirstEvent version level text.now x.0 x.1.now)) }
+{
     let Some((line, rest)) = first_part(text, b'\n') else {
         return Ok(None);
     };
@@ -34,6 +59,34 @@ fn next_event(
         Err(Misread::Form) => Ok(None),
         Err(Misread::Memory) => Err(Memory),
     }
+}
+
+/// Takes the event, and lets go of it.
+fn take_over(pass: &mut Pass, places: &Places, event: Event) -> Result<bool, Memory>
+    requires { Stands places.now.at.items pass.old }
+    ensures { IfOk result (λ goes. IsTrue goes → Goes places.now.at.items event pass.old pass.new) }
+{
+    let goes = take(pass, places, &event);
+    without(event, goes)
+}
+
+/// Takes the event whose line the text begins with. Gives what stands after its line feed. `None` says nothing of the text.
+fn take_first<'a>(
+    alloc: Global,
+    version: Version,
+    level: Level,
+    pass: &mut Pass,
+    places: &Places,
+    text: &'a [u8],
+) -> Result<Option<&'a [u8]>, Memory>
+    requires { Stands places.now.at.items pass.old }
+    ensures { IfOk result (λ found. IfSome found (λ rest. IsTaken version level places.now.at.items text.now rest.now pass.old pass.new)) }
+{
+    let Some((event, rest)) = next_event(alloc, version, level, text)? else {
+        return Ok(None);
+    };
+    let goes = take_over(pass, places, event)?;
+    if goes { Ok(Some(rest)) } else { Ok(None) }
 }
 
 /// Takes the events whose lines the text is, one after another.
@@ -47,16 +100,13 @@ pub fn take_lines(
 ) -> Result<bool, Memory>
     requires { (order : List ℕ) × StandsFor order places.now.at.items [] pass.old }
     ensures { IfOk result (λ right. IsTrue right → (order : List ℕ) → StandsFor order places.now.at.items [] pass.old →
-        (events : List EventOf) × (AreEventsIn version level events × ((text.now ≡ whole_lines (map (event_line version) events)) × StandsFor order places.now.at.items events pass.new))) }
+        AreTaken version level order places.now.at.items text.now [] pass.new) }
 {
     let mut rest = text;
     while !rest.is_empty() {
-        let Some((event, after)) = next_event(alloc, version, level, rest)? else {
+        let Some(after) = take_first(alloc, version, level, pass, places, rest)? else {
             return Ok(false);
         };
-        if !take(pass, places, &event)? {
-            return Ok(false);
-        }
         rest = after;
     }
     Ok(true)

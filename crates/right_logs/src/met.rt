@@ -37,7 +37,7 @@ fn is_kept(pass: &Pass, places: &Places, reaches: &CellReaches, read: ReadNote) 
 /// Whether it is clear that the order meets the history.
 pub fn order_is_met(alloc: Global, pass: &Pass, places: &Places) -> Result<bool, Memory>
     requires { Stands places.now.at.items pass.now }
-    ensures { IfOk result (λ met. IsTrue met → (order : List ℕ) (events : List Event) → HoldsAll (length order) order → StandsFor order places.now.at.items events pass.now → Meets events order) }
+    ensures { IfOk result (λ met. IsTrue met → (order : List ℕ) (events : List Event) → HoldsAll (length places.now.at.items) order → StandsFor order places.now.at.items events pass.now → Meets events order) }
 {
     if pass.limits.len() != places.at.len() {
         return Ok(false);
