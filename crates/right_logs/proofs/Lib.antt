@@ -1,2 +1,4 @@
 pub mod Still
 pub mod SessionLemmas
+pub mod BeginLemmas
+pub mod TxnLemmas
