@@ -1,4 +1,6 @@
+pub mod BeginLemmas
 pub mod Beginning
 pub mod SessionLemmas
 pub mod Still
 pub mod Texts
+pub mod TxnLemmas

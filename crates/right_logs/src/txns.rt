@@ -1,14 +1,58 @@
 // The beginnings and the ends of transactions.
-ghost use Rattle.std.specs.Prelude.{◌<◌, IsTrue, IfOk, length};
+ghost use Rattle.std.specs.Prelude.{◌≡◌, ◌<◌, ◌≤◌, ◌∷◌, ◌++◌, [], List, false, IsTrue, IfOk, OnOk, length, slice_index, slice_set};
+ghost use Rattle.history_core.specs.declared.event.Event.{Event as EventOf};
+ghost use Rattle.history_check.specs.Notes.{ArePendingIn, StandsForPendingWrites};
 ghost use Rattle.right_logs.specs.Passes.{Goes, Stands};
 
 use crate::pass::Pass;
 use crate::places::note_place;
 use crate::seats::{is_idle, pending_of};
 use cell_base::{Level, Memory};
-use history_check::{clear, note_all_committed, set_committed, set_pending};
+use history_check::{PendingWrites, clear, note_all_committed, set_committed, set_pending};
 use history_core::Event;
 use order_test::{Places, stands_before};
+
+/// The last transaction of the session.
+fn last_of(pass: &Pass, session: u32) -> u32
+    requires { session < length pass.now.last.items }
+    ensures { result ≡ slice_index pass.now.last.items session }
+{
+    pass.last[session as usize]
+}
+
+/// The number of the next transaction.
+fn next_number(pass: &Pass) -> u32
+    requires { length pass.now.limits.items < 4294967296 }
+    ensures { result ≡ length pass.now.limits.items }
+{
+    pass.limits.len() as u32
+}
+
+/// A limit for the one that begins after this transaction.
+fn limit_after(pass: &Pass, last: u32) -> u32
+    requires { last < length pass.now.limits.items }
+    ensures { (last ≤ result) × (slice_index pass.now.limits.items last ≤ result) }
+{
+    last.max(pass.limits[last as usize])
+}
+
+/// Notes a transaction of this limit, which hasn't committed.
+fn note_begun(limits: &mut Vec<u32>, committed: &mut Vec<bool>, limit: u32) -> Result<(), Memory>
+    ensures limits { OnOk result (limits.new.items ≡ limits.old.items ++ limit ∷ []) }
+    ensures committed { OnOk result (committed.new.items ≡ committed.old.items ++ false ∷ []) }
+{
+    limits.push(limit)?;
+    committed.push(false)?;
+    Ok(())
+}
+
+/// Sets the last transaction of the session.
+fn set_last(last: &mut Vec<u32>, session: u32, number: u32)
+    requires { session < length last.old.items }
+    ensures { last.new.items ≡ slice_set last.old.items session number }
+{
+    last[session as usize] = number;
+}
 
 /// Takes the event that begins a transaction, where the order has it after the last one of its session.
 pub fn take_begin(pass: &mut Pass, places: &Places, session: u32, level: Level) -> Result<bool, Memory>
@@ -19,18 +63,26 @@ pub fn take_begin(pass: &mut Pass, places: &Places, session: u32, level: Level) 
     if !is_idle(&pass.session_notes, session) {
         return Ok(false);
     }
-    let last = pass.last[session as usize];
-    let number = pass.limits.len() as u32;
+    let last = last_of(pass, session);
+    let number = next_number(pass);
     if !stands_before(places, last, number) {
         return Ok(false);
     }
-    let limit = last.max(pass.limits[last as usize]);
-    pass.limits.push(limit)?;
-    pass.last[session as usize] = number;
-    pass.committed.push(false)?;
+    let limit = limit_after(pass, last);
+    note_begun(&mut pass.limits, &mut pass.committed, limit)?;
+    set_last(&mut pass.last, session, number);
     set_pending(&mut pass.session_notes, session, Some(number));
     note_place(&mut pass.cells.numbers.of_events, &mut pass.values)?;
     Ok(true)
+}
+
+/// The places of the writes that are pending in the session.
+fn places_in(pending: &[PendingWrites], session: u32) -> &[u32]
+    requires some { 0 < session }
+    requires opened { session ≤ length pending.now }
+    ensures { (events : List EventOf) → StandsForPendingWrites events pending.now → ArePendingIn events session result.now }
+{
+    pending[session as usize - 1].places.as_slice()
 }
 
 /// Takes the event that commits the pending transaction of a session.
@@ -46,7 +98,7 @@ pub fn take_commit(pass: &mut Pass, places: &Places, session: u32) -> Result<boo
     note_all_committed(
         &mut pass.cells.notes,
         pass.cells.numbers.of_events.as_slice(),
-        pass.pending[session as usize - 1].places.as_slice(),
+        places_in(&pass.pending, session),
         number,
     )?;
     clear(&mut pass.pending, session);
@@ -61,9 +113,9 @@ pub fn take_rollback(pass: &mut Pass, places: &Places, session: u32) -> Result<b
     requires few { length pass.old.values.items < 4294967295 }
     ensures { IfOk result (λ goes. IsTrue goes → Goes places.now.at.items (Event.Rollback session) pass.old pass.new) }
 {
-    if pending_of(&pass.session_notes, session).is_none() {
+    let Some(_number) = pending_of(&pass.session_notes, session) else {
         return Ok(false);
-    }
+    };
     clear(&mut pass.pending, session);
     set_pending(&mut pass.session_notes, session, None);
     note_place(&mut pass.cells.numbers.of_events, &mut pass.values)?;

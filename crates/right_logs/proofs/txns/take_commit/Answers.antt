@@ -1,0 +1,62 @@
+use Rattle.std.proofs.Common.{refl, ◌∙◌}
+use Rattle.right_logs.proofs.Still.{session_in_place}
+use Rattle.right_logs.proofs.TxnLemmas.{pending_room, flag_room, notes_ascending, writes_within, writes_noted, commit_goes}
+use Rattle.right_logs.proofs.txns.take_commit.Goals as goal
+
+pub places_in-requires-clause-some : goal.places_in-requires-clause-some
+places_in-requires-clause-some c =
+    (pending_room c.args.places.now.at.items c.args.pass.now c.args.session c.in-Some.number c.requires.stands (rw c.deref.ensures.value at c.in-Some.ensures)).0
+
+pub places_in-requires-clause-opened : goal.places_in-requires-clause-opened
+places_in-requires-clause-opened c =
+    rw c.deref-2.ensures.value
+    (pending_room c.args.places.now.at.items c.args.pass.now c.args.session c.in-Some.number c.requires.stands (rw c.deref.ensures.value at c.in-Some.ensures)).1
+
+pub note_all_committed-requires-clause-ascending : goal.note_all_committed-requires-clause-ascending
+note_all_committed-requires-clause-ascending c = notes_ascending c.args.places.now.at.items c.args.pass.now c.requires.stands
+
+pub note_all_committed-requires-clause-numbered : goal.note_all_committed-requires-clause-numbered
+note_all_committed-requires-clause-numbered c =
+    writes_within c.args.places.now.at.items c.args.pass.now c.args.session c.places_in.result.now c.as_slice.result.now c.requires.stands
+    (rw c.deref-2.ensures.value at c.places_in.ensures) (c.as_slice.ensures.value ∙ c.in_ok-note_place.ensures.number)
+
+pub note_all_committed-requires-clause-within : goal.note_all_committed-requires-clause-within
+note_all_committed-requires-clause-within c =
+    writes_noted c.args.places.now.at.items c.args.pass.now c.args.session c.places_in.result.now c.as_slice.result.now c.requires.stands
+    (rw c.deref-2.ensures.value at c.places_in.ensures) (c.as_slice.ensures.value ∙ c.in_ok-note_place.ensures.number)
+
+pub clear-requires-clause-some : goal.clear-requires-clause-some
+clear-requires-clause-some c =
+    (pending_room c.args.places.now.at.items c.args.pass.now c.args.session c.in-Some.number c.requires.stands (rw c.deref.ensures.value at c.in-Some.ensures)).0
+
+pub clear-requires-clause-opened : goal.clear-requires-clause-opened
+clear-requires-clause-opened c =
+    (pending_room c.args.places.now.at.items c.args.pass.now c.args.session c.in-Some.number c.requires.stands (rw c.deref.ensures.value at c.in-Some.ensures)).1
+
+pub set_committed-requires-clause-some : goal.set_committed-requires-clause-some
+set_committed-requires-clause-some c =
+    (flag_room c.args.places.now.at.items c.args.pass.now c.args.session c.in-Some.number c.requires.stands (rw c.deref.ensures.value at c.in-Some.ensures)).0
+
+pub set_committed-requires-clause-begun : goal.set_committed-requires-clause-begun
+set_committed-requires-clause-begun c =
+    (flag_room c.args.places.now.at.items c.args.pass.now c.args.session c.in-Some.number c.requires.stands (rw c.deref.ensures.value at c.in-Some.ensures)).1
+
+pub set_pending-requires-clause-some : goal.set_pending-requires-clause-some
+set_pending-requires-clause-some c = (session_in_place c.args.pass.now.session_notes.items c.args.session c.in-Some.number (rw c.deref.ensures.value at c.in-Some.ensures)).0
+
+pub set_pending-requires-clause-opened : goal.set_pending-requires-clause-opened
+set_pending-requires-clause-opened c = (session_in_place c.args.pass.now.session_notes.items c.args.session c.in-Some.number (rw c.deref.ensures.value at c.in-Some.ensures)).1
+
+pub returns : goal.returns
+returns c = λ goes order events stands.
+    commit_goes order c.args.places.now.at.items events c.args.session c.in-Some.number c.places_in.result.now c.args.pass.now _
+    (rw c.deref.ensures.value at c.in-Some.ensures) (rw c.deref-2.ensures.value at c.places_in.ensures)
+    (record {
+      notes = record { names_are = refl; keys = refl; of_events = c.in_ok-note_place.ensures.number; values = c.in_ok-note_place.ensures.value; reads = refl };
+      session_notes = c.set_pending.ensures;
+      pending = c.clear.ensures;
+      committed = c.set_committed.ensures;
+      cells = rw c.as_slice.ensures.value at c.in_ok-note_all_committed.ensures;
+      last = refl;
+      limits = refl;
+    }) stands
