@@ -106,10 +106,10 @@ gives_last :
     (events : List Event) (k : ℕ) (cell : Cell) (v : Value) (note : CellNote) (values : List Value) → IsNoteOf events cell note → HaveValues events values → GivesLast note values k v →
     LastWrites events k cell v
 gives_last events k cell v note values noted have gives =
-    let write : IsLastWriteAt events k cell gives.0 = noted.sound k gives.0 gives.1.0 in
-    let both : Some write.value ≡ Some v = sym (have.each gives.0 write.session cell write.value write.write.is) ∙ gives.1.1 in
+    let write : IsLastWriteAt events k cell gives.place = noted.sound k gives.place gives.last in
+    let both : Some write.value ≡ Some v = sym (have.each gives.place write.session cell write.value write.write.is) ∙ gives.written in
     let same : write.value ≡ v = cc in
-    last_is events k cell write.value v same (record { place = gives.0; session = write.session; write = write.write; last = write.last })
+    last_is events k cell write.value v same (record { place = gives.place; session = write.session; write = write.write; last = write.last })
 
 committed_is : (events : List Event) (committed : List Bool) (w : ℕ) → StandsForCommits events committed → 0 < w → slice_get committed (w - 1) ≡ Some true → IsCommitted events w
 committed_is events committed w commits positive is =

@@ -10,8 +10,10 @@ use Rattle.right_logs.specs.declared.pass.Pass.{Pass}
 use Rattle.right_logs.specs.Seats.{IsPendingIn}
 
 -- the write that stands last for the transaction has the value
-abbrev pub GivesLast : CellNote → List Value → ℕ → Value → Type 0
-GivesLast note values txn value = (place : ℕ) × ((get note.places txn ≡ Some place) × (slice_get values place ≡ Some value))
+pub record GivesLast (note : CellNote) (values : List Value) (txn : ℕ) (value : Value) : Type 0 where
+  pub place : ℕ
+  pub last : get note.places txn ≡ Some place
+  pub written : slice_get values place ≡ Some value
 
 -- the source is the initial transaction, which wrote nothing there, or has committed and gives the value
 abbrev pub GivesValue : CellNote → List Value → List Bool → Cell → ℕ → Value → Type 0

@@ -11,15 +11,22 @@ use history_check::{add_place, is_absent_value, is_storable, set_place, table_in
 use history_core::Event;
 use order_test::{Places, note_read};
 
+/// Whether the value stands at the place.
+fn has_value(values: &[Value], place: u32, value: &Value) -> bool
+    ensures { IsTrue result → slice_get values.now place ≡ Some value.now }
+{
+    match values.get(place as usize) {
+        Some(written) => written.is_same(value),
+        None => false,
+    }
+}
+
 /// Whether the transaction has written the cell, and the value last.
 fn gives_last(note: &CellNote, values: &[Value], txn: u32, value: &Value) -> bool
     ensures { IsTrue result → GivesLast note.now values.now txn value.now }
 {
     match note.places.get(txn) {
-        Some(place) => match values.get(place as usize) {
-            Some(written) => written.is_same(value),
-            None => false,
-        },
+        Some(place) => has_value(values, place, value),
         None => false,
     }
 }
