@@ -1,7 +1,8 @@
 -- How a pass goes on standing for the events, with a read or a write of a cell after them.
-use Rattle.std.proofs.Common.{◌≡◌, ℕ, ◌+◌, ◌-◌, ◌<◌, ◌≤◌, Bool, true, List, [], ◌∷◌, ◌++◌, Some, None, length, arith, refl, ap, sym, ◌∙◌, subst, inl, inr, ◌⊎◌}
+use Rattle.std.proofs.Common.{◌≡◌, ℕ, ◌+◌, ◌-◌, ◌<◌, ◌≤◌, Bool, true, List, [], ◌∷◌, ◌++◌, Option, Some, None, length, arith, refl, ap, sym, ◌∙◌, subst, inl, inr, ◌⊎◌}
 use Rattle.std.specs.List.{Contains, slice_get}
 use Rattle.std.specs.List.Sorted.{IsStrictlyIncreasing}
+use Rattle.std.specs.Option.{IfSome}
 use Rattle.std.proofs.lemmas.Option.{slice_get_within}
 use Rattle.txn_buffer.specs.Buffer.{IsAbsent}
 use Rattle.txn_buffer.proofs.Lists.{slice_get_push_cases}
@@ -44,6 +45,7 @@ use Rattle.history_check.proofs.WriteLemmas.{last_is, value_writes}
 use Rattle.right_logs.specs.declared.pass.Pass.{Pass}
 use Rattle.right_logs.specs.declared.pass.ReadNote.{ReadNote}
 use Rattle.right_logs.specs.Accesses.{GivesLast, GivesValue, IsClearRead, MayTouch}
+use Rattle.right_logs.specs.Seats.{IsPendingIn}
 use Rattle.right_logs.specs.Passes.{HaveValues, IsReadNoteOf, HoldReads, StandsFor, Goes, Stands}
 use Rattle.right_logs.proofs.Still.{pending_from, session_in_place, right_push, settled_right, sessions_right, room_right, room_still, names_still, values_push, no_scan_push, read_kept, reads_still}
 
@@ -352,7 +354,14 @@ write_goes places s k cell at place v written old new taken may storable takes n
     no_read : (t : ℕ) (q : Cell) (a b c : ℕ) (x : Value) → Write s cell v ≡ Read t q a b c x → ⊥
     no_read t q a b c x same = cc
 
--- ---- what the calls ask
+-- ---- what the calls ask, and what one answers
+
+pub may_touch_if :
+    (pass : Pass) (s : ℕ) (cell : Cell) (notes : List SessionNote) (found : Option ℕ) → notes ≡ pass.session_notes.items → table_of cell < length pass.names.items →
+    IfSome found (IsPendingIn notes s) → IfSome found (MayTouch pass s cell)
+may_touch_if pass s cell notes (Some txn) same table pending =
+    record { pending = subst (λ (ns : List SessionNote). IsPendingIn ns s txn) same pending; table = table }
+may_touch_if pass s cell notes None same table pending = tt
 
 -- there are few cells
 pub cells_few :
