@@ -3,3 +3,4 @@ pub mod Noted
 pub mod Numbering
 pub mod PairLemmas
 pub mod PairPlaces
+pub mod Taken

@@ -1,3 +1,4 @@
+pub mod AccessLemmas
 pub mod BeginLemmas
 pub mod Beginning
 pub mod SessionLemmas

@@ -5,10 +5,15 @@ use Rattle.cell_base.specs.declared.value.Value.{Value}
 use Rattle.cell_writers.specs.declared.cell_note.CellNote.{CellNote}
 use Rattle.cell_writers.specs.Pairs.{get}
 use Rattle.history_core.specs.Initial.{absent_value}
+use Rattle.history_core.specs.Events.{table_of}
+use Rattle.right_logs.specs.declared.pass.Pass.{Pass}
+use Rattle.right_logs.specs.Seats.{IsPendingIn}
 
 -- the write that stands last for the transaction has the value
-abbrev pub GivesLast : CellNote → List Value → ℕ → Value → Type 0
-GivesLast note values txn value = (place : ℕ) × ((get note.places txn ≡ Some place) × (slice_get values place ≡ Some value))
+pub record GivesLast (note : CellNote) (values : List Value) (txn : ℕ) (value : Value) : Type 0 where
+  pub place : ℕ
+  pub last : get note.places txn ≡ Some place
+  pub written : slice_get values place ≡ Some value
 
 -- the source is the initial transaction, which wrote nothing there, or has committed and gives the value
 abbrev pub GivesValue : CellNote → List Value → List Bool → Cell → ℕ → Value → Type 0
@@ -21,3 +26,16 @@ pub record IsClearRead (note : CellNote) (values : List Value) (committed : List
   pub gives : GivesValue note values committed cell source value
   pub some : 0 < count
   pub upto : count ≤ length note.committed + 1
+
+-- so it is with the note at the number of the cell
+abbrev pub ShowsLast : Pass → ℕ → ℕ → Value → Type 0
+ShowsLast pass at txn value = (note : CellNote) × ((slice_get pass.cells.notes.items at ≡ Some note) × GivesLast note pass.values.items txn value)
+
+abbrev pub ShowsRead : Pass → ℕ → Cell → ℕ → ℕ → ℕ → Value → Type 0
+ShowsRead pass at cell reader source count value =
+    (note : CellNote) × ((slice_get pass.cells.notes.items at ≡ Some note) × IsClearRead note pass.values.items pass.committed.items cell reader source count value)
+
+-- the transaction is pending in the session, and the table of the cell is there
+pub record MayTouch (pass : Pass) (session : ℕ) (cell : Cell) (txn : ℕ) : Type 0 where
+  pub pending : IsPendingIn pass.session_notes.items session txn
+  pub table : table_of cell < length pass.names.items

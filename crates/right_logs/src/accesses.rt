@@ -1,7 +1,6 @@
 // Reads and writes of cells.
-ghost use Rattle.std.specs.Prelude.{◌≡◌, ◌<◌, ℕ, IsTrue, IfOk, IsNone, length, slice_get};
-ghost use Rattle.cell_writers.specs.Pairs.{get};
-ghost use Rattle.right_logs.specs.Accesses.{GivesLast, GivesValue, IsClearRead};
+ghost use Rattle.std.specs.Prelude.{◌≡◌, ◌<◌, ◌≤◌, ◌+◌, ◌-◌, true, Some, IsTrue, IfOk, IfSome, length, slice_get};
+ghost use Rattle.right_logs.specs.Accesses.{GivesLast, GivesValue, IsClearRead, MayTouch, ShowsLast, ShowsRead};
 ghost use Rattle.right_logs.specs.Passes.{Goes, Stands};
 
 use crate::pass::{Pass, ReadNote};
@@ -12,15 +11,22 @@ use history_check::{add_place, is_absent_value, is_storable, set_place, table_in
 use history_core::Event;
 use order_test::{Places, note_read};
 
+/// Whether the value stands at the place.
+fn has_value(values: &[Value], place: u32, value: &Value) -> bool
+    ensures { IsTrue result → slice_get values.now place ≡ Some value.now }
+{
+    match values.get(place as usize) {
+        Some(written) => written.is_same(value),
+        None => false,
+    }
+}
+
 /// Whether the transaction has written the cell, and the value last.
 fn gives_last(note: &CellNote, values: &[Value], txn: u32, value: &Value) -> bool
     ensures { IsTrue result → GivesLast note.now values.now txn value.now }
 {
     match note.places.get(txn) {
-        Some(place) => match values.get(place as usize) {
-            Some(written) => written.is_same(value),
-            None => false,
-        },
+        Some(place) => has_value(values, place, value),
         None => false,
     }
 }
@@ -82,6 +88,49 @@ fn is_clear_read(
     gives_value(note, values, committed, cell, source, value)
 }
 
+/// Whether the pass shows that a read of the cell, which has the number, is right.
+fn is_clear(
+    pass: &Pass,
+    at: u32,
+    cell: &Cell,
+    reader: u32,
+    source: u32,
+    count: u32,
+    value: &Value,
+) -> bool
+    requires { at < length pass.now.cells.notes.items }
+    ensures { IsTrue result → ShowsRead pass.now at cell.now reader source count value.now }
+{
+    is_clear_read(
+        &pass.cells.notes[at as usize],
+        &pass.values,
+        &pass.committed,
+        cell,
+        reader,
+        source,
+        count,
+        value,
+    )
+}
+
+/// Whether the pass shows that the transaction has written the cell of the number, and the value last.
+fn shows_last(pass: &Pass, at: u32, txn: u32, value: &Value) -> bool
+    requires { at < length pass.now.cells.notes.items }
+    ensures { IsTrue result → ShowsLast pass.now at txn value.now }
+{
+    gives_last(&pass.cells.notes[at as usize], &pass.values, txn, value)
+}
+
+/// The transaction that is pending in the session, where the table of the cell is there.
+fn owner_of(pass: &Pass, session: u32, cell: &Cell) -> Option<u32>
+    ensures { IfSome result (MayTouch pass.now session cell.now) }
+{
+    if table_in(cell) as usize >= pass.names.len() {
+        return None;
+    }
+    pending_of(&pass.session_notes, session)
+}
+
 /// Takes an external read.
 pub fn take_read(
     pass: &mut Pass,
@@ -97,23 +146,11 @@ pub fn take_read(
     requires few { length pass.old.values.items < 4294967295 }
     ensures { IfOk result (λ goes. IsTrue goes → Goes places.now.at.items (Event.Read session cell.now source count word value.now) pass.old pass.new) }
 {
-    let Some(reader) = pending_of(&pass.session_notes, session) else {
+    let Some(reader) = owner_of(pass, session, cell) else {
         return Ok(false);
     };
-    if table_in(cell) as usize >= pass.names.len() {
-        return Ok(false);
-    }
     let at = take_cell(&mut pass.cells, cell)?;
-    if !is_clear_read(
-        &pass.cells.notes[at as usize],
-        &pass.values,
-        &pass.committed,
-        cell,
-        reader,
-        source,
-        count,
-        value,
-    ) {
+    if !is_clear(pass, at, cell, reader, source, count, value) {
         return Ok(false);
     }
     pass.values.push(Value::Unset)?;
@@ -138,14 +175,11 @@ pub fn take_own(
     requires few { length pass.old.values.items < 4294967295 }
     ensures { IfOk result (λ goes. IsTrue goes → Goes places.now.at.items (Event.Own session cell.now value.now) pass.old pass.new) }
 {
-    let Some(reader) = pending_of(&pass.session_notes, session) else {
+    let Some(reader) = owner_of(pass, session, cell) else {
         return Ok(false);
     };
-    if table_in(cell) as usize >= pass.names.len() {
-        return Ok(false);
-    }
     let at = take_cell(&mut pass.cells, cell)?;
-    if !gives_last(&pass.cells.notes[at as usize], &pass.values, reader, value) {
+    if !shows_last(pass, at, reader, value) {
         return Ok(false);
     }
     pass.values.push(Value::Unset)?;
@@ -164,12 +198,9 @@ pub fn take_write(
     requires few { length pass.old.values.items < 4294967295 }
     ensures { IfOk result (λ goes. IsTrue goes → Goes places.now.at.items (Event.Write session cell.now value.now) pass.old pass.new) }
 {
-    let Some(writer) = pending_of(&pass.session_notes, session) else {
+    let Some(writer) = owner_of(pass, session, cell) else {
         return Ok(false);
     };
-    if table_in(cell) as usize >= pass.names.len() {
-        return Ok(false);
-    }
     if !is_storable(value) {
         return Ok(false);
     }
@@ -177,6 +208,7 @@ pub fn take_write(
     let place = pass.values.len() as u32;
     set_place(&mut pass.cells.notes, at as usize, writer, place)?;
     add_place(&mut pass.pending, session, place)?;
-    pass.values.push(value.copy(pass.alloc)?)?;
+    let written = value.copy(pass.alloc)?;
+    pass.values.push(written)?;
     Ok(true)
 }

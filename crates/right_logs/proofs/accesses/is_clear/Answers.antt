@@ -1,0 +1,12 @@
+use Rattle.std.proofs.Common.{length, refl}
+use Rattle.std.proofs.lemmas.Option.{slice_get_read}
+use Rattle.right_logs.proofs.accesses.is_clear.Goals as goal
+
+pub returns : goal.returns
+returns c = λ shows. (
+  c.index.result.now,
+  (
+    slice_get_read c.args.pass.now.cells.notes.items (length c.args.pass.now.cells.notes.items) c.args.at c.index.result.now refl c.requires c.index.ensures,
+    rw (c.deref.ensures.value, c.deref-2.ensures.value) at (c.is_clear_read.ensures shows),
+  ),
+)
