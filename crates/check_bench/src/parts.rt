@@ -8,6 +8,7 @@ use history_check::check;
 use history_log::read;
 use host_calls::read_file;
 use link_traits::Host;
+use right_logs::is_clearly_right;
 use std::io;
 use std::time::{CpuClock, Duration};
 
@@ -38,8 +39,16 @@ pub(crate) fn measure<H: Host>(
         println!(rt; "the file wasn't read")?;
         return Ok(());
     };
+    println!(rt; "file: {} us", micros(rt, start)?)?;
+    let start = rt.thread_cpu_time()?;
     let lines = count_lines(&bytes);
-    println!(rt; "file and {lines} lines: {} us", micros(rt, start)?)?;
+    println!(rt; "{lines} lines: {} us", micros(rt, start)?)?;
+    let start = rt.thread_cpu_time()?;
+    let Ok(clear) = is_clearly_right(rt.alloc(), &bytes) else {
+        println!(rt; "memory ran out")?;
+        return Ok(());
+    };
+    println!(rt; "one pass {clear}: {} us", micros(rt, start)?)?;
     let start = rt.thread_cpu_time()?;
     let Ok(trace) = read(rt.alloc(), &bytes) else {
         println!(rt; "it is no log")?;

@@ -1,5 +1,5 @@
 // Whether the order meets the history, once all events are there.
-ghost use Rattle.std.specs.Prelude.{◌≡◌, ◌<◌, ℕ, List, IsTrue, IfOk, length};
+ghost use Rattle.std.specs.Prelude.{ℕ, List, IsTrue, IfOk, length};
 ghost use Rattle.history_core.specs.declared.event.Event.{Event};
 ghost use Rattle.history_core.specs.Relations.{Meets};
 ghost use Rattle.order_test.specs.Entries.{AreAscending};
@@ -15,21 +15,26 @@ use std::alloc::Global;
 /// Whether the order keeps what the read asks: it has the source before the reader, and no writer of the cell in the reader's causal past after
 /// the source.
 fn is_kept(pass: &Pass, places: &Places, reaches: &CellReaches, read: ReadNote) -> bool
-    requires cell { read.cell < length pass.now.cells.notes.items }
-    requires reader { read.reader < length pass.now.limits.items }
     requires ascending { AreAscending pass.now.cells }
     requires reaches { AreReaches places.now.at.items pass.now.cells reaches.now }
     ensures { IsTrue result → IsKept places.now.at.items pass.now read }
 {
+    if read.cell as usize >= pass.cells.notes.len() {
+        return false;
+    }
+    if read.reader as usize >= pass.limits.len() {
+        return false;
+    }
     if !stands_before(places, read.source, read.reader) {
         return false;
     }
+    let limit = pass.limits[read.reader as usize];
     cell_is_clear(
         places,
         &pass.cells,
         reaches,
         read.cell as usize,
-        pass.limits[read.reader as usize],
+        limit,
         read.source,
     )
 }

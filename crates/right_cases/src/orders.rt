@@ -1,0 +1,152 @@
+// Orders, and reads that don't take the last value.
+use crate::asked::{are_told, is_told};
+use std::test::Fail;
+
+// The second session reads the presence of a row from the initial state, after the first has committed it.
+const STALE: &str = "\
+monkey-log 2 rc
+open 1
+define 1 x74
+open 2
+begin 1 rc
+write 1 p.0.1 true
+write 1 f.0.1.1 10
+commit 1
+begin 2 rc
+read 2 p.0.1 0 2 0 false
+commit 2
+order 0 1 2
+end
+";
+
+// Either order meets it, at each level.
+const OF_STALE: &str = r"
+begin 2 rc | begin 2 ra => yes
+begin 2 rc | begin 2 cc => yes
+order 0 1 2 | order 0 2 1 => yes
+order 0 1 2 | order 0 1 => no
+commit 1 | rollback 1 => no
+commit 2 | rollback 2 => yes
+commit 2 | look 2 1 => yes
+";
+
+// The second session reads the field from 1, and reads it from 1 again after 3 has overwritten it, which stands last.
+const AGAIN: &str = "\
+monkey-log 2 cc
+open 1
+define 1 x74
+open 2
+begin 1 cc
+write 1 f.0.1.1 1
+commit 1
+begin 2 cc
+read 2 f.0.1.1 1 2 1 1
+commit 2
+begin 1 cc
+write 1 f.0.1.1 2
+commit 1
+begin 2 cc
+read 2 f.0.1.1 1 3 1 1
+commit 2
+order 0 1 2 4 3
+end
+";
+
+// From 3, which stands after the reader; and from the initial state, where the reader's session has read from 1.
+const OF_AGAIN: &str = r"
+order 0 1 2 4 3 | order 0 1 2 3 4 => yes
+order 0 1 2 4 3 | order 0 1 3 2 4 => yes
+order 0 1 2 4 3 | order 0 1 4 2 3 => no
+order 0 1 2 4 3 | order 0 3 1 2 4 => no
+order 0 1 2 4 3 | order 0 2 1 4 3 => no
+read 2 f.0.1.1 1 3 1 1 | read 2 f.0.1.1 3 3 1 2 => no
+read 2 f.0.1.1 1 3 1 1 | read 2 f.0.1.1 0 3 1 unset => no
+";
+
+#[test]
+fn stale_reads(rt: HostRuntime) -> Result<(), Fail> {
+    are_told(rt.alloc(), STALE, OF_STALE)?;
+    are_told(rt.alloc(), AGAIN, OF_AGAIN)
+}
+
+// Two transactions of one session overwrite a field, one of another session too, and a third of the first reads it.
+const OVERWRITTEN: &str = "\
+monkey-log 2 ra
+open 1
+open 2
+define 1 x74
+begin 1 ra
+write 1 f.0.1.1 1
+commit 1
+begin 2 ra
+write 2 f.0.1.1 2
+commit 2
+begin 1 ra
+write 1 f.0.1.1 3
+commit 1
+begin 1 ra
+read 1 f.0.1.1 3 4 0 3
+commit 1
+order 0 1 2 3 4
+end
+";
+
+// Where 2 stands after 3, the reader doesn't see it, but its number is below that of one which it does see: so the pass can't tell.
+const OF_OVERWRITTEN: &str = r"
+order 0 1 2 3 4 | order 0 2 1 3 4 => yes
+order 0 1 2 3 4 | order 0 1 3 4 2 => no
+order 0 1 2 3 4 | order 0 1 3 2 4 => no
+read 1 f.0.1.1 3 4 0 3 | read 1 f.0.1.1 1 4 0 1 => no
+read 1 f.0.1.1 3 4 0 3 | read 1 f.0.1.1 2 4 0 2 => no
+";
+
+#[test]
+fn overwritten_values(rt: HostRuntime) -> Result<(), Fail> {
+    are_told(rt.alloc(), OVERWRITTEN, OF_OVERWRITTEN)
+}
+
+// Transaction 2 reads one row from the initial state, and then another from 1, which made both: right at Read Committed alone.
+const FRACTURED: &str = "\
+monkey-log 2 rc
+open 1
+define 1 x74
+open 2
+begin 1 rc
+write 1 p.0.1 true
+write 1 p.0.2 true
+commit 1
+begin 2 rc
+read 2 p.0.2 0 2 0 false
+read 2 p.0.1 1 2 1 true
+commit 2
+order 0 1 2
+end
+";
+
+// Transaction 3 reads from 2, which reads from 1, and then a row from the initial state that 1 made: right up to Read Atomic.
+const CHAIN: &str = "\
+monkey-log 2 ra
+open 1
+open 2
+open 3
+define 1 x74
+begin 1 ra
+write 1 p.0.1 true
+commit 1
+begin 2 ra
+read 2 p.0.1 1 2 1 true
+write 2 p.0.2 true
+commit 2
+begin 3 ra
+read 3 p.0.2 2 2 1 true
+read 3 p.0.1 0 2 0 false
+commit 3
+order 0 1 2 3
+end
+";
+
+#[test]
+fn right_logs_of_which_the_pass_is_not_sure(rt: HostRuntime) -> Result<(), Fail> {
+    is_told(rt.alloc(), FRACTURED, "no")?;
+    is_told(rt.alloc(), CHAIN, "no")
+}
