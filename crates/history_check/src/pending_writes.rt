@@ -35,11 +35,11 @@ pub fn note_pending(
         }
         Event::Write { session, .. } => add_place(lists, *session, before.len() as u32),
         Event::Commit { session } => {
-            clear(lists, *session);
+            clear_pending(lists, *session);
             Ok(())
         }
         Event::Rollback { session } => {
-            clear(lists, *session);
+            clear_pending(lists, *session);
             Ok(())
         }
         _ => Ok(()),
@@ -57,7 +57,7 @@ pub fn add_place(lists: &mut Vec<PendingWrites>, session: u32, place: u32) -> Re
 }
 
 /// Leaves no place to the session, and the room that it has.
-pub fn clear(lists: &mut Vec<PendingWrites>, session: u32)
+pub fn clear_pending(lists: &mut Vec<PendingWrites>, session: u32)
     requires some { 0 < session }
     requires opened { session ≤ length lists.old.items }
     ensures { IsChangedTo lists.old.items session (λ old new. new ≡ []) lists.new.items }

@@ -29,7 +29,7 @@ pub fn note_session(
             is_open: true,
             pending: None,
         })?,
-        Event::Close { session } => close(session_notes, *session),
+        Event::Close { session } => close_session(session_notes, *session),
         Event::Begin { session, .. } => set_pending(session_notes, *session, Some(started + 1)),
         Event::Commit { session } => set_pending(session_notes, *session, None),
         Event::Rollback { session } => set_pending(session_notes, *session, None),
@@ -54,7 +54,7 @@ pub fn set_pending(session_notes: &mut Vec<SessionNote>, session: u32, pending: 
 }
 
 /// Closes the session.
-pub fn close(session_notes: &mut Vec<SessionNote>, session: u32)
+pub fn close_session(session_notes: &mut Vec<SessionNote>, session: u32)
     requires some { 0 < session }
     requires opened { session ≤ length session_notes.old.items }
     ensures { IsClosed session_notes.old.items session session_notes.new.items }

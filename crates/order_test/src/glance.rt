@@ -100,8 +100,8 @@ fn note_begin(glance: &mut Glance, places: &Places, session: u32, last: u32) -> 
     Ok(())
 }
 
-/// Notes that the reader reads from the source.
-pub fn note_read(limits: &mut Vec<u32>, reader: u32, source: u32)
+/// Raises the limit of the reader to the source and to its limit.
+pub fn raise_limit(limits: &mut Vec<u32>, reader: u32, source: u32)
     requires reader { reader < length limits.old.items }
     requires source { source < length limits.old.items }
     ensures { RaisesLimit reader source limits.old.items limits.new.items }
@@ -128,7 +128,7 @@ fn note_change(
     match event {
         Event::Begin { session, .. } => note_begin(glance, places, *session, last),
         Event::Read { source, .. } => {
-            note_read(&mut glance.limits, last, *source);
+            raise_limit(&mut glance.limits, last, *source);
             Ok(())
         }
         Event::Open { .. } => Ok(()),

@@ -25,7 +25,7 @@ mod survey;
 mod unkept;
 mod unmet;
 
-pub use glance::note_read;
+pub use glance::raise_limit;
 pub use laws::order_laws;
 pub use places::{Places, places_of, stands_before};
 pub use reaches::{CellReaches, cell_is_clear, reaches_of};

@@ -9,7 +9,7 @@ use cell_base::{Cell, Memory, Value};
 use cell_writers::{CellNote, take_cell};
 use history_check::{add_place, is_absent_value, is_storable, set_place, table_in};
 use history_core::Event;
-use order_test::{Places, note_read};
+use order_test::{Places, raise_limit};
 
 /// Whether the value stands at the place.
 fn has_value(values: &[Value], place: u32, value: &Value) -> bool
@@ -154,7 +154,7 @@ pub fn take_read(
         return Ok(false);
     }
     pass.values.push(Value::Unset)?;
-    note_read(&mut pass.limits, reader, source);
+    raise_limit(&mut pass.limits, reader, source);
     pass.reads.push(ReadNote {
         cell: at,
         source,

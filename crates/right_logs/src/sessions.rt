@@ -6,7 +6,7 @@ use crate::pass::Pass;
 use crate::places::note_place;
 use crate::seats::{is_idle, is_open};
 use cell_base::{Memory, Text};
-use history_check::{PendingWrites, SessionNote, close};
+use history_check::{PendingWrites, SessionNote, close_session};
 use history_core::Event;
 use order_test::Places;
 
@@ -40,7 +40,7 @@ pub fn take_close(pass: &mut Pass, places: &Places, session: u32) -> Result<bool
     if !is_idle(&pass.session_notes, session) {
         return Ok(false);
     }
-    close(&mut pass.session_notes, session);
+    close_session(&mut pass.session_notes, session);
     note_place(&mut pass.cells.numbers.of_events, &mut pass.values)?;
     Ok(true)
 }

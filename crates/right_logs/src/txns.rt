@@ -8,7 +8,7 @@ use crate::pass::Pass;
 use crate::places::note_place;
 use crate::seats::{is_idle, pending_of};
 use cell_base::{Level, Memory};
-use history_check::{PendingWrites, clear, note_all_committed, set_committed, set_pending};
+use history_check::{PendingWrites, clear_pending, note_all_committed, set_committed, set_pending};
 use history_core::Event;
 use order_test::{Places, stands_before};
 
@@ -101,7 +101,7 @@ pub fn take_commit(pass: &mut Pass, places: &Places, session: u32) -> Result<boo
         places_in(&pass.pending, session),
         number,
     )?;
-    clear(&mut pass.pending, session);
+    clear_pending(&mut pass.pending, session);
     set_committed(&mut pass.committed, number);
     set_pending(&mut pass.session_notes, session, None);
     Ok(true)
@@ -116,7 +116,7 @@ pub fn take_rollback(pass: &mut Pass, places: &Places, session: u32) -> Result<b
     let Some(_number) = pending_of(&pass.session_notes, session) else {
         return Ok(false);
     };
-    clear(&mut pass.pending, session);
+    clear_pending(&mut pass.pending, session);
     set_pending(&mut pass.session_notes, session, None);
     note_place(&mut pass.cells.numbers.of_events, &mut pass.values)?;
     Ok(true)

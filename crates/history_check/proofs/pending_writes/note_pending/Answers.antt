@@ -12,20 +12,20 @@ pub add_place-requires-clause-opened : goal.add_place-requires-clause-opened
 add_place-requires-clause-opened c =
     (list_within c.args.before.now c.args.lists.now.items c.in-Write.session c.requires.sessions c.requires.lists (rw c.in-Write.is at c.requires.shape).0).1
 
-pub clear-requires-clause-some : goal.clear-requires-clause-some
-clear-requires-clause-some c =
+pub clear_pending-requires-clause-some : goal.clear_pending-requires-clause-some
+clear_pending-requires-clause-some c =
     (list_within c.args.before.now c.args.lists.now.items c.in-Commit.session c.requires.sessions c.requires.lists (rw c.in-Commit.is at c.requires.shape)).0
 
-pub clear-requires-clause-opened : goal.clear-requires-clause-opened
-clear-requires-clause-opened c =
+pub clear_pending-requires-clause-opened : goal.clear_pending-requires-clause-opened
+clear_pending-requires-clause-opened c =
     (list_within c.args.before.now c.args.lists.now.items c.in-Commit.session c.requires.sessions c.requires.lists (rw c.in-Commit.is at c.requires.shape)).1
 
-pub clear-requires-in-Rollback-clause-some : goal.clear-requires-in-Rollback-clause-some
-clear-requires-in-Rollback-clause-some c =
+pub clear_pending-requires-in-Rollback-clause-some : goal.clear_pending-requires-in-Rollback-clause-some
+clear_pending-requires-in-Rollback-clause-some c =
     (list_within c.args.before.now c.args.lists.now.items c.in-Rollback.session c.requires.sessions c.requires.lists (rw c.in-Rollback.is at c.requires.shape)).0
 
-pub clear-requires-in-Rollback-clause-opened : goal.clear-requires-in-Rollback-clause-opened
-clear-requires-in-Rollback-clause-opened c =
+pub clear_pending-requires-in-Rollback-clause-opened : goal.clear_pending-requires-in-Rollback-clause-opened
+clear_pending-requires-in-Rollback-clause-opened c =
     (list_within c.args.before.now c.args.lists.now.items c.in-Rollback.session c.requires.sessions c.requires.lists (rw c.in-Rollback.is at c.requires.shape)).1
 
 pub returns-in_ok-push-in-Open : goal.returns-in_ok-push-in-Open
@@ -42,13 +42,13 @@ returns-in-Write c =
 
 pub returns-in-Commit : goal.returns-in-Commit
 returns-in-Commit c =
-    rw c.in-Commit.is (pending_end c.args.before.now (Commit c.in-Commit.session) c.in-Commit.session c.args.lists.now.items c.clear.new.lists.items refl refl refl (λ t x v same. cc)
-    c.clear.ensures c.requires.lists)
+    rw c.in-Commit.is (pending_end c.args.before.now (Commit c.in-Commit.session) c.in-Commit.session c.args.lists.now.items c.clear_pending.new.lists.items refl refl refl (λ t x v same. cc)
+    c.clear_pending.ensures c.requires.lists)
 
 pub returns-in-Rollback : goal.returns-in-Rollback
 returns-in-Rollback c =
-    rw c.in-Rollback.is (pending_end c.args.before.now (Rollback c.in-Rollback.session) c.in-Rollback.session c.args.lists.now.items c.clear-in-Rollback.new.lists.items refl refl refl (λ t x v same. cc)
-    c.clear-in-Rollback.ensures c.requires.lists)
+    rw c.in-Rollback.is (pending_end c.args.before.now (Rollback c.in-Rollback.session) c.in-Rollback.session c.args.lists.now.items c.clear_pending-in-Rollback.new.lists.items refl refl refl (λ t x v same. cc)
+    c.clear_pending-in-Rollback.ensures c.requires.lists)
 
 pub returns-in_default : goal.returns-in_default
 returns-in_default c =

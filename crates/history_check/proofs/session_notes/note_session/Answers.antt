@@ -2,12 +2,12 @@ use Rattle.std.proofs.Common.{refl}
 use Rattle.history_check.proofs.SessionNoteLemmas.{session_notes_plain, session_notes_open, session_notes_begin, session_notes_close, session_notes_commit, session_notes_rollback, plain_look, plain_define, plain_show, plain_scan, plain_read, plain_own, plain_write, open_within, pending_within}
 use Rattle.history_check.proofs.session_notes.note_session.Goals as goal
 
-pub close-requires-clause-some : goal.close-requires-clause-some
-close-requires-clause-some c =
+pub close_session-requires-clause-some : goal.close_session-requires-clause-some
+close_session-requires-clause-some c =
     (open_within c.args.before.now c.args.session_notes.now.items c.in-Close.session c.requires.sessions c.requires.session_notes (rw c.in-Close.is at c.requires.shape).0).0
 
-pub close-requires-clause-opened : goal.close-requires-clause-opened
-close-requires-clause-opened c =
+pub close_session-requires-clause-opened : goal.close_session-requires-clause-opened
+close_session-requires-clause-opened c =
     (open_within c.args.before.now c.args.session_notes.now.items c.in-Close.session c.requires.sessions c.requires.session_notes (rw c.in-Close.is at c.requires.shape).0).1
 
 pub set_pending-requires-clause-some : goal.set_pending-requires-clause-some
@@ -40,7 +40,7 @@ returns-in_ok-push-in-Open c =
 
 pub returns-in-Close : goal.returns-in-Close
 returns-in-Close c =
-    rw c.in-Close.is (session_notes_close c.args.before.now c.in-Close.session c.args.session_notes.now.items _ c.close.ensures c.requires.session_notes)
+    rw c.in-Close.is (session_notes_close c.args.before.now c.in-Close.session c.args.session_notes.now.items _ c.close_session.ensures c.requires.session_notes)
 
 pub returns-in-Begin : goal.returns-in-Begin
 returns-in-Begin c =

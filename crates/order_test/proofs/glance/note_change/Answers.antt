@@ -17,12 +17,12 @@ returns-in-Begin c =
     c.in-Begin.level c.args.last c.args.glance.now c.note_begin.new.glance c.requires.places (rw c.in-Begin.is at c.requires.glance) adds))
     c.note_begin.ensures
 
-pub note_read-requires-clause-reader : goal.note_read-requires-clause-reader
-note_read-requires-clause-reader c =
+pub raise_limit-requires-clause-reader : goal.raise_limit-requires-clause-reader
+raise_limit-requires-clause-reader c =
     let h = last_bounded c.args.before.now _ c.args.last c.requires.glance.of in let n = c.requires.glance.limits.count in omega arith
 
-pub note_read-requires-clause-source : goal.note_read-requires-clause-source
-note_read-requires-clause-source c =
+pub raise_limit-requires-clause-source : goal.raise_limit-requires-clause-source
+raise_limit-requires-clause-source c =
     let h = source_bounded c.args.before.now c.in-Read.source (rw c.in-Read.is at c.requires.comes.source) in let n = c.requires.glance.limits.count in omega arith
 
 pub returns-in-Read : goal.returns-in-Read
@@ -37,7 +37,7 @@ returns-in-Read c =
       limits =
           limits_read c.args.before.now sound c.in-Read.session c.args.last c.in-Read.cell c.in-Read.source c.in-Read.count c.in-Read.word c.in-Read.value pending
           (source_apart c.args.before.now c.args.last c.in-Read.session c.in-Read.source pending source) (last_bounded c.args.before.now _ c.args.last noted.of)
-          (source_bounded c.args.before.now c.in-Read.source source) c.args.glance.now.limits.items c.note_read.new.limits.items c.note_read.ensures noted.limits;
+          (source_bounded c.args.before.now c.in-Read.source source) c.args.glance.now.limits.items c.raise_limit.new.limits.items c.raise_limit.ensures noted.limits;
       keeps = λ h. keeps_still c.args.before.now _ c.args.order.now refl (noted.keeps h);
       scans = scans_push c.args.before.now _ c.args.glance.now.scans (λ scan. absurd scan) noted.scans;
     }

@@ -14,14 +14,14 @@ is_clear-requires c =
     takes_within c.args.pass.now.cells c.take_cell.new.cells c.args.cell.now c.in_ok-at.at c.in_ok-at.ensures
     (cells_few c.args.places.now.at.items c.args.pass.now c.requires.stands c.requires.few).0
 
-pub note_read-requires-clause-reader : goal.note_read-requires-clause-reader
-note_read-requires-clause-reader c =
+pub raise_limit-requires-clause-reader : goal.raise_limit-requires-clause-reader
+raise_limit-requires-clause-reader c =
     let shows = c.is_clear.ensures c.if-not-is_clear.false in
     (limits_within c.args.places.now.at.items c.args.pass.now c.args.session c.in-Some.reader c.args.cell.now c.args.source c.args.count c.args.value.now shows.0 c.requires.stands c.in-Some.ensures
     shows.1.1).0
 
-pub note_read-requires-clause-source : goal.note_read-requires-clause-source
-note_read-requires-clause-source c =
+pub raise_limit-requires-clause-source : goal.raise_limit-requires-clause-source
+raise_limit-requires-clause-source c =
     let shows = c.is_clear.ensures c.if-not-is_clear.false in
     (limits_within c.args.places.now.at.items c.args.pass.now c.args.session c.in-Some.reader c.args.cell.now c.args.source c.args.count c.args.value.now shows.0 c.requires.stands c.in-Some.ensures
     shows.1.1).1
@@ -31,4 +31,4 @@ returns c = λ _.
     let shows = c.is_clear.ensures c.if-not-is_clear.false in
     read_goes c.args.places.now.at.items c.args.session c.in-Some.reader c.args.cell.now c.in_ok-at.at c.args.source c.args.count c.args.word c.args.value.now c.args.pass.now _ shows.0
     (record { cell = c.in_ok-at.at; source = c.args.source; reader = c.in-Some.reader }) c.in-Some.ensures c.in_ok-at.ensures shows.1.0 shows.1.1
-    (record { session_notes = refl; committed = refl; tables = refl; last = refl }) refl c.in_ok-push.ensures.items c.note_read.ensures refl refl refl c.in_ok-push-2.ensures.items
+    (record { session_notes = refl; committed = refl; tables = refl; last = refl }) refl c.in_ok-push.ensures.items c.raise_limit.ensures refl refl refl c.in_ok-push-2.ensures.items

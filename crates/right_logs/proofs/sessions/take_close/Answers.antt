@@ -3,16 +3,16 @@ use Rattle.right_logs.proofs.Still.{idle_in_place}
 use Rattle.right_logs.proofs.SessionLemmas.{close_goes}
 use Rattle.right_logs.proofs.sessions.take_close.Goals as goal
 
-pub close-requires-clause-some : goal.close-requires-clause-some
-close-requires-clause-some c = (idle_in_place c.args.pass.now.session_notes.items c.args.session (rw c.deref.ensures.value at (c.is_idle.ensures c.if-not-is_idle.false))).0
+pub close_session-requires-clause-some : goal.close_session-requires-clause-some
+close_session-requires-clause-some c = (idle_in_place c.args.pass.now.session_notes.items c.args.session (rw c.deref.ensures.value at (c.is_idle.ensures c.if-not-is_idle.false))).0
 
-pub close-requires-clause-opened : goal.close-requires-clause-opened
-close-requires-clause-opened c = (idle_in_place c.args.pass.now.session_notes.items c.args.session (rw c.deref.ensures.value at (c.is_idle.ensures c.if-not-is_idle.false))).1
+pub close_session-requires-clause-opened : goal.close_session-requires-clause-opened
+close_session-requires-clause-opened c = (idle_in_place c.args.pass.now.session_notes.items c.args.session (rw c.deref.ensures.value at (c.is_idle.ensures c.if-not-is_idle.false))).1
 
 pub returns-in_ok-note_place : goal.returns-in_ok-note_place
 returns-in_ok-note_place c = λ goes order events stands.
     close_goes order c.args.places.now.at.items events c.args.session c.args.pass.now _ (rw c.deref.ensures.value at (c.is_idle.ensures c.if-not-is_idle.false)) (record {
-      session_notes = c.close.ensures;
+      session_notes = c.close_session.ensures;
       pending = refl;
       names_are = refl;
       last = refl;

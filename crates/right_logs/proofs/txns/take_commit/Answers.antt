@@ -25,12 +25,12 @@ note_all_committed-requires-clause-within c =
     writes_noted c.args.places.now.at.items c.args.pass.now c.args.session c.places_in.result.now c.as_slice.result.now c.requires.stands
     (rw c.deref-2.ensures.value at c.places_in.ensures) (c.as_slice.ensures.value ∙ c.in_ok-note_place.ensures.number)
 
-pub clear-requires-clause-some : goal.clear-requires-clause-some
-clear-requires-clause-some c =
+pub clear_pending-requires-clause-some : goal.clear_pending-requires-clause-some
+clear_pending-requires-clause-some c =
     (pending_room c.args.places.now.at.items c.args.pass.now c.args.session c.in-Some.number c.requires.stands (rw c.deref.ensures.value at c.in-Some.ensures)).0
 
-pub clear-requires-clause-opened : goal.clear-requires-clause-opened
-clear-requires-clause-opened c =
+pub clear_pending-requires-clause-opened : goal.clear_pending-requires-clause-opened
+clear_pending-requires-clause-opened c =
     (pending_room c.args.places.now.at.items c.args.pass.now c.args.session c.in-Some.number c.requires.stands (rw c.deref.ensures.value at c.in-Some.ensures)).1
 
 pub set_committed-requires-clause-some : goal.set_committed-requires-clause-some
@@ -54,7 +54,7 @@ returns c = λ goes order events stands.
     (record {
       notes = record { names_are = refl; keys = refl; of_events = c.in_ok-note_place.ensures.number; values = c.in_ok-note_place.ensures.value; reads = refl };
       session_notes = c.set_pending.ensures;
-      pending = c.clear.ensures;
+      pending = c.clear_pending.ensures;
       committed = c.set_committed.ensures;
       cells = rw c.as_slice.ensures.value at c.in_ok-note_all_committed.ensures;
       last = refl;

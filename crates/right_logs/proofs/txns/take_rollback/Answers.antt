@@ -3,12 +3,12 @@ use Rattle.right_logs.proofs.Still.{session_in_place}
 use Rattle.right_logs.proofs.TxnLemmas.{pending_room, rollback_goes}
 use Rattle.right_logs.proofs.txns.take_rollback.Goals as goal
 
-pub clear-requires-clause-some : goal.clear-requires-clause-some
-clear-requires-clause-some c =
+pub clear_pending-requires-clause-some : goal.clear_pending-requires-clause-some
+clear_pending-requires-clause-some c =
     (pending_room c.args.places.now.at.items c.args.pass.now c.args.session c.in-Some._number c.requires.stands (rw c.deref.ensures.value at c.in-Some.ensures)).0
 
-pub clear-requires-clause-opened : goal.clear-requires-clause-opened
-clear-requires-clause-opened c =
+pub clear_pending-requires-clause-opened : goal.clear_pending-requires-clause-opened
+clear_pending-requires-clause-opened c =
     (pending_room c.args.places.now.at.items c.args.pass.now c.args.session c.in-Some._number c.requires.stands (rw c.deref.ensures.value at c.in-Some.ensures)).1
 
 pub set_pending-requires-clause-some : goal.set_pending-requires-clause-some
@@ -32,6 +32,6 @@ returns c = λ goes order events stands.
       };
       names_are = refl;
       session_notes = c.set_pending.ensures;
-      pending = c.clear.ensures;
+      pending = c.clear_pending.ensures;
       last = refl;
     }) stands

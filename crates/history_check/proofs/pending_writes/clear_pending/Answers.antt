@@ -1,6 +1,6 @@
 use Rattle.std.proofs.Common.{◌-◌, length, refl, arith}
 use Rattle.std.proofs.lemmas.Option.{slice_get_read}
-use Rattle.history_check.proofs.pending_writes.clear.Goals as goal
+use Rattle.history_check.proofs.pending_writes.clear_pending.Goals as goal
 
 pub returns : goal.returns
 returns c =
