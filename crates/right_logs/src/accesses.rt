@@ -3,10 +3,11 @@ ghost use Rattle.std.specs.Prelude.{◌≡◌, ◌<◌, ◌≤◌, ◌+◌, ◌-
 ghost use Rattle.right_logs.specs.Accesses.{GivesLast, GivesValue, IsClearRead, MayTouch, ShowsLast, ShowsRead};
 ghost use Rattle.right_logs.specs.Passes.{Goes, Stands};
 
+use crate::guesses::number_cell;
 use crate::pass::{Pass, ReadNote};
 use crate::seats::pending_of;
 use cell_base::{Cell, Memory, Value};
-use cell_writers::{CellNote, take_cell};
+use cell_writers::CellNote;
 use history_check::{add_place, is_absent_value, is_storable, set_place, table_in};
 use history_core::Event;
 use order_test::{Places, raise_limit};
@@ -131,6 +132,14 @@ fn owner_of(pass: &Pass, session: u32, cell: &Cell) -> Option<u32>
     pending_of(&pass.session_notes, session)
 }
 
+/// How many committed writers the cell of the number has.
+fn writers_of(pass: &Pass, at: u32) -> u32 {
+    match pass.cells.notes.get(at as usize) {
+        Some(note) => u32::try_from(note.committed.as_slice().len()).unwrap_or(0),
+        None => 0,
+    }
+}
+
 /// Takes an external read.
 pub fn take_read(
     pass: &mut Pass,
@@ -149,16 +158,18 @@ pub fn take_read(
     let Some(reader) = owner_of(pass, session, cell) else {
         return Ok(false);
     };
-    let at = take_cell(&mut pass.cells, cell)?;
+    let at = number_cell(&mut pass.cells, &mut pass.guesses, cell)?;
     if !is_clear(pass, at, cell, reader, source, count, value) {
         return Ok(false);
     }
     pass.values.push(Value::Unset)?;
     raise_limit(&mut pass.limits, reader, source);
+    let writers = writers_of(pass, at);
     pass.reads.push(ReadNote {
         cell: at,
         source,
         reader,
+        writers,
     })?;
     Ok(true)
 }
@@ -178,7 +189,7 @@ pub fn take_own(
     let Some(reader) = owner_of(pass, session, cell) else {
         return Ok(false);
     };
-    let at = take_cell(&mut pass.cells, cell)?;
+    let at = number_cell(&mut pass.cells, &mut pass.guesses, cell)?;
     if !shows_last(pass, at, reader, value) {
         return Ok(false);
     }
@@ -204,7 +215,7 @@ pub fn take_write(
     if !is_storable(value) {
         return Ok(false);
     }
-    let at = take_cell(&mut pass.cells, cell)?;
+    let at = number_cell(&mut pass.cells, &mut pass.guesses, cell)?;
     let place = pass.values.len() as u32;
     set_place(&mut pass.cells.notes, at as usize, writer, place)?;
     add_place(&mut pass.pending, session, place)?;

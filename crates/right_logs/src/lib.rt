@@ -6,6 +6,7 @@
 
 mod accesses;
 mod ending;
+mod guesses;
 mod lines;
 mod log;
 mod met;

@@ -9,7 +9,7 @@ ghost use Rattle.right_logs.specs.Passes.{IsKept, StandsFor, Stands};
 
 use crate::pass::{Pass, ReadNote};
 use cell_base::Memory;
-use order_test::{CellReaches, Places, cell_is_clear, reaches_of, stands_before};
+use order_test::{CellReaches, Places, cell_is_clear, cell_is_clear_at, reaches_of, stands_before};
 use std::alloc::Global;
 
 /// Whether the order keeps what the read asks: it has the source before the reader, and no writer of the cell in the reader's causal past after
@@ -28,15 +28,11 @@ fn is_kept(pass: &Pass, places: &Places, reaches: &CellReaches, read: ReadNote) 
     if !stands_before(places, read.source, read.reader) {
         return false;
     }
+    let cell = read.cell as usize;
     let limit = pass.limits[read.reader as usize];
-    cell_is_clear(
-        places,
-        &pass.cells,
-        reaches,
-        read.cell as usize,
-        limit,
-        read.source,
-    )
+    let count = read.writers as usize;
+    cell_is_clear_at(places, &pass.cells, reaches, cell, count, limit, read.source)
+        || cell_is_clear(places, &pass.cells, reaches, cell, limit, read.source)
 }
 
 /// Whether it is clear that the order meets the history.

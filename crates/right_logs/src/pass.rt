@@ -3,6 +3,7 @@ ghost use Rattle.std.specs.Prelude.{◌≡◌, ℕ, List, [], IfOk, length};
 ghost use Rattle.order_test.specs.Places.{ArePlaces};
 ghost use Rattle.right_logs.specs.Passes.{StandsFor};
 
+use crate::guesses::{Guesses, no_guesses};
 use cell_base::{Memory, Text, Value};
 use cell_writers::{CellNotes, no_cells};
 use history_check::{PendingWrites, SessionNote};
@@ -17,6 +18,8 @@ pub struct ReadNote {
     pub source: u32,
     /// The transaction that reads.
     pub reader: u32,
+    /// How many committed writers its cell had then: so many are up to the reader's limit, where nothing ran beside it.
+    pub writers: u32,
 }
 
 /// What the events so far come to. Session s has its notes at s - 1 and its last transaction at s, and transaction k its flag at k - 1 and its limit
@@ -40,6 +43,7 @@ pub struct Pass {
     /// For each transaction, the initial one first, a number that none in its causal past is above.
     pub limits: Vec<u32>,
     pub reads: Vec<ReadNote>,
+    pub guesses: Guesses,
 }
 
 /// No event yet.
@@ -50,6 +54,7 @@ pub fn no_pass(alloc: Global) -> Result<Pass, Memory>
     last.push(0)?;
     let mut limits = Vec::new(alloc);
     limits.push(0)?;
+    let guesses = no_guesses(alloc)?;
     Ok(Pass {
         alloc,
         session_notes: Vec::new(alloc),
@@ -61,5 +66,6 @@ pub fn no_pass(alloc: Global) -> Result<Pass, Memory>
         last,
         limits,
         reads: Vec::new(alloc),
+        guesses,
     })
 }

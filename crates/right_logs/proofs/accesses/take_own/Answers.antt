@@ -3,15 +3,15 @@ use Rattle.cell_writers.proofs.Taken.{takes_within}
 use Rattle.right_logs.proofs.AccessLemmas.{own_goes, cells_few}
 use Rattle.right_logs.proofs.accesses.take_own.Goals as goal
 
-pub take_cell-requires-clause-count : goal.take_cell-requires-clause-count
-take_cell-requires-clause-count c = (cells_few c.args.places.now.at.items c.args.pass.now c.requires.stands c.requires.few).0
+pub number_cell-requires-clause-count : goal.number_cell-requires-clause-count
+number_cell-requires-clause-count c = (cells_few c.args.places.now.at.items c.args.pass.now c.requires.stands c.requires.few).0
 
-pub take_cell-requires-clause-few : goal.take_cell-requires-clause-few
-take_cell-requires-clause-few c = (cells_few c.args.places.now.at.items c.args.pass.now c.requires.stands c.requires.few).1
+pub number_cell-requires-clause-few : goal.number_cell-requires-clause-few
+number_cell-requires-clause-few c = (cells_few c.args.places.now.at.items c.args.pass.now c.requires.stands c.requires.few).1
 
 pub shows_last-requires : goal.shows_last-requires
 shows_last-requires c =
-    takes_within c.args.pass.now.cells c.take_cell.new.cells c.args.cell.now c.in_ok-at.at c.in_ok-at.ensures
+    takes_within c.args.pass.now.cells c.number_cell.new.cells c.args.cell.now c.in_ok-at.at c.in_ok-at.ensures
     (cells_few c.args.places.now.at.items c.args.pass.now c.requires.stands c.requires.few).0
 
 pub returns : goal.returns
