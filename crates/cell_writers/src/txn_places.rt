@@ -1,5 +1,5 @@
 // Where each transaction has something, by its number.
-ghost use Rattle.std.specs.Prelude.{◌≡◌, ◌≤◌, ◌<◌, [], IsSome, IfOk, IfErr, IsTrue, OnOk, OnErr, length};
+ghost use Rattle.std.specs.Prelude.{◌≡◌, ◌≤◌, ◌<◌, ◌-◌, [], IsSome, IfOk, IfErr, IsTrue, OnOk, OnErr, length};
 ghost use Rattle.cell_writers.specs.Pairs.{Pairs, get, key_at, IsStrictlySorted, IsAt, IsGapFor, SetsOnly};
 
 use cell_base::Memory;
@@ -62,7 +62,21 @@ impl TxnPlaces {
         if self.is_after_all(txn) {
             return Err(self.pairs.len());
         }
+        if self.stands_last(txn) {
+            return Ok(self.pairs.len() - 1);
+        }
         self.pairs.binary_search_by_key(&txn, |&(number, _)| number)
+    }
+
+    /// Whether the transaction stands last.
+    fn stands_last(&self, txn: u32) -> bool
+        ensures some { IsTrue result → 0 < length self.now }
+        ensures last { IsTrue result → IsAt self.now txn (length self.now - 1) }
+    {
+        match self.pairs.last() {
+            Some(&(last, _)) => last == txn,
+            None => false,
+        }
     }
 
     /// Whether the transaction's number is above all that stand here.

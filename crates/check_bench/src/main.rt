@@ -1,8 +1,9 @@
 //! Measures a check of a log beside simply reading the file and splitting its lines, in processor time of this thread.
 //!
 //! With the path of a file it prints what each part takes: the read of the file, the lines that are split off, the one pass over the text with
-//! its answer, the text read as a history, and the judgement of that history. A check reads the file and makes the pass; only where the pass says
-//! no does it read the history and judge it. Without a path it prints its usage: its stored run.
+//! what it says, the text read as a history, and the judgement of that history. A check reads the file and makes the pass. Where the pass says that
+//! the log is right, that is all; where it says that the events are, the history is read and its order alone is judged; else the history is read
+//! and judged. Without a path it prints its usage: its stored run.
 #![tactic(auto)]
 
 use anyhow::Result;

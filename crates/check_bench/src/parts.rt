@@ -4,11 +4,13 @@ ghost use Rattle.link_traits.specs.Host.{objects_out};
 
 use anyhow::Result;
 use cell_base::Text;
+use held_values::without;
 use history_check::check;
 use history_log::read;
 use host_calls::read_file;
 use link_traits::Host;
-use right_logs::is_clearly_right;
+use right_logs::{Glimpse, glimpse_of};
+use std::alloc::Global;
 use std::io;
 use std::time::{CpuClock, Duration};
 
@@ -18,6 +20,26 @@ const MOST_BYTES: usize = 268_435_456;
 /// How many lines the bytes are split into.
 fn count_lines(bytes: &[u8]) -> usize {
     bytes.split(|byte| *byte == b'\n').count()
+}
+
+/// The word of what one pass over a text says of it.
+fn word_of(glimpse: &Glimpse) -> &'static str {
+    match glimpse {
+        Glimpse::Right => "right",
+        Glimpse::Judged(_cells) => "judged",
+        Glimpse::Unclear => "unclear",
+    }
+}
+
+/// What one pass over the bytes says of them. `None` where memory ran out.
+fn glimpse_word(alloc: Global, bytes: &[u8]) -> Option<&'static str> {
+    match glimpse_of(alloc, bytes) {
+        Ok(glimpse) => {
+            let word = word_of(&glimpse);
+            Some(without(glimpse, word))
+        }
+        Err(_memory) => None,
+    }
 }
 
 /// Microseconds since `start`.
@@ -44,11 +66,11 @@ pub(crate) fn measure<H: Host>(
     let lines = count_lines(&bytes);
     println!(rt; "{lines} lines: {} us", micros(rt, start)?)?;
     let start = rt.thread_cpu_time()?;
-    let Ok(clear) = is_clearly_right(rt.alloc(), &bytes) else {
+    let Some(word) = glimpse_word(rt.alloc(), &bytes) else {
         println!(rt; "memory ran out")?;
         return Ok(());
     };
-    println!(rt; "one pass {clear}: {} us", micros(rt, start)?)?;
+    println!(rt; "one pass, {word}: {} us", micros(rt, start)?)?;
     let start = rt.thread_cpu_time()?;
     let Ok(trace) = read(rt.alloc(), &bytes) else {
         println!(rt; "it is no log")?;

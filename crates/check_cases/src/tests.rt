@@ -19,11 +19,31 @@ order 0 1 2
 end
 ";
 
+/// The same, but that the second session reads one row of two from the initial transaction, and then the other one from the first session. That the
+/// order is right is clear from what each read sees alone.
+const PARTLY_STALE: &str = "\
+monkey-log 2 rc
+open 1
+define 1 x74
+open 2
+begin 1 rc
+write 1 p.0.1 true
+write 1 p.0.2 true
+commit 1
+begin 2 rc
+read 2 p.0.2 0 2 0 false
+read 2 p.0.1 1 2 1 true
+commit 2
+order 0 1 2
+end
+";
+
 #[test]
 fn says_that_a_log_is_right(rt: HostRuntime) -> Result<(), Fail> {
     let alloc = rt.alloc();
     assert!(rt; prints(alloc, b"monkey-log 2 cc\norder 0\nend\n", 0, b"ok\n")?);
     assert!(rt; prints(alloc, STALE.as_bytes(), 0, b"ok\n")?);
+    assert!(rt; prints(alloc, PARTLY_STALE.as_bytes(), 0, b"ok\n")?);
     Ok(())
 }
 

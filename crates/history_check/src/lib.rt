@@ -2,7 +2,8 @@
 //!
 //! `check_events` numbers the cells of all events, then goes through the events once, with notes of its own, and answers the first breach: of the first event that breaks a rule,
 //! and of the first rule that it breaks. `event_laws` says what that comes to. `check` judges the order as well, by
-//! `order_test`; `trace_laws` says that its answers exclude each other, and `legal_laws` that a legal history has no breach.
+//! `order_test`; `trace_laws` says that its answers exclude each other, and `legal_laws` that a legal history has no breach. `check_order` judges
+//! the order alone, where the events are right and the notes of their cells are there.
 #![tactic(auto)]
 
 mod breach;
@@ -30,7 +31,7 @@ pub use breach::{Breach, CheckFault};
 pub use commits::set_committed;
 pub use events::check_events;
 pub use laws::{event_laws, legal_laws, trace_laws};
-pub use order::check;
+pub use order::{check, check_order};
 pub use pending_writes::{PendingWrites, add_place, clear_pending};
 pub use session_note::SessionNote;
 pub use session_notes::{close_session, set_pending};

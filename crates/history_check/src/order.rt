@@ -30,8 +30,8 @@ pub fn check(alloc: Global, trace: &Trace) -> Result<(), CheckFault>
     }
 }
 
-/// Judges the order, where the events are right.
-fn check_order(alloc: Global, cells: &CellNotes, trace: &Trace) -> Result<(), CheckFault>
+/// Judges the order of a trace whose events are right, with the numbers and the notes of their cells. The breach is the first of the order.
+pub fn check_order(alloc: Global, cells: &CellNotes, trace: &Trace) -> Result<(), CheckFault>
     requires notes { AreCellNotes trace.now.events cells.now }
     requires numbered { AreNumbered trace.now.events cells.now.numbers }
     requires right { AreRight trace.now.initial trace.now.events }

@@ -28,6 +28,6 @@ mod unmet;
 pub use glance::raise_limit;
 pub use laws::order_laws;
 pub use places::{Places, places_of, stands_before};
-pub use reaches::{CellReaches, cell_is_clear, reaches_of};
+pub use reaches::{CellReaches, cell_is_clear, cell_is_clear_at, reaches_of};
 pub use search::first_unkept;
 pub use unkept::Unkept;

@@ -1,14 +1,25 @@
 // What the pass says of a text, and of texts in which one line is another.
 use held_values::without;
-use right_logs::is_clearly_right;
+use right_logs::{Glimpse, glimpse_of};
 use std::alloc::Global;
 use std::test::Fail;
 
-// Whether the pass says this of the text: `yes`, where it shows that the text is right, and else `no`.
+// Whether this is said: `right`, that the text is the log of a right history; `judged`, that its events are right; `unclear`, nothing.
+fn is_so(glimpse: &Glimpse, wanted: &str) -> bool {
+    match glimpse {
+        Glimpse::Right => wanted == "right",
+        Glimpse::Judged(_cells) => wanted == "judged",
+        Glimpse::Unclear => wanted == "unclear",
+    }
+}
+
+// Whether the pass says this of the text.
 fn says(alloc: Global, text: &str, wanted: &str) -> bool {
-    match is_clearly_right(alloc, text.as_bytes()) {
-        Ok(true) => wanted == "yes",
-        Ok(false) => wanted == "no",
+    match glimpse_of(alloc, text.as_bytes()) {
+        Ok(glimpse) => {
+            let said = is_so(&glimpse, wanted);
+            without(glimpse, said)
+        }
         Err(_) => false,
     }
 }
@@ -26,8 +37,8 @@ fn says_with(alloc: Global, text: &str, lines: &str, wanted: &str) -> bool {
     };
     match with_line(alloc, text, line, other) {
         Some(changed) => {
-            let is_so = says(alloc, changed.as_str(), wanted);
-            without(changed, is_so)
+            let said = says(alloc, changed.as_str(), wanted);
+            without(changed, said)
         }
         None => false,
     }
@@ -41,8 +52,8 @@ fn is_said(alloc: Global, text: &str, row: &str) -> bool {
 }
 
 // Ends the test where this isn't so.
-fn right(row: &str, is_so: bool) -> Result<(), Fail> {
-    if is_so {
+fn right(row: &str, said: bool) -> Result<(), Fail> {
+    if said {
         return Ok(());
     }
     Err(Fail::new(format_args!("{row}")))
@@ -53,10 +64,10 @@ pub fn is_told(alloc: Global, text: &str, wanted: &str) -> Result<(), Fail> {
     right(text, says(alloc, text, wanted))
 }
 
-/// Ends the test where the pass doesn't say `yes` of the text, or what its rows say of the text with their lines. A row has a line of the text,
+/// Ends the test where the pass doesn't say this of the text, or what its rows say of the text with their lines. A row has a line of the text,
 /// ` | `, the one in its place, ` => `, and what is said.
-pub fn are_told(alloc: Global, text: &str, rows: &str) -> Result<(), Fail> {
-    is_told(alloc, text, "yes")?;
+pub fn are_told(alloc: Global, text: &str, wanted: &str, rows: &str) -> Result<(), Fail> {
+    is_told(alloc, text, wanted)?;
     for row in rows.lines() {
         right(row, is_said(alloc, text, row))?;
     }

@@ -1,5 +1,5 @@
-//! Tests of the one pass over a log: texts of which it says that they are right, and texts that differ from these in one line. The answers are
-//! found by hand. The crate has nothing but tests.
+//! Tests of the one pass over a log: what it says of right logs, and of texts that differ from these in one line. The answers are found by hand.
+//! The crate has nothing but tests.
 #![tactic(auto)]
 
 #[cfg(test)]

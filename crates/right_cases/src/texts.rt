@@ -29,7 +29,7 @@ const NO_LOGS: &[&str] = &[
 #[test]
 fn no_logs(rt: HostRuntime) -> Result<(), Fail> {
     for text in NO_LOGS {
-        is_told(rt.alloc(), text, "no")?;
+        is_told(rt.alloc(), text, "unclear")?;
     }
     Ok(())
 }
@@ -41,18 +41,18 @@ end
 ";
 
 const OF_NO_EVENT: &str = r"
-monkey-log 2 rc | monkey-log 2 ra => yes
-monkey-log 2 rc | monkey-log 2 cc => yes
-monkey-log 2 rc | monkey-log 1 cc => yes
-order 0 | order => no
-order 0 | order 1 => no
-order 0 | order 0 1 => no
-order 0 | open 1 => no
+monkey-log 2 rc | monkey-log 2 ra => right
+monkey-log 2 rc | monkey-log 2 cc => right
+monkey-log 2 rc | monkey-log 1 cc => right
+order 0 | order => unclear
+order 0 | order 1 => unclear
+order 0 | order 0 1 => judged
+order 0 | open 1 => unclear
 ";
 
 #[test]
 fn a_log_without_events(rt: HostRuntime) -> Result<(), Fail> {
-    are_told(rt.alloc(), NO_EVENT, OF_NO_EVENT)
+    are_told(rt.alloc(), NO_EVENT, "right", OF_NO_EVENT)
 }
 
 // In version 1 each transaction has the level of the head.
@@ -72,18 +72,18 @@ end
 ";
 
 const OF_FIRST_VERSION: &str = r"
-monkey-log 1 rc | monkey-log 1 ra => yes
-monkey-log 1 rc | monkey-log 1 cc => yes
-monkey-log 1 rc | monkey-log 2 rc => no
-begin 1 | begin 1 rc => no
+monkey-log 1 rc | monkey-log 1 ra => right
+monkey-log 1 rc | monkey-log 1 cc => right
+monkey-log 1 rc | monkey-log 2 rc => unclear
+begin 1 | begin 1 rc => unclear
 ";
 
 #[test]
 fn a_log_of_version_1(rt: HostRuntime) -> Result<(), Fail> {
-    are_told(rt.alloc(), FIRST_VERSION, OF_FIRST_VERSION)
+    are_told(rt.alloc(), FIRST_VERSION, "right", OF_FIRST_VERSION)
 }
 
-// A right log with rows that are there from the start: it has no answer by one pass.
+// A right log with rows that are there from the start: nothing is said of it.
 const INITIAL: &str = "\
 monkey-log 3 ra
 initial p.0.x61 true
@@ -123,16 +123,16 @@ end
 ";
 
 const OF_WORDS: &str = r"
-read 1 f.0.-5.1 1 2 4294967295 null | read 1 f.0.-5.1 1 2 4294967295 unset => no
-read 1 f.0.-5.1 1 2 4294967295 null | read 1 f.0.-5.1 1 2 4294967296 null => no
-read 1 f.0.-5.2 1 2 0 false | read 1 f.0.-5.2 1 2 0 null => no
-read 1 f.0.-5.3 1 2 0 -9223372036854775808 | read 1 f.0.-5.3 1 2 0 -9223372036854775809 => no
-read 1 f.0.x61.1 1 2 0 xc3a9 | read 1 f.0.x61.1 1 2 0 xC3A9 => no
-read 1 f.0.x61.1 1 2 0 xc3a9 | read 1 f.0.x61.1 1 2 0 x65 => no
+read 1 f.0.-5.1 1 2 4294967295 null | read 1 f.0.-5.1 1 2 4294967295 unset => unclear
+read 1 f.0.-5.1 1 2 4294967295 null | read 1 f.0.-5.1 1 2 4294967296 null => unclear
+read 1 f.0.-5.2 1 2 0 false | read 1 f.0.-5.2 1 2 0 null => unclear
+read 1 f.0.-5.3 1 2 0 -9223372036854775808 | read 1 f.0.-5.3 1 2 0 -9223372036854775809 => unclear
+read 1 f.0.x61.1 1 2 0 xc3a9 | read 1 f.0.x61.1 1 2 0 xC3A9 => unclear
+read 1 f.0.x61.1 1 2 0 xc3a9 | read 1 f.0.x61.1 1 2 0 x65 => unclear
 ";
 
 #[test]
 fn words(rt: HostRuntime) -> Result<(), Fail> {
-    is_told(rt.alloc(), INITIAL, "no")?;
-    are_told(rt.alloc(), WORDS, OF_WORDS)
+    is_told(rt.alloc(), INITIAL, "unclear")?;
+    are_told(rt.alloc(), WORDS, "right", OF_WORDS)
 }

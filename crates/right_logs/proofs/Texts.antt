@@ -1,27 +1,32 @@
 -- Texts of right histories, put together of their parts.
-use Rattle.std.proofs.Common.{◌≡◌, ◌==◌, ℕ, ◌<◌, ◌≤◌, List, [], ◌∷◌, ◌++◌, Bool, true, false, Result, Ok, Err, length, refl, sym, ap, ◌∙◌, map, subst, arith, append_assoc, append-nil, length-append}
+use Rattle.std.proofs.Common.{◌≡◌, ◌==◌, ℕ, ◌<◌, ◌≤◌, List, [], ◌∷◌, ◌++◌, Some, Bool, true, false, Result, Ok, Err, length, refl, sym, ap, ◌∙◌, map, subst, arith, append_assoc, append-nil, length-append}
 use Rattle.std.proofs.lemmas.Bool.Decides.{nat_tests}
-use Rattle.std.specs.Prelude.{IsTrue, IfOk, codes}
+use Rattle.std.specs.Prelude.{IfOk, codes}
+use Rattle.std.specs.List.{AllByRecursion}
 use Rattle.cell_base.specs.declared.level.Level.{Level}
 use Rattle.cell_base.specs.declared.memory.Memory.{Memory}
+use Rattle.cell_writers.specs.declared.cell_note.CellNotes.{CellNotes}
 use Rattle.history_core.specs.declared.event.Event.{Event}
 use Rattle.history_core.specs.Relations.{Meets}
-use Rattle.history_log.specs.declared.trace.Trace.{Trace}
 use Rattle.history_log.specs.declared.version.Version.{Version}
 use Rattle.history_log.specs.declared.version.Version.TheVariants.{One, Two, Three}
 use Rattle.history_log.specs.Spelling.{event_line, order_line, head_line, end_line, whole_lines}
-use Rattle.history_log.specs.Reading.{FitsEvent, IsEventIn, IsEventLine, IsOrderLine}
-use Rattle.history_log.specs.Log.{IsLog, IsInitialIn}
+use Rattle.history_log.specs.Reading.{IsU32, FitsEvent, IsEventIn, IsEventLine, IsOrderLine}
+use Rattle.history_log.specs.Log.{AreEventsIn, IsLog, IsInitialIn}
 use Rattle.history_log.specs.Leading.{IsLeading, IsLeadingIn}
 use Rattle.history_log.specs.Faults.{HasFewBytes}
-use Rattle.history_check.specs.Orders.{IsRightTrace}
-use Rattle.order_test.specs.Places.{ArePlaces}
+use Rattle.order_test.specs.declared.places.Places.{Places}
+use Rattle.order_test.specs.Places.{ArePlaces, IsPlaced}
 use Rattle.order_test.specs.Unkept.{HoldsAll}
 use Rattle.history_log.proofs.Misreads.{all_push}
 use Rattle.history_log.proofs.Written.{whole_append}
 use Rattle.right_logs.specs.declared.pass.Pass.{Pass}
+use Rattle.right_logs.specs.declared.glimpse.Glimpse.{Glimpse}
+use Rattle.right_logs.specs.declared.glimpse.Glimpse.TheVariants.{Right, Judged, Unclear}
+use Rattle.right_logs.specs.declared.glimpse.Seen.{Seen}
 use Rattle.right_logs.specs.Passes.{StandsFor, Stands}
-use Rattle.right_logs.specs.Endings.{IsEnded, IsFirstEvent, IsTaken, AreTaken, AreRightEvents, AreRightLines}
+use Rattle.right_logs.specs.Endings.{IsEnded, IsFirstEvent, IsTaken, AreTaken, AreRightEvents, AreJudgedEvents, AreRightLines, AreJudgedLines}
+use Rattle.right_logs.specs.Glimpses.{IsClearlyRight, IsJudgedLog, IsGlimpseOf, IsGlimpseOfEvents, IsGlimpseOfLines, glimpse_with}
 
 -- ---- the end
 
@@ -79,60 +84,91 @@ stands_now v head order places text rest pass taken = (order, (taken.events, tak
 
 -- ---- the whole text
 
-pub met_events : (v : Version) (head : Level) (text places : List ℕ) (old new : Pass) (r : Result Bool Memory)
-    → ((order : List ℕ) → StandsFor order places [] old → AreTaken v head order places text [] new)
-    → IfOk r (λ met. IsTrue met → (order : List ℕ) (events : List Event) → HoldsAll (length places) order → StandsFor order places events new → Meets events order)
-    → IfOk r (λ right. IsTrue right → (order : List ℕ) → StandsFor order places [] old → HoldsAll (length places) order → AreRightEvents v head text order)
-met_events v head text places old new (Ok met) taken meets = λ is order stands holds.
-    let all = taken order stands in
-    record {
-      events = all.events;
-      fit = all.fit;
-      spelled = all.spelled ∙ append-nil (whole_lines (map (event_line v) all.events));
-      right = all.stands.right;
-      meets = meets is order all.events holds all.stands;
-    }
-met_events v head text places old new (Err memory) taken meets = tt
+module _ (v : Version) (head : Level) (order places text : List ℕ) (pass : Pass) (all : AreTaken v head order places text [] pass) where
+  all_spelled : text ≡ whole_lines (map (event_line v) all.events)
+  all_spelled = all.spelled ∙ append-nil (whole_lines (map (event_line v) all.events))
 
-pub fresh_events : (v : Version) (head : Level) (text places : List ℕ) (fresh : Pass) (r : Result Bool Memory)
+  pub met_events : ((is : List ℕ) (events : List Event) → HoldsAll (length places) is → StandsFor is places events pass → Meets events is) → HoldsAll (length places) order
+      → AreRightEvents v head text order
+  met_events meets holds = record {
+    events = all.events;
+    fit = all.fit;
+    spelled = all_spelled;
+    right = all.stands.right;
+    meets = meets order all.events holds all.stands;
+  }
+
+  pub judged_events : AreJudgedEvents v head text pass.cells
+  judged_events = record {
+    events = all.events;
+    fit = all.fit;
+    spelled = all_spelled;
+    right = all.stands.right;
+    notes = all.stands.cells;
+    numbered = all.stands.numbered.are;
+  }
+
+pub fresh_events : (v : Version) (head : Level) (text places : List ℕ) (fresh left : Pass) (seen : Seen) (glimpse : Glimpse)
     → ((order spots : List ℕ) → ArePlaces (length spots) order spots → StandsFor order spots [] fresh)
-    → IfOk r (λ right. IsTrue right → (order : List ℕ) → StandsFor order places [] fresh → HoldsAll (length places) order → AreRightEvents v head text order)
-    → IfOk r (λ right. IsTrue right → (order : List ℕ) → ArePlaces (length places) order places → HoldsAll (length places) order → AreRightEvents v head text order)
-fresh_events v head text places fresh (Ok right) stands are = λ is order placed holds. are is order (stands order places placed) holds
-fresh_events v head text places fresh (Err memory) stands are = tt
+    → ((order : List ℕ) → StandsFor order places [] fresh → HoldsAll (length places) order → IsGlimpseOfEvents v head text order (glimpse_with left.cells seen))
+    → glimpse ≡ glimpse_with left.cells seen
+    → (order : List ℕ) → ArePlaces (length places) order places → HoldsAll (length places) order → IsGlimpseOfEvents v head text order glimpse
+fresh_events v head text places fresh left seen glimpse stands are is = λ order placed holds.
+    subst (λ (g : Glimpse). IsGlimpseOfEvents v head text order g) (sym is) (are order (stands order places placed) holds)
 
-pub own_places : (order places : List ℕ) → ArePlaces (length order) order places → ArePlaces (length places) order places
+own_places : (order places : List ℕ) → ArePlaces (length order) order places → ArePlaces (length places) order places
 own_places order places placed = subst (λ (n : ℕ). ArePlaces n order places) (sym placed.count) placed
 
-pub placed_events : (v : Version) (head : Level) (text order places : List ℕ) (r : Result Bool Memory) → HoldsAll (length order) order → ArePlaces (length order) order places
-    → IfOk r (λ right. IsTrue right → (own : List ℕ) → ArePlaces (length places) own places → HoldsAll (length places) own → AreRightEvents v head text own)
-    → IfOk r (λ right. IsTrue right → AreRightEvents v head text order)
-placed_events v head text order places (Ok right) holds placed are =
-    λ is. are is order (own_places order places placed) (subst (λ (n : ℕ). HoldsAll n order) (sym placed.count) holds)
-placed_events v head text order places (Err memory) holds placed are = tt
+pub some_order : (order : List ℕ) (places : Places) → IsPlaced (length order) order (Some places) → (own : List ℕ) × ArePlaces (length places.at.items) own places.at.items
+some_order order places placed = (order, own_places order places.at.items placed.1)
 
-lines_of : (v : Version) (head : Level) (text body last order : List ℕ) → IsEnded text body last → IsOrderLine order last → AreRightEvents v head body order → AreRightLines v head text
-lines_of v head text body last order end said are = record {
-  events = are.events;
-  order = order;
-  fit = are.fit;
-  numbers = said.0;
-  spelled =
-      end ∙ ap (λ (b : List ℕ). b ++ (last ++ codes "\nend\n")) are.spelled
-      ∙ ap (λ (l : List ℕ). whole_lines (map (event_line v) are.events) ++ (l ++ codes "\nend\n")) said.1;
-  right = are.right;
-  meets = are.meets;
-}
+pub placed_events : (v : Version) (head : Level) (text order : List ℕ) (places : Places) (r : Result Glimpse Memory) → IsPlaced (length order) order (Some places)
+    → IfOk r (λ glimpse. (own : List ℕ) → ArePlaces (length places.at.items) own places.at.items → HoldsAll (length places.at.items) own → IsGlimpseOfEvents v head text own glimpse)
+    → IfOk r (IsGlimpseOfEvents v head text order)
+placed_events v head text order places (Ok glimpse) placed are =
+    are order (own_places order places.at.items placed.1) (subst (λ (n : ℕ). HoldsAll n order) (sym placed.1.count) placed.0)
+placed_events v head text order places (Err memory) placed are = tt
 
-pub right_lines : (v : Version) (head : Level) (text body last order shown : List ℕ) (r : Result Bool Memory) → IsEnded text body last → IsOrderLine order last → shown ≡ order
-    → IfOk r (λ right. IsTrue right → AreRightEvents v head body shown) → IfOk r (λ right. IsTrue right → AreRightLines v head text)
-right_lines v head text body last order shown (Ok right) end said is are =
-    λ on. lines_of v head text body last order end said (subst (λ (o : List ℕ). AreRightEvents v head body o) is (are on))
-right_lines v head text body last order shown (Err memory) end said is are = tt
+module _ (v : Version) (head : Level) (text body last order : List ℕ) (end : IsEnded text body last) (said : IsOrderLine order last) where
+  said_lines : (events : List Event) → body ≡ whole_lines (map (event_line v) events) → text ≡ whole_lines (map (event_line v) events) ++ (order_line order ++ codes "\nend\n")
+  said_lines events spelled =
+      end ∙ ap (λ (b : List ℕ). b ++ (last ++ codes "\nend\n")) spelled
+      ∙ ap (λ (l : List ℕ). whole_lines (map (event_line v) events) ++ (l ++ codes "\nend\n")) said.1
 
-pub few_bytes : (bytes : List ℕ) (r : Result Bool Memory) → length bytes ≤ 268435456 → IfOk r (λ right. IsTrue right → HasFewBytes bytes)
-few_bytes bytes (Ok right) few = λ is. few
-few_bytes bytes (Err memory) few = tt
+  right_lines : AreRightEvents v head body order → AreRightLines v head text
+  right_lines are = record {
+    events = are.events;
+    order = order;
+    fit = are.fit;
+    numbers = said.0;
+    spelled = said_lines are.events are.spelled;
+    right = are.right;
+    meets = are.meets;
+  }
+
+  judged_lines : (cells : CellNotes) → AreJudgedEvents v head body cells → AreJudgedLines v head text cells
+  judged_lines cells are = record {
+    events = are.events;
+    order = order;
+    fit = are.fit;
+    numbers = said.0;
+    spelled = said_lines are.events are.spelled;
+    right = are.right;
+    notes = are.notes;
+    numbered = are.numbered;
+  }
+
+lines_by : (v : Version) (head : Level) (text body last order : List ℕ) (glimpse : Glimpse) → IsEnded text body last → IsOrderLine order last → IsGlimpseOfEvents v head body order glimpse
+    → IsGlimpseOfLines v head text glimpse
+lines_by v head text body last order Right end said are = right_lines v head text body last order end said are
+lines_by v head text body last order (Judged cells) end said are = judged_lines v head text body last order end said cells are
+lines_by v head text body last order Unclear end said are = tt
+
+pub said_lines_by : (v : Version) (head : Level) (text body last order shown : List ℕ) (r : Result Glimpse Memory) → IsEnded text body last → IsOrderLine order last → shown ≡ order
+    → IfOk r (IsGlimpseOfEvents v head body shown) → IfOk r (IsGlimpseOfLines v head text)
+said_lines_by v head text body last order shown (Ok glimpse) end said is are =
+    lines_by v head text body last order glimpse end said (subst (λ (o : List ℕ). IsGlimpseOfEvents v head body o glimpse) is are)
+said_lines_by v head text body last order shown (Err memory) end said is are = tt
 
 no_rows : (v : Version) (b : Bool) → b ≡ false → (v ≡ Three → b ≡ true) → IsInitialIn v []
 no_rows One b off rows = refl
@@ -142,20 +178,42 @@ no_rows Three b off rows = absurd (apart b off (rows refl)) where
   apart b e f = cc
 
 module _ (v : Version) (head : Level) (bytes first rest : List ℕ) (cut : bytes ≡ first ++ 10 ∷ rest) (is : first ≡ head_line v head) (none : IsInitialIn v []) where
-  log_of : AreRightLines v head rest → (w : Version) × ((t : Trace) × (IsLog w t bytes × IsRightTrace t))
-  log_of lines = (v, (record { level = head; initial = []; events = lines.events; order = lines.order }, (
-    record {
-      says = record { initial = none; events = lines.fit; order = lines.numbers };
-      text =
-          cut ∙ ap (λ (f : List ℕ). f ++ 10 ∷ rest) is
-          ∙ ap (λ (r : List ℕ). head_line v head ++ 10 ∷ r)
-              (lines.spelled ∙ sym (whole_append (map (event_line v) lines.events) (order_line lines.order ∷ end_line ∷ [])));
-    },
-    record { events = lines.right; order = lines.meets },
-  )))
+  said_log : (events : List Event) (order : List ℕ) → AreEventsIn v head events → AllByRecursion IsU32 order
+      → rest ≡ whole_lines (map (event_line v) events) ++ (order_line order ++ codes "\nend\n") → IsLog v (record { level = head; initial = []; events = events; order = order }) bytes
+  said_log events order fit numbers spelled = record {
+    says = record { initial = none; events = fit; order = numbers };
+    text =
+        cut ∙ ap (λ (f : List ℕ). f ++ 10 ∷ rest) is
+        ∙ ap (λ (r : List ℕ). head_line v head ++ 10 ∷ r) (spelled ∙ sym (whole_append (map (event_line v) events) (order_line order ∷ end_line ∷ [])));
+  }
 
-pub right_log : (v : Version) (head : Level) (bytes first rest : List ℕ) (b : Bool) (r : Result Bool Memory) → bytes ≡ first ++ 10 ∷ rest → first ≡ head_line v head
-    → b ≡ false → (v ≡ Three → b ≡ true) → IfOk r (λ right. IsTrue right → AreRightLines v head rest)
-    → IfOk r (λ right. IsTrue right → (w : Version) × ((t : Trace) × (IsLog w t bytes × IsRightTrace t)))
-right_log v head bytes first rest b (Ok right) cut is off rows lines = λ on. log_of v head bytes first rest cut is (no_rows v b off rows) (lines on)
-right_log v head bytes first rest b (Err memory) cut is off rows lines = tt
+  right_log : HasFewBytes bytes → AreRightLines v head rest → IsClearlyRight bytes
+  right_log few lines = record {
+    few = few;
+    version = v;
+    trace = record { level = head; initial = []; events = lines.events; order = lines.order };
+    log = said_log lines.events lines.order lines.fit lines.numbers lines.spelled;
+    right = record { events = lines.right; order = lines.meets };
+  }
+
+  judged_log : (cells : CellNotes) → HasFewBytes bytes → AreJudgedLines v head rest cells → IsJudgedLog bytes cells
+  judged_log cells few lines = record {
+    few = few;
+    version = v;
+    trace = record { level = head; initial = []; events = lines.events; order = lines.order };
+    log = said_log lines.events lines.order lines.fit lines.numbers lines.spelled;
+    right = lines.right;
+    notes = lines.notes;
+    numbered = lines.numbered;
+  }
+
+log_by : (v : Version) (head : Level) (bytes first rest : List ℕ) (glimpse : Glimpse) → bytes ≡ first ++ 10 ∷ rest → first ≡ head_line v head → IsInitialIn v [] → HasFewBytes bytes
+    → IsGlimpseOfLines v head rest glimpse → IsGlimpseOf bytes glimpse
+log_by v head bytes first rest Right cut is none few lines = right_log v head bytes first rest cut is none few lines
+log_by v head bytes first rest (Judged cells) cut is none few lines = judged_log v head bytes first rest cut is none cells few lines
+log_by v head bytes first rest Unclear cut is none few lines = tt
+
+pub said_log_by : (v : Version) (head : Level) (bytes first rest : List ℕ) (b : Bool) (r : Result Glimpse Memory) → HasFewBytes bytes → bytes ≡ first ++ 10 ∷ rest → first ≡ head_line v head
+    → b ≡ false → (v ≡ Three → b ≡ true) → IfOk r (IsGlimpseOfLines v head rest) → IfOk r (IsGlimpseOf bytes)
+said_log_by v head bytes first rest b (Ok glimpse) few cut is off rows lines = log_by v head bytes first rest glimpse cut is (no_rows v b off rows) few lines
+said_log_by v head bytes first rest b (Err memory) few cut is off rows lines = tt

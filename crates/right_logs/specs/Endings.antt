@@ -2,6 +2,8 @@
 use Rattle.std.specs.Prelude.{◌≡◌, ℕ, List, ◌∷◌, ◌++◌, [], codes, map}
 use Rattle.std.specs.List.{AllByRecursion}
 use Rattle.cell_base.specs.declared.level.Level.{Level}
+use Rattle.cell_writers.specs.declared.cell_note.CellNotes.{CellNotes}
+use Rattle.cell_writers.specs.Numbered.{AreNumbered}
 use Rattle.history_core.specs.declared.event.Event.{Event}
 use Rattle.history_core.specs.Relations.{Meets}
 use Rattle.history_log.specs.declared.version.Version.{Version}
@@ -9,6 +11,7 @@ use Rattle.history_log.specs.Spelling.{event_line, order_line, whole_lines}
 use Rattle.history_log.specs.Reading.{IsU32, FitsEvent, IsEventIn}
 use Rattle.history_log.specs.Log.{AreEventsIn}
 use Rattle.history_check.specs.Breaches.{AreRight}
+use Rattle.history_check.specs.Notes.{AreCellNotes}
 use Rattle.right_logs.specs.declared.pass.Pass.{Pass}
 use Rattle.right_logs.specs.Passes.{StandsFor, Goes}
 
@@ -41,6 +44,15 @@ pub record AreRightEvents (v : Version) (head : Level) (text order : List ℕ) :
   pub right : AreRight [] events
   pub meets : Meets events order
 
+-- the text is that of right events, whose cells have these numbers and notes
+pub record AreJudgedEvents (v : Version) (head : Level) (text : List ℕ) (cells : CellNotes) : Type 0 where
+  pub events : List Event
+  pub fit : AreEventsIn v head events
+  pub spelled : text ≡ whole_lines (map (event_line v) events)
+  pub right : AreRight [] events
+  pub notes : AreCellNotes events cells
+  pub numbered : AreNumbered events cells.numbers
+
 -- the text, after a head of the version and the level, is that of right events and of an order that meets them
 pub record AreRightLines (v : Version) (head : Level) (text : List ℕ) : Type 0 where
   pub events : List Event
@@ -50,3 +62,14 @@ pub record AreRightLines (v : Version) (head : Level) (text : List ℕ) : Type 0
   pub spelled : text ≡ whole_lines (map (event_line v) events) ++ (order_line order ++ codes "\nend\n")
   pub right : AreRight [] events
   pub meets : Meets events order
+
+-- the same, whatever the order meets; the cells of the events have these numbers and notes
+pub record AreJudgedLines (v : Version) (head : Level) (text : List ℕ) (cells : CellNotes) : Type 0 where
+  pub events : List Event
+  pub order : List ℕ
+  pub fit : AreEventsIn v head events
+  pub numbers : AllByRecursion IsU32 order
+  pub spelled : text ≡ whole_lines (map (event_line v) events) ++ (order_line order ++ codes "\nend\n")
+  pub right : AreRight [] events
+  pub notes : AreCellNotes events cells
+  pub numbered : AreNumbered events cells.numbers

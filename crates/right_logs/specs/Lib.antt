@@ -1,4 +1,5 @@
 pub mod Accesses
 pub mod Endings
+pub mod Glimpses
 pub mod Passes
 pub mod Seats

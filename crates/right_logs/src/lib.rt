@@ -1,20 +1,23 @@
-//! Whether one pass over a text shows it to be the log of a history without a breach.
+//! What one pass over a text shows of it: that it is the log of a history without a breach, or of one whose events are right.
 //!
-//! `is_clearly_right` reads the events one after another and keeps none of them, but what later ones are judged by. Where it says yes, the text is
-//! such a log. Where it doesn't, nothing is said of the text: `history_log` and `history_check` decide.
+//! `glimpse_of` reads the events one after another and keeps none of them, but what later ones are judged by. Where the events are right and their
+//! order isn't clear, it hands out what `history_check::check_order` wants beside the history. Where it says nothing, `history_log` and
+//! `history_check` decide.
 #![tactic(auto)]
 
 mod accesses;
 mod ending;
+mod glimpse;
 mod guesses;
 mod lines;
-mod log;
 mod met;
 mod pass;
 mod places;
 mod seats;
 mod sessions;
 mod take;
+mod text;
 mod txns;
 
-pub use log::is_clearly_right;
+pub use glimpse::Glimpse;
+pub use text::glimpse_of;

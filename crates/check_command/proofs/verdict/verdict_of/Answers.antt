@@ -1,7 +1,8 @@
-use Rattle.std.proofs.Common.{inl, refl}
+use Rattle.check_command.proofs.Judging.{right_log}
 use Rattle.check_command.proofs.verdict.verdict_of.Goals as goal
 
-pub returns-then-right : goal.returns-then-right
-returns-then-right c =
-    let right = c.in_ok-right.ensures.right c.if-right.true in
-    inl (refl, c.in_ok-line.ensures, record { few = c.in_ok-right.ensures.few c.if-right.true; version = right.0; trace = right.1.0; log = right.1.1.0; right = right.1.1.1 })
+pub right_verdict-requires : goal.right_verdict-requires
+right_verdict-requires c = right_log c.args.bytes.now (rw c.in-Ok-Right.field-0-is at c.in-Ok-Right.ensures)
+
+pub judged_verdict-verdict-requires : goal.judged_verdict-verdict-requires
+judged_verdict-verdict-requires c = rw c.in-Ok-Judged.field-0-is at c.in-Ok-Judged.ensures

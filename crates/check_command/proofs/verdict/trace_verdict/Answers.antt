@@ -1,5 +1,5 @@
 use Rattle.check_command.proofs.Many.{few_events}
-use Rattle.check_command.proofs.verdict.judged.Goals as goal
+use Rattle.check_command.proofs.verdict.trace_verdict.Goals as goal
 
 pub check-requires : goal.check-requires
 check-requires c = record {
