@@ -1,4 +1,4 @@
-use Rattle.std.proofs.Common.{rules}
+use Rattle.std.proofs.Common.{ℕ, List, [], ◌∷◌, ◌++◌, ap, ◌∙◌, rules}
 use Rattle.right_logs.proofs.Beginning.{blank_stands}
 use Rattle.right_logs.proofs.pass.no_pass.Goals as goal
 
@@ -12,7 +12,7 @@ returns c = λ order places placed. blank_stands order places _ placed (record {
   of_events = search rules;
   notes = search rules;
   values = search rules;
-  last = search rules;
-  limits = search rules;
+  last = c.in_ok-push.ensures.items ∙ ap (λ (xs : List ℕ). xs ++ 0 ∷ []) c.new-last.ensures.items;
+  limits = c.in_ok-push-2.ensures.items ∙ ap (λ (xs : List ℕ). xs ++ 0 ∷ []) c.new-limits.ensures.items;
   reads = search rules;
 })

@@ -9,8 +9,8 @@ close_session-requires-clause-some c = (idle_in_place c.args.pass.now.session_no
 pub close_session-requires-clause-opened : goal.close_session-requires-clause-opened
 close_session-requires-clause-opened c = (idle_in_place c.args.pass.now.session_notes.items c.args.session (rw c.deref.ensures.value at (c.is_idle.ensures c.if-not-is_idle.false))).1
 
-pub returns-in_ok-note_place : goal.returns-in_ok-note_place
-returns-in_ok-note_place c = λ goes order events stands.
+pub returns : goal.returns
+returns c = λ goes order events stands.
     close_goes order c.args.places.now.at.items events c.args.session c.args.pass.now _ (rw c.deref.ensures.value at (c.is_idle.ensures c.if-not-is_idle.false)) (record {
       session_notes = c.close_session.ensures;
       pending = refl;

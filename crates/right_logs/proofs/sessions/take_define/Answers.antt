@@ -3,8 +3,8 @@ use Rattle.std.proofs.lemmas.Bool.{false≢true}
 use Rattle.right_logs.proofs.SessionLemmas.{define_goes}
 use Rattle.right_logs.proofs.sessions.take_define.Goals as goal
 
-pub returns-in_ok-note_place : goal.returns-in_ok-note_place
-returns-in_ok-note_place c = λ goes order events stands.
+pub returns : goal.returns
+returns c = λ goes order events stands.
     define_goes order c.args.places.now.at.items events c.args.session c.args.name.now c.args.pass.now _
     (rw c.deref.ensures.value at (c.is_open.ensures c.if-not-is_open.false))
     (λ taken. false≢true (sym c.if-has_name.false ∙ (rw c.deref-2.ensures.value at c.has_name.ensures).1 taken)) (record {

@@ -1,11 +1,11 @@
-use Rattle.std.proofs.Common.{refl, rules}
+use Rattle.std.proofs.Common.{refl, arith}
 use Rattle.right_logs.proofs.SessionLemmas.{look_goes}
 use Rattle.right_logs.proofs.sessions.take_look.Goals as goal
 
-pub returns-in_ok-note_place : goal.returns-in_ok-note_place
-returns-in_ok-note_place c = λ goes order events stands.
+pub returns : goal.returns
+returns c = λ goes order events stands.
     look_goes order c.args.places.now.at.items events c.args.session c.args.tables c.args.pass.now _
-    (rw c.deref.ensures.value at (c.is_open.ensures c.if-not-is_open.false)) (search rules) (record {
+    (rw c.deref.ensures.value at (c.is_open.ensures c.if-not-is_open.false)) (omega arith) (record {
       place = record {
         committed = refl;
         keys = refl;

@@ -1,16 +1,16 @@
-use Rattle.std.proofs.Common.{rules, refl}
+use Rattle.std.proofs.Common.{None, true, arith, refl}
 use Rattle.right_logs.proofs.SessionLemmas.{open_goes}
 use Rattle.right_logs.proofs.sessions.take_open.Goals as goal
 
-pub returns-in_ok-note_place : goal.returns-in_ok-note_place
-returns-in_ok-note_place c = λ goes order events stands.
-    open_goes order c.args.places.now.at.items events c.args.session c.args.pass.now _ (search rules) (record {
-      note = _;
+pub returns : goal.returns
+returns c = λ goes order events stands.
+    open_goes order c.args.places.now.at.items events c.args.session c.args.pass.now _ (omega arith) (record {
+      note = record { is_open = true; pending = None };
       is_open = refl;
       none_pending = refl;
       session_notes = c.in_ok-push.ensures.items;
-      blank = _;
-      no_place = search rules;
+      blank = record { places = c.new.result };
+      no_place = c.new.ensures.items;
       pending = c.in_ok-push-2.ensures.items;
       names_are = refl;
       last = c.in_ok-push-3.ensures.items;
