@@ -15,7 +15,12 @@ use cell_writers::{CellNote, CellNotes};
 use history_core::Event;
 
 /// Sets where the transaction has written the cell of the number last.
-pub fn set_place(notes: &mut Vec<CellNote>, at: usize, number: u32, place: u32) -> Result<(), Memory>
+pub fn set_place(
+    notes: &mut Vec<CellNote>,
+    at: usize,
+    number: u32,
+    place: u32,
+) -> Result<(), Memory>
     requires { at < length notes.old.items }
     ensures { OnOk result (SetsPlaceAt at number place notes.old.items notes.new.items) }
 {

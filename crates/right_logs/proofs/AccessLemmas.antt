@@ -191,18 +191,28 @@ reads_push events old new reads s k cell w n u v note kept numbered from reader 
     elim (slice_get_push_cases events (Read s cell w n u v) place (Read t q a b c value) is) [
       | inl there ↦
           let was = hold place t q a b c value there.1 in
-          let within = slice_get_within reads was.0 was.1.0 was.1.1.0 in
-          (was.0, (was.1.0, (
-            slice_get-append_left reads (note ∷ []) was.0 within ∙ was.1.1.0,
-            read_kept events (Read s cell w n u v) old new place t q a b c value was.1.0 kept was.1.1.1,
-          )))
-      | inr now ↦
-          (length reads, (note, (
+          let within = slice_get_within reads was.0 was.1.0 was.1.1.0 in (
+            was.0,
+            (
+              was.1.0,
+              (
+                slice_get-append_left reads (note ∷ []) was.0 within ∙ was.1.1.0,
+                read_kept events (Read s cell w n u v) old new place t q a b c value was.1.0 kept was.1.1.1,
+              ),
+            ),
+          )
+      | inr now ↦ (
+        length reads,
+        (
+          note,
+          (
             slice_get-at_end reads note,
             subst (λ (e : Event). IsNoteOfRead (events ++ Read s cell w n u v ∷ []) new place note e) now.1
-            (subst (λ (p : ℕ). IsReadNoteOf (events ++ Read s cell w n u v ∷ []) new p s cell w n u v note) (sym now.0)
-            (note_of_read events new s k cell w n u v note numbered from reader pending bounded)),
-          )))
+                (subst (λ (p : ℕ). IsReadNoteOf (events ++ Read s cell w n u v ∷ []) new p s cell w n u v note) (sym now.0)
+                (note_of_read events new s k cell w n u v note numbered from reader pending bounded)),
+          ),
+        ),
+      )
     ]
 
 -- ---- all of it

@@ -66,11 +66,7 @@ fn is_number_of(cells: &CellNotes, number: u32, cell: &Cell) -> bool
 }
 
 /// Numbers the cell of the next event, as `take_cell` does. Where the guess is right the cell isn't looked up.
-pub fn number_cell(
-    cells: &mut CellNotes,
-    guesses: &mut Guesses,
-    cell: &Cell,
-) -> Result<u32, Memory>
+pub fn number_cell(cells: &mut CellNotes, guesses: &mut Guesses, cell: &Cell) -> Result<u32, Memory>
     requires count { length cells.old.notes.items ≡ length cells.old.numbers.cells.keys }
     requires few { length cells.old.numbers.cells.keys < 4294967296 }
     ensures { IfOk result (λ number. TakesCell cells.old cell.now number cells.new) }

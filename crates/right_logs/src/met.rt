@@ -31,8 +31,15 @@ fn is_kept(pass: &Pass, places: &Places, reaches: &CellReaches, read: ReadNote) 
     let cell = read.cell as usize;
     let limit = pass.limits[read.reader as usize];
     let count = read.writers as usize;
-    cell_is_clear_at(places, &pass.cells, reaches, cell, count, limit, read.source)
-        || cell_is_clear(places, &pass.cells, reaches, cell, limit, read.source)
+    cell_is_clear_at(
+        places,
+        &pass.cells,
+        reaches,
+        cell,
+        count,
+        limit,
+        read.source,
+    ) || cell_is_clear(places, &pass.cells, reaches, cell, limit, read.source)
 }
 
 /// Whether it is clear that the order meets the history.

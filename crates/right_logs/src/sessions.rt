@@ -53,7 +53,12 @@ fn has_name(names: &[Text], name: &Text) -> bool
 }
 
 /// Takes the event that defines a table.
-pub fn take_define(pass: &mut Pass, places: &Places, session: u32, name: &Text) -> Result<bool, Memory>
+pub fn take_define(
+    pass: &mut Pass,
+    places: &Places,
+    session: u32,
+    name: &Text,
+) -> Result<bool, Memory>
     requires stands { Stands places.now.at.items pass.old }
     requires few { length pass.old.values.items < 4294967295 }
     ensures { IfOk result (λ goes. IsTrue goes → Goes places.now.at.items (Event.Define session name.now) pass.old pass.new) }
@@ -70,7 +75,12 @@ pub fn take_define(pass: &mut Pass, places: &Places, session: u32, name: &Text) 
 }
 
 /// Takes a look at the number of tables.
-pub fn take_look(pass: &mut Pass, places: &Places, session: u32, tables: u32) -> Result<bool, Memory>
+pub fn take_look(
+    pass: &mut Pass,
+    places: &Places,
+    session: u32,
+    tables: u32,
+) -> Result<bool, Memory>
     requires stands { Stands places.now.at.items pass.old }
     requires few { length pass.old.values.items < 4294967295 }
     ensures { IfOk result (λ goes. IsTrue goes → Goes places.now.at.items (Event.Look session tables) pass.old pass.new) }
@@ -86,7 +96,12 @@ pub fn take_look(pass: &mut Pass, places: &Places, session: u32, tables: u32) ->
 }
 
 /// Takes an event that shows its own number.
-pub fn take_show(pass: &mut Pass, places: &Places, session: u32, number: u32) -> Result<bool, Memory>
+pub fn take_show(
+    pass: &mut Pass,
+    places: &Places,
+    session: u32,
+    number: u32,
+) -> Result<bool, Memory>
     requires stands { Stands places.now.at.items pass.old }
     requires few { length pass.old.values.items < 4294967295 }
     ensures { IfOk result (λ goes. IsTrue goes → Goes places.now.at.items (Event.Show session number) pass.old pass.new) }

@@ -27,9 +27,7 @@ pub fn take(pass: &mut Pass, places: &Places, event: &Event) -> Result<bool, Mem
             count,
             word,
             value,
-        } => take_read(
-            pass, places, *session, cell, *source, *count, *word, value,
-        ),
+        } => take_read(pass, places, *session, cell, *source, *count, *word, value),
         Event::Write {
             session,
             cell,

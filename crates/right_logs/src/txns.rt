@@ -55,7 +55,12 @@ fn set_last(last: &mut Vec<u32>, session: u32, number: u32)
 }
 
 /// Takes the event that begins a transaction, where the order has it after the last one of its session.
-pub fn take_begin(pass: &mut Pass, places: &Places, session: u32, level: Level) -> Result<bool, Memory>
+pub fn take_begin(
+    pass: &mut Pass,
+    places: &Places,
+    session: u32,
+    level: Level,
+) -> Result<bool, Memory>
     requires stands { Stands places.now.at.items pass.old }
     requires few { length pass.old.values.items < 4294967295 }
     ensures { IfOk result (λ goes. IsTrue goes → Goes places.now.at.items (Event.Begin session level) pass.old pass.new) }
