@@ -231,16 +231,13 @@ reached_clear events order places holds are cells wrote s cell from count word v
     ]
 
 -- where the number at a place is above the limit, so are those after it
-pub above_from :
-    (numbers : List ℕ) (at limit value : ℕ) → IsStrictlyIncreasing numbers → at < length numbers → value ≡ get_or numbers at value → limit < value → AreAboveFrom numbers at limit
-above_from numbers at limit value rises within is above = (
+pub above_from : (numbers : List ℕ) (at limit : ℕ) → IsStrictlyIncreasing numbers → at < length numbers → limit < get_or numbers at 0 → AreAboveFrom numbers at limit
+above_from numbers at limit rises within above = (
   omega arith,
-  λ k low inside.
-      let here : get_or numbers at 0 ≡ value = value_at numbers at value within is in
-      elim (cases_lt at k) [
-        | inl later ↦ let h = increasing_less numbers rises at k later inside in omega arith
-        | inr same ↦
-            let one : k ≡ at = omega arith in
-            let there : get_or numbers k 0 ≡ get_or numbers at 0 = ap (λ (i : ℕ). get_or numbers i 0) one in omega arith
-      ],
+  λ k low inside. elim (cases_lt at k) [
+    | inl later ↦ let h = increasing_less numbers rises at k later inside in omega arith
+    | inr same ↦
+        let one : k ≡ at = omega arith in
+        let there : get_or numbers k 0 ≡ get_or numbers at 0 = ap (λ (i : ℕ). get_or numbers i 0) one in omega arith
+  ],
 )
