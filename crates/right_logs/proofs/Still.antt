@@ -1,9 +1,9 @@
 -- How what a pass has noted goes on standing for the events, with one event more.
-use Rattle.std.proofs.Common.{◌≡◌, ℕ, ◌+◌, ◌<◌, ◌≤◌, List, [], ◌∷◌, ◌++◌, Option, Some, None, false, length, get_or, take, arith, refl, ap, sym, ◌∙◌, subst, inl, inr, append-nil, IfSome}
+use Rattle.std.proofs.Common.{◌≡◌, ℕ, ◌+◌, ◌<◌, ◌≤◌, List, [], ◌∷◌, ◌++◌, Option, Some, None, Bool, false, length, take, arith, refl, ap, sym, ◌∙◌, subst, inl, inr, append-nil, IfSome}
 use Rattle.std.specs.List.{slice_get, cons_option}
 use Rattle.std.proofs.lemmas.List.{length_push, take-append-le, take_all}
 use Rattle.std.proofs.lemmas.List.Elements.{filter_map-append}
-use Rattle.std.proofs.lemmas.Option.{slice_get_within, slice_get-get_or}
+use Rattle.std.proofs.lemmas.Option.{slice_get_within}
 use Rattle.graph_base.proofs.Places.{count_by-push}
 use Rattle.txn_buffer.proofs.Lists.{slice_get_push_cases}
 use Rattle.cell_base.specs.declared.level.Level.{Level}
@@ -44,10 +44,6 @@ use Rattle.right_logs.specs.Passes.{HaveValues, IsReadNoteOf, HoldReads, HaveNoS
 use Rattle.right_logs.specs.Seats.{IsNotedAt, IsOpenIn, IsIdleIn, IsPendingIn}
 
 -- ---- what the notes of the sessions say of the events
-
--- the note that is read at the place
-pub note_read : (notes : List SessionNote) (at : ℕ) (other note : SessionNote) → note ≡ get_or notes at other → at < length notes → slice_get notes at ≡ Some note
-note_read notes at other note is within = slice_get-get_or notes at other within ∙ ap (λ (n : SessionNote). Some n) (sym is)
 
 pub note_from : (events : List Event) (notes : List SessionNote) (s : ℕ) (note : SessionNote) → StandsForSessionNotes events notes → IsNotedAt notes s note → IsSessionNoteOf events s note
 note_from events notes s note stands at = subst (λ (n : ℕ). IsSessionNoteOf events n note) at.1 (stands.each at.0 note at.2)
