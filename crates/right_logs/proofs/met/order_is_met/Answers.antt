@@ -3,11 +3,11 @@ use Rattle.std.proofs.lemmas.Option.{slice_get_read}
 use Rattle.right_logs.proofs.MetLemmas.{AreKeptBelow, cells_ascend, cells_count, kept_none, kept_more, meets_from_notes}
 use Rattle.right_logs.proofs.met.order_is_met.Goals as goal
 
-pub reaches_of-reaches-requires-clause-count : goal.reaches_of-reaches-requires-clause-count
-reaches_of-reaches-requires-clause-count c = cells_count c.args.places.now.at.items c.args.pass.now c.requires
+pub reaches_of-requires-clause-count : goal.reaches_of-requires-clause-count
+reaches_of-requires-clause-count c = cells_count c.args.places.now.at.items c.args.pass.now c.requires
 
-pub reaches_of-reaches-requires-clause-ascending : goal.reaches_of-reaches-requires-clause-ascending
-reaches_of-reaches-requires-clause-ascending c = cells_ascend c.args.places.now.at.items c.args.pass.now c.requires
+pub reaches_of-requires-clause-ascending : goal.reaches_of-requires-clause-ascending
+reaches_of-requires-clause-ascending c = cells_ascend c.args.places.now.at.items c.args.pass.now c.requires
 
 pub loop-at-init : goal.loop-at-init
 loop-at-init c = kept_none c.args.places.now.at.items c.args.pass.now
