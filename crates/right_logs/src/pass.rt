@@ -1,5 +1,5 @@
 // What one pass over the events of a history notes of them.
-ghost use Rattle.std.specs.Prelude.{◌≡◌, ℕ, List, [], IfOk, length};
+ghost use Rattle.std.specs.Prelude.{ℕ, List, [], IfOk, length};
 ghost use Rattle.order_test.specs.Places.{ArePlaces};
 ghost use Rattle.right_logs.specs.Passes.{StandsFor};
 
