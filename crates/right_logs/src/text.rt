@@ -1,6 +1,5 @@
 // What one pass over a text says of it.
 ghost use Rattle.std.specs.Prelude.{◌≡◌, ◌↔◌, ℕ, List, [], IsTrue, IfOk, length};
-ghost use Rattle.history_log.specs.declared.version.Version.{Version as VersionOf};
 ghost use Rattle.order_test.specs.Places.{ArePlaces};
 ghost use Rattle.order_test.specs.Unkept.{HoldsAll};
 ghost use Rattle.right_logs.specs.Passes.{StandsFor};
