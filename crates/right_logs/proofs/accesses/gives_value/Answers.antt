@@ -1,4 +1,4 @@
-use Rattle.std.proofs.Common.{inl, inr}
+use Rattle.std.proofs.Common.{inl}
 use Rattle.right_logs.proofs.accesses.gives_value.Goals as goal
 
 pub returns-then-source-eq0 : goal.returns-then-source-eq0
