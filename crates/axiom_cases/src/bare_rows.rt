@@ -1,4 +1,4 @@
-// Rows before any event.
+// Forced rows before any event. Rows beside histories with events are tested through a store.
 ghost use Rattle.std.specs.Prelude.{◌≡◌, [], IfOk};
 ghost use Rattle.forced_rows.specs.Rows.{AreRowsOf};
 
