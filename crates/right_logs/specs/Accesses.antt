@@ -29,11 +29,11 @@ pub record IsClearRead (note : CellNote) (values : List Value) (committed : List
 
 -- so it is with the note at the number of the cell
 abbrev pub ShowsLast : Pass → ℕ → ℕ → Value → Type 0
-ShowsLast pass at txn value = (note : CellNote) × ((slice_get pass.cells.notes.items at ≡ Some note) × GivesLast note pass.values.items txn value)
+ShowsLast pass at txn value = (note : CellNote) × ((slice_get pass.cells.notes.items at ≡ Some note) × GivesLast note pass.values txn value)
 
 abbrev pub ShowsRead : Pass → ℕ → Cell → ℕ → ℕ → ℕ → Value → Type 0
 ShowsRead pass at cell reader source count value =
-    (note : CellNote) × ((slice_get pass.cells.notes.items at ≡ Some note) × IsClearRead note pass.values.items pass.committed.items cell reader source count value)
+    (note : CellNote) × ((slice_get pass.cells.notes.items at ≡ Some note) × IsClearRead note pass.values pass.committed.items cell reader source count value)
 
 -- the transaction is pending in the session, and the table of the cell is there
 pub record MayTouch (pass : Pass) (session : ℕ) (cell : Cell) (txn : ℕ) : Type 0 where

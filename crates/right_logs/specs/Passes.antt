@@ -1,5 +1,5 @@
 -- What one pass over the events of a history without initial rows notes of them, and what it shows.
-use Rattle.std.specs.Prelude.{◌≡◌, ◌+◌, ℕ, Some, List, [], ◌∷◌, ◌++◌, length, slice_get, slice_index}
+use Rattle.std.specs.Prelude.{◌≡◌, ◌+◌, ◌⊎◌, ℕ, Some, List, [], ◌∷◌, ◌++◌, length, slice_get, slice_index}
 use Rattle.cell_base.specs.declared.cell.Cell.{Cell}
 use Rattle.cell_base.specs.declared.value.Value.{Value}
 use Rattle.history_core.specs.declared.event.Event.{Event}
@@ -17,6 +17,7 @@ use Rattle.history_check.specs.Breaches.{AreRight}
 use Rattle.history_check.specs.Notes.{AreOfSessions, StandsForSessionNotes, StandsForPendingWrites, StandsForCommits, AreCellNotes}
 use Rattle.right_logs.specs.declared.pass.Pass.{Pass}
 use Rattle.right_logs.specs.declared.pass.ReadNote.{ReadNote}
+use Rattle.right_logs.specs.Ends.{StandsForEnds, IsSettledRead}
 
 -- the value of each write stands at its place
 pub record HaveValues (events : List Event) (values : List Value) : Type 0 where
@@ -29,10 +30,15 @@ pub record IsReadNoteOf (events : List Event) (cells : List Cell) (place s : ℕ
   pub from : note.source ≡ source
   pub read : IsReadAt events place (Read s cell source count word value) note.reader
 
--- each read has its note
-abbrev pub HoldReads : List Event → List Cell → List ReadNote → Type 0
-HoldReads events cells reads = (place s : ℕ) (cell : Cell) (source count word : ℕ) (value : Value) → slice_get events place ≡ Some (Read s cell source count word value) →
+-- some note is that of the read at the place
+abbrev pub HasReadNote : List Event → List Cell → List ReadNote → ℕ → ℕ → Cell → ℕ → ℕ → ℕ → Value → Type 0
+HasReadNote events cells reads place s cell source count word value =
     (k : ℕ) × ((note : ReadNote) × ((slice_get reads k ≡ Some note) × IsReadNoteOf events cells place s cell source count word value note))
+
+-- each read has its note, or no later event can break it
+abbrev pub HoldReads : List ℕ → List Event → List Cell → List ReadNote → Type 0
+HoldReads places events cells reads = (place s : ℕ) (cell : Cell) (source count word : ℕ) (value : Value) → slice_get events place ≡ Some (Read s cell source count word value) →
+    HasReadNote events cells reads place s cell source count word value ⊎ IsSettledRead places events place s cell source count word value
 
 -- none of the events is a scan
 abbrev pub HaveNoScan : List Event → Type 0
@@ -51,13 +57,14 @@ pub record StandsFor (order places : List ℕ) (events : List Event) (pass : Pas
   pub tables : length pass.names.items ≡ defined events
   pub numbered : AreNumberedSo events pass.cells.numbers
   pub cells : AreCellNotes events pass.cells
-  pub values : HaveValues events pass.values.items
+  pub values : HaveValues events pass.values
   pub room : length pass.last.items ≡ opened events + 1
   pub last : HoldsLast events pass.last.items
   pub limits : AreLimits events pass.limits.items
   pub keeps : KeepsSessions events order
   pub no_scan : HaveNoScan events
-  pub reads : HoldReads events pass.cells.numbers.cells.keys pass.reads.items
+  pub ends : StandsForEnds places events pass.cells.notes.items pass.ends
+  pub reads : HoldReads places events pass.cells.numbers.cells.keys pass.reads.items
 
 -- whatever events the pass stood for, it stands for them with this one after them
 abbrev pub Goes : List ℕ → Event → Pass → Pass → Type 0

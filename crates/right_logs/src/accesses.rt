@@ -4,6 +4,7 @@ ghost use Rattle.right_logs.specs.Accesses.{GivesLast, GivesValue, IsClearRead, 
 ghost use Rattle.right_logs.specs.Passes.{Goes, Stands};
 
 use crate::guesses::number_cell;
+use crate::noted_values::NotedValues;
 use crate::pass::{Pass, ReadNote};
 use crate::seats::pending_of;
 use cell_base::{Cell, Memory, Value};
@@ -12,22 +13,12 @@ use history_check::{add_place, is_absent_value, is_storable, set_place, table_in
 use history_core::Event;
 use order_test::{Places, raise_limit};
 
-/// Whether the value stands at the place.
-fn has_value(values: &[Value], place: u32, value: &Value) -> bool
-    ensures { IsTrue result → slice_get values.now place ≡ Some value.now }
-{
-    match values.get(place as usize) {
-        Some(written) => written.is_same(value),
-        None => false,
-    }
-}
-
 /// Whether the transaction has written the cell, and the value last.
-fn gives_last(note: &CellNote, values: &[Value], txn: u32, value: &Value) -> bool
+fn gives_last(note: &CellNote, values: &NotedValues, txn: u32, value: &Value) -> bool
     ensures { IsTrue result → GivesLast note.now values.now txn value.now }
 {
     match note.places.get(txn) {
-        Some(place) => has_value(values, place, value),
+        Some(place) => values.holds(place, value),
         None => false,
     }
 }
@@ -46,7 +37,7 @@ fn is_committed(committed: &[bool], txn: u32) -> bool
 /// Whether the source is the initial transaction, which left the cell without a value, or has committed, and wrote the value last.
 fn gives_value(
     note: &CellNote,
-    values: &[Value],
+    values: &NotedValues,
     committed: &[bool],
     cell: &Cell,
     source: u32,
@@ -70,7 +61,7 @@ fn fits_count(note: &CellNote, count: u32) -> bool
 /// Whether the notes show that a read is right.
 fn is_clear_read(
     note: &CellNote,
-    values: &[Value],
+    values: &NotedValues,
     committed: &[bool],
     cell: &Cell,
     reader: u32,
@@ -152,7 +143,7 @@ pub fn take_read(
     value: &Value,
 ) -> Result<bool, Memory>
     requires stands { Stands places.now.at.items pass.old }
-    requires few { length pass.old.values.items < 4294967295 }
+    requires few { length pass.old.values < 4294967295 }
     ensures { IfOk result (λ goes. IsTrue goes → Goes places.now.at.items (Event.Read session cell.now source count word value.now) pass.old pass.new) }
 {
     let Some(reader) = owner_of(pass, session, cell) else {
@@ -162,7 +153,7 @@ pub fn take_read(
     if !is_clear(pass, at, cell, reader, source, count, value) {
         return Ok(false);
     }
-    pass.values.push(Value::Unset)?;
+    pass.values.push_unset()?;
     raise_limit(&mut pass.limits, reader, source);
     let writers = writers_of(pass, at);
     pass.reads.push(ReadNote {
@@ -183,7 +174,7 @@ pub fn take_own(
     value: &Value,
 ) -> Result<bool, Memory>
     requires stands { Stands places.now.at.items pass.old }
-    requires few { length pass.old.values.items < 4294967295 }
+    requires few { length pass.old.values < 4294967295 }
     ensures { IfOk result (λ goes. IsTrue goes → Goes places.now.at.items (Event.Own session cell.now value.now) pass.old pass.new) }
 {
     let Some(reader) = owner_of(pass, session, cell) else {
@@ -193,7 +184,7 @@ pub fn take_own(
     if !shows_last(pass, at, reader, value) {
         return Ok(false);
     }
-    pass.values.push(Value::Unset)?;
+    pass.values.push_unset()?;
     Ok(true)
 }
 
@@ -206,7 +197,7 @@ pub fn take_write(
     value: &Value,
 ) -> Result<bool, Memory>
     requires stands { Stands places.now.at.items pass.old }
-    requires few { length pass.old.values.items < 4294967295 }
+    requires few { length pass.old.values < 4294967295 }
     ensures { IfOk result (λ goes. IsTrue goes → Goes places.now.at.items (Event.Write session cell.now value.now) pass.old pass.new) }
 {
     let Some(writer) = owner_of(pass, session, cell) else {
@@ -219,7 +210,6 @@ pub fn take_write(
     let place = pass.values.len() as u32;
     set_place(&mut pass.cells.notes, at as usize, writer, place)?;
     add_place(&mut pass.pending, session, place)?;
-    let written = value.copy(pass.alloc)?;
-    pass.values.push(written)?;
+    pass.values.push(value)?;
     Ok(true)
 }

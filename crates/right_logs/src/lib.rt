@@ -7,10 +7,12 @@
 
 mod accesses;
 mod ending;
+mod ends;
 mod glimpse;
 mod guesses;
 mod lines;
 mod met;
+mod noted_values;
 mod pass;
 mod places;
 mod seats;

@@ -50,6 +50,9 @@ pub fn order_is_met(alloc: Global, pass: &Pass, places: &Places) -> Result<bool,
     if pass.limits.len() != places.at.len() {
         return Ok(false);
     }
+    if pass.reads.is_empty() {
+        return Ok(true);
+    }
     let reaches = reaches_of(alloc, &pass.cells, places, false)?;
     for at in 0..pass.reads.len() {
         if !is_kept(pass, places, &reaches, pass.reads[at]) {

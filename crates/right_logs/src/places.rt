@@ -1,24 +1,25 @@
 // The place of an event that neither reads nor writes a cell.
 ghost use Rattle.std.specs.Prelude.{◌≡◌, ◌<◌, ◌∷◌, ◌++◌, [], OnOk, IsTrue, length};
 
-use cell_base::{Memory, Value};
+use crate::noted_values::NotedValues;
+use cell_base::Memory;
 
 /// The greatest number of events.
 pub const MOST_EVENTS: usize = 4_294_967_295;
 
 /// Whether there is room for one event more.
-pub fn has_room(values: &[Value]) -> bool
+pub fn has_room(values: &NotedValues) -> bool
     ensures { IsTrue result → length values.now < 4294967295 }
 {
     values.len() < MOST_EVENTS
 }
 
 /// Notes an event that neither reads nor writes a cell.
-pub fn note_place(of_events: &mut Vec<u32>, values: &mut Vec<Value>) -> Result<(), Memory>
+pub fn note_place(of_events: &mut Vec<u32>, values: &mut NotedValues) -> Result<(), Memory>
     ensures number { OnOk result (of_events.new.items ≡ of_events.old.items ++ 0 ∷ []) }
-    ensures value { OnOk result (values.new.items ≡ values.old.items ++ Value.Unset ∷ []) }
+    ensures value { OnOk result (values.new ≡ values.old ++ Value.Unset ∷ []) }
 {
     of_events.push(0)?;
-    values.push(Value::Unset)?;
+    values.push_unset()?;
     Ok(())
 }

@@ -13,7 +13,7 @@ use order_test::Places;
 /// Takes the event that opens a session.
 pub fn take_open(pass: &mut Pass, places: &Places, session: u32) -> Result<bool, Memory>
     requires stands { Stands places.now.at.items pass.old }
-    requires few { length pass.old.values.items < 4294967295 }
+    requires few { length pass.old.values < 4294967295 }
     ensures { IfOk result (λ goes. IsTrue goes → Goes places.now.at.items (Event.Open session) pass.old pass.new) }
 {
     if session as usize != pass.session_notes.len() + 1 {
@@ -34,7 +34,7 @@ pub fn take_open(pass: &mut Pass, places: &Places, session: u32) -> Result<bool,
 /// Takes the event that closes a session.
 pub fn take_close(pass: &mut Pass, places: &Places, session: u32) -> Result<bool, Memory>
     requires stands { Stands places.now.at.items pass.old }
-    requires few { length pass.old.values.items < 4294967295 }
+    requires few { length pass.old.values < 4294967295 }
     ensures { IfOk result (λ goes. IsTrue goes → Goes places.now.at.items (Event.Close session) pass.old pass.new) }
 {
     if !is_idle(&pass.session_notes, session) {
@@ -60,7 +60,7 @@ pub fn take_define(
     name: &Text,
 ) -> Result<bool, Memory>
     requires stands { Stands places.now.at.items pass.old }
-    requires few { length pass.old.values.items < 4294967295 }
+    requires few { length pass.old.values < 4294967295 }
     ensures { IfOk result (λ goes. IsTrue goes → Goes places.now.at.items (Event.Define session name.now) pass.old pass.new) }
 {
     if !is_open(&pass.session_notes, session) {
@@ -82,7 +82,7 @@ pub fn take_look(
     tables: u32,
 ) -> Result<bool, Memory>
     requires stands { Stands places.now.at.items pass.old }
-    requires few { length pass.old.values.items < 4294967295 }
+    requires few { length pass.old.values < 4294967295 }
     ensures { IfOk result (λ goes. IsTrue goes → Goes places.now.at.items (Event.Look session tables) pass.old pass.new) }
 {
     if !is_open(&pass.session_notes, session) {
@@ -103,7 +103,7 @@ pub fn take_show(
     number: u32,
 ) -> Result<bool, Memory>
     requires stands { Stands places.now.at.items pass.old }
-    requires few { length pass.old.values.items < 4294967295 }
+    requires few { length pass.old.values < 4294967295 }
     ensures { IfOk result (λ goes. IsTrue goes → Goes places.now.at.items (Event.Show session number) pass.old pass.new) }
 {
     if !is_open(&pass.session_notes, session) {

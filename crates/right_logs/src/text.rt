@@ -19,6 +19,9 @@ use std::alloc::Global;
 /// The greatest number of bytes of a text.
 const MOST_BYTES: usize = 268_435_456;
 
+/// About as few bytes as the line of an event mostly has.
+const EVENT_BYTES: usize = 20;
+
 /// What one pass over the bytes says of them. `Unclear` says nothing: so it is with what isn't the log of right events, with a log of version 3, and
 /// with one that has a scan. `Judged` says nothing of the order, which may be one that only the records of the transactions show to be right.
 pub fn glimpse_of(alloc: Global, bytes: &[u8]) -> Result<Glimpse, Memory>
@@ -97,7 +100,7 @@ fn glimpse_at(
     ensures { IfOk result (λ glimpse. (order : List ℕ) → ArePlaces (length places.now.at.items) order places.now.at.items →
         HoldsAll (length places.now.at.items) order → IsGlimpseOfEvents version level text.now order glimpse) }
 {
-    let mut pass = no_pass(alloc)?;
+    let mut pass = no_pass(alloc, text.len() / EVENT_BYTES)?;
     match seen_by(alloc, version, level, text, places, &mut pass) {
         Ok(seen) => Ok(glimpse_by(pass, seen)),
         Err(memory) => without(pass, Err(memory)),

@@ -4,6 +4,7 @@ ghost use Rattle.history_core.specs.declared.event.Event.{Event as EventOf};
 ghost use Rattle.history_check.specs.Notes.{ArePendingIn, StandsForPendingWrites};
 ghost use Rattle.right_logs.specs.Passes.{Goes, Stands};
 
+use crate::ends::{note_begin, note_end, place_in, raise_tops, settled_from};
 use crate::pass::Pass;
 use crate::places::note_place;
 use crate::seats::{is_idle, pending_of};
@@ -62,7 +63,7 @@ pub fn take_begin(
     level: Level,
 ) -> Result<bool, Memory>
     requires stands { Stands places.now.at.items pass.old }
-    requires few { length pass.old.values.items < 4294967295 }
+    requires few { length pass.old.values < 4294967295 }
     ensures { IfOk result (λ goes. IsTrue goes → Goes places.now.at.items (Event.Begin session level) pass.old pass.new) }
 {
     if !is_idle(&pass.session_notes, session) {
@@ -75,6 +76,7 @@ pub fn take_begin(
     }
     let limit = limit_after(pass, last);
     note_begun(&mut pass.limits, &mut pass.committed, limit)?;
+    note_begin(&mut pass.ends)?;
     set_last(&mut pass.last, session, number);
     set_pending(&mut pass.session_notes, session, Some(number));
     note_place(&mut pass.cells.numbers.of_events, &mut pass.values)?;
@@ -93,12 +95,13 @@ fn places_in(pending: &[PendingWrites], session: u32) -> &[u32]
 /// Takes the event that commits the pending transaction of a session.
 pub fn take_commit(pass: &mut Pass, places: &Places, session: u32) -> Result<bool, Memory>
     requires stands { Stands places.now.at.items pass.old }
-    requires few { length pass.old.values.items < 4294967295 }
+    requires few { length pass.old.values < 4294967295 }
     ensures { IfOk result (λ goes. IsTrue goes → Goes places.now.at.items (Event.Commit session) pass.old pass.new) }
 {
     let Some(number) = pending_of(&pass.session_notes, session) else {
         return Ok(false);
     };
+    let open_reads = settled_from(pass, places, number);
     note_place(&mut pass.cells.numbers.of_events, &mut pass.values)?;
     note_all_committed(
         &mut pass.cells.notes,
@@ -106,8 +109,16 @@ pub fn take_commit(pass: &mut Pass, places: &Places, session: u32) -> Result<boo
         places_in(&pass.pending, session),
         number,
     )?;
+    raise_tops(
+        &mut pass.ends.tops,
+        pass.cells.numbers.of_events.as_slice(),
+        places_in(&pass.pending, session),
+        place_in(&places.at, number),
+    )?;
     clear_pending(&mut pass.pending, session);
     set_committed(&mut pass.committed, number);
+    note_end(&mut pass.ends, number);
+    pass.reads.truncate(open_reads);
     set_pending(&mut pass.session_notes, session, None);
     Ok(true)
 }
@@ -115,13 +126,14 @@ pub fn take_commit(pass: &mut Pass, places: &Places, session: u32) -> Result<boo
 /// Takes the event that rolls the pending transaction of a session back.
 pub fn take_rollback(pass: &mut Pass, places: &Places, session: u32) -> Result<bool, Memory>
     requires stands { Stands places.now.at.items pass.old }
-    requires few { length pass.old.values.items < 4294967295 }
+    requires few { length pass.old.values < 4294967295 }
     ensures { IfOk result (λ goes. IsTrue goes → Goes places.now.at.items (Event.Rollback session) pass.old pass.new) }
 {
-    let Some(_number) = pending_of(&pass.session_notes, session) else {
+    let Some(number) = pending_of(&pass.session_notes, session) else {
         return Ok(false);
     };
     clear_pending(&mut pass.pending, session);
+    note_end(&mut pass.ends, number);
     set_pending(&mut pass.session_notes, session, None);
     note_place(&mut pass.cells.numbers.of_events, &mut pass.values)?;
     Ok(true)
