@@ -32,6 +32,7 @@ use Rattle.order_test.proofs.GlanceLemmas.{last_still, limits_still, limits_read
 use Rattle.order_test.proofs.PastSteps.{sound_from}
 use Rattle.order_test.proofs.Taken.{source_apart, source_bounded}
 use Rattle.history_check.specs.Rules.{IsRight}
+use Rattle.history_check.specs.Breaches.{AreRight}
 use Rattle.history_check.specs.Notes.{StandsForSessionNotes, StandsForPendingWrites, StandsForCommits, IsLastWriteAt, IsNoteOf, AreNotesOf, AreCellNotes, IsChangedTo, SetsPlaceAt}
 use Rattle.history_check.specs.declared.session_note.SessionNote.{SessionNote}
 use Rattle.history_check.specs.declared.pending_writes.PendingWrites.{PendingWrites}
@@ -46,8 +47,11 @@ use Rattle.right_logs.specs.declared.pass.Pass.{Pass}
 use Rattle.right_logs.specs.declared.pass.ReadNote.{ReadNote}
 use Rattle.right_logs.specs.Accesses.{GivesLast, GivesValue, IsClearRead, MayTouch}
 use Rattle.right_logs.specs.Seats.{IsPendingIn}
+use Rattle.right_logs.specs.declared.ends.Ends.{Ends}
+use Rattle.right_logs.specs.Ends.{AreTops, StandsForEnds}
 use Rattle.right_logs.specs.Passes.{HaveValues, IsReadNoteOf, HoldReads, StandsFor, Goes, Stands}
 use Rattle.right_logs.proofs.Still.{pending_from, session_in_place, right_push, settled_right, sessions_right, room_right, room_still, names_still, values_push, no_scan_push, read_kept, reads_still}
+use Rattle.right_logs.proofs.Settling.{comes_next, settled_push_read, flags_still, tops_taken, tops_set}
 
 -- ---- the notes of the cells, once the cell of the next event has one
 
@@ -184,24 +188,29 @@ note_of_read events cells s k cell w n u v note numbered from reader pending bou
     }
 
 reads_push :
-    (events : List Event) (old new : List Cell) (reads : List ReadNote) (s k : ℕ) (cell : Cell) (w n u : ℕ) (v : Value) (note : ReadNote) →
-    ((i : ℕ) (c : Cell) → slice_get old i ≡ Some c → slice_get new i ≡ Some c) → slice_get new note.cell ≡ Some cell → note.source ≡ w → note.reader ≡ k → IsPending events k s →
-    w ≤ begun events → HoldReads events old reads → HoldReads (events ++ Read s cell w n u v ∷ []) new (reads ++ note ∷ [])
-reads_push events old new reads s k cell w n u v note kept numbered from reader pending bounded hold place t q a b c value is =
+    (places : List ℕ) (events : List Event) (old new : List Cell) (reads : List ReadNote) (s k : ℕ) (cell : Cell) (w n u : ℕ) (v : Value) (note : ReadNote) →
+    AreRight [] (events ++ Read s cell w n u v ∷ []) → ((i : ℕ) (c : Cell) → slice_get old i ≡ Some c → slice_get new i ≡ Some c) → slice_get new note.cell ≡ Some cell →
+    note.source ≡ w → note.reader ≡ k → IsPending events k s → w ≤ begun events → HoldReads places events old reads →
+    HoldReads places (events ++ Read s cell w n u v ∷ []) new (reads ++ note ∷ [])
+reads_push places events old new reads s k cell w n u v note right kept numbered from reader pending bounded hold place t q a b c value is =
     elim (slice_get_push_cases events (Read s cell w n u v) place (Read t q a b c value) is) [
-      | inl there ↦
-          let was = hold place t q a b c value there.1 in
-          let within = slice_get_within reads was.0 was.1.0 was.1.1.0 in (
-            was.0,
-            (
-              was.1.0,
+      | inl there ↦ elim (hold place t q a b c value there.1) [
+        | inl was ↦
+            let within = slice_get_within reads was.0 was.1.0 was.1.1.0 in
+            inl (
+              was.0,
               (
-                slice_get-append_left reads (note ∷ []) was.0 within ∙ was.1.1.0,
-                read_kept events (Read s cell w n u v) old new place t q a b c value was.1.0 kept was.1.1.1,
+                was.1.0,
+                (
+                  slice_get-append_left reads (note ∷ []) was.0 within ∙ was.1.1.0,
+                  read_kept events (Read s cell w n u v) old new place t q a b c value was.1.0 kept was.1.1.1,
+                ),
               ),
-            ),
-          )
-      | inr now ↦ (
+            )
+        | inr settled ↦
+            inr (settled_push_read places events (Read s cell w n u v) place t q a b c value (comes_next events (Read s cell w n u v) right) settled)
+      ]
+      | inr now ↦ inl (
         length reads,
         (
           note,
@@ -234,19 +243,21 @@ own_accesses s cell v = record { of = refl; plain = plain_own s cell v; commits 
 write_accesses : (s : ℕ) (cell : Cell) (v : Value) → IsAccess (Write s cell v) cell
 write_accesses s cell v = record { of = refl; plain = plain_write s cell v; commits = λ t same. cc; scans = λ scan. scan; defines = refl }
 
--- nothing is noted of sessions, tables and commits
+-- nothing is noted of sessions, tables, commits and ends
 pub record KeepsRest (old new : Pass) : Type 0 where
   pub session_notes : new.session_notes.items ≡ old.session_notes.items
   pub committed : new.committed.items ≡ old.committed.items
   pub tables : new.names.items ≡ old.names.items
   pub last : new.last.items ≡ old.last.items
+  pub ends : new.ends ≡ old.ends
 
 access_goes :
     (order places : List ℕ) (events : List Event) (e : Event) (cell : Cell) (at : ℕ) (old new : Pass) (taken : CellNotes) → IsAccess e cell → IsRight [] events e → KeepsRest old new →
     TakesCell old.cells cell at taken → new.cells.numbers ≡ taken.numbers → AreNotesOf (events ++ e ∷ []) taken.numbers.cells.keys new.cells.notes.items →
-    StandsForPendingWrites (events ++ e ∷ []) new.pending.items → HaveValues (events ++ e ∷ []) new.values.items → AreLimits (events ++ e ∷ []) new.limits.items →
-    HoldReads (events ++ e ∷ []) taken.numbers.cells.keys new.reads.items → StandsFor order places events old → StandsFor order places (events ++ e ∷ []) new
-access_goes order places events e cell at old new taken access right rest takes numbers notes pending values limits reads stands =
+    StandsForPendingWrites (events ++ e ∷ []) new.pending.items → HaveValues (events ++ e ∷ []) new.values → AreLimits (events ++ e ∷ []) new.limits.items →
+    AreTops places new.cells.notes.items old.ends.tops.items → HoldReads places (events ++ e ∷ []) taken.numbers.cells.keys new.reads.items → StandsFor order places events old →
+    StandsFor order places (events ++ e ∷ []) new
+access_goes order places events e cell at old new taken access right rest takes numbers notes pending values limits tops reads stands =
     let numbered : AreNumberedSo (events ++ e ∷ []) taken.numbers = takes_numbered events e old.cells taken cell at access.of takes stands.numbered in
     let named : names (events ++ e ∷ []) ≡ names events = names_still events e access.defines in
     let named_so : new.names.items ≡ names (events ++ e ∷ []) = rest.tables ∙ stands.names_are ∙ sym named in
@@ -275,7 +286,10 @@ access_goes order places events e cell at old new taken access right rest takes 
       limits = limits;
       keeps = keeps_still events e order access.plain.begins_none stands.keeps;
       no_scan = no_scan_push events e access.scans stands.no_scan;
-      reads = subst (λ (ns : CellNumbers). HoldReads (events ++ e ∷ []) ns.cells.keys new.reads.items) (sym numbers) reads;
+      ends =
+          subst (λ (ends : Ends). StandsForEnds places (events ++ e ∷ []) new.cells.notes.items ends) (sym rest.ends)
+          (record { ended = flags_still events e old.ends.ended.items old.ends.upto access.plain.begins_none stands.ends.ended; tops = tops });
+      reads = subst (λ (ns : CellNumbers). HoldReads places (events ++ e ∷ []) ns.cells.keys new.reads.items) (sym numbers) reads;
     }
 
 -- the table of the cell is defined
@@ -284,26 +298,29 @@ table_is order places events pass cell stands less = let same = stands.tables in
 
 pub read_goes :
     (places : List ℕ) (s k : ℕ) (cell : Cell) (at w n u : ℕ) (v : Value) (old new : Pass) (note : CellNote) (seen : ReadNote) → MayTouch old s cell k → TakesCell old.cells cell at new.cells →
-    slice_get new.cells.notes.items at ≡ Some note → IsClearRead note old.values.items old.committed.items cell k w n v → KeepsRest old new → new.pending.items ≡ old.pending.items →
-    new.values.items ≡ old.values.items ++ Unset ∷ [] → RaisesLimit k w old.limits.items new.limits.items → seen.cell ≡ at → seen.source ≡ w → seen.reader ≡ k →
+    slice_get new.cells.notes.items at ≡ Some note → IsClearRead note old.values old.committed.items cell k w n v → KeepsRest old new → new.pending.items ≡ old.pending.items →
+    new.values ≡ old.values ++ Unset ∷ [] → RaisesLimit k w old.limits.items new.limits.items → seen.cell ≡ at → seen.source ≡ w → seen.reader ≡ k →
     new.reads.items ≡ old.reads.items ++ seen ∷ [] → Goes places (Read s cell w n u v) old new
 read_goes places s k cell at w n u v old new note seen may takes is clear rest lists pushed raises number from reader noted order events stands =
     let e : Event = Read s cell w n u v in
     let sound = sound_from events stands.settled in
     let pending : IsPending events k s = pending_from events old.session_notes.items s k stands.session_notes may.pending in
-    let settled = source_settled events cell w v note old.values.items old.committed.items stands.commits clear.gives in
+    let settled = source_settled events cell w v note old.values old.committed.items stands.commits clear.gives in
     let bounded = source_bounded events w settled in
-    access_goes order places events e cell at old new new.cells (read_accesses s cell w n u v)
-    (read_is_right events sound s k cell w n u v note old.values.items old.committed.items pending (table_is order places events old cell stands may.table)
-    (note_at events old.cells new.cells cell at note stands.numbered.are takes stands.cells is) stands.values stands.commits clear)
-    rest takes refl
+    let right : IsRight [] events e =
+    read_is_right events sound s k cell w n u v note old.values old.committed.items pending (table_is order places events old cell stands may.table)
+    (note_at events old.cells new.cells cell at note stands.numbered.are takes stands.cells is) stands.values stands.commits clear
+    in
+    access_goes order places events e cell at old new new.cells (read_accesses s cell w n u v) right rest takes refl
     (cells_other events e new.cells.numbers.cells.keys new.cells.notes.items tt (notes_taken events old.cells new.cells cell at stands.numbered.are takes stands.cells))
     (subst (λ (ls : List PendingWrites). StandsForPendingWrites (events ++ e ∷ []) ls) (sym lists) (pending_other events e old.pending.items tt stands.pending))
-    (values_push events e old.values.items new.values.items Unset pushed (λ t q x same. absurd (no_write t q x same)) stands.values)
+    (values_push events e old.values new.values Unset pushed (λ t q x same. absurd (no_write t q x same)) stands.values)
     (limits_read events sound s k cell w n u v pending (source_apart events k s w pending settled) (pending_bounded events k s pending) bounded old.limits.items new.limits.items raises
     stands.limits)
-    (subst (λ (rs : List ReadNote). HoldReads (events ++ e ∷ []) new.cells.numbers.cells.keys rs) (sym noted)
-    (reads_push events old.cells.numbers.cells.keys new.cells.numbers.cells.keys old.reads.items s k cell w n u v seen (takes_kept old.cells new.cells cell at takes)
+    (tops_taken places old.cells new.cells cell at old.ends.tops.items takes stands.ends.tops)
+    (subst (λ (rs : List ReadNote). HoldReads places (events ++ e ∷ []) new.cells.numbers.cells.keys rs) (sym noted)
+    (reads_push places events old.cells.numbers.cells.keys new.cells.numbers.cells.keys old.reads.items s k cell w n u v seen (right_push events e stands.right right)
+    (takes_kept old.cells new.cells cell at takes)
     (subst (λ (i : ℕ). slice_get new.cells.numbers.cells.keys i ≡ Some cell) (sym number) takes.is) from reader pending bounded stands.reads))
     stands
   where
@@ -312,21 +329,24 @@ read_goes places s k cell at w n u v old new note seen may takes is clear rest l
 
 pub own_goes :
     (places : List ℕ) (s k : ℕ) (cell : Cell) (at : ℕ) (v : Value) (old new : Pass) (note : CellNote) → MayTouch old s cell k → TakesCell old.cells cell at new.cells →
-    slice_get new.cells.notes.items at ≡ Some note → GivesLast note old.values.items k v → KeepsRest old new → new.pending.items ≡ old.pending.items →
-    new.values.items ≡ old.values.items ++ Unset ∷ [] → new.limits.items ≡ old.limits.items → new.reads.items ≡ old.reads.items → Goes places (Own s cell v) old new
+    slice_get new.cells.notes.items at ≡ Some note → GivesLast note old.values k v → KeepsRest old new → new.pending.items ≡ old.pending.items →
+    new.values ≡ old.values ++ Unset ∷ [] → new.limits.items ≡ old.limits.items → new.reads.items ≡ old.reads.items → Goes places (Own s cell v) old new
 own_goes places s k cell at v old new note may takes is gives rest lists pushed same_limits same_reads order events stands =
     let e : Event = Own s cell v in
     let pending : IsPending events k s = pending_from events old.session_notes.items s k stands.session_notes may.pending in
     let noted = note_at events old.cells new.cells cell at note stands.numbered.are takes stands.cells is in
-    access_goes order places events e cell at old new new.cells (own_accesses s cell v)
-    (own_is_right events s k cell v pending (table_is order places events old cell stands may.table) (gives_last events k cell v note old.values.items noted stands.values gives))
-    rest takes refl
+    let right : IsRight [] events e =
+    own_is_right events s k cell v pending (table_is order places events old cell stands may.table) (gives_last events k cell v note old.values noted stands.values gives)
+    in
+    access_goes order places events e cell at old new new.cells (own_accesses s cell v) right rest takes refl
     (cells_other events e new.cells.numbers.cells.keys new.cells.notes.items tt (notes_taken events old.cells new.cells cell at stands.numbered.are takes stands.cells))
     (subst (λ (ls : List PendingWrites). StandsForPendingWrites (events ++ e ∷ []) ls) (sym lists) (pending_other events e old.pending.items tt stands.pending))
-    (values_push events e old.values.items new.values.items Unset pushed (λ t q x same. absurd (no_write t q x same)) stands.values)
+    (values_push events e old.values new.values Unset pushed (λ t q x same. absurd (no_write t q x same)) stands.values)
     (subst (λ (ls : List ℕ). AreLimits (events ++ e ∷ []) ls) (sym same_limits) (limits_still events e old.limits.items tt stands.limits))
-    (subst (λ (rs : List ReadNote). HoldReads (events ++ e ∷ []) new.cells.numbers.cells.keys rs) (sym same_reads)
-    (reads_still events e old.cells.numbers.cells.keys new.cells.numbers.cells.keys old.reads.items (takes_kept old.cells new.cells cell at takes) no_read stands.reads))
+    (tops_taken places old.cells new.cells cell at old.ends.tops.items takes stands.ends.tops)
+    (subst (λ (rs : List ReadNote). HoldReads places (events ++ e ∷ []) new.cells.numbers.cells.keys rs) (sym same_reads)
+    (reads_still places events e old.cells.numbers.cells.keys new.cells.numbers.cells.keys old.reads.items (right_push events e stands.right right)
+    (takes_kept old.cells new.cells cell at takes) no_read stands.reads))
     stands
   where
     no_write : (t : ℕ) (q : Cell) (x : Value) → Own s cell v ≡ Write t q x → ⊥
@@ -336,26 +356,28 @@ own_goes places s k cell at v old new note may takes is gives rest lists pushed 
     no_read t q a b c x same = cc
 
 pub write_goes :
-    (places : List ℕ) (s k : ℕ) (cell : Cell) (at place : ℕ) (v written : Value) (old new : Pass) (taken : CellNotes) → MayTouch old s cell k → IsStorable v → TakesCell old.cells cell at taken →
-    new.cells.numbers ≡ taken.numbers → place ≡ length old.values.items → SetsPlaceAt at k place taken.notes.items new.cells.notes.items →
-    IsChangedTo old.pending.items s (λ before after. after ≡ before ++ place ∷ []) new.pending.items → written ≡ v → new.values.items ≡ old.values.items ++ written ∷ [] → KeepsRest old new →
+    (places : List ℕ) (s k : ℕ) (cell : Cell) (at place : ℕ) (v : Value) (old new : Pass) (taken : CellNotes) → MayTouch old s cell k → IsStorable v → TakesCell old.cells cell at taken →
+    new.cells.numbers ≡ taken.numbers → place ≡ length old.values → SetsPlaceAt at k place taken.notes.items new.cells.notes.items →
+    IsChangedTo old.pending.items s (λ before after. after ≡ before ++ place ∷ []) new.pending.items → new.values ≡ old.values ++ v ∷ [] → KeepsRest old new →
     new.limits.items ≡ old.limits.items → new.reads.items ≡ old.reads.items → Goes places (Write s cell v) old new
-write_goes places s k cell at place v written old new taken may storable takes numbers last sets changed copied pushed rest same_limits same_reads order events stands =
+write_goes places s k cell at place v old new taken may storable takes numbers last sets changed pushed rest same_limits same_reads order events stands =
     let e : Event = Write s cell v in
     let pending : IsPending events k s = pending_from events old.session_notes.items s k stands.session_notes may.pending in
     let here : place ≡ length events = last ∙ stands.values.count in
-    access_goes order places events e cell at old new taken (write_accesses s cell v)
-    (write_is_right events s k cell v pending (table_is order places events old cell stands may.table) storable)
-    rest takes numbers
+    let right : IsRight [] events e = write_is_right events s k cell v pending (table_is order places events old cell stands may.table) storable in
+    access_goes order places events e cell at old new taken (write_accesses s cell v) right rest takes numbers
     (cells_write events (sound_from events stands.settled) s k at cell v taken.numbers.cells.keys taken.notes.items new.cells.notes.items
     (takes_unique old.cells taken cell at takes stands.numbered.are.unique) takes.is pending
     (subst (λ (p : ℕ). SetsPlaceAt at k p taken.notes.items new.cells.notes.items) here sets) (notes_taken events old.cells taken cell at stands.numbered.are takes stands.cells))
     (pending_write events s k cell v old.pending.items new.pending.items pending
     (subst (λ (p : ℕ). IsChangedTo old.pending.items s (λ before after. after ≡ before ++ p ∷ []) new.pending.items) here changed) stands.pending)
-    (values_push events e old.values.items new.values.items written pushed (λ t q x same. copied ∙ same_value t q x same) stands.values)
+    (values_push events e old.values new.values v pushed (λ t q x same. same_value t q x same) stands.values)
     (subst (λ (ls : List ℕ). AreLimits (events ++ e ∷ []) ls) (sym same_limits) (limits_still events e old.limits.items tt stands.limits))
-    (subst (λ (rs : List ReadNote). HoldReads (events ++ e ∷ []) taken.numbers.cells.keys rs) (sym same_reads)
-    (reads_still events e old.cells.numbers.cells.keys taken.numbers.cells.keys old.reads.items (takes_kept old.cells taken cell at takes) no_read stands.reads))
+    (tops_set places at k place taken.notes.items new.cells.notes.items old.ends.tops.items sets
+    (tops_taken places old.cells taken cell at old.ends.tops.items takes stands.ends.tops))
+    (subst (λ (rs : List ReadNote). HoldReads places (events ++ e ∷ []) taken.numbers.cells.keys rs) (sym same_reads)
+    (reads_still places events e old.cells.numbers.cells.keys taken.numbers.cells.keys old.reads.items (right_push events e stands.right right)
+    (takes_kept old.cells taken cell at takes) no_read stands.reads))
     stands
   where
     same_value : (t : ℕ) (q : Cell) (x : Value) → Write s cell v ≡ Write t q x → v ≡ x
@@ -375,7 +397,7 @@ may_touch_if pass s cell notes None same table pending = tt
 
 -- there are few cells
 pub cells_few :
-    (places : List ℕ) (pass : Pass) → Stands places pass → length pass.values.items < 4294967295 →
+    (places : List ℕ) (pass : Pass) → Stands places pass → length pass.values < 4294967295 →
     (length pass.cells.notes.items ≡ length pass.cells.numbers.cells.keys) × (length pass.cells.numbers.cells.keys < 4294967296)
 cells_few places pass (order, (events, stands)) few =
     let cells = stands.numbered.few in
@@ -384,10 +406,10 @@ cells_few places pass (order, (events, stands)) few =
 -- the reader and the source have limits
 pub limits_within :
     (places : List ℕ) (pass : Pass) (s k : ℕ) (cell : Cell) (w n : ℕ) (v : Value) (note : CellNote) → Stands places pass → MayTouch pass s cell k →
-    IsClearRead note pass.values.items pass.committed.items cell k w n v → (k < length pass.limits.items) × (w < length pass.limits.items)
+    IsClearRead note pass.values pass.committed.items cell k w n v → (k < length pass.limits.items) × (w < length pass.limits.items)
 limits_within places pass s k cell w n v note (order, (events, stands)) may clear =
     let reader = pending_bounded events k s (pending_from events pass.session_notes.items s k stands.session_notes may.pending) in
-    let from = source_bounded events w (source_settled events cell w v note pass.values.items pass.committed.items stands.commits clear.gives) in
+    let from = source_bounded events w (source_settled events cell w v note pass.values pass.committed.items stands.commits clear.gives) in
     let count = stands.limits.count in (omega arith, omega arith)
 
 -- the session has a list of pending writes

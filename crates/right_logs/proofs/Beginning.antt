@@ -1,5 +1,5 @@
 -- A pass that has noted nothing stands for no events.
-use Rattle.std.proofs.Common.{◌≡◌, ℕ, List, [], ◌∷◌, Some, true, false, length, ap, sym, ◌∙◌, subst}
+use Rattle.std.proofs.Common.{◌≡◌, ℕ, ◌<◌, ◌≤◌, List, [], ◌∷◌, Some, true, false, length, arith, ap, sym, ◌∙◌, subst}
 use Rattle.std.specs.List.{slice_get}
 use Rattle.history_core.specs.declared.event.Event.{Event}
 use Rattle.history_core.specs.declared.event.Event.TheVariants.{Read, Write}
@@ -32,9 +32,11 @@ pub record IsBlank (pass : Pass) : Type 0 where
   pub keys : pass.cells.numbers.cells.keys ≡ []
   pub of_events : pass.cells.numbers.of_events.items ≡ []
   pub notes : pass.cells.notes.items ≡ []
-  pub values : pass.values.items ≡ []
+  pub values : pass.values ≡ []
   pub last : pass.last.items ≡ 0 ∷ []
   pub limits : pass.limits.items ≡ 0 ∷ []
+  pub ended : pass.ends.ended.items ≡ []
+  pub upto : pass.ends.upto ≡ 0
   pub reads : pass.reads.items ≡ []
 
 light : (order : List ℕ) (pass : Pass) → IsBlank pass → IsGlance [] order (record { last = pass.last; owners = pass.cells.numbers.of_events; limits = pass.limits; keeps = true; scans = false })
@@ -63,5 +65,13 @@ blank_stands order places pass placed blank =
       limits = glance.limits;
       keeps = keeps_none order;
       no_scan = λ k e is scan. no_event k e is;
+      ends = record {
+        ended = record {
+          count = ap length blank.ended;
+          each = λ k is. absurd (none_in pass.ends.ended.items blank.ended k true is);
+          all = λ number some within. let none = blank.upto in absurd (omega arith);
+        };
+        tops = λ i note number is there. absurd (none_in pass.cells.notes.items blank.notes i note is);
+      };
       reads = λ place s cell source count word value is. absurd (no_event place (Read s cell source count word value) is);
     }

@@ -1,5 +1,5 @@
 -- What the notes of the reads show of the order, once all events are there.
-use Rattle.std.proofs.Common.{◌≡◌, ℕ, ◌+◌, ◌<◌, List, [], Some, length, get_or, arith, sym, ap, ◌∙◌, subst, inl, inr}
+use Rattle.std.proofs.Common.{◌≡◌, ℕ, ◌+◌, ◌<◌, List, [], Some, length, get_or, arith, refl, sym, ap, ◌∙◌, subst, inl, inr}
 use Rattle.std.specs.List.{slice_get}
 use Rattle.std.proofs.lemmas.Bool.{cases_lt}
 use Rattle.std.proofs.lemmas.Option.{slice_get_cases, slice_get_within}
@@ -24,6 +24,7 @@ use Rattle.history_check.proofs.CellSteps.{ascending_of, writers_of}
 use Rattle.history_check.proofs.Orderly.{orderly_from}
 use Rattle.right_logs.specs.declared.pass.Pass.{Pass}
 use Rattle.right_logs.specs.declared.pass.ReadNote.{ReadNote}
+use Rattle.right_logs.specs.Ends.{IsSettledRead}
 use Rattle.right_logs.specs.Passes.{IsReadNoteOf, StandsFor, Stands, IsKept}
 
 -- ---- what the notes of the cells are like
@@ -42,6 +43,9 @@ AreKeptBelow places pass n = (k : ℕ) (note : ReadNote) → k < n → slice_get
 
 pub kept_none : (places : List ℕ) (pass : Pass) → AreKeptBelow places pass 0
 kept_none places pass k note below is = absurd (omega arith)
+
+pub kept_where_none : (places : List ℕ) (pass : Pass) → pass.reads.items ≡ [] → AreKeptBelow places pass (length pass.reads.items)
+kept_where_none places pass none k note below is = let there : slice_get [] k ≡ Some note = subst (λ (reads : List ReadNote). slice_get reads k ≡ Some note) none is in cc
 
 pub kept_more :
     (places : List ℕ) (pass : Pass) (n : ℕ) (last : ReadNote) → slice_get pass.reads.items n ≡ Some last → IsKept places pass last → AreKeptBelow places pass n →
@@ -90,12 +94,36 @@ kept_read order places events pass met place s cell source count word value note
       sights = λ from rival by other unmet. clear rival (other, unmet_here events order place event note.reader orderly read from rival by other unmet);
     }
 
+-- none in the past of the reader that writes the cell stands after the source, whatever has come since the reader ended
+kept_settled :
+    (order places : List ℕ) (events : List Event) (pass : Pass) → IsMetBy order places events pass → (place s : ℕ) (cell : Cell) (source count word : ℕ) (value : Value) →
+    slice_get events place ≡ Some (Read s cell source count word value) → IsSettledRead places events place s cell source count word value → IsKeptAt events order place
+kept_settled order places events pass met place s cell source count word value is settled =
+    let event : Event = Read s cell source count word value in
+    let stands = met.stands in
+    let orderly : IsOrderly events = orderly_from [] events stands.right in
+    let wrote : AreWriters events pass.cells = writers_of events pass.cells stands.numbered.are stands.cells in
+    let read : IsReadAt events place event settled.reader = settled.read in
+    let before : StandsBefore order source settled.reader = stands_from (begun events + 1) order places met.places_are source settled.reader settled.before in
+    let at : ℕ = get_or pass.cells.numbers.of_events.items place 0 in
+    let number : slice_get pass.cells.numbers.cells.keys at ≡ Some cell = stands.numbered.are.each place event cell is refl in
+    let clear : HasNoRival events order place event settled.reader =
+    reached_clear events order places met.holds met.places_are pass.cells wrote s cell source count word value place settled.reader read settled.limit at number settled.bound
+    (λ note is_note other there upto. let both = (wrote.exact at cell note other number is_note).0 there in settled.clear other both.0 upto both.1)
+    in
+    record {
+      reads = none_early events order place event settled.reader orderly read (λ late. late before);
+      sights = λ from rival by seen unmet. clear rival (seen, unmet_here events order place event settled.reader orderly read from rival by seen unmet);
+    }
+
 kept_event :
     (order places : List ℕ) (events : List Event) (pass : Pass) → IsMetBy order places events pass → (place : ℕ) (event : Event) → slice_get events place ≡ Some event →
     IsKeptAt events order place
 kept_event order places events pass met place (Read s cell source count word value) is =
-    let noted = met.stands.reads place s cell source count word value is in
-    kept_read order places events pass met place s cell source count word value noted.1.0 noted.1.1.1 (met.kept noted.0 noted.1.0 noted.1.1.0)
+    elim (met.stands.reads place s cell source count word value is) [
+      | inl noted ↦ kept_read order places events pass met place s cell source count word value noted.1.0 noted.1.1.1 (met.kept noted.0 noted.1.0 noted.1.1.0)
+      | inr settled ↦ kept_settled order places events pass met place s cell source count word value is settled
+    ]
 kept_event order places events pass met place (Scan s table keys) is = absurd (met.stands.no_scan place (Scan s table keys) is tt)
 kept_event order places events pass met place (Open s) is = kept_without_read events order place (Open s) is (λ reads. reads)
 kept_event order places events pass met place (Close s) is = kept_without_read events order place (Close s) is (λ reads. reads)

@@ -18,7 +18,7 @@ use Rattle.history_check.proofs.Verdicts.{open_right, close_right, define_right,
 use Rattle.right_logs.specs.declared.pass.Pass.{Pass}
 use Rattle.right_logs.specs.Passes.{StandsFor}
 use Rattle.right_logs.specs.Seats.{IsOpenIn, IsIdleIn}
-use Rattle.right_logs.proofs.Still.{open_from, idle_from, quiet_open, quiet_close, quiet_define, quiet_look, quiet_show, quiet_goes, plain_goes, NotesPlace, NotesNothing, pending_same, names_same, room_same, last_same}
+use Rattle.right_logs.proofs.Still.{open_from, idle_from, quiet_open, quiet_close, quiet_define, quiet_look, quiet_show, quiet_goes, plain_goes, NotesPlace, NotesNothing, pending_same, names_same, room_same, last_same, ends_still}
 
 -- ---- a session opens
 
@@ -51,6 +51,7 @@ pub record NotesOpen (old new : Pass) : Type 0 where
   pub pending : new.pending.items ≡ old.pending.items ++ blank ∷ []
   pub names_are : new.names.items ≡ old.names.items
   pub last : new.last.items ≡ old.last.items ++ 0 ∷ []
+  pub ends : new.ends ≡ old.ends
   pub place : NotesPlace old new
 
 pub open_goes :
@@ -65,7 +66,8 @@ open_goes order places events s old new next notes stands =
     (pending_open events s old.pending.items notes.blank stands.sessions notes.no_place stands.pending))
     (names_same events (Open s) old.names.items new.names.items refl notes.names_are stands.names_are)
     (room_opens events s old.last.items new.last.items notes.last stands.room)
-    (last_opens events old.last.items new.last.items notes.last stands.last) stands
+    (last_opens events old.last.items new.last.items notes.last stands.last)
+    (ends_still places events (Open s) old.cells.notes.items new.cells.notes.items old.ends new.ends refl notes.place.notes notes.ends stands.ends) stands
 
 -- ---- a session closes
 
@@ -74,6 +76,7 @@ pub record NotesClose (s : ℕ) (old new : Pass) : Type 0 where
   pub pending : new.pending.items ≡ old.pending.items
   pub names_are : new.names.items ≡ old.names.items
   pub last : new.last.items ≡ old.last.items
+  pub ends : new.ends ≡ old.ends
   pub place : NotesPlace old new
 
 pub close_goes :
@@ -86,7 +89,8 @@ close_goes order places events s old new idle notes stands =
     (pending_same events (Close s) old.pending.items new.pending.items tt notes.pending stands.pending)
     (names_same events (Close s) old.names.items new.names.items refl notes.names_are stands.names_are)
     (room_same events (Close s) old.last.items new.last.items refl notes.last stands.room)
-    (last_same events old.last.items new.last.items notes.last stands.last) stands
+    (last_same events old.last.items new.last.items notes.last stands.last)
+    (ends_still places events (Close s) old.cells.notes.items new.cells.notes.items old.ends new.ends refl notes.place.notes notes.ends stands.ends) stands
 
 -- ---- a session defines a table
 
@@ -95,6 +99,7 @@ pub record NotesDefine (name : List ℕ) (old new : Pass) : Type 0 where
   pub pending : new.pending.items ≡ old.pending.items
   pub names_are : new.names.items ≡ old.names.items ++ name ∷ []
   pub last : new.last.items ≡ old.last.items
+  pub ends : new.ends ≡ old.ends
   pub place : NotesPlace old new
 
 pub define_goes :
@@ -112,7 +117,8 @@ define_goes order places events s name old new opens free notes stands =
     (pending_same events (Define s name) old.pending.items new.pending.items tt notes.pending stands.pending)
     (notes.names_are ∙ ap (λ (names : List (List ℕ)). names ++ name ∷ []) stands.names_are ∙ sym (filter_map-append defined_name events (Define s name ∷ [])))
     (room_same events (Define s name) old.last.items new.last.items refl notes.last stands.room)
-    (last_same events old.last.items new.last.items notes.last stands.last) stands
+    (last_same events old.last.items new.last.items notes.last stands.last)
+    (ends_still places events (Define s name) old.cells.notes.items new.cells.notes.items old.ends new.ends refl notes.place.notes notes.ends stands.ends) stands
 
 -- ---- a session looks, or shows
 
@@ -124,7 +130,7 @@ look_goes order places events s tables old new opens counts nothing stands =
     (look_right [] events s tables (open_from events old.session_notes.items s stands.session_notes opens) (counts ∙ stands.tables)) nothing stands
 
 pub show_goes :
-    (order places : List ℕ) (events : List Event) (s number : ℕ) (old new : Pass) → IsOpenIn old.session_notes.items s → number ≡ length old.values.items + 1 → NotesNothing old new →
+    (order places : List ℕ) (events : List Event) (s number : ℕ) (old new : Pass) → IsOpenIn old.session_notes.items s → number ≡ length old.values + 1 → NotesNothing old new →
     StandsFor order places events old → StandsFor order places (events ++ Show s number ∷ []) new
 show_goes order places events s number old new opens counts nothing stands =
     plain_goes order places events (Show s number) old new (quiet_show s number) (plain_show s number) tt refl

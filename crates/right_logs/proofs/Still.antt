@@ -40,8 +40,11 @@ use Rattle.history_check.proofs.CommitLemmas.{commits_other}
 use Rattle.history_check.proofs.CellSteps.{LeavesCells, cells_other}
 use Rattle.right_logs.specs.declared.pass.Pass.{Pass}
 use Rattle.right_logs.specs.declared.pass.ReadNote.{ReadNote}
+use Rattle.right_logs.specs.declared.ends.Ends.{Ends}
+use Rattle.right_logs.specs.Ends.{StandsForEnds}
 use Rattle.right_logs.specs.Passes.{HaveValues, IsReadNoteOf, HoldReads, HaveNoScan, StandsFor}
 use Rattle.right_logs.specs.Seats.{IsNotedAt, IsOpenIn, IsIdleIn, IsPendingIn}
+use Rattle.right_logs.proofs.Settling.{comes_next, settled_push_read, flags_still}
 
 -- ---- what the notes of the sessions say of the events
 
@@ -147,6 +150,8 @@ no_scan_push events e none have k f at scan = elim (slice_get_push_cases events 
   | inr new ↦ none (subst (λ (g : Event). IsScan g) (sym new.1) scan)
 ]
 
+-- ---- the reads
+
 -- the note of an earlier read, whether cells are added or not
 pub read_kept :
     (events : List Event) (e : Event) (old new : List Cell) (place s : ℕ) (cell : Cell) (w n u : ℕ) (v : Value) (note : ReadNote) →
@@ -162,15 +167,27 @@ read_kept events e old new place s cell w n u v note kept is = record {
 }
 
 pub reads_still :
-    (events : List Event) (e : Event) (old new : List Cell) (reads : List ReadNote) → ((i : ℕ) (c : Cell) → slice_get old i ≡ Some c → slice_get new i ≡ Some c) →
-    ((s : ℕ) (c : Cell) (w n u : ℕ) (v : Value) → e ≡ Read s c w n u v → ⊥) → HoldReads events old reads → HoldReads (events ++ e ∷ []) new reads
-reads_still events e old new reads kept none hold place s cell w n u v is =
+    (places : List ℕ) (events : List Event) (e : Event) (old new : List Cell) (reads : List ReadNote) → AreRight [] (events ++ e ∷ []) →
+    ((i : ℕ) (c : Cell) → slice_get old i ≡ Some c → slice_get new i ≡ Some c) → ((s : ℕ) (c : Cell) (w n u : ℕ) (v : Value) → e ≡ Read s c w n u v → ⊥) →
+    HoldReads places events old reads → HoldReads places (events ++ e ∷ []) new reads
+reads_still places events e old new reads right kept none hold place s cell w n u v is =
     elim (slice_get_push_cases events e place (Read s cell w n u v) is) [
-      | inl there ↦
-          let was = hold place s cell w n u v there.1 in
-          (was.0, (was.1.0, (was.1.1.0, read_kept events e old new place s cell w n u v was.1.0 kept was.1.1.1)))
+      | inl there ↦ elim (hold place s cell w n u v there.1) [
+        | inl was ↦ inl (was.0, (was.1.0, (was.1.1.0, read_kept events e old new place s cell w n u v was.1.0 kept was.1.1.1)))
+        | inr settled ↦ inr (settled_push_read places events e place s cell w n u v (comes_next events e right) settled)
+      ]
       | inr now ↦ absurd (none s cell w n u v now.1)
     ]
+
+-- ---- what has ended
+
+pub ends_still :
+    (places : List ℕ) (events : List Event) (e : Event) (old_notes new_notes : List CellNote) (old new : Ends) → is_begin e ≡ false → new_notes ≡ old_notes → new ≡ old →
+    StandsForEnds places events old_notes old → StandsForEnds places (events ++ e ∷ []) new_notes new
+ends_still places events e old_notes new_notes old new begins notes same stands =
+    subst (λ (ends : Ends). StandsForEnds places (events ++ e ∷ []) new_notes ends) (sym same)
+    (subst (λ (ns : List CellNote). StandsForEnds places (events ++ e ∷ []) ns old) (sym notes)
+    (record { ended = flags_still events e old.ended.items old.upto begins stands.ended; tops = stands.tops }))
 
 -- ---- events that neither read nor write a cell, nor begin or commit a transaction
 
@@ -216,20 +233,22 @@ pub record NotesPlace (old new : Pass) : Type 0 where
   pub keys : new.cells.numbers.cells.keys ≡ old.cells.numbers.cells.keys
   pub of_events : new.cells.numbers.of_events.items ≡ old.cells.numbers.of_events.items ++ 0 ∷ []
   pub notes : new.cells.notes.items ≡ old.cells.notes.items
-  pub values : new.values.items ≡ old.values.items ++ Unset ∷ []
+  pub values : new.values ≡ old.values ++ Unset ∷ []
   pub limits : new.limits.items ≡ old.limits.items
   pub reads : new.reads.items ≡ old.reads.items
 
--- the notes of the sessions, the pending writes, the names and the last transactions are the caller's
+-- the notes of the sessions, the pending writes, the names, the last transactions and what has ended are the caller's
 pub quiet_goes :
     (order places : List ℕ) (events : List Event) (e : Event) (old new : Pass) → IsQuiet e → IsRight [] events e → NotesPlace old new →
     StandsForSessionNotes (events ++ e ∷ []) new.session_notes.items → StandsForPendingWrites (events ++ e ∷ []) new.pending.items → new.names.items ≡ names (events ++ e ∷ []) →
-    length new.last.items ≡ opened (events ++ e ∷ []) + 1 → HoldsLast events new.last.items → StandsFor order places events old → StandsFor order places (events ++ e ∷ []) new
-quiet_goes order places events e old new quiet right changes session_notes pending names_are room last stands =
+    length new.last.items ≡ opened (events ++ e ∷ []) + 1 → HoldsLast events new.last.items → StandsForEnds places (events ++ e ∷ []) new.cells.notes.items new.ends →
+    StandsFor order places events old → StandsFor order places (events ++ e ∷ []) new
+quiet_goes order places events e old new quiet right changes session_notes pending names_are room last ends stands =
     let begins : is_begin e ≡ false = begins_nothing e quiet.forces in
+    let all : AreRight [] (events ++ e ∷ []) = right_push events e stands.right right in
     record {
       placed = stands.placed;
-      right = right_push events e stands.right right;
+      right = all;
       settled = settled_right events e stands.settled right;
       sessions = sessions_right events e stands.sessions right;
       session_notes = session_notes;
@@ -245,7 +264,7 @@ quiet_goes order places events e old new quiet right changes session_notes pendi
           (subst (λ (notes : List CellNote). AreNotesOf (events ++ e ∷ []) old.cells.numbers.cells.keys notes) (sym changes.notes)
           (cells_other events e old.cells.numbers.cells.keys old.cells.notes.items quiet.leaves stands.cells));
       values =
-          values_push events e old.values.items new.values.items Unset changes.values (λ s cell v same. absurd (no_write e quiet.leaves s cell v same)) stands.values;
+          values_push events e old.values new.values Unset changes.values (λ s cell v same. absurd (no_write e quiet.leaves s cell v same)) stands.values;
       room = room;
       last = last_still events e new.last.items begins (room_right events e new.last.items stands.sessions right room) last;
       limits =
@@ -253,9 +272,10 @@ quiet_goes order places events e old new quiet right changes session_notes pendi
           (limits_still events e old.limits.items quiet.forces stands.limits);
       keeps = keeps_still events e order begins stands.keeps;
       no_scan = no_scan_push events e quiet.scan stands.no_scan;
+      ends = ends;
       reads =
-          subst (λ (reads : List ReadNote). HoldReads (events ++ e ∷ []) new.cells.numbers.cells.keys reads) (sym changes.reads)
-          (reads_still events e old.cells.numbers.cells.keys new.cells.numbers.cells.keys old.reads.items
+          subst (λ (reads : List ReadNote). HoldReads places (events ++ e ∷ []) new.cells.numbers.cells.keys reads) (sym changes.reads)
+          (reads_still places events e old.cells.numbers.cells.keys new.cells.numbers.cells.keys old.reads.items all
           (λ i cell is. subst (λ (cells : List Cell). slice_get cells i ≡ Some cell) (sym changes.keys) is) (no_read e quiet.forces) stands.reads);
     }
 
@@ -276,13 +296,14 @@ room_same events e old new other same room = room_still events e new other (ap l
 pub last_same : (events : List Event) (old new : List ℕ) → new ≡ old → HoldsLast events old → HoldsLast events new
 last_same events old new same holds = subst (λ (last : List ℕ). HoldsLast events last) (sym same) holds
 
--- nothing is noted of the sessions either
+-- nothing is noted of the sessions either, and nothing ends
 pub record NotesNothing (old new : Pass) : Type 0 where
   pub place : NotesPlace old new
   pub session_notes : new.session_notes.items ≡ old.session_notes.items
   pub pending : new.pending.items ≡ old.pending.items
   pub names_are : new.names.items ≡ old.names.items
   pub last : new.last.items ≡ old.last.items
+  pub ends : new.ends ≡ old.ends
 
 -- an event that opens, closes, begins and ends nothing, and defines no table
 pub plain_goes :
@@ -295,4 +316,5 @@ plain_goes order places events e old new quiet plain leaves no_name right nothin
     (pending_same events e old.pending.items new.pending.items leaves nothing.pending stands.pending)
     (names_same events e old.names.items new.names.items no_name nothing.names_are stands.names_are)
     (room_same events e old.last.items new.last.items plain.opens_none nothing.last stands.room)
-    (last_same events old.last.items new.last.items nothing.last stands.last) stands
+    (last_same events old.last.items new.last.items nothing.last stands.last)
+    (ends_still places events e old.cells.notes.items new.cells.notes.items old.ends new.ends (begins_nothing e quiet.forces) nothing.place.notes nothing.ends stands.ends) stands

@@ -1,5 +1,6 @@
 // The place of an event that neither reads nor writes a cell.
 ghost use Rattle.std.specs.Prelude.{◌≡◌, ◌<◌, ◌∷◌, ◌++◌, [], OnOk, IsTrue, length};
+ghost use Rattle.cell_base.specs.declared.value.Value.TheVariants.{Unset};
 
 use crate::noted_values::NotedValues;
 use cell_base::Memory;
@@ -17,7 +18,7 @@ pub fn has_room(values: &NotedValues) -> bool
 /// Notes an event that neither reads nor writes a cell.
 pub fn note_place(of_events: &mut Vec<u32>, values: &mut NotedValues) -> Result<(), Memory>
     ensures number { OnOk result (of_events.new.items ≡ of_events.old.items ++ 0 ∷ []) }
-    ensures value { OnOk result (values.new ≡ values.old ++ Value.Unset ∷ []) }
+    ensures value { OnOk result (values.new ≡ values.old ++ Unset ∷ []) }
 {
     of_events.push(0)?;
     values.push_unset()?;

@@ -103,18 +103,11 @@ pub fn take_commit(pass: &mut Pass, places: &Places, session: u32) -> Result<boo
     };
     let open_reads = settled_from(pass, places, number);
     note_place(&mut pass.cells.numbers.of_events, &mut pass.values)?;
-    note_all_committed(
-        &mut pass.cells.notes,
-        pass.cells.numbers.of_events.as_slice(),
-        places_in(&pass.pending, session),
-        number,
-    )?;
-    raise_tops(
-        &mut pass.ends.tops,
-        pass.cells.numbers.of_events.as_slice(),
-        places_in(&pass.pending, session),
-        place_in(&places.at, number),
-    )?;
+    let writes = places_in(&pass.pending, session);
+    let of_events = pass.cells.numbers.of_events.as_slice();
+    note_all_committed(&mut pass.cells.notes, of_events, writes, number)?;
+    let at = place_in(&places.at, number);
+    raise_tops(&mut pass.ends.tops, of_events, writes, at)?;
     clear_pending(&mut pass.pending, session);
     set_committed(&mut pass.committed, number);
     note_end(&mut pass.ends, number);

@@ -7,6 +7,6 @@ returns c = λ shows. (
   c.index.result.now,
   (
     slice_get_read c.args.pass.now.cells.notes.items (length c.args.pass.now.cells.notes.items) c.args.at c.index.result.now refl c.requires c.index.ensures,
-    rw c.deref.ensures.value at (c.gives_last.ensures shows),
+    c.gives_last.ensures shows,
   ),
 )

@@ -31,4 +31,4 @@ returns c = λ _.
     let shows = c.is_clear.ensures c.if-not-is_clear.false in
     read_goes c.args.places.now.at.items c.args.session c.in-Some.reader c.args.cell.now c.in_ok-at.at c.args.source c.args.count c.args.word c.args.value.now c.args.pass.now _ shows.0
     (record { cell = c.in_ok-at.at; source = c.args.source; reader = c.in-Some.reader; writers = c.writers_of-writers.result }) c.in-Some.ensures c.in_ok-at.ensures shows.1.0 shows.1.1
-    (record { session_notes = refl; committed = refl; tables = refl; last = refl }) refl c.in_ok-push.ensures.items c.raise_limit.ensures refl refl refl c.in_ok-push-2.ensures.items
+    (record { session_notes = refl; committed = refl; tables = refl; last = refl; ends = refl }) refl c.in_ok-push_unset.ensures c.raise_limit.ensures refl refl refl c.in_ok-push.ensures.items

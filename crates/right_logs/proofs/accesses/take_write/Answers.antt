@@ -1,4 +1,4 @@
-use Rattle.std.proofs.Common.{refl, ◌∙◌}
+use Rattle.std.proofs.Common.{refl}
 use Rattle.cell_writers.proofs.Taken.{takes_within}
 use Rattle.right_logs.proofs.AccessLemmas.{write_goes, cells_few, list_within}
 use Rattle.right_logs.proofs.accesses.take_write.Goals as goal
@@ -22,6 +22,6 @@ add_place-requires-clause-opened c = (list_within c.args.places.now.at.items c.a
 
 pub returns : goal.returns
 returns c = λ _.
-    write_goes c.args.places.now.at.items c.args.session c.in-Some.writer c.args.cell.now c.in_ok-at.at c.len-place.result c.args.value.now c.in_ok-written.written c.args.pass.now _
-    c.number_cell.new.cells c.in-Some.ensures (c.is_storable.ensures.0 c.if-not-is_storable.false) c.in_ok-at.ensures refl (c.len-place.ensures ∙ c.args.pass.now.values.ok.0) c.in_ok-set_place.ensures
-    c.in_ok-add_place.ensures c.in_ok-written.ensures c.in_ok-push.ensures.items (record { session_notes = refl; committed = refl; tables = refl; last = refl }) refl refl
+    write_goes c.args.places.now.at.items c.args.session c.in-Some.writer c.args.cell.now c.in_ok-at.at c.len-place.result c.args.value.now c.args.pass.now _
+    c.number_cell.new.cells c.in-Some.ensures (c.is_storable.ensures.0 c.if-not-is_storable.false) c.in_ok-at.ensures refl c.len-place.ensures c.in_ok-set_place.ensures
+    c.in_ok-add_place.ensures c.in_ok-push.ensures (record { session_notes = refl; committed = refl; tables = refl; last = refl; ends = refl }) refl refl

@@ -16,6 +16,7 @@ returns c = λ goes order events stands.
       pending = refl;
       names_are = refl;
       last = refl;
+      ends = refl;
       place = record {
         committed = refl;
         keys = refl;

@@ -12,6 +12,7 @@ returns c = λ goes order events stands.
       pending = refl;
       names_are = rw c.in_ok-copy.ensures at c.in_ok-push.ensures.items;
       last = refl;
+      ends = refl;
       place = record {
         committed = refl;
         keys = refl;

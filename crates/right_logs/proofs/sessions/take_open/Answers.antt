@@ -14,6 +14,7 @@ returns c = λ goes order events stands.
       pending = c.in_ok-push-2.ensures.items;
       names_are = refl;
       last = c.in_ok-push-3.ensures.items;
+      ends = refl;
       place = record {
         committed = refl;
         keys = refl;

@@ -19,4 +19,5 @@ returns c = λ goes order events stands.
       pending = refl;
       names_are = refl;
       last = refl;
+      ends = refl;
     }) stands

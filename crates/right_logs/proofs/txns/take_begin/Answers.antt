@@ -39,11 +39,15 @@ returns c = λ goes order events stands.
       top = c.limit_after-limit.ensures;
     })
     (record {
-      notes = record { names_are = refl; keys = refl; of_events = c.in_ok-note_place.ensures.number; values = c.in_ok-note_place.ensures.value; reads = refl };
+      notes = record { names_are = refl; keys = refl; of_events = c.in_ok-note_place.ensures.number; values = c.in_ok-note_place.ensures.value };
       session_notes = c.set_pending.ensures;
       pending = refl;
       committed = c.in_ok-note_begun.ensures.committed;
       cells = refl;
       last = c.set_last.ensures;
       limits = c.in_ok-note_begun.ensures.limits;
+      ended = c.in_ok-note_begin.ensures.ended;
+      upto = c.in_ok-note_begin.ensures.upto;
+      tops = rw c.in_ok-note_begin.ensures.tops refl;
+      reads = refl;
     }) stands

@@ -1,14 +1,18 @@
 use Rattle.std.proofs.Common.{refl, ◌∙◌}
 use Rattle.right_logs.proofs.Still.{session_in_place}
-use Rattle.right_logs.proofs.TxnLemmas.{pending_room, flag_room, notes_ascending, writes_within, writes_noted, commit_goes}
+use Rattle.right_logs.proofs.TxnLemmas.{pending_room, flag_room, limit_room, end_room, notes_ascending, writes_within, writes_noted, commit_goes}
 use Rattle.right_logs.proofs.txns.take_commit.Goals as goal
 
-pub places_in-requires-clause-some : goal.places_in-requires-clause-some
-places_in-requires-clause-some c =
+pub settled_from-open_reads-requires : goal.settled_from-open_reads-requires
+settled_from-open_reads-requires c =
+    limit_room c.args.places.now.at.items c.args.pass.now c.args.session c.in-Some.number c.requires.stands (rw c.deref.ensures.value at c.in-Some.ensures)
+
+pub places_in-writes-requires-clause-some : goal.places_in-writes-requires-clause-some
+places_in-writes-requires-clause-some c =
     (pending_room c.args.places.now.at.items c.args.pass.now c.args.session c.in-Some.number c.requires.stands (rw c.deref.ensures.value at c.in-Some.ensures)).0
 
-pub places_in-requires-clause-opened : goal.places_in-requires-clause-opened
-places_in-requires-clause-opened c =
+pub places_in-writes-requires-clause-opened : goal.places_in-writes-requires-clause-opened
+places_in-writes-requires-clause-opened c =
     rw c.deref-2.ensures.value
     (pending_room c.args.places.now.at.items c.args.pass.now c.args.session c.in-Some.number c.requires.stands (rw c.deref.ensures.value at c.in-Some.ensures)).1
 
@@ -17,13 +21,18 @@ note_all_committed-requires-clause-ascending c = notes_ascending c.args.places.n
 
 pub note_all_committed-requires-clause-numbered : goal.note_all_committed-requires-clause-numbered
 note_all_committed-requires-clause-numbered c =
-    writes_within c.args.places.now.at.items c.args.pass.now c.args.session c.places_in.result.now c.as_slice.result.now c.requires.stands
-    (rw c.deref-2.ensures.value at c.places_in.ensures) (c.as_slice.ensures.value ∙ c.in_ok-note_place.ensures.number)
+    writes_within c.args.places.now.at.items c.args.pass.now c.args.session c.places_in-writes.result.now c.as_slice-of_events.result.now c.requires.stands
+    (rw c.deref-2.ensures.value at c.places_in-writes.ensures) (c.as_slice-of_events.ensures.value ∙ c.in_ok-note_place.ensures.number)
 
 pub note_all_committed-requires-clause-within : goal.note_all_committed-requires-clause-within
 note_all_committed-requires-clause-within c =
-    writes_noted c.args.places.now.at.items c.args.pass.now c.args.session c.places_in.result.now c.as_slice.result.now c.requires.stands
-    (rw c.deref-2.ensures.value at c.places_in.ensures) (c.as_slice.ensures.value ∙ c.in_ok-note_place.ensures.number)
+    writes_noted c.args.places.now.at.items c.args.pass.now c.args.session c.places_in-writes.result.now c.as_slice-of_events.result.now c.requires.stands
+    (rw c.deref-2.ensures.value at c.places_in-writes.ensures) (c.as_slice-of_events.ensures.value ∙ c.in_ok-note_place.ensures.number)
+
+pub raise_tops-requires : goal.raise_tops-requires
+raise_tops-requires c =
+    writes_within c.args.places.now.at.items c.args.pass.now c.args.session c.places_in-writes.result.now c.as_slice-of_events.result.now c.requires.stands
+    (rw c.deref-2.ensures.value at c.places_in-writes.ensures) (c.as_slice-of_events.ensures.value ∙ c.in_ok-note_place.ensures.number)
 
 pub clear_pending-requires-clause-some : goal.clear_pending-requires-clause-some
 clear_pending-requires-clause-some c =
@@ -41,6 +50,14 @@ pub set_committed-requires-clause-begun : goal.set_committed-requires-clause-beg
 set_committed-requires-clause-begun c =
     (flag_room c.args.places.now.at.items c.args.pass.now c.args.session c.in-Some.number c.requires.stands (rw c.deref.ensures.value at c.in-Some.ensures)).1
 
+pub note_end-requires-clause-some : goal.note_end-requires-clause-some
+note_end-requires-clause-some c =
+    (end_room c.args.places.now.at.items c.args.pass.now c.args.session c.in-Some.number c.requires.stands (rw c.deref.ensures.value at c.in-Some.ensures)).0
+
+pub note_end-requires-clause-begun : goal.note_end-requires-clause-begun
+note_end-requires-clause-begun c =
+    (end_room c.args.places.now.at.items c.args.pass.now c.args.session c.in-Some.number c.requires.stands (rw c.deref.ensures.value at c.in-Some.ensures)).1
+
 pub set_pending-requires-clause-some : goal.set_pending-requires-clause-some
 set_pending-requires-clause-some c = (session_in_place c.args.pass.now.session_notes.items c.args.session c.in-Some.number (rw c.deref.ensures.value at c.in-Some.ensures)).0
 
@@ -49,14 +66,22 @@ set_pending-requires-clause-opened c = (session_in_place c.args.pass.now.session
 
 pub returns : goal.returns
 returns c = λ goes order events stands.
-    commit_goes order c.args.places.now.at.items events c.args.session c.in-Some.number c.places_in.result.now c.args.pass.now _
-    (rw c.deref.ensures.value at c.in-Some.ensures) (rw c.deref-2.ensures.value at c.places_in.ensures)
+    commit_goes order c.args.places.now.at.items events c.args.session c.in-Some.number c.places_in-writes.result.now c.args.pass.now _
+    (rw c.deref.ensures.value at c.in-Some.ensures) (rw c.deref-2.ensures.value at c.places_in-writes.ensures)
     (record {
-      notes = record { names_are = refl; keys = refl; of_events = c.in_ok-note_place.ensures.number; values = c.in_ok-note_place.ensures.value; reads = refl };
+      notes = record { names_are = refl; keys = refl; of_events = c.in_ok-note_place.ensures.number; values = c.in_ok-note_place.ensures.value };
       session_notes = c.set_pending.ensures;
       pending = c.clear_pending.ensures;
       committed = c.set_committed.ensures;
-      cells = rw c.as_slice.ensures.value at c.in_ok-note_all_committed.ensures;
+      cells = rw c.as_slice-of_events.ensures.value at c.in_ok-note_all_committed.ensures;
       last = refl;
       limits = refl;
+      middle = record { ended = c.args.pass.now.ends.ended; upto = c.args.pass.now.ends.upto; tops = c.raise_tops.new.tops };
+      middle_ended = refl;
+      middle_upto = refl;
+      tops = rw (c.as_slice-of_events.ensures.value, c.place_in-at.ensures, c.deref-3.ensures.value) at c.in_ok-raise_tops.ensures;
+      ends = c.note_end.ensures;
+      from = c.settled_from-open_reads.result;
+      settled = c.settled_from-open_reads.ensures;
+      reads = c.truncate.ensures.items;
     }) stands
