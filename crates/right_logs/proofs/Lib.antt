@@ -1,8 +1,10 @@
 pub mod AccessLemmas
 pub mod BeginLemmas
 pub mod Beginning
+pub mod EndLemmas
 pub mod MetLemmas
 pub mod SessionLemmas
+pub mod Settling
 pub mod Still
 pub mod Texts
 pub mod TxnLemmas

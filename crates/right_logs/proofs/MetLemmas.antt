@@ -44,8 +44,8 @@ AreKeptBelow places pass n = (k : ℕ) (note : ReadNote) → k < n → slice_get
 pub kept_none : (places : List ℕ) (pass : Pass) → AreKeptBelow places pass 0
 kept_none places pass k note below is = absurd (omega arith)
 
-pub kept_where_none : (places : List ℕ) (pass : Pass) → pass.reads.items ≡ [] → AreKeptBelow places pass (length pass.reads.items)
-kept_where_none places pass none k note below is = let there : slice_get [] k ≡ Some note = subst (λ (reads : List ReadNote). slice_get reads k ≡ Some note) none is in cc
+pub kept_where_none : (places : List ℕ) (pass : Pass) → length pass.reads.items ≡ 0 → AreKeptBelow places pass (length pass.reads.items)
+kept_where_none places pass none k note below is = absurd (omega arith)
 
 pub kept_more :
     (places : List ℕ) (pass : Pass) (n : ℕ) (last : ReadNote) → slice_get pass.reads.items n ≡ Some last → IsKept places pass last → AreKeptBelow places pass n →

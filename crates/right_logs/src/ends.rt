@@ -62,28 +62,46 @@ pub fn note_end(ends: &mut Ends, number: u32)
     ensures { NotesEnd number ends.old ends.new }
 {
     ends.ended[number as usize - 1] = true;
-    ends.upto = first_open(&ends.ended, ends.upto);
+    let upto = first_open(&ends.ended, ends.upto);
+    ends.upto = upto;
 }
 
 /// What stands at the number, 0 where nothing does.
 pub fn place_in(places: &[usize], number: u32) -> usize
     ensures { result ≡ slice_index places.now number }
 {
-    match places.get(number as usize) {
-        Some(place) => *place,
-        None => 0,
+    if number as usize >= places.len() {
+        return 0;
     }
+    places[number as usize]
+}
+
+/// Makes room for the top of the cell of the number. Where it had none it is 0.
+fn make_room(tops: &mut Vec<usize>, cell: u32) -> Result<(), Memory>
+    ensures within { OnOk result (cell < length tops.new.items) }
+    ensures same { OnOk result ((i : ℕ) → slice_index tops.new.items i ≡ slice_index tops.old.items i) }
+{
+    if (cell as usize) < tops.len() {
+        return Ok(());
+    }
+    tops.resize(cell as usize + 1, 0)?;
+    Ok(())
+}
+
+/// Raises the top of the cell of the number, which has one, to the place.
+fn raise(tops: &mut Vec<usize>, cell: u32, at: usize)
+    requires { cell < length tops.old.items }
+    ensures { RaisesTop cell at tops.old.items tops.new.items }
+{
+    tops[cell as usize] = tops[cell as usize].max(at);
 }
 
 /// Raises the top of the cell of the number to the place.
-fn raise_top(tops: &mut Vec<usize>, cell: usize, at: usize) -> Result<(), Memory>
-    requires { cell < 4294967296 }
+fn raise_top(tops: &mut Vec<usize>, cell: u32, at: usize) -> Result<(), Memory>
     ensures { OnOk result (RaisesTop cell at tops.old.items tops.new.items) }
 {
-    if cell >= tops.len() {
-        tops.resize(cell + 1, 0)?;
-    }
-    tops[cell] = tops[cell].max(at);
+    make_room(tops, cell)?;
+    raise(tops, cell, at);
     Ok(())
 }
 
@@ -98,7 +116,7 @@ pub fn raise_tops(
     ensures { OnOk result (RaisesTops of_events.now writes.now (length writes.now) at tops.old.items tops.new.items) }
 {
     for place in writes {
-        raise_top(tops, of_events[*place as usize] as usize, at)?;
+        raise_top(tops, of_events[*place as usize], at)?;
     }
     Ok(())
 }
@@ -117,13 +135,21 @@ fn is_kept_so_far(pass: &Pass, places: &Places, reader: u32, read: ReadNote) -> 
     place_in(&pass.ends.tops, read.cell) <= place_in(&places.at, read.source)
 }
 
+/// Whether all transactions up to the limit of this one have ended.
+fn past_has_ended(pass: &Pass, reader: u32) -> bool
+    requires { reader < length pass.now.limits.items }
+    ensures { IsTrue result → slice_index pass.now.limits.items reader ≤ pass.now.ends.upto }
+{
+    pass.limits[reader as usize] as usize <= pass.ends.upto
+}
+
 /// From which of the reads that are noted on all are of the transaction, and can't be broken any more once it has ended.
 pub fn settled_from(pass: &Pass, places: &Places, reader: u32) -> usize
     requires { reader < length pass.now.limits.items }
     ensures { AreKeptFrom places.now.at.items pass.now reader result }
 {
     let mut from = pass.reads.len();
-    if pass.limits[reader as usize] as usize > pass.ends.upto {
+    if !past_has_ended(pass, reader) {
         return from;
     }
     while from > 0 {

@@ -1,4 +1,5 @@
-use Rattle.std.proofs.Common.{◌≡◌, ℕ, length, refl, arith, subst}
+use Rattle.std.proofs.Common.{◌≡◌, ℕ, length, refl, arith, sym, ◌∙◌, subst}
+use Rattle.std.proofs.lemmas.Bool.{eqb-true}
 use Rattle.std.proofs.lemmas.Option.{slice_get_read}
 use Rattle.right_logs.proofs.MetLemmas.{AreKeptBelow, cells_ascend, cells_count, kept_none, kept_where_none, kept_more, meets_from_notes}
 use Rattle.right_logs.proofs.met.order_is_met.Goals as goal
@@ -6,7 +7,7 @@ use Rattle.right_logs.proofs.met.order_is_met.Goals as goal
 pub returns-then-is_empty : goal.returns-then-is_empty
 returns-then-is_empty c = λ met order events holds stands.
     meets_from_notes order c.args.places.now.at.items events c.args.pass.now (omega arith)
-    (kept_where_none c.args.places.now.at.items c.args.pass.now (c.is_empty.ensures.0 c.if-is_empty.true)) holds stands
+    (kept_where_none c.args.places.now.at.items c.args.pass.now (sym c.args.pass.now.reads.ok.0 ∙ eqb-true _ 0 (sym c.is_empty.ensures ∙ c.if-is_empty.true))) holds stands
 
 pub reaches_of-requires-clause-count : goal.reaches_of-requires-clause-count
 reaches_of-requires-clause-count c = cells_count c.args.places.now.at.items c.args.pass.now c.requires

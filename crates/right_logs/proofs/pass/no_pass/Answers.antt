@@ -14,5 +14,7 @@ returns c = λ order places placed. blank_stands order places _ placed (record {
   values = search rules;
   last = c.in_ok-push.ensures.items ∙ ap (λ (xs : List ℕ). xs ++ 0 ∷ []) c.new-last.ensures.items;
   limits = c.in_ok-push-2.ensures.items ∙ ap (λ (xs : List ℕ). xs ++ 0 ∷ []) c.new-limits.ensures.items;
+  ended = search rules;
+  upto = search rules;
   reads = search rules;
 })
