@@ -6,3 +6,4 @@ pub mod Draft
 pub mod Faults
 pub mod Rows
 pub mod Leading
+pub mod Short

@@ -106,12 +106,7 @@ pub fn after_byte(word: &[u8], byte: u8) -> Option<&[u8]>
 pub fn after_word<'a>(text: &'a [u8], word: &[u8]) -> Option<&'a [u8]>
     ensures { IfSome result (λ rest. text.now ≡ word.now ++ rest.now) }
 {
-    let mut rest = text;
-    for byte in word {
-        let after = after_byte(rest, *byte)?;
-        rest = after;
-    }
-    Some(rest)
+    text.strip_prefix(word)
 }
 
 /// The text: an `x` and lower-case hex digits of UTF-8.

@@ -5,6 +5,7 @@ pub mod EndLemmas
 pub mod MetLemmas
 pub mod SessionLemmas
 pub mod Settling
+pub mod ShortLemmas
 pub mod Still
 pub mod Texts
 pub mod TxnLemmas

@@ -4,31 +4,16 @@ ghost use Rattle.right_logs.specs.Passes.{Goes, Stands, StandsFor};
 ghost use Rattle.right_logs.specs.Endings.{IsFirstEvent, IsTaken, AreTaken};
 
 use crate::pass::Pass;
-use crate::take::take;
+use crate::take::{take, take_short};
 use cell_base::{Level, Memory};
 use held_values::without;
 use history_core::Event;
-use history_log::{Misread, Version, first_part, leading_begin, leading_event, read_event};
+use history_log::{Misread, Version, first_part, leading_begin, leading_short, read_event};
 use order_test::Places;
 use std::alloc::Global;
 
 /// The event whose line the text begins with, and what stands after its line feed. `None` says nothing of the text.
 fn next_event(
-    alloc: Global,
-    version: Version,
-    level: Level,
-    text: &[u8],
-) -> Result<Option<(Event, &[u8])>, Memory>
-    ensures { IfOk result (λ found. IfSome found (λ x. IsFirstEvent version level text.now x.0 x.1.now)) }
-{
-    match leading_event(text) {
-        Some(read) => Ok(Some(read)),
-        None => other_event(alloc, version, level, text),
-    }
-}
-
-/// The same, where the text may begin with a begin.
-fn other_event(
     alloc: Global,
     version: Version,
     level: Level,
@@ -72,6 +57,25 @@ fn take_over(pass: &mut Pass, places: &Places, event: Event) -> Result<bool, Mem
 
 /// Takes the event whose line the text begins with. Gives what stands after its line feed. `None` says nothing of the text.
 fn take_first<'a>(
+    alloc: Global,
+    version: Version,
+    level: Level,
+    pass: &mut Pass,
+    places: &Places,
+    text: &'a [u8],
+) -> Result<Option<&'a [u8]>, Memory>
+    requires { Stands places.now.at.items pass.old }
+    ensures { IfOk result (λ found. IfSome found (λ rest. IsTaken version level places.now.at.items text.now rest.now pass.old pass.new)) }
+{
+    let Some((short, rest)) = leading_short(text) else {
+        return take_other(alloc, version, level, pass, places, text);
+    };
+    let goes = take_short(pass, places, short)?;
+    if goes { Ok(Some(rest)) } else { Ok(None) }
+}
+
+/// The same, where the event isn't one of few digits.
+fn take_other<'a>(
     alloc: Global,
     version: Version,
     level: Level,

@@ -1,5 +1,6 @@
 // One event.
-ghost use Rattle.std.specs.Prelude.{IsTrue, IfOk};
+ghost use Rattle.std.specs.Prelude.{◌<◌, IsTrue, IfOk, length};
+ghost use Rattle.history_log.specs.Short.{short_cell, short_value, short_event};
 ghost use Rattle.right_logs.specs.Passes.{Goes, Stands};
 
 use crate::accesses::{take_own, take_read, take_write};
@@ -8,7 +9,9 @@ use crate::places::has_room;
 use crate::sessions::{take_close, take_define, take_look, take_open, take_show};
 use crate::txns::{take_begin, take_commit, take_rollback};
 use cell_base::Memory;
+use held_values::without;
 use history_core::Event;
+use history_log::{ShortCell, ShortEvent, ShortValue};
 use order_test::Places;
 
 /// Takes the next event, where the pass shows that it is right. A scan never is.
@@ -48,4 +51,101 @@ pub fn take(pass: &mut Pass, places: &Places, event: &Event) -> Result<bool, Mem
         Event::Show { session, number } => take_show(pass, places, *session, *number),
         Event::Scan { .. } => Ok(false),
     }
+}
+
+/// Takes the next event, which is of few digits, where the pass shows that it is right.
+pub fn take_short(pass: &mut Pass, places: &Places, event: ShortEvent) -> Result<bool, Memory>
+    requires { Stands places.now.at.items pass.old }
+    ensures { IfOk result (λ goes. IsTrue goes → Goes places.now.at.items (short_event event) pass.old pass.new) }
+{
+    if !has_room(&pass.values) {
+        return Ok(false);
+    }
+    match event {
+        ShortEvent::Read {
+            session,
+            cell,
+            source,
+            count,
+            word,
+            value,
+        } => take_short_read(pass, places, session, cell, source, count, word, value),
+        ShortEvent::Write {
+            session,
+            cell,
+            value,
+        } => take_short_write(pass, places, session, cell, value),
+        ShortEvent::Own {
+            session,
+            cell,
+            value,
+        } => take_short_own(pass, places, session, cell, value),
+        ShortEvent::Commit { session } => take_commit(pass, places, session),
+    }
+}
+
+/// Takes an external read of few digits.
+fn take_short_read(
+    pass: &mut Pass,
+    places: &Places,
+    session: u32,
+    cell: ShortCell,
+    source: u32,
+    count: u32,
+    word: u32,
+    value: ShortValue,
+) -> Result<bool, Memory>
+    requires stands { Stands places.now.at.items pass.old }
+    requires few { length pass.old.values < 4294967295 }
+    ensures { IfOk result (λ goes. IsTrue goes → Goes places.now.at.items (Event.Read session (short_cell cell) source count word (short_value value)) pass.old pass.new) }
+{
+    let whole_cell = cell.cell();
+    let whole_value = value.value();
+    let goes = take_read(
+        pass,
+        places,
+        session,
+        &whole_cell,
+        source,
+        count,
+        word,
+        &whole_value,
+    );
+    without((whole_cell, whole_value), goes)
+}
+
+/// Takes a write of few digits.
+fn take_short_write(
+    pass: &mut Pass,
+    places: &Places,
+    session: u32,
+    cell: ShortCell,
+    value: ShortValue,
+) -> Result<bool, Memory>
+    requires stands { Stands places.now.at.items pass.old }
+    requires few { length pass.old.values < 4294967295 }
+    ensures { IfOk result (λ goes. IsTrue goes → Goes places.now.at.items (Event.Write session (short_cell cell) (short_value value)) pass.old pass.new) }
+{
+    let whole_cell = cell.cell();
+    let whole_value = value.value();
+    let goes = take_write(pass, places, session, &whole_cell, &whole_value);
+    without((whole_cell, whole_value), goes)
+}
+
+/// Takes an internal read of few digits.
+fn take_short_own(
+    pass: &mut Pass,
+    places: &Places,
+    session: u32,
+    cell: ShortCell,
+    value: ShortValue,
+) -> Result<bool, Memory>
+    requires stands { Stands places.now.at.items pass.old }
+    requires few { length pass.old.values < 4294967295 }
+    ensures { IfOk result (λ goes. IsTrue goes → Goes places.now.at.items (Event.Own session (short_cell cell) (short_value value)) pass.old pass.new) }
+{
+    let whole_cell = cell.cell();
+    let whole_value = value.value();
+    let goes = take_own(pass, places, session, &whole_cell, &whole_value);
+    without((whole_cell, whole_value), goes)
 }

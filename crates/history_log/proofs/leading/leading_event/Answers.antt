@@ -1,16 +1,7 @@
-use Rattle.std.proofs.Common.{ℕ, List, sym, subst}
-use Rattle.std.specs.Prelude.{IfSome}
+use Rattle.std.proofs.Common.{sym, subst}
+use Rattle.history_core.specs.declared.event.Event.{Event}
 use Rattle.history_log.specs.Leading.{IsLeading}
 use Rattle.history_log.proofs.leading.leading_event.Goals as goal
 
-pub returns-in-Some : goal.returns-in-Some
-returns-in-Some c = subst (λ (t : List ℕ). IfSome c.leading_read.result (λ x. IsLeading x.0 t x.1.now)) (sym c.in-Some.ensures) c.leading_read.ensures
-
-pub returns-in-Some-after_word : goal.returns-in-Some-after_word
-returns-in-Some-after_word c = subst (λ (t : List ℕ). IfSome c.leading_write.result (λ x. IsLeading x.0 t x.1.now)) (sym c.in-Some-after_word.ensures) c.leading_write.ensures
-
-pub returns-in-Some-after_word-2 : goal.returns-in-Some-after_word-2
-returns-in-Some-after_word-2 c = subst (λ (t : List ℕ). IfSome c.leading_own.result (λ x. IsLeading x.0 t x.1.now)) (sym c.in-Some-after_word-2.ensures) c.leading_own.ensures
-
 pub returns : goal.returns
-returns c = subst (λ (t : List ℕ). IfSome c.leading_commit.result (λ x. IsLeading x.0 t x.1.now)) (sym c.in_ok-rest.ensures) c.leading_commit.ensures
+returns c = subst (λ (event : Event). IsLeading event c.args.text.now c.in_ok-short.rest.now) (sym c.event.ensures) c.in_ok-short.ensures
