@@ -1,6 +1,6 @@
 -- What events at the front of a text are made of.
-use Rattle.std.proofs.Common.{◌≡◌, ◌≢◌, refl, ℕ, ◌+◌, true, false, List, ◌∷◌, ◌++◌, length, take, drop, take-append-drop, Option, Some, None, MatchOption, IfSome, Bor, bytes_eq, decimal, sym, ap, ◌∙◌, append_assoc}
-use Rattle.std.proofs.lemmas.Slice.Eq.{bytes_eq-Decides}
+use Rattle.std.proofs.Common.{◌≡◌, ◌≢◌, refl, ℕ, ◌+◌, ◌<◌, ◌≤◌, List, [], ◌∷◌, ◌++◌, length, get_or, take, decimal, sym, ap, ◌∙◌, append_assoc}
+use Rattle.std.proofs.lemmas.List.{take_more, take_all}
 use Rattle.std.specs.Prelude.{codes}
 use Rattle.cell_base.specs.declared.cell.Cell.{Cell}
 use Rattle.cell_base.specs.declared.level.Level.{Level}
@@ -12,15 +12,15 @@ use Rattle.history_log.specs.Spelling.{cell_word, value_word, level_word}
 use Rattle.history_log.specs.Reading.{IsU32, FitsCell, FitsValue}
 use Rattle.history_log.specs.Leading.{IsLeading, IsLeadingIn}
 
--- what is left of a text without the word that it begins with stands after the word
-pub word_stripped : (text word : List ℕ) (r : Option (Bor (List ℕ)))
-    → MatchOption r (bytes_eq (take (length word) text) word ≡ false) (λ x. (bytes_eq (take (length word) text) word ≡ true) × (x.now ≡ drop (length word) text) × (length x.now + length word ≡ length text))
-    → IfSome r (λ rest. text ≡ word ++ rest.now)
-word_stripped text word None cut = tt
-word_stripped text word (Some rest) cut =
-    sym (take-append-drop (length word) text)
-    ∙ ap (λ (front : List ℕ). front ++ drop (length word) text) ((bytes_eq-Decides (take (length word) text) word).0 cut.0)
-    ∙ ap (λ (t : List ℕ). word ++ t) (sym cut.1)
+-- a text begins with a word as far as its letters have been found
+
+pub word_more : (text word : List ℕ) (at : ℕ) (rest after : List ℕ) → at < length word → text ≡ take at word ++ rest → rest ≡ get_or word at 0 ∷ after → text ≡ take (at + 1) word ++ after
+word_more text word at rest after within is next =
+    is ∙ ap (λ (t : List ℕ). take at word ++ t) next ∙ sym (append_assoc (take at word) (get_or word at 0 ∷ []) after)
+    ∙ ap (λ (t : List ℕ). t ++ after) (sym (take_more word at 0 within))
+
+pub word_whole : (text word : List ℕ) (at : ℕ) (rest : List ℕ) → length word ≤ at → text ≡ take at word ++ rest → text ≡ word ++ rest
+word_whole text word at rest end is = is ∙ ap (λ (t : List ℕ). t ++ rest) (take_all at word end)
 
 -- what stands after the last word of a line stands after the line
 joined : (word words rest text : List ℕ) → text ≡ words ++ rest → word ++ 32 ∷ text ≡ (word ++ 32 ∷ words) ++ rest

@@ -106,7 +106,12 @@ pub fn after_byte(word: &[u8], byte: u8) -> Option<&[u8]>
 pub fn after_word<'a>(text: &'a [u8], word: &[u8]) -> Option<&'a [u8]>
     ensures { IfSome result (λ rest. text.now ≡ word.now ++ rest.now) }
 {
-    text.strip_prefix(word)
+    let mut rest = text;
+    for byte in word {
+        let after = after_byte(rest, *byte)?;
+        rest = after;
+    }
+    Some(rest)
 }
 
 /// The text: an `x` and lower-case hex digits of UTF-8.
