@@ -19,7 +19,7 @@ goes_as places event other old new given result is same taken =
     (subst (λ (e : Event). IfOk given (λ goes. IsTrue goes → Goes places e old new)) is taken)
 
 module _ (places : List ℕ) (s : ℕ) (short : ShortCell) (cell : Cell) (few : ShortValue) (value : Value) (old new : Pass) (given result : Result Bool Memory)
-  (cell_is : cell ≡ short_cell short) (value_is : value ≡ short_value few) (same : result ≡ given) where
+    (cell_is : cell ≡ short_cell short) (value_is : value ≡ short_value few) (same : result ≡ given) where
   pub short_read : (source count word : ℕ) → IfOk given (λ goes. IsTrue goes → Goes places (Read s cell source count word value) old new)
       → IfOk result (λ goes. IsTrue goes → Goes places (Read s (short_cell short) source count word (short_value few)) old new)
   short_read source count word =
