@@ -3,6 +3,7 @@ pub mod BeginLemmas
 pub mod Beginning
 pub mod EndLemmas
 pub mod MetLemmas
+pub mod NotedLemmas
 pub mod SessionLemmas
 pub mod Settling
 pub mod ShortLemmas

@@ -1,5 +1,5 @@
 -- What the noted values mean.
-use Rattle.std.specs.Prelude.{◌≡◌, ◌<◌, ◌≤◌, ℕ, pos, Some, List, map, length, slice_get, slice_index_or}
+use Rattle.std.specs.Prelude.{◌≡◌, ◌<◌, ◌≤◌, ◌^◌, ℕ, ℤ, pos, negsuc, nat_lt, if◌then◌else◌, Some, None, Option, List, map, length, slice_get, slice_index_or}
 use Rattle.cell_base.specs.declared.value.Value.{Value}
 use Rattle.cell_base.specs.declared.value.Value.TheVariants as values
 use Rattle.right_logs.specs.declared.noted_values.NotedValue.{NotedValue}
@@ -20,3 +20,17 @@ values_in apart noted = map (means apart) noted
 pub record AreApart (apart : List Value) (noted : List NotedValue) : Type 0 where
   pub few : length apart ≤ length noted
   pub within : (k number : ℕ) → slice_get noted k ≡ Some (notes.Apart number) → number < length apart
+
+-- the note of an integer, where it is short
+abbrev pub short_number : ℤ → Option NotedValue
+short_number (pos n) = if nat_lt n (2 ^ 32) then Some (notes.Short n) else None
+short_number (negsuc n) = None
+
+-- the note of the value, where it needn't be kept apart
+abbrev pub short_of : Value → Option NotedValue
+short_of values.Unset = Some notes.Unset
+short_of values.Null = Some notes.Null
+short_of (values.Flag flag) = Some (notes.Flag flag)
+short_of (values.Int n) = short_number n
+short_of (values.Wide n) = None
+short_of (values.Text text) = None

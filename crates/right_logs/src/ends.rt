@@ -35,7 +35,7 @@ pub fn no_ends(alloc: Global) -> Ends
 pub fn note_begin(ends: &mut Ends) -> Result<(), Memory>
     ensures ended { OnOk result (ends.new.ended.items ≡ ends.old.ended.items ++ false ∷ []) }
     ensures upto { OnOk result (ends.new.upto ≡ ends.old.upto) }
-    ensures tops { OnOk result (ends.new.tops ≡ ends.old.tops) }
+    ensures tops { OnOk result (ends.new.tops.items ≡ ends.old.tops.items) }
 {
     ends.ended.push(false)?;
     Ok(())

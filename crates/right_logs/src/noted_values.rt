@@ -1,7 +1,6 @@
 // The values of events, in little room.
-ghost use Rattle.std.specs.Prelude.{◌≡◌, ◌≢◌, ◌<◌, ◌∷◌, ◌++◌, [], ℕ, List, pos, Some, OnOk, IfOk, IfSome, IsTrue, length, slice_get};
-ghost use Rattle.cell_base.specs.declared.value.Value.{Value as ValueOf};
-ghost use Rattle.right_logs.specs.NotedValues.{means};
+ghost use Rattle.std.specs.Prelude.{◌≡◌, ◌<◌, ◌∷◌, ◌++◌, [], pos, Some, OnOk, OnErr, IfOk, IsTrue, length, slice_get, slice_set};
+ghost use Rattle.right_logs.specs.NotedValues.{means, values_in, AreApart, short_number, short_of};
 
 use cell_base::{Memory, Value};
 use std::alloc::Global;
@@ -45,10 +44,11 @@ impl NotedValues {
         ensures { IfOk result (λ values. values ≡ []) }
     {
         let notes = Vec::with_capacity(alloc, room)?;
+        let apart = Vec::new(alloc);
         Ok(NotedValues {
             alloc,
             notes,
-            apart: Vec::new(alloc),
+            apart,
         })
     }
 
@@ -72,43 +72,79 @@ impl NotedValues {
         requires { length self.old < 4294967295 }
         ensures { OnOk result (self.new ≡ self.old ++ value.now ∷ []) }
     {
-        match short(value) {
-            Some(note) => {
-                self.notes.push(note)?;
-                Ok(())
-            }
-            None => self.push_apart(value),
-        }
-    }
-
-    /// The same of one that is kept apart.
-    fn push_apart(&mut self, value: &Value) -> Result<(), Memory>
-        requires { length self.old < 4294967295 }
-        ensures { OnOk result (self.new ≡ self.old ++ value.now ∷ []) }
-    {
-        let number = self.apart.len() as u32;
-        let copy = value.copy(self.alloc)?;
-        let last = self.notes.len();
-        self.notes.push(NotedValue::Unset)?;
-        self.apart.push(copy)?;
-        self.notes[last] = NotedValue::Apart(number);
-        Ok(())
+        note_value(self.alloc, &mut self.notes, &mut self.apart, value)
     }
 
     /// Whether the value stands at the place.
     pub fn holds(&self, place: u32, value: &Value) -> bool
         ensures { IsTrue result → slice_get self.now place ≡ Some value.now }
     {
-        match self.notes.get(place as usize) {
-            Some(note) => is_value(&self.apart, *note, value),
-            None => false,
-        }
+        stands_at(&self.apart, &self.notes, place, value)
     }
+}
+
+/// Notes the value after the others.
+fn note_value(
+    alloc: Global,
+    notes: &mut Vec<NotedValue>,
+    apart: &mut Vec<Value>,
+    value: &Value,
+) -> Result<(), Memory>
+    requires held { AreApart apart.old.items notes.old.items }
+    requires few { length notes.old.items < 4294967295 }
+    ensures held { AreApart apart.new.items notes.new.items }
+    ensures ok { OnOk result (values_in apart.new.items notes.new.items ≡ values_in apart.old.items notes.old.items ++ value.now ∷ []) }
+{
+    match short(value) {
+        Some(note) => {
+            notes.push(note)?;
+            Ok(())
+        }
+        None => note_apart(alloc, notes, apart, value),
+    }
+}
+
+/// The same of one that is kept apart. Its note stands for no value until the copy is there.
+fn note_apart(
+    alloc: Global,
+    notes: &mut Vec<NotedValue>,
+    apart: &mut Vec<Value>,
+    value: &Value,
+) -> Result<(), Memory>
+    requires held { AreApart apart.old.items notes.old.items }
+    requires few { length notes.old.items < 4294967295 }
+    ensures held { AreApart apart.new.items notes.new.items }
+    ensures ok { OnOk result (values_in apart.new.items notes.new.items ≡ values_in apart.old.items notes.old.items ++ value.now ∷ []) }
+{
+    let number = apart.len() as u32;
+    let last = notes.len();
+    notes.push(NotedValue::Unset)?;
+    keep_apart(alloc, apart, value)?;
+    put_number(notes, last, number);
+    Ok(())
+}
+
+/// Keeps a copy of the value after those that are kept apart. Out of memory nothing changes.
+fn keep_apart(alloc: Global, apart: &mut Vec<Value>, value: &Value) -> Result<(), Memory>
+    ensures ok { OnOk result (apart.new.items ≡ apart.old.items ++ value.now ∷ []) }
+    ensures err { OnErr result (apart.new.items ≡ apart.old.items) }
+{
+    let copy = value.copy(alloc)?;
+    apart.push(copy)?;
+    Ok(())
+}
+
+/// Makes the note at the place that of the value of the number.
+fn put_number(notes: &mut Vec<NotedValue>, place: usize, number: u32)
+    requires { place < length notes.old.items }
+    ensures { notes.new.items ≡ slice_set notes.old.items place (NotedValue.Apart number) }
+{
+    notes[place] = NotedValue::Apart(number);
 }
 
 /// The note of an integer, where it is short.
 fn short_integer(number: i64) -> Option<NotedValue>
-    ensures { IfSome result (λ note. ((apart : List ValueOf) → means apart note ≡ Value.Int number) × ((n : ℕ) → note ≢ NotedValue.Apart n)) }
+    ensures { result ≡ short_number number }
 {
     match u32::try_from(number) {
         Ok(short) => Some(NotedValue::Short(short)),
@@ -118,7 +154,7 @@ fn short_integer(number: i64) -> Option<NotedValue>
 
 /// The note of the value, where it needn't be kept apart.
 fn short(value: &Value) -> Option<NotedValue>
-    ensures { IfSome result (λ note. ((apart : List ValueOf) → means apart note ≡ value.now) × ((number : ℕ) → note ≢ NotedValue.Apart number)) }
+    ensures { result ≡ short_of value.now }
 {
     match value {
         Value::Unset => Some(NotedValue::Unset),
@@ -130,13 +166,13 @@ fn short(value: &Value) -> Option<NotedValue>
     }
 }
 
-/// Whether the value is the integer.
-fn is_integer(value: &Value, number: u32) -> bool
-    ensures { IsTrue result → value.now ≡ Value.Int (pos number) }
+/// Whether the note at the place is that of the value.
+fn stands_at(apart: &[Value], notes: &[NotedValue], place: u32, value: &Value) -> bool
+    ensures { IsTrue result → slice_get (values_in apart.now notes.now) place ≡ Some value.now }
 {
-    match value {
-        Value::Int(other) => *other == number as i64,
-        _ => false,
+    match notes.get(place as usize) {
+        Some(note) => is_value(apart, *note, value),
+        None => false,
     }
 }
 
@@ -145,20 +181,55 @@ fn is_value(apart: &[Value], note: NotedValue, value: &Value) -> bool
     ensures { IsTrue result → means apart.now note ≡ value.now }
 {
     match note {
-        NotedValue::Unset => matches!(value, Value::Unset),
-        NotedValue::Null => matches!(value, Value::Null),
+        NotedValue::Unset => is_unset(value),
+        NotedValue::Null => is_null(value),
         NotedValue::Flag(flag) => is_flag(value, flag),
         NotedValue::Short(number) => is_integer(value, number),
         NotedValue::Apart(number) => is_apart(apart, number, value),
     }
 }
 
+/// Whether there is no value.
+fn is_unset(value: &Value) -> bool
+    ensures { IsTrue result → value.now ≡ Value.Unset }
+{
+    matches!(value, Value::Unset)
+}
+
+/// Whether the value is null.
+fn is_null(value: &Value) -> bool
+    ensures { IsTrue result → value.now ≡ Value.Null }
+{
+    matches!(value, Value::Null)
+}
+
 /// Whether the value is the flag.
 fn is_flag(value: &Value, flag: bool) -> bool
     ensures { IsTrue result → value.now ≡ Value.Flag flag }
 {
-    match value {
-        Value::Flag(other) => *other == flag,
+    if flag {
+        matches!(value, Value::Flag(true))
+    } else {
+        matches!(value, Value::Flag(false))
+    }
+}
+
+/// Whether the value is the integer.
+fn is_integer(value: &Value, number: u32) -> bool
+    ensures { IsTrue result → value.now ≡ Value.Int (pos number) }
+{
+    match short(value) {
+        Some(note) => is_short(note, number),
+        None => false,
+    }
+}
+
+/// Whether the note is that of the integer.
+fn is_short(note: NotedValue, number: u32) -> bool
+    ensures { IsTrue result → note ≡ NotedValue.Short number }
+{
+    match note {
+        NotedValue::Short(own) => own == number,
         _ => false,
     }
 }

@@ -48,6 +48,6 @@ returns c = λ goes order events stands.
       limits = c.in_ok-note_begun.ensures.limits;
       ended = c.in_ok-note_begin.ensures.ended;
       upto = c.in_ok-note_begin.ensures.upto;
-      tops = rw c.in_ok-note_begin.ensures.tops refl;
+      tops = c.in_ok-note_begin.ensures.tops;
       reads = refl;
     }) stands
