@@ -168,3 +168,63 @@ fn orders_of_which_the_pass_is_not_sure(rt: HostRuntime) -> Result<(), Fail> {
     are_told(rt.alloc(), FRACTURED, "judged", OF_FRACTURED)?;
     are_told(rt.alloc(), CHAIN, "judged", OF_CHAIN)
 }
+
+// Transaction 1 begins first and writes after 2, which found nothing, has committed; then 3 reads from 1.
+const BESIDE: &str = "\
+monkey-log 2 cc
+open 1
+define 1 x74
+open 2
+begin 1 cc
+begin 2 cc
+read 2 f.0.1.1 0 1 0 unset
+commit 2
+write 1 f.0.1.1 1
+commit 1
+begin 2 cc
+read 2 f.0.1.1 1 2 1 1
+commit 2
+order 0 1 2 3
+end
+";
+
+// Where 3 finds nothing either, only the records show that 1 isn't in its past, since 2 is. In the row before, the order has 3 before its source.
+const OF_BESIDE: &str = r"
+order 0 1 2 3 | order 0 2 1 3 => right
+commit 2 | rollback 2 => right
+order 0 1 2 3 | order 0 2 3 1 => judged
+read 2 f.0.1.1 1 2 1 1 | read 2 f.0.1.1 0 2 1 unset => judged
+";
+
+// Each transaction reads what the last one wrote, and writes the next value.
+const COUNTED: &str = "\
+monkey-log 2 ra
+open 1
+define 1 x74
+open 2
+begin 1 ra
+read 1 f.0.1.1 0 1 0 unset
+write 1 f.0.1.1 1
+commit 1
+begin 2 ra
+read 2 f.0.1.1 1 2 0 1
+write 2 f.0.1.1 2
+commit 2
+begin 1 ra
+read 1 f.0.1.1 2 3 0 2
+write 1 f.0.1.1 3
+commit 1
+order 0 1 2 3
+end
+";
+
+const OF_COUNTED: &str = r"
+order 0 1 2 3 | order 0 2 1 3 => judged
+order 0 1 2 3 | order 0 1 3 2 => judged
+";
+
+#[test]
+fn reads_that_are_forgotten(rt: HostRuntime) -> Result<(), Fail> {
+    are_told(rt.alloc(), BESIDE, "right", OF_BESIDE)?;
+    are_told(rt.alloc(), COUNTED, "right", OF_COUNTED)
+}

@@ -107,7 +107,7 @@ raises_more of_events writes n at place old mid new is before raises = record {
 
 -- ---- the reads that are noted last
 
--- none stands behind the end
+-- none stands after the end
 pub kept_none : (places : List ℕ) (pass : Pass) (reader from : ℕ) → length pass.reads.items ≤ from → AreKeptFrom places pass reader from
 kept_none places pass reader from past k note low is = let within = slice_get_within pass.reads.items k note is in absurd (omega arith)
 
