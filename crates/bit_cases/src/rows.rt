@@ -172,31 +172,31 @@ fn worked_row(rt: HostRuntime) -> Result<(), Fail> {
     play(rt.alloc(), LAST, &[Step::Meets(WORKED, true)])
 }
 
-const SHORT: Bits = &[3, 2_047];
+const ONE_BLOCK: Bits = &[3, 2_047];
 
-const LONGER: Bits = &[3, 2_048];
+const TWO_BLOCKS: Bits = &[3, 2_048];
 
 const WHOLE: Bits = &[2_048, 65_535];
 
 const LENGTHS: &[Step] = &[
     Step::Read(0, [false, false, false, false]),
-    Step::Or(SHORT),
+    Step::Or(ONE_BLOCK),
     Step::Read(2, [true, true, false, false]),
     Step::Or(WHOLE),
     Step::Read(4, [true, true, true, true]),
-    Step::Or(LONGER),
+    Step::Or(TWO_BLOCKS),
     Step::Read(4, [true, true, true, true]),
     Step::Or(EMPTY),
     Step::Read(4, [true, true, true, true]),
-    Step::Copy(SHORT),
+    Step::Copy(ONE_BLOCK),
     Step::Read(2, [true, true, false, false]),
     Step::Copy(WHOLE),
     Step::Read(2, [false, false, true, true]),
-    Step::Copy(LONGER),
+    Step::Copy(TWO_BLOCKS),
     Step::Read(2, [true, false, true, false]),
     Step::Copy(EMPTY),
     Step::Read(0, [false, false, false, false]),
-    Step::Copy(LONGER),
+    Step::Copy(TWO_BLOCKS),
     Step::Read(2, [true, false, true, false]),
     Step::Set(65_535),
     Step::Read(3, [true, false, true, true]),
@@ -210,24 +210,24 @@ fn lengths(rt: HostRuntime) -> Result<(), Fail> {
 }
 
 const OF_WHOLE: &[Step] = &[
-    Step::Meets(SHORT, false),
-    Step::Meets(LONGER, true),
-    Step::AndAny(LONGER, WHOLE, true),
-    Step::AndAny(LONGER, SHORT, false),
+    Step::Meets(ONE_BLOCK, false),
+    Step::Meets(TWO_BLOCKS, true),
+    Step::AndAny(TWO_BLOCKS, WHOLE, true),
+    Step::AndAny(TWO_BLOCKS, ONE_BLOCK, false),
 ];
 
 const EACH_NUMBER: &[Step] = &[
     Step::SetAll,
     Step::Read(65_536, [true, true, true, true]),
-    Step::Copy(SHORT),
+    Step::Copy(ONE_BLOCK),
     Step::Read(2, [true, true, false, false]),
 ];
 
 /// Common members of rows of unlike lengths, and a row that has each number.
 #[test]
 fn unlike_lengths_meet(rt: HostRuntime) -> Result<(), Fail> {
-    play(rt.alloc(), SHORT, &[Step::Meets(WHOLE, false)])?;
-    play(rt.alloc(), LONGER, &[Step::Meets(WHOLE, true)])?;
+    play(rt.alloc(), ONE_BLOCK, &[Step::Meets(WHOLE, false)])?;
+    play(rt.alloc(), TWO_BLOCKS, &[Step::Meets(WHOLE, true)])?;
     play(rt.alloc(), WHOLE, OF_WHOLE)?;
     play(rt.alloc(), EMPTY, EACH_NUMBER)
 }

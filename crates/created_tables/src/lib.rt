@@ -28,7 +28,7 @@ pub fn table_of(alloc: Global, text: &[u8]) -> Result<Table, Memory>
 }
 
 fn table_of_text(alloc: Global, text: &Text) -> Result<Table, Memory>
-    requires short { length text.now < 2 ^ 32 }
+    requires within { length text.now < 2 ^ 32 }
     requires plain { HasNoZero text.now }
     ensures { IfOk result IsSound }
 {

@@ -160,11 +160,11 @@ bad_head bytes text after e lacks fails =
       heads e = cc
 
 pub whole_fault : (bytes : List ℕ) (parts : List (List ℕ)) (fault : LogFault) → HasFewBytes bytes → cut_at 10 bytes ≡ parts → HasLineFault parts fault → HasFault bytes fault
-whole_fault bytes parts faults.TooLong short e has = absurd has
-whole_fault bytes parts faults.Version short e has = absurd has
-whole_fault bytes parts (faults.Line n) short e has = (short, has.0, subst (λ (z : List (List ℕ)). IsBadLine z n) (sym e) has.1)
-whole_fault bytes parts faults.Cut short e has = (short, subst (λ (z : List (List ℕ)). IsCutShort z) (sym e) has)
-whole_fault bytes parts faults.Memory short e has = has
+whole_fault bytes parts faults.TooLong within e has = absurd has
+whole_fault bytes parts faults.Version within e has = absurd has
+whole_fault bytes parts (faults.Line n) within e has = (within, has.0, subst (λ (z : List (List ℕ)). IsBadLine z n) (sym e) has.1)
+whole_fault bytes parts faults.Cut within e has = (within, subst (λ (z : List (List ℕ)). IsCutShort z) (sym e) has)
+whole_fault bytes parts faults.Memory within e has = has
 
 -- what was read has no wide value
 

@@ -151,8 +151,8 @@ not_whole d right unfinished v t says e = by d.place refl where
   by Body at = let s = goes d right [] whole in
       empty s.more_rows s.more_events s.order (s.goes ∙ ap (λ (p : Place). ending p d.trace.order ++ []) at)
   by End at = let s = goes d right [] whole in
-      short (past_order d.version d.trace.level d.trace.order right.order [] s.more_rows s.more_events s.order s.rows_fit s.events_fit
+      no_line (past_order d.version d.trace.level d.trace.order right.order [] s.more_rows s.more_events s.order s.rows_fit s.events_fit
       (s.goes ∙ ap (λ (p : Place). ending p d.trace.order ++ []) at)) where
-        short : {a : List ℕ} → [] ≡ a ∷ [] → ⊥
-        short e = cc
+        no_line : {a : List ℕ} → [] ≡ a ∷ [] → ⊥
+        no_line e = cc
   by Done at = unfinished at

@@ -126,22 +126,22 @@ no_bad_line v t parts n says e bad =
     bad.stops (record { version = v; trace = t; more = bad.more; says = says; goes = s.0 ∙ sym (append_assoc bad.before (bad.text ∷ []) bad.more) })
 
 no_fault : (v : Version) (t : Trace) (bytes : List ℕ) (fault : LogFault) → IsLog v t bytes → length bytes ≤ 268435456 → HasFault bytes fault → ⊥
-no_fault v t bytes faults.TooLong is short has = omega arith
-no_fault v t bytes faults.Version is short has = no_bad_line v t (cut_at 10 bytes) 1 is.says (log_cut v t bytes is) has.1
-no_fault v t bytes (faults.Line n) is short has = no_bad_line v t (cut_at 10 bytes) n is.says (log_cut v t bytes is) has.2
-no_fault v t bytes faults.Cut is short has = has.1.no_log v t is.says (log_cut v t bytes is)
-no_fault v t bytes faults.Memory is short has = has
+no_fault v t bytes faults.TooLong is within has = omega arith
+no_fault v t bytes faults.Version is within has = no_bad_line v t (cut_at 10 bytes) 1 is.says (log_cut v t bytes is) has.1
+no_fault v t bytes (faults.Line n) is within has = no_bad_line v t (cut_at 10 bytes) n is.says (log_cut v t bytes is) has.2
+no_fault v t bytes faults.Cut is within has = has.1.no_log v t is.says (log_cut v t bytes is)
+no_fault v t bytes faults.Memory is within has = has
 
 -- what reading answers to a text
 
 pub fault_only : (bytes : List ℕ) (e : LogFault) → (e ≢ faults.Memory → HasFault bytes e) → (v : Version) (t : Trace) → IsLog v t bytes → length bytes ≤ 268435456 → e ≡ faults.Memory
-fault_only bytes faults.TooLong has v t is short = absurd (no_fault v t bytes faults.TooLong is short (has (λ e. cc)))
-fault_only bytes faults.Version has v t is short = absurd (no_fault v t bytes faults.Version is short (has (λ e. cc)))
-fault_only bytes (faults.Line n) has v t is short = absurd (no_fault v t bytes (faults.Line n) is short (has (λ e. cc)))
-fault_only bytes faults.Cut has v t is short = absurd (no_fault v t bytes faults.Cut is short (has (λ e. cc)))
-fault_only bytes faults.Memory has v t is short = refl
+fault_only bytes faults.TooLong has v t is within = absurd (no_fault v t bytes faults.TooLong is within (has (λ e. cc)))
+fault_only bytes faults.Version has v t is within = absurd (no_fault v t bytes faults.Version is within (has (λ e. cc)))
+fault_only bytes (faults.Line n) has v t is within = absurd (no_fault v t bytes (faults.Line n) is within (has (λ e. cc)))
+fault_only bytes faults.Cut has v t is within = absurd (no_fault v t bytes faults.Cut is within (has (λ e. cc)))
+fault_only bytes faults.Memory has v t is within = refl
 
 pub error_only : (bytes : List ℕ) (r : Result Trace LogFault) (e : LogFault) → IsErrAnd r (λ d. d ≡ e) → IfErr r (λ d. d ≢ faults.Memory → HasFault bytes d)
     → (v : Version) (t : Trace) → IsLog v t bytes → length bytes ≤ 268435456 → IfOk r (λ trace. trace ≡ t) × IfErr r (λ d. d ≡ faults.Memory)
-error_only bytes (Ok found) e is has v t log short = absurd is
-error_only bytes (Err d) e is has v t log short = (tt, fault_only bytes d has v t log short)
+error_only bytes (Ok found) e is has v t log within = absurd is
+error_only bytes (Err d) e is has v t log within = (tt, fault_only bytes d has v t log within)

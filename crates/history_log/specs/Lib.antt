@@ -6,4 +6,4 @@ pub mod Draft
 pub mod Faults
 pub mod Rows
 pub mod Leading
-pub mod Short
+pub mod Compact

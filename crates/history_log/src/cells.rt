@@ -2,13 +2,13 @@
 ghost use Rattle.std.specs.Prelude.{◌≡◌, ◌∷◌, ◌++◌, IfSome};
 ghost use Rattle.history_log.specs.Spelling.{kind_word, cell_word};
 ghost use Rattle.history_log.specs.Reading.{FitsCell, IsCell, IsCellAfter, Finds, Reads};
-ghost use Rattle.history_log.specs.Short.{short_cell};
+ghost use Rattle.history_log.specs.Compact.{compact_cell};
 
 use crate::digits::{leading_number, number_before};
 use crate::fields::{take_end, take_key, take_number};
 use crate::misread::Misread;
 use crate::parts::Parts;
-use crate::short::ShortCell;
+use crate::compact::CompactCell;
 use crate::words::after_byte;
 use cell_base::Cell;
 use std::alloc::Global;
@@ -68,27 +68,27 @@ fn field_of(alloc: Global, parts: &mut Parts) -> Result<Cell, Misread>
 }
 
 /// The presence, of a key of few digits, that the text begins with, and what stands after it. `None` says nothing of the text.
-fn leading_presence(text: &[u8]) -> Option<(ShortCell, &[u8])>
-    ensures { IfSome result (λ x. FitsCell (short_cell x.0) × (112 ∷ 46 ∷ text.now ≡ cell_word (short_cell x.0) ++ x.1.now)) }
+fn leading_presence(text: &[u8]) -> Option<(CompactCell, &[u8])>
+    ensures { IfSome result (λ x. FitsCell (compact_cell x.0) × (112 ∷ 46 ∷ text.now ≡ cell_word (compact_cell x.0) ++ x.1.now)) }
 {
     let (table, rest) = number_before(text, b'.')?;
     let (key, rest) = leading_number(rest)?;
-    Some((ShortCell::Presence(table, key), rest))
+    Some((CompactCell::Presence(table, key), rest))
 }
 
 /// The field, of a key of few digits, that the text begins with, and what stands after it. `None` says nothing of the text.
-fn leading_field(text: &[u8]) -> Option<(ShortCell, &[u8])>
-    ensures { IfSome result (λ x. FitsCell (short_cell x.0) × (102 ∷ 46 ∷ text.now ≡ cell_word (short_cell x.0) ++ x.1.now)) }
+fn leading_field(text: &[u8]) -> Option<(CompactCell, &[u8])>
+    ensures { IfSome result (λ x. FitsCell (compact_cell x.0) × (102 ∷ 46 ∷ text.now ≡ cell_word (compact_cell x.0) ++ x.1.now)) }
 {
     let (table, rest) = number_before(text, b'.')?;
     let (key, rest) = number_before(rest, b'.')?;
     let (column, rest) = leading_number(rest)?;
-    Some((ShortCell::Field(table, key, column), rest))
+    Some((CompactCell::Field(table, key, column), rest))
 }
 
 /// The cell, of a key of few digits, that the text begins with, and what stands after it. `None` says nothing of the text.
-pub fn leading_cell(text: &[u8]) -> Option<(ShortCell, &[u8])>
-    ensures { IfSome result (λ x. FitsCell (short_cell x.0) × (text.now ≡ cell_word (short_cell x.0) ++ x.1.now)) }
+pub fn leading_cell(text: &[u8]) -> Option<(CompactCell, &[u8])>
+    ensures { IfSome result (λ x. FitsCell (compact_cell x.0) × (text.now ≡ cell_word (compact_cell x.0) ++ x.1.now)) }
 {
     if let Some(rest) = after_byte(text, b'f') {
         return leading_field(after_byte(rest, b'.')?);

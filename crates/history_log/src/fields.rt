@@ -63,8 +63,8 @@ pub fn take_key(alloc: Global, words: &mut Parts) -> Result<Key, Misread>
 pub fn take_cell(alloc: Global, words: &mut Parts) -> Result<Cell, Misread>
     ensures { Takes cell_word FitsCell result words.old words.new }
 {
-    if let Some(short) = words.next_cell() {
-        return Ok(short.cell());
+    if let Some(compact) = words.next_cell() {
+        return Ok(compact.cell());
     }
     match words.next() {
         Some(word) => cell_of(alloc, word),

@@ -3,11 +3,11 @@ ghost use Rattle.std.specs.Prelude.{◌≡◌, ◌≢◌, ◌∷◌, ◌++◌, c
 ghost use Rattle.history_log.specs.Spelling.{cell_word, value_word, level_word};
 ghost use Rattle.history_log.specs.Reading.{IsU32, FitsCell, FitsValue};
 ghost use Rattle.history_log.specs.Leading.{IsLeading, IsLeadingIn};
-ghost use Rattle.history_log.specs.Short.{short_cell, short_value, short_event};
+ghost use Rattle.history_log.specs.Compact.{compact_cell, compact_value, compact_event};
 
 use crate::cells::leading_cell;
 use crate::digits::number_before;
-use crate::short::{ShortCell, ShortEvent, ShortValue};
+use crate::compact::{CompactCell, CompactEvent, CompactValue};
 use crate::version::Version;
 use crate::words::{after_byte, after_word};
 use cell_base::Level;
@@ -18,13 +18,13 @@ use history_core::Event;
 pub fn leading_event(text: &[u8]) -> Option<(Event, &[u8])>
     ensures { IfSome result (λ x. IsLeading x.0 text.now x.1.now) }
 {
-    let (short, rest) = leading_short(text)?;
-    Some((short.event(), rest))
+    let (compact, rest) = leading_compact(text)?;
+    Some((compact.event(), rest))
 }
 
 /// The same, as an event of few digits.
-pub fn leading_short(text: &[u8]) -> Option<(ShortEvent, &[u8])>
-    ensures { IfSome result (λ x. IsLeading (short_event x.0) text.now x.1.now) }
+pub fn leading_compact(text: &[u8]) -> Option<(CompactEvent, &[u8])>
+    ensures { IfSome result (λ x. IsLeading (compact_event x.0) text.now x.1.now) }
 {
     if let Some(rest) = after_word(text, b"read ") {
         return leading_read(rest);
@@ -54,13 +54,13 @@ pub fn leading_begin(version: Version, head: Level, text: &[u8]) -> Option<(Even
 
 /// The read whose line begins before the text, with its keyword, and what stands after its line feed. `None` says nothing of
 /// the text.
-fn leading_read(text: &[u8]) -> Option<(ShortEvent, &[u8])>
-    ensures { IfSome result (λ x. IsLeading (short_event x.0) (codes "read " ++ text.now) x.1.now) }
+fn leading_read(text: &[u8]) -> Option<(CompactEvent, &[u8])>
+    ensures { IfSome result (λ x. IsLeading (compact_event x.0) (codes "read " ++ text.now) x.1.now) }
 {
     let (session, cell, rest) = session_and_cell(text)?;
     let (source, count, word, rest) = three_numbers(rest)?;
     let (value, rest) = value_and_feed(rest)?;
-    let event = ShortEvent::Read {
+    let event = CompactEvent::Read {
         session,
         cell,
         source,
@@ -73,12 +73,12 @@ fn leading_read(text: &[u8]) -> Option<(ShortEvent, &[u8])>
 
 /// The write whose line begins before the text, with its keyword, and what stands after its line feed. `None` says nothing of
 /// the text.
-fn leading_write(text: &[u8]) -> Option<(ShortEvent, &[u8])>
-    ensures { IfSome result (λ x. IsLeading (short_event x.0) (codes "write " ++ text.now) x.1.now) }
+fn leading_write(text: &[u8]) -> Option<(CompactEvent, &[u8])>
+    ensures { IfSome result (λ x. IsLeading (compact_event x.0) (codes "write " ++ text.now) x.1.now) }
 {
     let (session, cell, rest) = session_and_cell(text)?;
     let (value, rest) = value_and_feed(rest)?;
-    let event = ShortEvent::Write {
+    let event = CompactEvent::Write {
         session,
         cell,
         value,
@@ -88,12 +88,12 @@ fn leading_write(text: &[u8]) -> Option<(ShortEvent, &[u8])>
 
 /// The own read whose line begins before the text, with its keyword, and what stands after its line feed. `None` says nothing of
 /// the text.
-fn leading_own(text: &[u8]) -> Option<(ShortEvent, &[u8])>
-    ensures { IfSome result (λ x. IsLeading (short_event x.0) (codes "own " ++ text.now) x.1.now) }
+fn leading_own(text: &[u8]) -> Option<(CompactEvent, &[u8])>
+    ensures { IfSome result (λ x. IsLeading (compact_event x.0) (codes "own " ++ text.now) x.1.now) }
 {
     let (session, cell, rest) = session_and_cell(text)?;
     let (value, rest) = value_and_feed(rest)?;
-    let event = ShortEvent::Own {
+    let event = CompactEvent::Own {
         session,
         cell,
         value,
@@ -103,11 +103,11 @@ fn leading_own(text: &[u8]) -> Option<(ShortEvent, &[u8])>
 
 /// The commit whose line begins before the text, with its keyword, and what stands after its line feed. `None` says nothing of the
 /// text.
-fn leading_commit(text: &[u8]) -> Option<(ShortEvent, &[u8])>
-    ensures { IfSome result (λ x. IsLeading (short_event x.0) (codes "commit " ++ text.now) x.1.now) }
+fn leading_commit(text: &[u8]) -> Option<(CompactEvent, &[u8])>
+    ensures { IfSome result (λ x. IsLeading (compact_event x.0) (codes "commit " ++ text.now) x.1.now) }
 {
     let (session, rest) = number_before(text, b'\n')?;
-    Some((ShortEvent::Commit { session }, rest))
+    Some((CompactEvent::Commit { session }, rest))
 }
 
 /// The begin whose line begins before the text, with its keyword, in version 1, which leaves the level to the head, and what stands
@@ -150,9 +150,9 @@ fn level_and_feed(text: &[u8]) -> Option<(Level, &[u8])>
 
 /// The session and the cell, each before a blank, that the text begins with, and what stands after them. `None` says nothing of
 /// the text.
-fn session_and_cell(text: &[u8]) -> Option<(u32, ShortCell, &[u8])>
-    ensures { IfSome result (λ x. IsU32 x.0 × FitsCell (short_cell x.1)
-        × (text.now ≡ decimal x.0 ++ 32 ∷ (cell_word (short_cell x.1) ++ 32 ∷ x.2.now))) }
+fn session_and_cell(text: &[u8]) -> Option<(u32, CompactCell, &[u8])>
+    ensures { IfSome result (λ x. IsU32 x.0 × FitsCell (compact_cell x.1)
+        × (text.now ≡ decimal x.0 ++ 32 ∷ (cell_word (compact_cell x.1) ++ 32 ∷ x.2.now))) }
 {
     let (session, rest) = number_before(text, b' ')?;
     let (cell, rest) = leading_cell(rest)?;
@@ -173,29 +173,29 @@ fn three_numbers(text: &[u8]) -> Option<(u32, u32, u32, &[u8])>
 }
 
 /// The value and the line feed that the text begins with, and what stands after them. `None` says nothing of the text.
-fn value_and_feed(text: &[u8]) -> Option<(ShortValue, &[u8])>
-    ensures { IfSome result (λ x. FitsValue (short_value x.0) × (text.now ≡ value_word (short_value x.0) ++ 10 ∷ x.1.now)) }
+fn value_and_feed(text: &[u8]) -> Option<(CompactValue, &[u8])>
+    ensures { IfSome result (λ x. FitsValue (compact_value x.0) × (text.now ≡ value_word (compact_value x.0) ++ 10 ∷ x.1.now)) }
 {
     match number_before(text, b'\n') {
-        Some((number, rest)) => Some((ShortValue::Int(number), rest)),
+        Some((number, rest)) => Some((CompactValue::Int(number), rest)),
         None => name_and_feed(text),
     }
 }
 
 /// The value that has a name and the line feed that the text begins with, and what stands after them. `None` says nothing of the
 /// text.
-fn name_and_feed(text: &[u8]) -> Option<(ShortValue, &[u8])>
-    ensures { IfSome result (λ x. FitsValue (short_value x.0) × (text.now ≡ value_word (short_value x.0) ++ 10 ∷ x.1.now)) }
+fn name_and_feed(text: &[u8]) -> Option<(CompactValue, &[u8])>
+    ensures { IfSome result (λ x. FitsValue (compact_value x.0) × (text.now ≡ value_word (compact_value x.0) ++ 10 ∷ x.1.now)) }
 {
     if let Some(rest) = after_word(text, b"unset\n") {
-        return Some((ShortValue::Unset, rest));
+        return Some((CompactValue::Unset, rest));
     }
     if let Some(rest) = after_word(text, b"true\n") {
-        return Some((ShortValue::Flag(true), rest));
+        return Some((CompactValue::Flag(true), rest));
     }
     if let Some(rest) = after_word(text, b"false\n") {
-        return Some((ShortValue::Flag(false), rest));
+        return Some((CompactValue::Flag(false), rest));
     }
     let rest = after_word(text, b"null\n")?;
-    Some((ShortValue::Null, rest))
+    Some((CompactValue::Null, rest))
 }

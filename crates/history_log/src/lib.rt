@@ -2,6 +2,7 @@
 #![tactic(auto)]
 
 mod cells;
+mod compact;
 mod digits;
 mod draft;
 mod event_lines;
@@ -21,13 +22,13 @@ mod puts;
 mod reading;
 mod rows;
 mod shapes;
-mod short;
 mod trace;
 mod version;
 mod words;
 
+pub use compact::{CompactCell, CompactEvent, CompactValue};
 pub use laws::{one_trace, one_word};
-pub use leading::{leading_begin, leading_short};
+pub use leading::{leading_begin, leading_compact};
 pub use line_event::read_event;
 pub use log_fault::LogFault;
 pub use misread::Misread;
@@ -36,6 +37,5 @@ pub use parts::first_part;
 pub use printing::print;
 pub use puts::{put, put_cell, put_number};
 pub use reading::{head_of, read};
-pub use short::{ShortCell, ShortEvent, ShortValue};
 pub use trace::Trace;
 pub use version::Version;

@@ -3,11 +3,11 @@ ghost use Rattle.std.specs.Prelude.{◌≡◌, ◌∷◌, ◌++◌, [], decimal,
 ghost use Rattle.history_log.specs.Cut.{Lacks, cut_at};
 ghost use Rattle.history_log.specs.Spelling.{cell_word};
 ghost use Rattle.history_log.specs.Reading.{IsU32, FitsCell};
-ghost use Rattle.history_log.specs.Short.{short_cell};
+ghost use Rattle.history_log.specs.Compact.{compact_cell};
 
 use crate::cells::leading_cell;
 use crate::digits::leading_number;
-use crate::short::ShortCell;
+use crate::compact::CompactCell;
 use std::marker::Model;
 
 /// The parts of a text that are left. Contracts see the list of them; the last one ends where the text does.
@@ -79,8 +79,8 @@ impl<'a> Parts<'a> {
     }
 
     /// Takes the next part, where it is a cell with a key of few digits. `None` takes nothing, and says nothing of the part.
-    pub fn next_cell(&mut self) -> Option<ShortCell>
-        ensures some { IfSome result (λ cell. FitsCell (short_cell cell) × (self.old ≡ cell_word (short_cell cell) ∷ self.new)) }
+    pub fn next_cell(&mut self) -> Option<CompactCell>
+        ensures some { IfSome result (λ cell. FitsCell (compact_cell cell) × (self.old ≡ cell_word (compact_cell cell) ∷ self.new)) }
         ensures none { IsNone result → self.new ≡ self.old }
     {
         if self.separator != b' ' {

@@ -27,7 +27,7 @@ const MOST_BYTES: usize = 268_435_456;
 pub fn read(alloc: Global, bytes: &[u8]) -> Result<Trace, LogFault>
     ensures found { IfOk result (λ trace. (v : Version) × IsLog v trace bytes.now) }
     ensures no_wide { IfOk result (λ trace. All HasNoWide trace.events × All (λ x. IsNotWide x.1) trace.initial) }
-    ensures short { OnOk result (length bytes.now ≤ 268435456) }
+    ensures within { OnOk result (length bytes.now ≤ 268435456) }
     ensures fault { IfErr result (λ e. e ≢ LogFault.Memory → HasFault bytes.now e) }
     ensures only { (v : Version) (t : Trace) → IsLog v t bytes.now → length bytes.now ≤ 268435456
         → IfOk result (λ trace. trace ≡ t) × IfErr result (λ e. e ≡ LogFault.Memory) }

@@ -100,8 +100,8 @@ fn measure_long(rt: &(impl CpuClock + Print + AllocGlobal), rounds: u32) -> Resu
     Ok(())
 }
 
-/// A short text, read 5,000 times as often.
-fn measure_short(
+/// The text of one statement, read 5,000 times as often.
+fn measure_statement(
     rt: &(impl CpuClock + Print + AllocGlobal),
     one: String,
     rounds: u32,
@@ -113,9 +113,9 @@ fn measure_short(
     Ok(())
 }
 
-/// The long text and short ones, read so many times.
+/// The long text and those of one statement, read so many times.
 pub(crate) fn measure(rt: &(impl CpuClock + Print + AllocGlobal), rounds: u32) -> Result<()> {
     measure_long(rt, rounds)?;
-    measure_short(rt, texts::insert(rt.alloc())?, rounds)?;
-    measure_short(rt, texts::select(rt.alloc())?, rounds)
+    measure_statement(rt, texts::insert(rt.alloc())?, rounds)?;
+    measure_statement(rt, texts::select(rt.alloc())?, rounds)
 }

@@ -1,12 +1,12 @@
 pub mod AccessLemmas
 pub mod BeginLemmas
 pub mod Beginning
+pub mod CompactLemmas
 pub mod EndLemmas
 pub mod MetLemmas
 pub mod NotedLemmas
 pub mod SessionLemmas
 pub mod Settling
-pub mod ShortLemmas
 pub mod Still
 pub mod Texts
 pub mod TxnLemmas

@@ -9,14 +9,14 @@ use Rattle.cell_base.specs.declared.value.Value.{Value}
 use Rattle.cell_base.specs.declared.value.Value.TheVariants as values
 use Rattle.right_logs.specs.declared.noted_values.NotedValue.{NotedValue}
 use Rattle.right_logs.specs.declared.noted_values.NotedValue.TheVariants as notes
-use Rattle.right_logs.specs.NotedValues.{means, values_in, AreApart, short_number, short_of}
+use Rattle.right_logs.specs.NotedValues.{means, values_in, AreApart, compact_number, compact_of}
 
 -- one more than the number of a value that is kept apart, 0 for a note that stands by itself
 abbrev pub beyond : NotedValue → ℕ
 beyond notes.Unset = 0
 beyond notes.Null = 0
 beyond (notes.Flag flag) = 0
-beyond (notes.Short number) = 0
+beyond (notes.Compact number) = 0
 beyond (notes.Apart number) = number + 1
 
 -- ---- how many there are
@@ -45,9 +45,9 @@ apart_none apart noted none blank =
 
 -- ---- a note that stands by itself comes after the others
 
-short_pushed :
+compact_pushed :
     (apart : List Value) (noted : List NotedValue) (note : NotedValue) → beyond note ≡ 0 → AreApart apart noted → AreApart apart (noted ++ note ∷ [])
-short_pushed apart noted note low held =
+compact_pushed apart noted note low held =
     let long : length (noted ++ note ∷ []) ≡ length noted + 1 = length_push noted note in
     let most : length apart ≤ length noted = held.few in
     record {
@@ -60,7 +60,7 @@ short_pushed apart noted note low held =
 
 pub apart_push :
     (apart : List Value) (noted pushed : List NotedValue) (note : NotedValue) → pushed ≡ noted ++ note ∷ [] → beyond note ≡ 0 → AreApart apart noted → AreApart apart pushed
-apart_push apart noted pushed note is low held = subst (λ (ns : List NotedValue). AreApart apart ns) (sym is) (short_pushed apart noted note low held)
+apart_push apart noted pushed note is low held = subst (λ (ns : List NotedValue). AreApart apart ns) (sym is) (compact_pushed apart noted note low held)
 
 pub gains_note :
     (apart : List Value) (noted pushed : List NotedValue) (note : NotedValue) (value : Value) (now : List Value) → pushed ≡ noted ++ note ∷ [] → means apart note ≡ value →
@@ -71,14 +71,14 @@ gains_note apart noted pushed note value now is gives shows =
     ∙ (ap (λ (vs : List Value). vs ++ means apart note ∷ []) shows
     ∙ ap (λ (v : Value). now ++ v ∷ []) gives))
 
--- ---- the note of a short value
+-- ---- the note of a compact value
 
-number_means : (apart : List Value) (n : ℤ) (note : NotedValue) → short_number n ≡ Some note → means apart note ≡ values.Int n
-number_means apart (pos n) note is = sym (ap (λ (own : NotedValue). means apart own) (cond_some (nat_lt n (2 ^ 32)) (notes.Short n) note is).1)
+number_means : (apart : List Value) (n : ℤ) (note : NotedValue) → compact_number n ≡ Some note → means apart note ≡ values.Int n
+number_means apart (pos n) note is = sym (ap (λ (own : NotedValue). means apart own) (cond_some (nat_lt n (2 ^ 32)) (notes.Compact n) note is).1)
 number_means apart (negsuc n) note is = absurd (none-some note is)
 
-number_low : (n : ℤ) (note : NotedValue) → short_number n ≡ Some note → beyond note ≡ 0
-number_low (pos n) note is = sym (ap beyond (cond_some (nat_lt n (2 ^ 32)) (notes.Short n) note is).1)
+number_low : (n : ℤ) (note : NotedValue) → compact_number n ≡ Some note → beyond note ≡ 0
+number_low (pos n) note is = sym (ap beyond (cond_some (nat_lt n (2 ^ 32)) (notes.Compact n) note is).1)
 number_low (negsuc n) note is = absurd (none-some note is)
 
 told_by : (apart : List Value) (own note : NotedValue) → Some own ≡ Some note → means apart note ≡ means apart own
@@ -88,25 +88,25 @@ low_by : (own note : NotedValue) → Some own ≡ Some note → beyond note ≡ 
 low_by own note is = sym (ap beyond (same_Some own note is))
 
 -- it means the value, whatever is kept apart
-pub short_means : (apart : List Value) (value : Value) (note : NotedValue) → short_of value ≡ Some note → means apart note ≡ value
-short_means apart values.Unset note is = told_by apart notes.Unset note is
-short_means apart values.Null note is = told_by apart notes.Null note is
-short_means apart (values.Flag flag) note is = told_by apart (notes.Flag flag) note is
-short_means apart (values.Int n) note is = number_means apart n note is
-short_means apart (values.Wide n) note is = absurd (none-some note is)
-short_means apart (values.Text text) note is = absurd (none-some note is)
+pub compact_means : (apart : List Value) (value : Value) (note : NotedValue) → compact_of value ≡ Some note → means apart note ≡ value
+compact_means apart values.Unset note is = told_by apart notes.Unset note is
+compact_means apart values.Null note is = told_by apart notes.Null note is
+compact_means apart (values.Flag flag) note is = told_by apart (notes.Flag flag) note is
+compact_means apart (values.Int n) note is = number_means apart n note is
+compact_means apart (values.Wide n) note is = absurd (none-some note is)
+compact_means apart (values.Text text) note is = absurd (none-some note is)
 
-pub short_low : (value : Value) (note : NotedValue) → short_of value ≡ Some note → beyond note ≡ 0
-short_low values.Unset note is = low_by notes.Unset note is
-short_low values.Null note is = low_by notes.Null note is
-short_low (values.Flag flag) note is = low_by (notes.Flag flag) note is
-short_low (values.Int n) note is = number_low n note is
-short_low (values.Wide n) note is = absurd (none-some note is)
-short_low (values.Text text) note is = absurd (none-some note is)
+pub compact_low : (value : Value) (note : NotedValue) → compact_of value ≡ Some note → beyond note ≡ 0
+compact_low values.Unset note is = low_by notes.Unset note is
+compact_low values.Null note is = low_by notes.Null note is
+compact_low (values.Flag flag) note is = low_by (notes.Flag flag) note is
+compact_low (values.Int n) note is = number_low n note is
+compact_low (values.Wide n) note is = absurd (none-some note is)
+compact_low (values.Text text) note is = absurd (none-some note is)
 
 -- so an integer is known by its note
-pub integer_is : (value : Value) (note : NotedValue) (number : ℕ) → short_of value ≡ Some note → note ≡ notes.Short number → value ≡ values.Int (pos number)
-integer_is value note number is same = sym (short_means [] value note is) ∙ ap (λ (n : NotedValue). means [] n) same
+pub integer_is : (value : Value) (note : NotedValue) (number : ℕ) → compact_of value ≡ Some note → note ≡ notes.Compact number → value ≡ values.Int (pos number)
+integer_is value note number is same = sym (compact_means [] value note is) ∙ ap (λ (n : NotedValue). means [] n) same
 
 -- ---- a value is kept apart, and its note comes after the others
 
@@ -131,7 +131,7 @@ note_kept :
 note_kept apart value notes.Unset within = refl
 note_kept apart value notes.Null within = refl
 note_kept apart value (notes.Flag flag) within = refl
-note_kept apart value (notes.Short number) within = refl
+note_kept apart value (notes.Compact number) within = refl
 note_kept apart value (notes.Apart number) within = get_or_append_left apart (value ∷ []) values.Unset number (within number refl)
 
 values_kept :

@@ -10,7 +10,7 @@ abbrev pub means : List Value → NotedValue → Value
 means apart notes.Unset = values.Unset
 means apart notes.Null = values.Null
 means apart (notes.Flag flag) = values.Flag flag
-means apart (notes.Short number) = values.Int (pos number)
+means apart (notes.Compact number) = values.Int (pos number)
 means apart (notes.Apart number) = slice_index_or apart number values.Unset
 
 abbrev pub values_in : List Value → List NotedValue → List Value
@@ -21,16 +21,16 @@ pub record AreApart (apart : List Value) (noted : List NotedValue) : Type 0 wher
   pub few : length apart ≤ length noted
   pub within : (k number : ℕ) → slice_get noted k ≡ Some (notes.Apart number) → number < length apart
 
--- the note of an integer, where it is short
-abbrev pub short_number : ℤ → Option NotedValue
-short_number (pos n) = if nat_lt n (2 ^ 32) then Some (notes.Short n) else None
-short_number (negsuc n) = None
+-- the note of an integer, where it is compact
+abbrev pub compact_number : ℤ → Option NotedValue
+compact_number (pos n) = if nat_lt n (2 ^ 32) then Some (notes.Compact n) else None
+compact_number (negsuc n) = None
 
 -- the note of the value, where it needn't be kept apart
-abbrev pub short_of : Value → Option NotedValue
-short_of values.Unset = Some notes.Unset
-short_of values.Null = Some notes.Null
-short_of (values.Flag flag) = Some (notes.Flag flag)
-short_of (values.Int n) = short_number n
-short_of (values.Wide n) = None
-short_of (values.Text text) = None
+abbrev pub compact_of : Value → Option NotedValue
+compact_of values.Unset = Some notes.Unset
+compact_of values.Null = Some notes.Null
+compact_of (values.Flag flag) = Some (notes.Flag flag)
+compact_of (values.Int n) = compact_number n
+compact_of (values.Wide n) = None
+compact_of (values.Text text) = None

@@ -4,11 +4,11 @@ ghost use Rattle.right_logs.specs.Passes.{Goes, Stands, StandsFor};
 ghost use Rattle.right_logs.specs.Endings.{IsFirstEvent, IsTaken, AreTaken};
 
 use crate::pass::Pass;
-use crate::take::{take, take_short};
+use crate::take::{take, take_compact};
 use cell_base::{Level, Memory};
 use held_values::without;
 use history_core::Event;
-use history_log::{Misread, Version, first_part, leading_begin, leading_short, read_event};
+use history_log::{Misread, Version, first_part, leading_begin, leading_compact, read_event};
 use order_test::Places;
 use std::alloc::Global;
 
@@ -67,10 +67,10 @@ fn take_first<'a>(
     requires { Stands places.now.at.items pass.old }
     ensures { IfOk result (λ found. IfSome found (λ rest. IsTaken version level places.now.at.items text.now rest.now pass.old pass.new)) }
 {
-    let Some((short, rest)) = leading_short(text) else {
+    let Some((compact, rest)) = leading_compact(text) else {
         return take_other(alloc, version, level, pass, places, text);
     };
-    let goes = take_short(pass, places, short)?;
+    let goes = take_compact(pass, places, compact)?;
     if goes { Ok(Some(rest)) } else { Ok(None) }
 }
 

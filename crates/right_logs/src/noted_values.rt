@@ -1,6 +1,6 @@
 // The values of events, in little room.
 ghost use Rattle.std.specs.Prelude.{◌≡◌, ◌<◌, ◌∷◌, ◌++◌, [], pos, Some, OnOk, OnErr, IfOk, IsTrue, length, slice_get, slice_set};
-ghost use Rattle.right_logs.specs.NotedValues.{means, values_in, AreApart, short_number, short_of};
+ghost use Rattle.right_logs.specs.NotedValues.{means, values_in, AreApart, compact_number, compact_of};
 
 use cell_base::{Memory, Value};
 use std::alloc::Global;
@@ -13,7 +13,7 @@ pub enum NotedValue {
     Null,
     Flag(bool),
     /// An integer from 0 on, of 32 bits.
-    Short(u32),
+    Compact(u32),
     /// The value of this number among those that are kept apart.
     Apart(u32),
 }
@@ -95,7 +95,7 @@ fn note_value(
     ensures held { AreApart apart.new.items notes.new.items }
     ensures ok { OnOk result (values_in apart.new.items notes.new.items ≡ values_in apart.old.items notes.old.items ++ value.now ∷ []) }
 {
-    match short(value) {
+    match compact(value) {
         Some(note) => {
             notes.push(note)?;
             Ok(())
@@ -142,25 +142,25 @@ fn put_number(notes: &mut Vec<NotedValue>, place: usize, number: u32)
     notes[place] = NotedValue::Apart(number);
 }
 
-/// The note of an integer, where it is short.
-fn short_integer(number: i64) -> Option<NotedValue>
-    ensures { result ≡ short_number number }
+/// The note of an integer, where it is compact.
+fn compact_integer(number: i64) -> Option<NotedValue>
+    ensures { result ≡ compact_number number }
 {
     match u32::try_from(number) {
-        Ok(short) => Some(NotedValue::Short(short)),
+        Ok(compact) => Some(NotedValue::Compact(compact)),
         Err(_) => None,
     }
 }
 
 /// The note of the value, where it needn't be kept apart.
-fn short(value: &Value) -> Option<NotedValue>
-    ensures { result ≡ short_of value.now }
+fn compact(value: &Value) -> Option<NotedValue>
+    ensures { result ≡ compact_of value.now }
 {
     match value {
         Value::Unset => Some(NotedValue::Unset),
         Value::Null => Some(NotedValue::Null),
         Value::Flag(flag) => Some(NotedValue::Flag(*flag)),
-        Value::Int(number) => short_integer(*number),
+        Value::Int(number) => compact_integer(*number),
         Value::Wide(_) => None,
         Value::Text(_) => None,
     }
@@ -184,7 +184,7 @@ fn is_value(apart: &[Value], note: NotedValue, value: &Value) -> bool
         NotedValue::Unset => is_unset(value),
         NotedValue::Null => is_null(value),
         NotedValue::Flag(flag) => is_flag(value, flag),
-        NotedValue::Short(number) => is_integer(value, number),
+        NotedValue::Compact(number) => is_integer(value, number),
         NotedValue::Apart(number) => is_apart(apart, number, value),
     }
 }
@@ -218,18 +218,18 @@ fn is_flag(value: &Value, flag: bool) -> bool
 fn is_integer(value: &Value, number: u32) -> bool
     ensures { IsTrue result → value.now ≡ Value.Int (pos number) }
 {
-    match short(value) {
-        Some(note) => is_short(note, number),
+    match compact(value) {
+        Some(note) => is_compact(note, number),
         None => false,
     }
 }
 
 /// Whether the note is that of the integer.
-fn is_short(note: NotedValue, number: u32) -> bool
-    ensures { IsTrue result → note ≡ NotedValue.Short number }
+fn is_compact(note: NotedValue, number: u32) -> bool
+    ensures { IsTrue result → note ≡ NotedValue.Compact number }
 {
     match note {
-        NotedValue::Short(own) => own == number,
+        NotedValue::Compact(own) => own == number,
         _ => false,
     }
 }

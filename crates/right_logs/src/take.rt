@@ -1,6 +1,6 @@
 // One event.
 ghost use Rattle.std.specs.Prelude.{◌<◌, IsTrue, IfOk, length};
-ghost use Rattle.history_log.specs.Short.{short_cell, short_value, short_event};
+ghost use Rattle.history_log.specs.Compact.{compact_cell, compact_value, compact_event};
 ghost use Rattle.right_logs.specs.Passes.{Goes, Stands};
 
 use crate::accesses::{take_own, take_read, take_write};
@@ -11,7 +11,7 @@ use crate::txns::{take_begin, take_commit, take_rollback};
 use cell_base::Memory;
 use held_values::without;
 use history_core::Event;
-use history_log::{ShortCell, ShortEvent, ShortValue};
+use history_log::{CompactCell, CompactEvent, CompactValue};
 use order_test::Places;
 
 /// Takes the next event, where the pass shows that it is right. A scan never is.
@@ -54,50 +54,50 @@ pub fn take(pass: &mut Pass, places: &Places, event: &Event) -> Result<bool, Mem
 }
 
 /// Takes the next event, which is of few digits, where the pass shows that it is right.
-pub fn take_short(pass: &mut Pass, places: &Places, event: ShortEvent) -> Result<bool, Memory>
+pub fn take_compact(pass: &mut Pass, places: &Places, event: CompactEvent) -> Result<bool, Memory>
     requires { Stands places.now.at.items pass.old }
-    ensures { IfOk result (λ goes. IsTrue goes → Goes places.now.at.items (short_event event) pass.old pass.new) }
+    ensures { IfOk result (λ goes. IsTrue goes → Goes places.now.at.items (compact_event event) pass.old pass.new) }
 {
     if !has_room(&pass.values) {
         return Ok(false);
     }
     match event {
-        ShortEvent::Read {
+        CompactEvent::Read {
             session,
             cell,
             source,
             count,
             word,
             value,
-        } => take_short_read(pass, places, session, cell, source, count, word, value),
-        ShortEvent::Write {
+        } => take_compact_read(pass, places, session, cell, source, count, word, value),
+        CompactEvent::Write {
             session,
             cell,
             value,
-        } => take_short_write(pass, places, session, cell, value),
-        ShortEvent::Own {
+        } => take_compact_write(pass, places, session, cell, value),
+        CompactEvent::Own {
             session,
             cell,
             value,
-        } => take_short_own(pass, places, session, cell, value),
-        ShortEvent::Commit { session } => take_commit(pass, places, session),
+        } => take_compact_own(pass, places, session, cell, value),
+        CompactEvent::Commit { session } => take_commit(pass, places, session),
     }
 }
 
 /// Takes an external read of few digits.
-fn take_short_read(
+fn take_compact_read(
     pass: &mut Pass,
     places: &Places,
     session: u32,
-    cell: ShortCell,
+    cell: CompactCell,
     source: u32,
     count: u32,
     word: u32,
-    value: ShortValue,
+    value: CompactValue,
 ) -> Result<bool, Memory>
     requires stands { Stands places.now.at.items pass.old }
     requires few { length pass.old.values < 4294967295 }
-    ensures { IfOk result (λ goes. IsTrue goes → Goes places.now.at.items (Event.Read session (short_cell cell) source count word (short_value value)) pass.old pass.new) }
+    ensures { IfOk result (λ goes. IsTrue goes → Goes places.now.at.items (Event.Read session (compact_cell cell) source count word (compact_value value)) pass.old pass.new) }
 {
     let whole_cell = cell.cell();
     let whole_value = value.value();
@@ -115,16 +115,16 @@ fn take_short_read(
 }
 
 /// Takes a write of few digits.
-fn take_short_write(
+fn take_compact_write(
     pass: &mut Pass,
     places: &Places,
     session: u32,
-    cell: ShortCell,
-    value: ShortValue,
+    cell: CompactCell,
+    value: CompactValue,
 ) -> Result<bool, Memory>
     requires stands { Stands places.now.at.items pass.old }
     requires few { length pass.old.values < 4294967295 }
-    ensures { IfOk result (λ goes. IsTrue goes → Goes places.now.at.items (Event.Write session (short_cell cell) (short_value value)) pass.old pass.new) }
+    ensures { IfOk result (λ goes. IsTrue goes → Goes places.now.at.items (Event.Write session (compact_cell cell) (compact_value value)) pass.old pass.new) }
 {
     let whole_cell = cell.cell();
     let whole_value = value.value();
@@ -133,16 +133,16 @@ fn take_short_write(
 }
 
 /// Takes an internal read of few digits.
-fn take_short_own(
+fn take_compact_own(
     pass: &mut Pass,
     places: &Places,
     session: u32,
-    cell: ShortCell,
-    value: ShortValue,
+    cell: CompactCell,
+    value: CompactValue,
 ) -> Result<bool, Memory>
     requires stands { Stands places.now.at.items pass.old }
     requires few { length pass.old.values < 4294967295 }
-    ensures { IfOk result (λ goes. IsTrue goes → Goes places.now.at.items (Event.Own session (short_cell cell) (short_value value)) pass.old pass.new) }
+    ensures { IfOk result (λ goes. IsTrue goes → Goes places.now.at.items (Event.Own session (compact_cell cell) (compact_value value)) pass.old pass.new) }
 {
     let whole_cell = cell.cell();
     let whole_value = value.value();

@@ -11,7 +11,7 @@ use std::test::Fail;
 
 // In pieces of 8 bytes. The startup message has 16 bytes and is told 191. The query without a statement has 8 bytes and is told 5 and 6;
 // BEGIN has 16, and is told 11 and 6; SELECT has 16, and is told 34, 12, 14 and 6.
-const SHORT_QUERIES: &str = r"
+const PADDED_QUERIES: &str = r"
 # queries of 8 and 16 bytes
 > StartupMessage user=a
 + started
@@ -114,7 +114,7 @@ fn each_has_marks(
 #[test]
 fn holds_no_reply_back(rt: HostRuntime) -> Result<(), Fail> {
     let alloc = rt.alloc();
-    assert!(rt; have_marks(alloc, SHORT_QUERIES, 8, MARKS)?);
+    assert!(rt; have_marks(alloc, PADDED_QUERIES, 8, MARKS)?);
     Ok(())
 }
 

@@ -4,4 +4,4 @@ use Rattle.history_log.specs.Leading.{IsLeading}
 use Rattle.history_log.proofs.leading.leading_event.Goals as goal
 
 pub returns : goal.returns
-returns c = subst (λ (event : Event). IsLeading event c.args.text.now c.in_ok-short.rest.now) (sym c.event.ensures) c.in_ok-short.ensures
+returns c = subst (λ (event : Event). IsLeading event c.args.text.now c.in_ok-compact.rest.now) (sym c.event.ensures) c.in_ok-compact.ensures

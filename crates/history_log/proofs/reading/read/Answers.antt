@@ -59,13 +59,13 @@ returns-clause-no_wide c = (
 )
 
 pub returns-in_default-clause-only : goal.returns-in_default-clause-only
-returns-in_default-clause-only c = λ v t log short. (tt, fault_only c.args.bytes.now faults.Cut (returns-in_default-clause-fault c) v t log short)
+returns-in_default-clause-only c = λ v t log within. (tt, fault_only c.args.bytes.now faults.Cut (returns-in_default-clause-fault c) v t log within)
 
 pub returns-in_default-head_of-clause-only : goal.returns-in_default-head_of-clause-only
-returns-in_default-head_of-clause-only c = λ v t log short. (tt, fault_only c.args.bytes.now faults.Version (returns-in_default-head_of-clause-fault c) v t log short)
+returns-in_default-head_of-clause-only c = λ v t log within. (tt, fault_only c.args.bytes.now faults.Version (returns-in_default-head_of-clause-fault c) v t log within)
 
 pub returns-in_err-read_lines-clause-only : goal.returns-in_err-read_lines-clause-only
 returns-in_err-read_lines-clause-only c = error_only c.args.bytes.now _ _ c.from_residual.ensures.1 (returns-in_err-read_lines-clause-fault c)
 
 pub returns-clause-only : goal.returns-clause-only
-returns-clause-only c = λ v t log short. ((same_log (returns-clause-found c).0 v c.read_lines.new.draft.trace t c.args.bytes.now (returns-clause-found c).1 log).1, tt)
+returns-clause-only c = λ v t log within. ((same_log (returns-clause-found c).0 v c.read_lines.new.draft.trace t c.args.bytes.now (returns-clause-found c).1 log).1, tt)

@@ -1,13 +1,13 @@
 // Events of few digits: they are copied, and need no memory.
 ghost use Rattle.std.specs.Prelude.{◌≡◌};
-ghost use Rattle.history_log.specs.Short.{short_cell, short_value, short_event};
+ghost use Rattle.history_log.specs.Compact.{compact_cell, compact_value, compact_event};
 
 use cell_base::{Cell, Key, Value};
 use history_core::Event;
 
 /// A cell whose key is a number of few digits.
 #[derive(Clone, Copy, Debug, PartialEq, Eq)]
-pub enum ShortCell {
+pub enum CompactCell {
     /// The table and the key.
     Presence(u32, u32),
     /// The table, the key and the column.
@@ -16,7 +16,7 @@ pub enum ShortCell {
 
 /// A value that is a number of few digits or has a name.
 #[derive(Clone, Copy, Debug, PartialEq, Eq)]
-pub enum ShortValue {
+pub enum CompactValue {
     Unset,
     Null,
     Flag(bool),
@@ -25,65 +25,65 @@ pub enum ShortValue {
 
 /// A read, a write, an own read or a commit of few digits.
 #[derive(Clone, Copy, Debug)]
-pub enum ShortEvent {
+pub enum CompactEvent {
     Read {
         session: u32,
-        cell: ShortCell,
+        cell: CompactCell,
         source: u32,
         count: u32,
         word: u32,
-        value: ShortValue,
+        value: CompactValue,
     },
     Write {
         session: u32,
-        cell: ShortCell,
-        value: ShortValue,
+        cell: CompactCell,
+        value: CompactValue,
     },
     Own {
         session: u32,
-        cell: ShortCell,
-        value: ShortValue,
+        cell: CompactCell,
+        value: CompactValue,
     },
     Commit {
         session: u32,
     },
 }
 
-impl ShortCell {
+impl CompactCell {
     /// The cell.
     pub fn cell(self) -> Cell
-        ensures { result ≡ short_cell self }
+        ensures { result ≡ compact_cell self }
     {
         match self {
-            ShortCell::Presence(table, key) => Cell::Presence(table, Key::Int(key as i64)),
-            ShortCell::Field(table, key, column) => {
+            CompactCell::Presence(table, key) => Cell::Presence(table, Key::Int(key as i64)),
+            CompactCell::Field(table, key, column) => {
                 Cell::Field(table, Key::Int(key as i64), column)
             }
         }
     }
 }
 
-impl ShortValue {
+impl CompactValue {
     /// The value.
     pub fn value(self) -> Value
-        ensures { result ≡ short_value self }
+        ensures { result ≡ compact_value self }
     {
         match self {
-            ShortValue::Unset => Value::Unset,
-            ShortValue::Null => Value::Null,
-            ShortValue::Flag(flag) => Value::Flag(flag),
-            ShortValue::Int(number) => Value::Int(number as i64),
+            CompactValue::Unset => Value::Unset,
+            CompactValue::Null => Value::Null,
+            CompactValue::Flag(flag) => Value::Flag(flag),
+            CompactValue::Int(number) => Value::Int(number as i64),
         }
     }
 }
 
-impl ShortEvent {
+impl CompactEvent {
     /// The event.
     pub fn event(self) -> Event
-        ensures { result ≡ short_event self }
+        ensures { result ≡ compact_event self }
     {
         match self {
-            ShortEvent::Read {
+            CompactEvent::Read {
                 session,
                 cell,
                 source,
@@ -98,7 +98,7 @@ impl ShortEvent {
                 word,
                 value: value.value(),
             },
-            ShortEvent::Write {
+            CompactEvent::Write {
                 session,
                 cell,
                 value,
@@ -107,7 +107,7 @@ impl ShortEvent {
                 cell: cell.cell(),
                 value: value.value(),
             },
-            ShortEvent::Own {
+            CompactEvent::Own {
                 session,
                 cell,
                 value,
@@ -116,7 +116,7 @@ impl ShortEvent {
                 cell: cell.cell(),
                 value: value.value(),
             },
-            ShortEvent::Commit { session } => Event::Commit { session },
+            CompactEvent::Commit { session } => Event::Commit { session },
         }
     }
 }

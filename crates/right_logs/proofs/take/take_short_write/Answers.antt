@@ -1,7 +1,0 @@
-use Rattle.right_logs.proofs.ShortLemmas.{short_write}
-use Rattle.right_logs.proofs.take.take_short_write.Goals as goal
-
-pub returns : goal.returns
-returns c =
-    short_write c.args.places.now.at.items c.args.session c.args.cell c.cell-whole_cell.result c.args.value c.value-whole_value.result c.args.pass.now c.take_write-goes.new.pass c.take_write-goes.result c.without.result
-    c.cell-whole_cell.ensures c.value-whole_value.ensures c.without.ensures c.take_write-goes.ensures
