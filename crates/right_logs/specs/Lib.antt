@@ -1,7 +1,10 @@
 pub mod Accesses
+pub mod Clocks
 pub mod Endings
-pub mod Ends
 pub mod Glimpses
+pub mod Judging
 pub mod NotedValues
+pub mod OpenReads
 pub mod Passes
 pub mod Seats
+pub mod Standing

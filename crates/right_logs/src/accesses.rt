@@ -5,13 +5,15 @@ ghost use Rattle.right_logs.specs.Passes.{Goes, Stands};
 
 use crate::guesses::number_cell;
 use crate::noted_values::NotedValues;
-use crate::pass::{Pass, ReadNote};
+use crate::open_reads::{ReadNote, add_read};
+use crate::pass::Pass;
 use crate::seats::pending_of;
+use crate::txn_notes::note_source;
 use cell_base::{Cell, Memory, Value};
 use cell_writers::CellNote;
 use history_check::{add_place, is_absent_value, is_storable, set_place, table_in};
 use history_core::Event;
-use order_test::{Places, raise_limit};
+use order_test::Places;
 
 /// Whether the transaction has written the cell, and the value last.
 fn gives_last(note: &CellNote, values: &NotedValues, txn: u32, value: &Value) -> bool
@@ -123,14 +125,6 @@ fn owner_of(pass: &Pass, session: u32, cell: &Cell) -> Option<u32>
     pending_of(&pass.session_notes, session)
 }
 
-/// How many committed writers the cell of the number has.
-fn writers_of(pass: &Pass, at: u32) -> u32 {
-    match pass.cells.notes.get(at as usize) {
-        Some(note) => u32::try_from(note.committed.as_slice().len()).unwrap_or(0),
-        None => 0,
-    }
-}
-
 /// Takes an external read.
 pub fn take_read(
     pass: &mut Pass,
@@ -153,15 +147,16 @@ pub fn take_read(
     if !is_clear(pass, at, cell, reader, source, count, value) {
         return Ok(false);
     }
-    pass.values.push_unset()?;
-    raise_limit(&mut pass.limits, reader, source);
-    let writers = writers_of(pass, at);
-    pass.reads.push(ReadNote {
+    let place = pass.values.len() as u32;
+    note_source(pass.alloc, &mut pass.txns, pass.clocked, reader, source)?;
+    let note = ReadNote {
         cell: at,
         source,
         reader,
-        writers,
-    })?;
+        place,
+    };
+    add_read(&mut pass.reads, session, note)?;
+    pass.values.push_unset()?;
     Ok(true)
 }
 

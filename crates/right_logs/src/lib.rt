@@ -7,18 +7,21 @@
 
 mod accesses;
 mod ending;
-mod ends;
 mod glimpse;
 mod guesses;
+mod kept;
 mod lines;
 mod met;
 mod noted_values;
+mod open_reads;
 mod pass;
 mod places;
 mod seats;
 mod sessions;
+mod standing;
 mod take;
 mod text;
+mod txn_notes;
 mod txns;
 
 pub use glimpse::Glimpse;

@@ -3,29 +3,19 @@ ghost use Rattle.std.specs.Prelude.{◌≡◌, ℕ, List, [], IfOk, length};
 ghost use Rattle.order_test.specs.Places.{ArePlaces};
 ghost use Rattle.right_logs.specs.Passes.{StandsFor};
 
-use crate::ends::{Ends, no_ends};
 use crate::guesses::{Guesses, no_guesses};
 use crate::noted_values::NotedValues;
-use cell_base::{Memory, Text};
+use crate::open_reads::SessionReads;
+use crate::standing::highest_of;
+use crate::txn_notes::{TxnNote, initial_txns};
+use cell_base::{Level, Memory, Text};
 use cell_writers::{CellNotes, no_cells};
 use held_values::kept;
 use history_check::{PendingWrites, SessionNote};
+use order_test::Places;
 use std::alloc::Global;
 
-/// A read, as it is judged once all events are there.
-#[derive(Clone, Copy, Debug)]
-pub struct ReadNote {
-    /// The number of its cell.
-    pub cell: u32,
-    /// The transaction that it reads from.
-    pub source: u32,
-    /// The transaction that reads.
-    pub reader: u32,
-    /// How many committed writers its cell had then: so many are up to the reader's limit, where nothing ran beside it.
-    pub writers: u32,
-}
-
-/// What the events so far come to. Session s has its notes at s - 1 and its last transaction at s, and transaction k its flag at k - 1 and its limit
+/// What the events so far come to. Session s has its notes at s - 1 and its last transaction at s, and transaction k its flag at k - 1 and its note
 /// at k.
 #[derive(Debug, Drop)]
 pub struct Pass {
@@ -43,11 +33,16 @@ pub struct Pass {
     pub values: NotedValues,
     /// The last transaction of each session, 0 where it has begun none.
     pub last: Vec<u32>,
-    /// For each transaction, the initial one first, a number that none in its causal past is above.
-    pub limits: Vec<u32>,
-    pub ends: Ends,
-    /// The reads that a later event may break.
-    pub reads: Vec<ReadNote>,
+    /// What is noted of each transaction, the initial one first.
+    pub txns: Vec<TxnNote>,
+    /// Whether they have clocks.
+    pub clocked: bool,
+    /// Beside each number the last place in the order of the numbers up to it.
+    pub highest: Vec<usize>,
+    /// The reads that are pending in each session.
+    pub reads: Vec<SessionReads>,
+    /// Whether the order keeps what the reads of all transactions that have ended ask.
+    pub met: bool,
     pub guesses: Guesses,
 }
 
@@ -62,14 +57,28 @@ fn roomy_cells(alloc: Global, room: usize) -> Result<CellNotes, Memory>
     Ok(kept(cells, came)?)
 }
 
-/// No event yet, and room for so many.
-pub fn no_pass(alloc: Global, room: usize) -> Result<Pass, Memory>
-    ensures { IfOk result (λ pass. (order places : List ℕ) → ArePlaces (length places) order places → StandsFor order places [] pass) }
+/// Whether transactions have clocks in the log of a history of the level.
+fn has_clocks(level: Level) -> bool {
+    match level {
+        Level::Rc => false,
+        Level::Ra => false,
+        Level::Cc => true,
+    }
+}
+
+/// No event yet of a history of the level, beside the order of these places, and room for so many.
+pub fn no_pass(
+    alloc: Global,
+    level: Level,
+    places: &Places,
+    room: usize,
+) -> Result<Pass, Memory>
+    ensures { IfOk result (λ pass. (order : List ℕ) → ArePlaces (length places.now.at.items) order places.now.at.items → StandsFor order places.now.at.items [] pass) }
 {
     let mut last = Vec::new(alloc);
     last.push(0)?;
-    let mut limits = Vec::new(alloc);
-    limits.push(0)?;
+    let txns = initial_txns(alloc)?;
+    let highest = highest_of(alloc, &places.at)?;
     let guesses = no_guesses(alloc)?;
     let values = NotedValues::with_room(alloc, room)?;
     let cells = roomy_cells(alloc, room)?;
@@ -82,9 +91,11 @@ pub fn no_pass(alloc: Global, room: usize) -> Result<Pass, Memory>
         cells,
         values,
         last,
-        limits,
-        ends: no_ends(alloc),
+        txns,
+        clocked: has_clocks(level),
+        highest,
         reads: Vec::new(alloc),
+        met: true,
         guesses,
     })
 }

@@ -2,6 +2,7 @@
 ghost use Rattle.std.specs.Prelude.{◌<◌, ◌↔◌, IsTrue, IfOk, Contains, length};
 ghost use Rattle.right_logs.specs.Passes.{Goes, Stands};
 
+use crate::open_reads::SessionReads;
 use crate::pass::Pass;
 use crate::places::note_place;
 use crate::seats::{is_idle, is_open};
@@ -9,6 +10,9 @@ use cell_base::{Memory, Text};
 use history_check::{PendingWrites, SessionNote, close_session};
 use history_core::Event;
 use order_test::Places;
+
+/// The most sessions of a history whose transactions have clocks: each clock has a number for each session.
+const MOST_CLOCKED: u32 = 256;
 
 /// Takes the event that opens a session.
 pub fn take_open(pass: &mut Pass, places: &Places, session: u32) -> Result<bool, Memory>
@@ -27,6 +31,10 @@ pub fn take_open(pass: &mut Pass, places: &Places, session: u32) -> Result<bool,
         places: Vec::new(pass.alloc),
     })?;
     pass.last.push(0)?;
+    pass.reads.push(SessionReads {
+        notes: Vec::new(pass.alloc),
+    })?;
+    pass.clocked = pass.clocked && session <= MOST_CLOCKED;
     note_place(&mut pass.cells.numbers.of_events, &mut pass.values)?;
     Ok(true)
 }

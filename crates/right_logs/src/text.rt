@@ -100,7 +100,7 @@ fn glimpse_at(
     ensures { IfOk result (λ glimpse. (order : List ℕ) → ArePlaces (length places.now.at.items) order places.now.at.items →
         HoldsAll (length places.now.at.items) order → IsGlimpseOfEvents version level text.now order glimpse) }
 {
-    let mut pass = no_pass(alloc, text.len() / EVENT_BYTES)?;
+    let mut pass = no_pass(alloc, level, places, text.len() / EVENT_BYTES)?;
     match seen_by(alloc, version, level, text, places, &mut pass) {
         Ok(seen) => Ok(glimpse_by(pass, seen)),
         Err(memory) => without(pass, Err(memory)),
@@ -124,8 +124,7 @@ fn seen_by(
     if !taken {
         return Ok(Seen::Unclear);
     }
-    let met = order_is_met(alloc, pass, places)?;
-    if met {
+    if order_is_met(pass, places) {
         Ok(Seen::Right)
     } else {
         Ok(Seen::Judged)

@@ -1,13 +1,15 @@
 // The beginnings and the ends of transactions.
-ghost use Rattle.std.specs.Prelude.{◌≡◌, ◌<◌, ◌≤◌, ◌∷◌, ◌++◌, [], List, false, IsTrue, IfOk, OnOk, length, slice_index, slice_set};
+ghost use Rattle.std.specs.Prelude.{◌≡◌, ◌<◌, ◌≤◌, List, IsTrue, IfOk, length, slice_index, slice_set};
 ghost use Rattle.history_core.specs.declared.event.Event.{Event as EventOf};
 ghost use Rattle.history_check.specs.Notes.{ArePendingIn, StandsForPendingWrites};
 ghost use Rattle.right_logs.specs.Passes.{Goes, Stands};
 
-use crate::ends::{note_begin, note_end, place_in, raise_tops, settled_from};
+use crate::kept::still_met;
+use crate::open_reads::clear_reads;
 use crate::pass::Pass;
 use crate::places::note_place;
 use crate::seats::{is_idle, pending_of};
+use crate::txn_notes::add_txn;
 use cell_base::{Level, Memory};
 use history_check::{PendingWrites, clear_pending, note_all_committed, set_committed, set_pending};
 use history_core::Event;
@@ -23,28 +25,10 @@ fn last_of(pass: &Pass, session: u32) -> u32
 
 /// The number of the next transaction.
 fn next_number(pass: &Pass) -> u32
-    requires { length pass.now.limits.items < 4294967296 }
-    ensures { result ≡ length pass.now.limits.items }
+    requires { length pass.now.txns.items < 4294967296 }
+    ensures { result ≡ length pass.now.txns.items }
 {
-    pass.limits.len() as u32
-}
-
-/// A limit for the one that begins after this transaction.
-fn limit_after(pass: &Pass, last: u32) -> u32
-    requires { last < length pass.now.limits.items }
-    ensures { (last ≤ result) × (slice_index pass.now.limits.items last ≤ result) }
-{
-    last.max(pass.limits[last as usize])
-}
-
-/// Notes a transaction of this limit, which hasn't committed.
-fn note_begun(limits: &mut Vec<u32>, committed: &mut Vec<bool>, limit: u32) -> Result<(), Memory>
-    ensures limits { OnOk result (limits.new.items ≡ limits.old.items ++ limit ∷ []) }
-    ensures committed { OnOk result (committed.new.items ≡ committed.old.items ++ false ∷ []) }
-{
-    limits.push(limit)?;
-    committed.push(false)?;
-    Ok(())
+    pass.txns.len() as u32
 }
 
 /// Sets the last transaction of the session.
@@ -74,9 +58,8 @@ pub fn take_begin(
     if !stands_before(places, last, number) {
         return Ok(false);
     }
-    let limit = limit_after(pass, last);
-    note_begun(&mut pass.limits, &mut pass.committed, limit)?;
-    note_begin(&mut pass.ends)?;
+    add_txn(pass.alloc, &mut pass.txns, pass.clocked, session, level, last)?;
+    pass.committed.push(false)?;
     set_last(&mut pass.last, session, number);
     set_pending(&mut pass.session_notes, session, Some(number));
     note_place(&mut pass.cells.numbers.of_events, &mut pass.values)?;
@@ -101,17 +84,15 @@ pub fn take_commit(pass: &mut Pass, places: &Places, session: u32) -> Result<boo
     let Some(number) = pending_of(&pass.session_notes, session) else {
         return Ok(false);
     };
-    let open_reads = settled_from(pass, places, number);
+    let met = still_met(pass, places, session, number);
     note_place(&mut pass.cells.numbers.of_events, &mut pass.values)?;
     let writes = places_in(&pass.pending, session);
     let of_events = pass.cells.numbers.of_events.as_slice();
     note_all_committed(&mut pass.cells.notes, of_events, writes, number)?;
-    let at = place_in(&places.at, number);
-    raise_tops(&mut pass.ends.tops, of_events, writes, at)?;
     clear_pending(&mut pass.pending, session);
     set_committed(&mut pass.committed, number);
-    note_end(&mut pass.ends, number);
-    pass.reads.truncate(open_reads);
+    clear_reads(&mut pass.reads, session);
+    pass.met = met;
     set_pending(&mut pass.session_notes, session, None);
     Ok(true)
 }
@@ -125,8 +106,10 @@ pub fn take_rollback(pass: &mut Pass, places: &Places, session: u32) -> Result<b
     let Some(number) = pending_of(&pass.session_notes, session) else {
         return Ok(false);
     };
+    let met = still_met(pass, places, session, number);
     clear_pending(&mut pass.pending, session);
-    note_end(&mut pass.ends, number);
+    clear_reads(&mut pass.reads, session);
+    pass.met = met;
     set_pending(&mut pass.session_notes, session, None);
     note_place(&mut pass.cells.numbers.of_events, &mut pass.values)?;
     Ok(true)
