@@ -12,7 +12,7 @@ use Rattle.history_check.specs.Breaches.{AreRight}
 use Rattle.history_check.proofs.EventLemmas.{take_next}
 use Rattle.history_check.proofs.Settled.{settled_push}
 
-none_settled : IsSettled []
+pub none_settled : IsSettled []
 none_settled = record {
   sources = λ reader place cell from reads. let none = reads.of_reader.is in cc;
   last = λ txn session other pending so. let none = pending.starts.is in cc;

@@ -4,11 +4,11 @@ ghost use Rattle.history_log.specs.Spelling.{kind_word, cell_word};
 ghost use Rattle.history_log.specs.Reading.{FitsCell, IsCell, IsCellAfter, Finds, Reads};
 ghost use Rattle.history_log.specs.Compact.{compact_cell};
 
+use crate::compact::CompactCell;
 use crate::digits::{leading_number, number_before};
 use crate::fields::{take_end, take_key, take_number};
 use crate::misread::Misread;
 use crate::parts::Parts;
-use crate::compact::CompactCell;
 use crate::words::after_byte;
 use cell_base::Cell;
 use std::alloc::Global;
@@ -68,6 +68,7 @@ fn field_of(alloc: Global, parts: &mut Parts) -> Result<Cell, Misread>
 }
 
 /// The presence, of a key of few digits, that the text begins with, and what stands after it. `None` says nothing of the text.
+#[inline(always)]
 fn leading_presence(text: &[u8]) -> Option<(CompactCell, &[u8])>
     ensures { IfSome result (λ x. FitsCell (compact_cell x.0) × (112 ∷ 46 ∷ text.now ≡ cell_word (compact_cell x.0) ++ x.1.now)) }
 {
@@ -77,6 +78,7 @@ fn leading_presence(text: &[u8]) -> Option<(CompactCell, &[u8])>
 }
 
 /// The field, of a key of few digits, that the text begins with, and what stands after it. `None` says nothing of the text.
+#[inline(always)]
 fn leading_field(text: &[u8]) -> Option<(CompactCell, &[u8])>
     ensures { IfSome result (λ x. FitsCell (compact_cell x.0) × (102 ∷ 46 ∷ text.now ≡ cell_word (compact_cell x.0) ++ x.1.now)) }
 {
@@ -87,6 +89,7 @@ fn leading_field(text: &[u8]) -> Option<(CompactCell, &[u8])>
 }
 
 /// The cell, of a key of few digits, that the text begins with, and what stands after it. `None` says nothing of the text.
+#[inline(always)]
 pub fn leading_cell(text: &[u8]) -> Option<(CompactCell, &[u8])>
     ensures { IfSome result (λ x. FitsCell (compact_cell x.0) × (text.now ≡ cell_word (compact_cell x.0) ++ x.1.now)) }
 {

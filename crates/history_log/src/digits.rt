@@ -5,6 +5,7 @@ ghost use Rattle.history_log.specs.Reading.{IsU32, IsNumber};
 use crate::words::after_byte;
 
 /// The digit that the byte is.
+#[inline(always)]
 fn digit_of(byte: u8) -> Option<u32>
     ensures { IfSome result (λ digit. (digit < 10) × (byte ≡ 48 + digit)) }
 {
@@ -18,6 +19,7 @@ fn digit_of(byte: u8) -> Option<u32>
 }
 
 /// The number with one digit more, where it is below 429,496,729.
+#[inline(always)]
 fn with_digit(number: u32, digit: u32) -> Option<u32>
     requires positive { 0 < number }
     requires digit { digit < 10 }
@@ -31,6 +33,7 @@ fn with_digit(number: u32, digit: u32) -> Option<u32>
 }
 
 /// The number that the text begins with, and what stands after it. `None` says nothing of the text.
+#[inline(always)]
 pub fn leading_number(text: &[u8]) -> Option<(u32, &[u8])>
     ensures { IfSome result (λ x. IsU32 x.0 × (text.now ≡ decimal x.0 ++ x.1.now)) }
 {
@@ -51,6 +54,7 @@ pub fn leading_number(text: &[u8]) -> Option<(u32, &[u8])>
 }
 
 /// The number and this byte after it that the text begins with, and what stands after them. `None` says nothing of the text.
+#[inline(always)]
 pub fn number_before(text: &[u8], byte: u8) -> Option<(u32, &[u8])>
     ensures { IfSome result (λ x. IsU32 x.0 × (text.now ≡ decimal x.0 ++ byte ∷ x.1.now)) }
 {

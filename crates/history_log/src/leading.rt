@@ -6,8 +6,8 @@ ghost use Rattle.history_log.specs.Leading.{IsLeading, IsLeadingIn};
 ghost use Rattle.history_log.specs.Compact.{compact_cell, compact_value, compact_event};
 
 use crate::cells::leading_cell;
-use crate::digits::number_before;
 use crate::compact::{CompactCell, CompactEvent, CompactValue};
+use crate::digits::number_before;
 use crate::version::Version;
 use crate::words::{after_byte, after_word};
 use cell_base::Level;
@@ -150,6 +150,7 @@ fn level_and_feed(text: &[u8]) -> Option<(Level, &[u8])>
 
 /// The session and the cell, each before a blank, that the text begins with, and what stands after them. `None` says nothing of
 /// the text.
+#[inline(always)]
 fn session_and_cell(text: &[u8]) -> Option<(u32, CompactCell, &[u8])>
     ensures { IfSome result (λ x. IsU32 x.0 × FitsCell (compact_cell x.1)
         × (text.now ≡ decimal x.0 ++ 32 ∷ (cell_word (compact_cell x.1) ++ 32 ∷ x.2.now))) }
@@ -162,6 +163,7 @@ fn session_and_cell(text: &[u8]) -> Option<(u32, CompactCell, &[u8])>
 
 /// The three numbers, each before a blank, that the text begins with, and what stands after them. `None` says nothing of the
 /// text.
+#[inline(always)]
 fn three_numbers(text: &[u8]) -> Option<(u32, u32, u32, &[u8])>
     ensures { IfSome result (λ x. IsU32 x.0 × IsU32 x.1 × IsU32 x.2
         × (text.now ≡ decimal x.0 ++ 32 ∷ (decimal x.1 ++ 32 ∷ (decimal x.2 ++ 32 ∷ x.3.now)))) }
@@ -173,6 +175,7 @@ fn three_numbers(text: &[u8]) -> Option<(u32, u32, u32, &[u8])>
 }
 
 /// The value and the line feed that the text begins with, and what stands after them. `None` says nothing of the text.
+#[inline(always)]
 fn value_and_feed(text: &[u8]) -> Option<(CompactValue, &[u8])>
     ensures { IfSome result (λ x. FitsValue (compact_value x.0) × (text.now ≡ value_word (compact_value x.0) ++ 10 ∷ x.1.now)) }
 {

@@ -6,8 +6,8 @@ ghost use Rattle.history_log.specs.Reading.{IsU32, FitsCell};
 ghost use Rattle.history_log.specs.Compact.{compact_cell};
 
 use crate::cells::leading_cell;
-use crate::digits::leading_number;
 use crate::compact::CompactCell;
+use crate::digits::leading_number;
 use std::marker::Model;
 
 /// The parts of a text that are left. Contracts see the list of them; the last one ends where the text does.

@@ -89,6 +89,7 @@ fn hex_bytes(alloc: Global, digits: &[u8]) -> Result<Items<u8>, Misread>
 }
 
 /// What stands after this byte, where the word begins with it.
+#[inline(always)]
 pub fn after_byte(word: &[u8], byte: u8) -> Option<&[u8]>
     ensures { MatchOption result ((rest : List ℕ) → word.now ≢ byte ∷ rest) (λ rest. word.now ≡ byte ∷ rest.now) }
 {
@@ -103,6 +104,7 @@ pub fn after_byte(word: &[u8], byte: u8) -> Option<&[u8]>
 }
 
 /// What stands after this word, where the text begins with it. `None` says nothing of the text.
+#[inline(always)]
 pub fn after_word<'a>(text: &'a [u8], word: &[u8]) -> Option<&'a [u8]>
     ensures { IfSome result (λ rest. text.now ≡ word.now ++ rest.now) }
 {

@@ -45,7 +45,7 @@ last_still events e last none here holds = record {
   each = λ s small. last_begun_still events e s (get_or last s 0) none (holds.each s small);
 }
 
-last_begins :
+pub last_begins :
     (events : List Event) (s : ℕ) (level : Level) (last : List ℕ) → s < length last → HoldsLast events last →
     HoldsLast (with_begin events s level) (set last s (begun events + 1))
 last_begins events s level last here holds =

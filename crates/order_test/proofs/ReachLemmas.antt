@@ -24,7 +24,7 @@ use Rattle.order_test.specs.Places.{ArePlaces}
 use Rattle.order_test.specs.Sights.{IsReadAt}
 use Rattle.order_test.specs.Listed.{HasNoRival}
 use Rattle.order_test.specs.Unkept.{HoldsAll, HoldsTransactions}
-use Rattle.order_test.specs.Reaches.{AreAboveFrom, IsReach, AddsReach, AreReachesUpTo, AreReaches, StandNoFurther}
+use Rattle.order_test.specs.Reaches.{IsReach, AddsReach, AreReachesUpTo, AreReaches, StandNoFurther}
 use Rattle.order_test.proofs.SearchLemmas.{rival_bounds}
 use Rattle.order_test.proofs.QuickLemmas.{visible_is_causal, read_cell}
 
@@ -229,15 +229,3 @@ reached_clear events order places holds are cells wrote s cell from count word v
       | inl before ↦ unmet.late before
       | inr not_before ↦ unmet.other (one_place (begun events + 1) order holds other from (omega arith) (omega arith) (omega arith))
     ]
-
--- where the number at a place is above the limit, so are those after it
-pub above_from : (numbers : List ℕ) (at limit : ℕ) → IsStrictlyIncreasing numbers → at < length numbers → limit < get_or numbers at 0 → AreAboveFrom numbers at limit
-above_from numbers at limit rises within above = (
-  omega arith,
-  λ k low inside. elim (cases_lt at k) [
-    | inl later ↦ let h = increasing_less numbers rises at k later inside in omega arith
-    | inr same ↦
-        let one : k ≡ at = omega arith in
-        let there : get_or numbers k 0 ≡ get_or numbers at 0 = ap (λ (i : ℕ). get_or numbers i 0) one in omega arith
-  ],
-)

@@ -31,7 +31,3 @@ AreReaches places cells reaches = AreReachesUpTo places cells.notes.items (lengt
 abbrev pub StandNoFurther : List ℕ → List ℕ → ℕ → ℕ → Type 0
 StandNoFurther places numbers limit from =
     (number : ℕ) → Contains numbers number → number ≤ limit → slice_index places number ≤ slice_index places from
-
--- there are as many numbers at least, and those from the place on are above the limit
-abbrev pub AreAboveFrom : List ℕ → ℕ → ℕ → Type 0
-AreAboveFrom numbers at limit = (at ≤ length numbers) × ((k : ℕ) → at ≤ k → k < length numbers → limit < slice_index numbers k)

@@ -101,7 +101,7 @@ fn note_begin(glance: &mut Glance, places: &Places, session: u32, last: u32) -> 
 }
 
 /// Raises the limit of the reader to the source and to its limit.
-pub fn raise_limit(limits: &mut Vec<u32>, reader: u32, source: u32)
+fn raise_limit(limits: &mut Vec<u32>, reader: u32, source: u32)
     requires reader { reader < length limits.old.items }
     requires source { source < length limits.old.items }
     ensures { RaisesLimit reader source limits.old.items limits.new.items }

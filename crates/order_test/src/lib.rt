@@ -25,9 +25,7 @@ mod survey;
 mod unkept;
 mod unmet;
 
-pub use glance::raise_limit;
 pub use laws::order_laws;
-pub use places::{Places, places_of, stands_before};
-pub use reaches::{CellReaches, cell_is_clear, cell_is_clear_at, reaches_of};
+pub use places::{Places, place_at, places_of, stands_before};
 pub use search::first_unkept;
 pub use unkept::Unkept;

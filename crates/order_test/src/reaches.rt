@@ -4,7 +4,7 @@ ghost use Rattle.std.specs.List.Sorted.{IsStrictlyIncreasing};
 ghost use Rattle.cell_writers.specs.declared.cell_note.CellNote.{CellNote as NoteOf};
 ghost use Rattle.order_test.specs.Entries.{AreAscending};
 ghost use Rattle.order_test.specs.Firsts.{HoldCommitted};
-ghost use Rattle.order_test.specs.Reaches.{AreAboveFrom, IsReach, AddsReach, AreReaches, AreReachesUpTo, StandNoFurther};
+ghost use Rattle.order_test.specs.Reaches.{IsReach, AddsReach, AreReaches, AreReachesUpTo, StandNoFurther};
 
 use crate::firsts::TableFirsts;
 use crate::places::{Places, place_at};
@@ -122,64 +122,6 @@ pub fn cell_is_clear(
         cells.notes[number].committed.as_slice(),
         &reaches.highest,
         reaches.starts[number],
-        limit,
-        from,
-    )
-}
-
-/// Whether the numbers from the place on, if there are any, are above the limit.
-fn are_above(numbers: &[u32], at: usize, limit: u32) -> bool
-    requires { IsStrictlyIncreasing numbers.now }
-    ensures { IsTrue result → AreAboveFrom numbers.now at limit }
-{
-    if at >= numbers.len() {
-        return at == numbers.len();
-    }
-    numbers[at] > limit
-}
-
-/// Whether none of the numbers up to the limit stands after the source, where so many are thought to be up to it. If they aren't, nothing is said.
-fn first_stand_no_further(
-    places: &Places,
-    numbers: &[u32],
-    highest: &[usize],
-    start: usize,
-    count: usize,
-    limit: u32,
-    from: u32,
-) -> bool
-    requires ascending { IsStrictlyIncreasing numbers.now }
-    requires reach { IsReach places.now.at.items numbers.now highest.now start }
-    ensures { IsTrue result → StandNoFurther places.now.at.items numbers.now limit from }
-{
-    if !are_above(numbers, count, limit) {
-        return false;
-    }
-    count == 0 || highest[start + count - 1] <= place_at(places, from)
-}
-
-/// As `cell_is_clear`, without a search, where so many of the transactions that wrote the cell are thought to be up to the limit. If they aren't,
-/// nothing is said.
-pub fn cell_is_clear_at(
-    places: &Places,
-    cells: &CellNotes,
-    reaches: &CellReaches,
-    number: usize,
-    count: usize,
-    limit: u32,
-    from: u32,
-) -> bool
-    requires within { number < length cells.now.notes.items }
-    requires ascending { AreAscending cells.now }
-    requires reaches { AreReaches places.now.at.items cells.now reaches.now }
-    ensures { IsTrue result → (note : NoteOf) → slice_get cells.now.notes.items number ≡ Some note → StandNoFurther places.now.at.items note.committed limit from }
-{
-    first_stand_no_further(
-        places,
-        cells.notes[number].committed.as_slice(),
-        &reaches.highest,
-        reaches.starts[number],
-        count,
         limit,
         from,
     )

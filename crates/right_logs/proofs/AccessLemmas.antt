@@ -3,7 +3,6 @@ use Rattle.std.proofs.Common.{◌≡◌, ℕ, ◌+◌, ◌-◌, ◌<◌, ◌≤�
 use Rattle.std.specs.List.{Contains, slice_get}
 use Rattle.std.specs.List.Sorted.{IsStrictlyIncreasing}
 use Rattle.std.specs.Option.{IfSome}
-use Rattle.std.proofs.lemmas.Option.{slice_get_within}
 use Rattle.txn_buffer.specs.Buffer.{IsAbsent}
 use Rattle.txn_buffer.proofs.Lists.{slice_get_push_cases}
 use Rattle.cell_base.specs.declared.cell.Cell.{Cell}
@@ -11,15 +10,14 @@ use Rattle.cell_base.specs.declared.value.Value.{Value}
 use Rattle.cell_base.specs.declared.value.Value.TheVariants.{Unset}
 use Rattle.history_core.specs.declared.event.Event.{Event}
 use Rattle.history_core.specs.declared.event.Event.TheVariants.{Read, Own, Write, Commit}
-use Rattle.history_core.specs.Events.{opened, begun, names, defined_name, table_of}
+use Rattle.history_core.specs.Events.{opened, names, defined_name, table_of}
 use Rattle.history_core.specs.Initial.{IsStorable}
 use Rattle.history_core.specs.Transactions.{IsPending, IsCommitted}
 use Rattle.history_core.specs.Relations.{HasWritten, LastWrites, WritesValue}
 use Rattle.history_core.specs.Legal.{IsDefined}
-use Rattle.history_core.proofs.Places.{slice_get-append_left}
-use Rattle.history_core.proofs.Next.{of_new, pending_bounded}
+use Rattle.history_core.proofs.Next.{pending_bounded}
 use Rattle.history_core.proofs.Offers.{pending_unique}
-use Rattle.history_core.proofs.Prefixes.{IsSound, Contains-from_slice_get, begun-push_other, slice_get-at_end}
+use Rattle.history_core.proofs.Prefixes.{IsSound, Contains-from_slice_get}
 use Rattle.history_core.proofs.SessionLemmas.{IsPlain}
 use Rattle.cell_writers.specs.declared.cell_note.CellNote.{CellNote}
 use Rattle.cell_writers.specs.declared.cell_note.CellNotes.{CellNotes}
@@ -27,12 +25,11 @@ use Rattle.cell_writers.specs.declared.cell_numbers.CellNumbers.{CellNumbers}
 use Rattle.cell_writers.specs.Numbered.{AreNumbered, AreNumberedSo, TakesCell, cell_in}
 use Rattle.cell_writers.specs.Pairs.{Pairs, get}
 use Rattle.cell_writers.proofs.Taken.{takes_count, takes_kept, takes_numbered, takes_unique}
-use Rattle.order_test.specs.Glance.{HoldsLast, AreLimits, IsScan, RaisesLimit}
-use Rattle.order_test.proofs.GlanceLemmas.{last_still, limits_still, limits_read, keeps_still}
+use Rattle.order_test.specs.Glance.{HoldsLast, IsScan}
+use Rattle.order_test.proofs.GlanceLemmas.{last_still, keeps_still}
 use Rattle.order_test.proofs.PastSteps.{sound_from}
 use Rattle.order_test.proofs.Taken.{source_apart, source_bounded}
 use Rattle.history_check.specs.Rules.{IsRight}
-use Rattle.history_check.specs.Breaches.{AreRight}
 use Rattle.history_check.specs.Notes.{StandsForSessionNotes, StandsForPendingWrites, StandsForCommits, IsLastWriteAt, IsNoteOf, AreNotesOf, AreCellNotes, IsChangedTo, SetsPlaceAt}
 use Rattle.history_check.specs.declared.session_note.SessionNote.{SessionNote}
 use Rattle.history_check.specs.declared.pending_writes.PendingWrites.{PendingWrites}
@@ -44,14 +41,12 @@ use Rattle.history_check.proofs.SessionNoteLemmas.{session_notes_plain, plain_re
 use Rattle.history_check.proofs.Verdicts.{read_right, own_right, write_right}
 use Rattle.history_check.proofs.WriteLemmas.{last_is, value_writes}
 use Rattle.right_logs.specs.declared.pass.Pass.{Pass}
-use Rattle.right_logs.specs.declared.pass.ReadNote.{ReadNote}
+use Rattle.right_logs.specs.declared.open_reads.ReadNote.{ReadNote}
 use Rattle.right_logs.specs.Accesses.{GivesLast, GivesValue, IsClearRead, MayTouch}
 use Rattle.right_logs.specs.Seats.{IsPendingIn}
-use Rattle.right_logs.specs.declared.ends.Ends.{Ends}
-use Rattle.right_logs.specs.Ends.{AreTops, StandsForEnds}
-use Rattle.right_logs.specs.Passes.{HaveValues, IsReadNoteOf, HoldReads, StandsFor, Goes, Stands}
-use Rattle.right_logs.proofs.Still.{pending_from, session_in_place, right_push, settled_right, sessions_right, room_right, room_still, names_still, values_push, no_scan_push, read_kept, reads_still}
-use Rattle.right_logs.proofs.Settling.{comes_next, settled_push_read, flags_still, tops_taken, tops_set}
+use Rattle.right_logs.specs.Passes.{HaveValues, StandsForSights, StandsFor, Goes, Stands}
+use Rattle.right_logs.proofs.Still.{pending_from, session_in_place, right_push, settled_right, sessions_right, room_right, room_still, names_still, values_push, no_scan_push}
+use Rattle.right_logs.proofs.Sights.{SameSights, ReadsSights, KeepsCells, sights_still, sights_read}
 
 -- ---- the notes of the cells, once the cell of the next event has one
 
@@ -165,65 +160,6 @@ write_is_right :
     (events : List Event) (s k : ℕ) (cell : Cell) (v : Value) → IsPending events k s → IsDefined events (table_of cell) → IsStorable v → IsRight [] events (Write s cell v)
 write_is_right events s k cell v pending table storable = write_right [] events s cell v ((k, pending), table, storable)
 
--- ---- the reads
-
--- the note has the number of the event's cell, its source and its reader, if it is a read
-abbrev pub IsNoteOfRead : List Event → List Cell → ℕ → ReadNote → Event → Type 0
-IsNoteOfRead events cells place note (Read s cell w n u v) = IsReadNoteOf events cells place s cell w n u v note
-IsNoteOfRead events cells place note _ = Unit {0}
-
-note_of_read :
-    (events : List Event) (cells : List Cell) (s k : ℕ) (cell : Cell) (w n u : ℕ) (v : Value) (note : ReadNote) → slice_get cells note.cell ≡ Some cell → note.source ≡ w → note.reader ≡ k →
-    IsPending events k s → w ≤ begun events → IsReadNoteOf (events ++ Read s cell w n u v ∷ []) cells (length events) s cell w n u v note
-note_of_read events cells s k cell w n u v note numbered from reader pending bounded =
-    let same : begun (events ++ Read s cell w n u v ∷ []) ≡ begun events = begun-push_other events (Read s cell w n u v) refl in
-    let upto : w ≤ begun (events ++ Read s cell w n u v ∷ []) = omega arith in
-    record {
-      numbered = numbered;
-      from = from;
-      read = record {
-        of = of_new events (Read s cell w n u v) note.reader (subst (λ (t : ℕ). IsPending events t s) (sym reader) pending);
-        from = upto;
-      };
-    }
-
-reads_push :
-    (places : List ℕ) (events : List Event) (old new : List Cell) (reads : List ReadNote) (s k : ℕ) (cell : Cell) (w n u : ℕ) (v : Value) (note : ReadNote) →
-    AreRight [] (events ++ Read s cell w n u v ∷ []) → ((i : ℕ) (c : Cell) → slice_get old i ≡ Some c → slice_get new i ≡ Some c) → slice_get new note.cell ≡ Some cell →
-    note.source ≡ w → note.reader ≡ k → IsPending events k s → w ≤ begun events → HoldReads places events old reads →
-    HoldReads places (events ++ Read s cell w n u v ∷ []) new (reads ++ note ∷ [])
-reads_push places events old new reads s k cell w n u v note right kept numbered from reader pending bounded hold place t q a b c value is =
-    elim (slice_get_push_cases events (Read s cell w n u v) place (Read t q a b c value) is) [
-      | inl there ↦ elim (hold place t q a b c value there.1) [
-        | inl was ↦
-            let within = slice_get_within reads was.0 was.1.0 was.1.1.0 in
-            inl (
-              was.0,
-              (
-                was.1.0,
-                (
-                  slice_get-append_left reads (note ∷ []) was.0 within ∙ was.1.1.0,
-                  read_kept events (Read s cell w n u v) old new place t q a b c value was.1.0 kept was.1.1.1,
-                ),
-              ),
-            )
-        | inr settled ↦
-            inr (settled_push_read places events (Read s cell w n u v) place t q a b c value (comes_next events (Read s cell w n u v) right) settled)
-      ]
-      | inr now ↦ inl (
-        length reads,
-        (
-          note,
-          (
-            slice_get-at_end reads note,
-            subst (λ (e : Event). IsNoteOfRead (events ++ Read s cell w n u v ∷ []) new place note e) now.1
-                (subst (λ (p : ℕ). IsReadNoteOf (events ++ Read s cell w n u v ∷ []) new p s cell w n u v note) (sym now.0)
-                (note_of_read events new s k cell w n u v note numbered from reader pending bounded)),
-          ),
-        ),
-      )
-    ]
-
 -- ---- all of it
 
 -- an event that reads or writes a cell
@@ -243,21 +179,19 @@ own_accesses s cell v = record { of = refl; plain = plain_own s cell v; commits 
 write_accesses : (s : ℕ) (cell : Cell) (v : Value) → IsAccess (Write s cell v) cell
 write_accesses s cell v = record { of = refl; plain = plain_write s cell v; commits = λ t same. cc; scans = λ scan. scan; defines = refl }
 
--- nothing is noted of sessions, tables, commits and ends
+-- nothing is noted of sessions, tables and commits
 pub record KeepsRest (old new : Pass) : Type 0 where
   pub session_notes : new.session_notes.items ≡ old.session_notes.items
   pub committed : new.committed.items ≡ old.committed.items
   pub tables : new.names.items ≡ old.names.items
   pub last : new.last.items ≡ old.last.items
-  pub ends : new.ends ≡ old.ends
 
 access_goes :
     (order places : List ℕ) (events : List Event) (e : Event) (cell : Cell) (at : ℕ) (old new : Pass) (taken : CellNotes) → IsAccess e cell → IsRight [] events e → KeepsRest old new →
     TakesCell old.cells cell at taken → new.cells.numbers ≡ taken.numbers → AreNotesOf (events ++ e ∷ []) taken.numbers.cells.keys new.cells.notes.items →
-    StandsForPendingWrites (events ++ e ∷ []) new.pending.items → HaveValues (events ++ e ∷ []) new.values → AreLimits (events ++ e ∷ []) new.limits.items →
-    AreTops places new.cells.notes.items old.ends.tops.items → HoldReads places (events ++ e ∷ []) taken.numbers.cells.keys new.reads.items → StandsFor order places events old →
-    StandsFor order places (events ++ e ∷ []) new
-access_goes order places events e cell at old new taken access right rest takes numbers notes pending values limits tops reads stands =
+    StandsForPendingWrites (events ++ e ∷ []) new.pending.items → HaveValues (events ++ e ∷ []) new.values → StandsForSights places (events ++ e ∷ []) new →
+    StandsFor order places events old → StandsFor order places (events ++ e ∷ []) new
+access_goes order places events e cell at old new taken access right rest takes numbers notes pending values sights stands =
     let numbered : AreNumberedSo (events ++ e ∷ []) taken.numbers = takes_numbered events e old.cells taken cell at access.of takes stands.numbered in
     let named : names (events ++ e ∷ []) ≡ names events = names_still events e access.defines in
     let named_so : new.names.items ≡ names (events ++ e ∷ []) = rest.tables ∙ stands.names_are ∙ sym named in
@@ -283,13 +217,9 @@ access_goes order places events e cell at old new taken access right rest takes 
       last =
           subst (λ (xs : List ℕ). HoldsLast (events ++ e ∷ []) xs) (sym rest.last)
           (last_still events e old.last.items access.plain.begins_none (room_right events e old.last.items stands.sessions right room) stands.last);
-      limits = limits;
       keeps = keeps_still events e order access.plain.begins_none stands.keeps;
       no_scan = no_scan_push events e access.scans stands.no_scan;
-      ends =
-          subst (λ (ends : Ends). StandsForEnds places (events ++ e ∷ []) new.cells.notes.items ends) (sym rest.ends)
-          (record { ended = flags_still events e old.ends.ended.items old.ends.upto access.plain.begins_none stands.ends.ended; tops = tops });
-      reads = subst (λ (ns : CellNumbers). HoldReads places (events ++ e ∷ []) ns.cells.keys new.reads.items) (sym numbers) reads;
+      sights = sights;
     }
 
 -- the table of the cell is defined
@@ -299,9 +229,9 @@ table_is order places events pass cell stands less = let same = stands.tables in
 pub read_goes :
     (places : List ℕ) (s k : ℕ) (cell : Cell) (at w n u : ℕ) (v : Value) (old new : Pass) (note : CellNote) (seen : ReadNote) → MayTouch old s cell k → TakesCell old.cells cell at new.cells →
     slice_get new.cells.notes.items at ≡ Some note → IsClearRead note old.values old.committed.items cell k w n v → KeepsRest old new → new.pending.items ≡ old.pending.items →
-    new.values ≡ old.values ++ Unset ∷ [] → RaisesLimit k w old.limits.items new.limits.items → seen.cell ≡ at → seen.source ≡ w → seen.reader ≡ k →
-    new.reads.items ≡ old.reads.items ++ seen ∷ [] → Goes places (Read s cell w n u v) old new
-read_goes places s k cell at w n u v old new note seen may takes is clear rest lists pushed raises number from reader noted order events stands =
+    new.values ≡ old.values ++ Unset ∷ [] → seen.cell ≡ at → seen.source ≡ w → seen.reader ≡ k → seen.place ≡ length old.values → ReadsSights s k w seen old new →
+    Goes places (Read s cell w n u v) old new
+read_goes places s k cell at w n u v old new note seen may takes is clear rest lists pushed number from reader last reads order events stands =
     let e : Event = Read s cell w n u v in
     let sound = sound_from events stands.settled in
     let pending : IsPending events k s = pending_from events old.session_notes.items s k stands.session_notes may.pending in
@@ -315,13 +245,9 @@ read_goes places s k cell at w n u v old new note seen may takes is clear rest l
     (cells_other events e new.cells.numbers.cells.keys new.cells.notes.items tt (notes_taken events old.cells new.cells cell at stands.numbered.are takes stands.cells))
     (subst (λ (ls : List PendingWrites). StandsForPendingWrites (events ++ e ∷ []) ls) (sym lists) (pending_other events e old.pending.items tt stands.pending))
     (values_push events e old.values new.values Unset pushed (λ t q x same. absurd (no_write t q x same)) stands.values)
-    (limits_read events sound s k cell w n u v pending (source_apart events k s w pending settled) (pending_bounded events k s pending) bounded old.limits.items new.limits.items raises
-    stands.limits)
-    (tops_taken places old.cells new.cells cell at old.ends.tops.items takes stands.ends.tops)
-    (subst (λ (rs : List ReadNote). HoldReads places (events ++ e ∷ []) new.cells.numbers.cells.keys rs) (sym noted)
-    (reads_push places events old.cells.numbers.cells.keys new.cells.numbers.cells.keys old.reads.items s k cell w n u v seen (right_push events e stands.right right)
-    (takes_kept old.cells new.cells cell at takes)
-    (subst (λ (i : ℕ). slice_get new.cells.numbers.cells.keys i ≡ Some cell) (sym number) takes.is) from reader pending bounded stands.reads))
+    (sights_read places events s k cell w n u v old new seen (right_push events e stands.right right) sound pending (source_apart events k s w pending settled) bounded from reader
+    (last ∙ stands.values.count) (subst (λ (i : ℕ). slice_get new.cells.numbers.cells.keys i ≡ Some cell) (sym number) takes.is) reads
+    (takes_kept old.cells new.cells cell at takes) stands.sights)
     stands
   where
     no_write : (t : ℕ) (q : Cell) (x : Value) → Read s cell w n u v ≡ Write t q x → ⊥
@@ -330,8 +256,8 @@ read_goes places s k cell at w n u v old new note seen may takes is clear rest l
 pub own_goes :
     (places : List ℕ) (s k : ℕ) (cell : Cell) (at : ℕ) (v : Value) (old new : Pass) (note : CellNote) → MayTouch old s cell k → TakesCell old.cells cell at new.cells →
     slice_get new.cells.notes.items at ≡ Some note → GivesLast note old.values k v → KeepsRest old new → new.pending.items ≡ old.pending.items →
-    new.values ≡ old.values ++ Unset ∷ [] → new.limits.items ≡ old.limits.items → new.reads.items ≡ old.reads.items → Goes places (Own s cell v) old new
-own_goes places s k cell at v old new note may takes is gives rest lists pushed same_limits same_reads order events stands =
+    new.values ≡ old.values ++ Unset ∷ [] → SameSights old new → Goes places (Own s cell v) old new
+own_goes places s k cell at v old new note may takes is gives rest lists pushed same_sights order events stands =
     let e : Event = Own s cell v in
     let pending : IsPending events k s = pending_from events old.session_notes.items s k stands.session_notes may.pending in
     let noted = note_at events old.cells new.cells cell at note stands.numbered.are takes stands.cells is in
@@ -342,25 +268,17 @@ own_goes places s k cell at v old new note may takes is gives rest lists pushed 
     (cells_other events e new.cells.numbers.cells.keys new.cells.notes.items tt (notes_taken events old.cells new.cells cell at stands.numbered.are takes stands.cells))
     (subst (λ (ls : List PendingWrites). StandsForPendingWrites (events ++ e ∷ []) ls) (sym lists) (pending_other events e old.pending.items tt stands.pending))
     (values_push events e old.values new.values Unset pushed (λ t q x same. absurd (no_write t q x same)) stands.values)
-    (subst (λ (ls : List ℕ). AreLimits (events ++ e ∷ []) ls) (sym same_limits) (limits_still events e old.limits.items tt stands.limits))
-    (tops_taken places old.cells new.cells cell at old.ends.tops.items takes stands.ends.tops)
-    (subst (λ (rs : List ReadNote). HoldReads places (events ++ e ∷ []) new.cells.numbers.cells.keys rs) (sym same_reads)
-    (reads_still places events e old.cells.numbers.cells.keys new.cells.numbers.cells.keys old.reads.items (right_push events e stands.right right)
-    (takes_kept old.cells new.cells cell at takes) no_read stands.reads))
-    stands
+    (sights_still places events e old new (right_push events e stands.right right) tt refl same_sights (takes_kept old.cells new.cells cell at takes) stands.sights) stands
   where
     no_write : (t : ℕ) (q : Cell) (x : Value) → Own s cell v ≡ Write t q x → ⊥
     no_write t q x same = cc
 
-    no_read : (t : ℕ) (q : Cell) (a b c : ℕ) (x : Value) → Own s cell v ≡ Read t q a b c x → ⊥
-    no_read t q a b c x same = cc
-
 pub write_goes :
     (places : List ℕ) (s k : ℕ) (cell : Cell) (at place : ℕ) (v : Value) (old new : Pass) (taken : CellNotes) → MayTouch old s cell k → IsStorable v → TakesCell old.cells cell at taken →
     new.cells.numbers ≡ taken.numbers → place ≡ length old.values → SetsPlaceAt at k place taken.notes.items new.cells.notes.items →
-    IsChangedTo old.pending.items s (λ before after. after ≡ before ++ place ∷ []) new.pending.items → new.values ≡ old.values ++ v ∷ [] → KeepsRest old new →
-    new.limits.items ≡ old.limits.items → new.reads.items ≡ old.reads.items → Goes places (Write s cell v) old new
-write_goes places s k cell at place v old new taken may storable takes numbers last sets changed pushed rest same_limits same_reads order events stands =
+    IsChangedTo old.pending.items s (λ before after. after ≡ before ++ place ∷ []) new.pending.items → new.values ≡ old.values ++ v ∷ [] → KeepsRest old new → SameSights old new →
+    Goes places (Write s cell v) old new
+write_goes places s k cell at place v old new taken may storable takes numbers last sets changed pushed rest same_sights order events stands =
     let e : Event = Write s cell v in
     let pending : IsPending events k s = pending_from events old.session_notes.items s k stands.session_notes may.pending in
     let here : place ≡ length events = last ∙ stands.values.count in
@@ -372,19 +290,12 @@ write_goes places s k cell at place v old new taken may storable takes numbers l
     (pending_write events s k cell v old.pending.items new.pending.items pending
     (subst (λ (p : ℕ). IsChangedTo old.pending.items s (λ before after. after ≡ before ++ p ∷ []) new.pending.items) here changed) stands.pending)
     (values_push events e old.values new.values v pushed (λ t q x same. same_value t q x same) stands.values)
-    (subst (λ (ls : List ℕ). AreLimits (events ++ e ∷ []) ls) (sym same_limits) (limits_still events e old.limits.items tt stands.limits))
-    (tops_set places at k place taken.notes.items new.cells.notes.items old.ends.tops.items sets
-    (tops_taken places old.cells taken cell at old.ends.tops.items takes stands.ends.tops))
-    (subst (λ (rs : List ReadNote). HoldReads places (events ++ e ∷ []) taken.numbers.cells.keys rs) (sym same_reads)
-    (reads_still places events e old.cells.numbers.cells.keys taken.numbers.cells.keys old.reads.items (right_push events e stands.right right)
-    (takes_kept old.cells taken cell at takes) no_read stands.reads))
+    (sights_still places events e old new (right_push events e stands.right right) tt refl same_sights
+    (subst (λ (ns : CellNumbers). KeepsCells old.cells.numbers.cells.keys ns.cells.keys) (sym numbers) (takes_kept old.cells taken cell at takes)) stands.sights)
     stands
   where
     same_value : (t : ℕ) (q : Cell) (x : Value) → Write s cell v ≡ Write t q x → v ≡ x
     same_value t q x same = cc
-
-    no_read : (t : ℕ) (q : Cell) (a b c : ℕ) (x : Value) → Write s cell v ≡ Read t q a b c x → ⊥
-    no_read t q a b c x same = cc
 
 -- ---- what the calls ask, and what one answers
 
@@ -403,14 +314,29 @@ cells_few places pass (order, (events, stands)) few =
     let cells = stands.numbered.few in
     let count = stands.values.count in (stands.cells.count, omega arith)
 
--- the reader and the source have limits
-pub limits_within :
+-- the reader and the source have notes
+pub txns_within :
     (places : List ℕ) (pass : Pass) (s k : ℕ) (cell : Cell) (w n : ℕ) (v : Value) (note : CellNote) → Stands places pass → MayTouch pass s cell k →
-    IsClearRead note pass.values pass.committed.items cell k w n v → (k < length pass.limits.items) × (w < length pass.limits.items)
-limits_within places pass s k cell w n v note (order, (events, stands)) may clear =
+    IsClearRead note pass.values pass.committed.items cell k w n v → (k < length pass.txns.items) × (w < length pass.txns.items)
+txns_within places pass s k cell w n v note (order, (events, stands)) may clear =
     let reader = pending_bounded events k s (pending_from events pass.session_notes.items s k stands.session_notes may.pending) in
     let from = source_bounded events w (source_settled events cell w v note pass.values pass.committed.items stands.commits clear.gives) in
-    let count = stands.limits.count in (omega arith, omega arith)
+    let count = stands.sights.txns.count in (omega arith, omega arith)
+
+-- they are two
+pub apart_from_source :
+    (places : List ℕ) (pass : Pass) (s k : ℕ) (cell : Cell) (w n : ℕ) (v : Value) (note : CellNote) → Stands places pass → MayTouch pass s cell k →
+    IsClearRead note pass.values pass.committed.items cell k w n v → w ≡ k → ⊥
+apart_from_source places pass s k cell w n v note (order, (events, stands)) may clear =
+    source_apart events k s w (pending_from events pass.session_notes.items s k stands.session_notes may.pending)
+    (source_settled events cell w v note pass.values pass.committed.items stands.commits clear.gives)
+
+-- the session has a list of reads
+pub reads_within : (places : List ℕ) (pass : Pass) (s k : ℕ) (cell : Cell) → Stands places pass → MayTouch pass s cell k → (0 < s) × (s ≤ length pass.reads.items)
+reads_within places pass s k cell (order, (events, stands)) may =
+    let within = session_in_place pass.session_notes.items s k may.pending in
+    let notes = stands.session_notes.count in
+    let lists = stands.sights.lists in (within.0, let h = within.1 in omega arith)
 
 -- the session has a list of pending writes
 pub list_within : (places : List ℕ) (pass : Pass) (s k : ℕ) (cell : Cell) → Stands places pass → MayTouch pass s cell k → (0 < s) × (s ≤ length pass.pending.items)

@@ -1,12 +1,15 @@
 pub mod AccessLemmas
-pub mod BeginLemmas
 pub mod Beginning
+pub mod ClockLemmas
 pub mod CompactLemmas
-pub mod EndLemmas
+pub mod JudgeLemmas
+pub mod Judged
 pub mod MetLemmas
 pub mod NotedLemmas
 pub mod SessionLemmas
 pub mod Settling
+pub mod SightEnds
+pub mod Sights
 pub mod Still
 pub mod Texts
 pub mod TxnLemmas

@@ -1,43 +1,36 @@
--- What has ended stays so, and a read that is settled stays settled.
-use Rattle.std.proofs.Common.{◌≡◌, ℕ, ◌+◌, ◌-◌, ◌<◌, ◌≤◌, List, [], ◌∷◌, ◌++◌, Bool, true, false, Some, length, get_or, take, arith, refl, ap, sym, ◌∙◌, subst, inl, inr}
-use Rattle.std.specs.List.{Contains, slice_get}
-use Rattle.std.proofs.lemmas.List.{length_push, length-set, take-append-le, take_all}
+-- What has ended stays so and sees nothing more, and a read that is settled stays settled.
+use Rattle.std.proofs.Common.{◌≡◌, ℕ, ◌+◌, ◌<◌, ◌≤◌, List, [], ◌∷◌, ◌++◌, true, false, length, take, arith, refl, ap, sym, ◌∙◌, subst, inl, inr}
+use Rattle.std.proofs.lemmas.List.{take-append-le, take_all}
 use Rattle.std.proofs.lemmas.Bool.{false≢true}
-use Rattle.std.proofs.lemmas.Option.{slice_get_cases, slice_get_within}
+use Rattle.std.proofs.lemmas.Option.{slice_get_within}
+use Rattle.graph_base.specs.Chain.{IsChain}
 use Rattle.graph_base.proofs.Places.{count_by-push}
-use Rattle.txn_buffer.proofs.Lists.{slice_get_push_cases, slice_get-set_cases}
 use Rattle.cell_base.specs.declared.level.Level.{Level}
+use Rattle.cell_base.specs.declared.level.Level.TheVariants.{Rc, Ra, Cc}
 use Rattle.cell_base.specs.declared.cell.Cell.{Cell}
 use Rattle.cell_base.specs.declared.value.Value.{Value}
 use Rattle.history_core.specs.declared.event.Event.{Event}
 use Rattle.history_core.specs.declared.event.Event.TheVariants.{Open, Close, Define, Look, Begin, Scan, Read, Own, Write, Commit, Rollback, Show}
 use Rattle.history_core.specs.Events.{begun, session_in, is_begin, is_end}
-use Rattle.history_core.specs.Transactions.{IsOf, IsPending, HasPending}
-use Rattle.history_core.specs.Relations.{Writes}
+use Rattle.history_core.specs.Transactions.{IsPending, HasPending}
+use Rattle.history_core.specs.Relations.{Precedes, PrecedesCausally, IsVisibleAt, IsVisible}
 use Rattle.history_core.proofs.Places.{start_session}
-use Rattle.history_core.proofs.Grown.{writes_back}
+use Rattle.history_core.proofs.Grown.{runs_back, writes_back, pending_not_committed}
 use Rattle.history_core.proofs.Next.{pending_back, pending_bounded}
 use Rattle.history_core.proofs.Numbers.{pending_positive}
-use Rattle.history_core.proofs.Prefixes.{slice_get-at_end, of_kept, begun-push_start, begun-push_other}
+use Rattle.history_core.proofs.Offers.{precedes_read, chain_seen}
+use Rattle.history_core.proofs.Prefixes.{IsSound, slice_get-at_end, of_kept, start_bounded, begun-push_other, runs_still, visible_begin}
+use Rattle.saturation.proofs.After.{before_back}
 use Rattle.further_reads.specs.Begun.{ForcesNothing}
-use Rattle.cell_writers.specs.declared.cell_note.CellNote.{CellNote}
-use Rattle.cell_writers.specs.declared.cell_note.CellNotes.{CellNotes}
-use Rattle.cell_writers.specs.Numbered.{TakesCell}
-use Rattle.order_test.specs.Settled.{ComesSettled}
-use Rattle.order_test.specs.Places.{StandsAt}
-use Rattle.order_test.specs.Glance.{IsLimitOf, AreLimits}
-use Rattle.order_test.proofs.Closing.{read_past_back, other_past_back, begin_past_back}
-use Rattle.order_test.proofs.GlanceLemmas.{limits_still}
+use Rattle.further_reads.proofs.Sources.{begins_nothing}
+use Rattle.further_reads.proofs.Still.{others_precede}
+use Rattle.order_test.specs.Settled.{IsSettled, ComesSettled}
+use Rattle.order_test.proofs.Closing.{read_past_back, other_past_back}
 use Rattle.order_test.proofs.PastSteps.{sound_from}
 use Rattle.order_test.proofs.Taken.{source_apart}
 use Rattle.history_check.specs.Breaches.{AreRight}
-use Rattle.history_check.specs.Notes.{IsNoteOf, SetsPlaceAt, IsGained, GainAmong}
 use Rattle.history_check.proofs.Orderly.{orderly_from}
-use Rattle.right_logs.specs.declared.ends.Ends.{Ends}
-use Rattle.right_logs.specs.declared.pass.Pass.{Pass}
-use Rattle.right_logs.specs.declared.pass.ReadNote.{ReadNote}
-use Rattle.right_logs.specs.Ends.{HasEnded, AreEnded, AreTops, NotesEnd, RaisesTops, IsSettledRead, IsKeptSoFar}
-use Rattle.right_logs.specs.Passes.{IsReadNoteOf, StandsFor}
+use Rattle.right_logs.specs.OpenReads.{HasEnded, IsKeptRead, IsSettledRead}
 
 -- ---- what has ended
 
@@ -56,7 +49,8 @@ ended_push events e number ended =
     }
 
 -- what was pending has ended with the event that ends it
-pub ended_now : (events : List Event) (e : Event) (number s : ℕ) → IsPending events number s → session_in e ≡ s → is_end e ≡ true → is_begin e ≡ false → HasEnded (events ++ e ∷ []) number
+pub ended_now : (events : List Event) (e : Event) (number s : ℕ) → IsPending events number s → session_in e ≡ s → is_end e ≡ true → is_begin e ≡ false →
+    HasEnded (events ++ e ∷ []) number
 ended_now events e number s pending session ends none =
     let bounded : number ≤ begun events = pending_bounded events number s pending in
     let same : begun (events ++ e ∷ []) ≡ begun events = begun-push_other events e none in
@@ -72,52 +66,6 @@ ended_now events e number s pending session ends none =
       ];
     }
 
--- ---- the flags of those that have ended
-
-pub flags_still : (events : List Event) (e : Event) (flags : List Bool) (upto : ℕ) → is_begin e ≡ false → AreEnded events flags upto → AreEnded (events ++ e ∷ []) flags upto
-flags_still events e flags upto none ended = record {
-  count = ended.count ∙ sym (begun-push_other events e none);
-  each = λ k is. ended_push events e (k + 1) (ended.each k is);
-  all = λ number low high. ended_push events e number (ended.all number low high);
-}
-
-pub flags_begin : (events : List Event) (s : ℕ) (level : Level) (flags : List Bool) (upto : ℕ) → AreEnded events flags upto → AreEnded (events ++ Begin s level ∷ []) (flags ++ false ∷ []) upto
-flags_begin events s level flags upto ended = record {
-  count = length_push flags false ∙ ap (λ (n : ℕ). n + 1) ended.count ∙ sym (begun-push_start events s level);
-  each = λ k is. elim (slice_get_push_cases flags false k true is) [
-    | inl old ↦ ended_push events (Begin s level) (k + 1) (ended.each k old.1)
-    | inr new ↦ absurd (false≢true new.1)
-  ];
-  all = λ number low high. ended_push events (Begin s level) number (ended.all number low high);
-}
-
-pub flags_end : (events : List Event) (e : Event) (number s : ℕ) (old new : Ends) → IsPending events number s → session_in e ≡ s → is_end e ≡ true → is_begin e ≡ false →
-    NotesEnd number old new → AreEnded events old.ended.items old.upto → AreEnded (events ++ e ∷ []) new.ended.items new.upto
-flags_end events e number s old new pending session ends none notes before =
-    let some : 0 < number = pending_positive events number s pending in
-    let now : HasEnded (events ++ e ∷ []) number = ended_now events e number s pending session ends none in
-    let flagged : (k : ℕ) → slice_get new.ended.items k ≡ Some true → HasEnded (events ++ e ∷ []) (k + 1) =
-    λ k is. elim (slice_get-set_cases old.ended.items (number - 1) k true true (subst (λ (flags : List Bool). slice_get flags k ≡ Some true) notes.flags is)) [
-      | inl here ↦
-          let at : k ≡ number - 1 = here.0 in
-          let one : number ≡ k + 1 = omega arith in
-          subst (λ (m : ℕ). HasEnded (events ++ e ∷ []) m) one now
-      | inr other ↦ ended_push events e (k + 1) (before.each k other.1)
-    ]
-    in
-    record {
-      count = ap length notes.flags ∙ length-set old.ended.items (number - 1) true ∙ before.count ∙ sym (begun-push_other events e none);
-      each = flagged;
-      all = λ m low high.
-          let back : m - 1 + 1 ≡ m = omega arith in
-          elim (notes.upto (m - 1) (omega arith)) [
-            | inl earlier ↦ ended_push events e m (before.all m low (omega arith))
-            | inr flag ↦ subst (λ (i : ℕ). HasEnded (events ++ e ∷ []) i) back (flagged (m - 1) flag)
-          ];
-    }
-
--- ---- the limit of the past of what has ended
-
 pub comes_next : (events : List Event) (e : Event) → AreRight [] (events ++ e ∷ []) → ComesSettled events e
 comes_next events e right =
     let front : take (length events) (events ++ e ∷ []) ≡ events =
@@ -125,160 +73,149 @@ comes_next events e right =
     in
     subst (λ (xs : List Event). ComesSettled xs e) front (orderly_from [] (events ++ e ∷ []) right (length events) e (slice_get-at_end events e))
 
-bound_begin :
-    (events : List Event) (s : ℕ) (level : Level) (reader limit : ℕ) → ComesSettled events (Begin s level) → HasEnded events reader → IsLimitOf events reader limit →
-    IsLimitOf (events ++ Begin s level ∷ []) reader limit
-bound_begin events s level reader limit comes ended bound writer chain =
-    bound writer (begin_past_back events (sound_from events comes.settled) s level writer reader ended.within chain)
+-- ---- what is seen has ended
 
--- the read is one of a pending transaction, so not of this one, and the past of no other grows
-bound_read :
-    (events : List Event) (s : ℕ) (cell : Cell) (w n u : ℕ) (v : Value) (reader limit : ℕ) → ComesSettled events (Read s cell w n u v) → HasEnded events reader →
-    IsLimitOf events reader limit → IsLimitOf (events ++ Read s cell w n u v ∷ []) reader limit
-bound_read events s cell w n u v reader limit comes ended bound writer chain =
-    let has : HasPending events s = comes.reader in
-    let pending : IsPending events has.0 s = has.1 in
-    elim (read_past_back events (sound_from events comes.settled) s has.0 cell w n u v pending (source_apart events has.0 s w pending comes.source) writer reader chain) [
-      | inl old ↦ bound writer old
-      | inr into ↦ absurd (ended.over s (subst (λ (k : ℕ). IsPending events k s) (sym into.0) pending))
+-- a pending transaction is the last of its session, and no source
+precedes_ended : (events : List Event) → IsSettled events → (writer m : ℕ) → 0 < writer → Precedes events writer m → HasEnded events writer
+precedes_ended events settled writer m low (inl so) =
+    let up : writer < m = so.earlier in
+    let bounded : m ≤ begun events = start_bounded events m so.session so.place so.started in
+    record {
+      some = low;
+      within = omega arith;
+      over = λ s pending. settled.last writer s m pending so;
+    }
+precedes_ended events settled writer m low (inr wr) =
+    elim (settled.sources m wr.place wr.cell writer wr.reads) [
+      | inl initial ↦ absurd (omega arith)
+      | inr committed ↦ record {
+        some = low;
+        within = start_bounded events writer committed.session committed.commit.start committed.commit.starts;
+        over = λ s pending. pending_not_committed events writer s pending committed;
+      }
     ]
 
-bound_other : (events : List Event) (e : Event) (reader limit : ℕ) → ForcesNothing e → IsLimitOf events reader limit → IsLimitOf (events ++ e ∷ []) reader limit
-bound_other events e reader limit nothing bound writer chain = bound writer (other_past_back events e nothing writer reader chain)
+chain_ended : (events : List Event) → IsSettled events → (writer : ℕ) → 0 < writer → (between : List ℕ) (reader : ℕ) →
+    IsChain (Precedes events) writer between reader → HasEnded events writer
+chain_ended events settled writer low [] reader link = precedes_ended events settled writer reader low link
+chain_ended events settled writer low (m ∷ between) reader (link, rest) = precedes_ended events settled writer m low link
 
-pub bound_push : (events : List Event) (e : Event) (reader limit : ℕ) → ComesSettled events e → HasEnded events reader → IsLimitOf events reader limit → IsLimitOf (events ++ e ∷ []) reader limit
-bound_push events (Begin s level) reader limit comes ended bound = bound_begin events s level reader limit comes ended bound
-bound_push events (Read s cell w n u v) reader limit comes ended bound = bound_read events s cell w n u v reader limit comes ended bound
-bound_push events (Open s) reader limit comes ended bound = bound_other events (Open s) reader limit tt bound
-bound_push events (Close s) reader limit comes ended bound = bound_other events (Close s) reader limit tt bound
-bound_push events (Define s name) reader limit comes ended bound = bound_other events (Define s name) reader limit tt bound
-bound_push events (Look s tables) reader limit comes ended bound = bound_other events (Look s tables) reader limit tt bound
-bound_push events (Scan s table keys) reader limit comes ended bound = bound_other events (Scan s table keys) reader limit tt bound
-bound_push events (Own s cell v) reader limit comes ended bound = bound_other events (Own s cell v) reader limit tt bound
-bound_push events (Write s cell v) reader limit comes ended bound = bound_other events (Write s cell v) reader limit tt bound
-bound_push events (Commit s) reader limit comes ended bound = bound_other events (Commit s) reader limit tt bound
-bound_push events (Rollback s) reader limit comes ended bound = bound_other events (Rollback s) reader limit tt bound
-bound_push events (Show s number) reader limit comes ended bound = bound_other events (Show s number) reader limit tt bound
+pub visible_ended : (events : List Event) → IsSettled events → (reader place writer : ℕ) → 0 < writer → IsVisible events reader place writer → HasEnded events writer
+visible_ended events settled reader place writer low visible =
+    let chain : PrecedesCausally events writer reader = chain_seen visible.level events reader place writer visible.sees in
+    chain_ended events settled writer low chain.between reader chain.is
+
+-- ---- what a read of those events sees with one event more
+
+-- an event that neither begins nor reads a cell may be a scan, which Read Committed shows to what is read after it alone
+other_sees :
+    (level : Level) (events : List Event) (e : Event) → ForcesNothing e → (reader place writer : ℕ) → place ≤ length events →
+    IsVisibleAt level (events ++ e ∷ []) reader place writer → IsVisibleAt level events reader place writer
+other_sees Rc events e nothing reader place writer within sees = before_back events e reader place writer within sees
+other_sees Ra events e nothing reader place writer within sees = others_precede events e nothing writer reader sees
+other_sees Cc events e nothing reader place writer within sees = other_past_back events e nothing writer reader sees
+
+pub visible_other : (events : List Event) (e : Event) → ForcesNothing e → (reader place writer : ℕ) → place ≤ length events →
+    IsVisible (events ++ e ∷ []) reader place writer → IsVisible events reader place writer
+visible_other events e nothing reader place writer within visible = record {
+  level = visible.level;
+  runs = runs_still events e reader visible.level (begins_nothing e nothing) visible.runs;
+  sees = other_sees visible.level events e nothing reader place writer within visible.sees;
+}
+
+-- what begins has another number, and nothing comes after it
+begin_visible :
+    (events : List Event) (s : ℕ) (level : Level) (reader place writer : ℕ) → ComesSettled events (Begin s level) → HasEnded events reader →
+    IsVisible (events ++ Begin s level ∷ []) reader place writer → IsVisible events reader place writer
+begin_visible events s level reader place writer comes ended visible =
+    let started : reader ≤ begun events = ended.within in
+    record {
+      level = visible.level;
+      runs = runs_back events (Begin s level) reader visible.level (λ late _. omega arith) visible.runs;
+      sees = visible_begin visible.level events s level reader place writer (sound_from events comes.settled) started visible.sees;
+    }
+
+-- with a read of a pending transaction no other one sees more
+read_sees :
+    (level : Level) (events : List Event) → IsSound events → (s k : ℕ) (cell : Cell) (w n u : ℕ) (v : Value) → IsPending events k s → (w ≡ k → ⊥) →
+    (reader place writer : ℕ) → (reader ≡ k → ⊥) → place ≤ length events → IsVisibleAt level (events ++ Read s cell w n u v ∷ []) reader place writer →
+    IsVisibleAt level events reader place writer
+read_sees Rc events sound s k cell w n u v pending apart reader place writer other within sees = before_back events (Read s cell w n u v) reader place writer within sees
+read_sees Ra events sound s k cell w n u v pending apart reader place writer other within sees =
+    elim (precedes_read events sound s k cell w n u v pending writer reader sees) [ inl old ↦ old | inr new ↦ absurd (other new.1) ]
+read_sees Cc events sound s k cell w n u v pending apart reader place writer other within sees =
+    elim (read_past_back events sound s k cell w n u v pending apart writer reader sees) [ inl old ↦ old | inr into ↦ absurd (other into.0) ]
+
+-- the read is one of a pending transaction, so not of this one
+read_visible :
+    (events : List Event) (s : ℕ) (cell : Cell) (w n u : ℕ) (v : Value) (reader place writer : ℕ) → ComesSettled events (Read s cell w n u v) → HasEnded events reader →
+    place ≤ length events → IsVisible (events ++ Read s cell w n u v ∷ []) reader place writer → IsVisible events reader place writer
+read_visible events s cell w n u v reader place writer comes ended within visible =
+    let has : HasPending events s = comes.reader in
+    let pending : IsPending events has.0 s = has.1 in
+    let other : reader ≡ has.0 → ⊥ = λ same. ended.over s (subst (λ (k : ℕ). IsPending events k s) (sym same) pending) in
+    record {
+      level = visible.level;
+      runs = runs_still events (Read s cell w n u v) reader visible.level refl visible.runs;
+      sees = read_sees visible.level events (sound_from events comes.settled) s has.0 cell w n u v pending (source_apart events has.0 s w pending comes.source)
+          reader place writer other within visible.sees;
+    }
+
+pub visible_back : (events : List Event) (e : Event) → ComesSettled events e → (reader place writer : ℕ) → HasEnded events reader → place ≤ length events →
+    IsVisible (events ++ e ∷ []) reader place writer → IsVisible events reader place writer
+visible_back events (Begin s level) comes reader place writer ended within visible = begin_visible events s level reader place writer comes ended visible
+visible_back events (Read s cell w n u v) comes reader place writer ended within visible =
+    read_visible events s cell w n u v reader place writer comes ended within visible
+visible_back events (Open s) comes reader place writer ended within visible = visible_other events (Open s) tt reader place writer within visible
+visible_back events (Close s) comes reader place writer ended within visible = visible_other events (Close s) tt reader place writer within visible
+visible_back events (Define s name) comes reader place writer ended within visible = visible_other events (Define s name) tt reader place writer within visible
+visible_back events (Look s tables) comes reader place writer ended within visible = visible_other events (Look s tables) tt reader place writer within visible
+visible_back events (Scan s table keys) comes reader place writer ended within visible = visible_other events (Scan s table keys) tt reader place writer within visible
+visible_back events (Own s cell v) comes reader place writer ended within visible = visible_other events (Own s cell v) tt reader place writer within visible
+visible_back events (Write s cell v) comes reader place writer ended within visible = visible_other events (Write s cell v) tt reader place writer within visible
+visible_back events (Commit s) comes reader place writer ended within visible = visible_other events (Commit s) tt reader place writer within visible
+visible_back events (Rollback s) comes reader place writer ended within visible = visible_other events (Rollback s) tt reader place writer within visible
+visible_back events (Show s number) comes reader place writer ended within visible = visible_other events (Show s number) tt reader place writer within visible
 
 -- ---- the reads that are settled
 
--- what commits now was pending, so it isn't one of those up to the limit
+-- what commits now was pending, so it isn't one of those that the reader sees
 pub settled_push_read : (places : List ℕ) (events : List Event) (e : Event) (place s : ℕ) (cell : Cell) (w n u : ℕ) (v : Value) → ComesSettled events e →
     IsSettledRead places events place s cell w n u v → IsSettledRead places (events ++ e ∷ []) place s cell w n u v
-settled_push_read places events e place s cell w n u v comes is = record {
-  reader = is.reader;
-  limit = is.limit;
-  read = record {
-    of = of_kept events e is.reader place (Read s cell w n u v) is.read.of;
-    from = let more = count_by-push is_begin events e in let before : w ≤ begun events = is.read.from in omega arith;
-  };
-  before = is.before;
-  ended = ended_push events e is.reader is.ended;
-  bound = bound_push events e is.reader is.limit comes is.ended is.bound;
-  past = λ number low high. ended_push events e number (is.past number low high);
-  clear = λ number low high writes. elim (writes_back events e number cell writes) [
-    | inl old ↦ is.clear number low high old
-    | inr now ↦ absurd ((is.past number low high).over (session_in e) now.1.1)
-  ];
-}
+settled_push_read places events e place s cell w n u v comes is =
+    let within : place < length events = slice_get_within events place (Read s cell w n u v) is.kept.read.of.is in
+    let more = count_by-push is_begin events e in
+    let source_in : w ≤ begun events = is.kept.read.from in
+    let still_in : w ≤ begun (events ++ e ∷ []) = omega arith in
+    let kept : IsKeptRead places (events ++ e ∷ []) place s cell w n u v is.reader = record {
+      read = record { of = of_kept events e is.reader place (Read s cell w n u v) is.kept.read.of; from = still_in };
+      before = is.kept.before;
+      clear = λ writer low sees writes.
+          let old_sees : IsVisible events is.reader place writer = visible_back events e comes is.reader place writer is.ended (omega arith) sees in
+          elim (writes_back events e writer cell writes) [
+            | inl old ↦ is.kept.clear writer low old_sees old
+            | inr now ↦ absurd ((visible_ended events comes.settled is.reader place writer low old_sees).over (session_in e) now.1.1)
+          ];
+    } in
+    record { reader = is.reader; kept = kept; ended = ended_push events e is.reader is.ended }
 
--- no writer of the read's cell that has committed so far stands after the read's source
-clear_so_far :
-    (order places : List ℕ) (events : List Event) (pass : Pass) (number : ℕ) (cell : Cell) (note : ReadNote) → StandsFor order places events pass →
-    slice_get pass.cells.numbers.cells.keys note.cell ≡ Some cell → IsKeptSoFar places pass number note → (writer : ℕ) → 0 < writer → Writes events writer cell →
-    get_or places writer 0 ≤ get_or places note.source 0
-clear_so_far order places events pass number cell note stands numbered kept writer low writes =
-    let within = slice_get_within pass.cells.numbers.cells.keys note.cell cell numbered in
-    let count = stands.cells.count in
-    elim (slice_get_cases pass.cells.notes.items note.cell).1 [
-      | inl found ↦
-          let cell_note : CellNote = found.0 in
-          let noted : IsNoteOf events cell cell_note = stands.cells.each note.cell cell cell_note numbered found.2 in
-          let there : Contains cell_note.committed writer = (noted.exact writer).1 (low, writes) in
-          let up : get_or places writer 0 ≤ get_or pass.ends.tops.items note.cell 0 = stands.ends.tops note.cell cell_note writer found.2 there in
-          let top : get_or pass.ends.tops.items note.cell 0 ≤ get_or places note.source 0 = kept.top in
-          omega arith
-      | inr none ↦ let past_end = none.0 in absurd (omega arith)
-    ]
-
--- the reader commits, and has ended with that
-pub settled_now : (order places : List ℕ) (events : List Event) (pass : Pass) (s number : ℕ) (place t : ℕ) (cell : Cell) (w n u : ℕ) (v : Value) (note : ReadNote) →
-    StandsFor order places events pass → IsPending events number s → IsReadNoteOf events pass.cells.numbers.cells.keys place t cell w n u v note → IsKeptSoFar places pass number note →
-    IsSettledRead places (events ++ Commit s ∷ []) place t cell w n u v
-settled_now order places events pass s number place t cell w n u v note stands pending is kept =
-    let bounded : number ≤ begun events = pending_bounded events number s pending in
-    let same : begun (events ++ Commit s ∷ []) ≡ begun events = begun-push_other events (Commit s) refl in
-    let limits : AreLimits (events ++ Commit s ∷ []) pass.limits.items = limits_still events (Commit s) pass.limits.items tt stands.limits in
-    let own : IsOf events number place (Read t cell w n u v) = subst (λ (m : ℕ). IsOf events m place (Read t cell w n u v)) kept.of is.read.of in
-    let source_in : w ≤ begun events = is.read.from in
-    let still_in : w ≤ begun (events ++ Commit s ∷ []) = omega arith in
-    let high : get_or pass.limits.items number 0 ≤ pass.ends.upto = kept.limit in
-    let past : (writer : ℕ) → 0 < writer → writer ≤ get_or pass.limits.items number 0 → HasEnded events writer =
-    λ writer low under. stands.ends.ended.all writer low (omega arith)
-    in
-    record {
-      reader = number;
-      limit = get_or pass.limits.items number 0;
-      read = record { of = of_kept events (Commit s) number place (Read t cell w n u v) own; from = still_in };
-      before = subst (λ (m : ℕ). StandsAt places m number) is.from kept.before;
-      ended = ended_now events (Commit s) number s pending refl refl refl;
-      bound = limits.each number (omega arith);
-      past = λ writer low under. ended_push events (Commit s) writer (past writer low under);
-      clear = λ writer low under writes. elim (writes_back events (Commit s) writer cell writes) [
-        | inl old ↦
-            subst (λ (m : ℕ). get_or places writer 0 ≤ get_or places m 0) is.from
-            (clear_so_far order places events pass number cell note stands is.numbered kept writer low old)
-        | inr now ↦ absurd ((past writer low under).over s now.1.1)
-      ];
-    }
-
--- ---- the tops of the cells
-
--- a cell that is added has no committed writer
-pub tops_taken : (places : List ℕ) (old new : CellNotes) (cell : Cell) (at : ℕ) (tops : List ℕ) → TakesCell old cell at new → AreTops places old.notes.items tops → AreTops places new.notes.items tops
-tops_taken places old new cell at tops takes are i note number is there = elim takes.adds [
-  | inl same ↦ are i note number (subst (λ (notes : List CellNote). slice_get notes i ≡ Some note) same.1 is) there
-  | inr fresh ↦
-      let blank : CellNote = fresh.1.1.0 in
-      elim (slice_get_push_cases old.notes.items blank i note (subst (λ (notes : List CellNote). slice_get notes i ≡ Some note) fresh.1.1.1.1.1 is)) [
-        | inl before ↦ are i note number before.1 there
-        | inr now ↦
-            let empty : note.committed ≡ [] = ap (λ (c : CellNote). c.committed) (sym now.1) ∙ fresh.1.1.1.1.0 in
-            let nothing = subst (λ (ns : List ℕ). Contains ns number) empty there in
-            let within = nothing.1 in
-            absurd (omega arith)
-      ]
-]
-
-pub tops_set : (places : List ℕ) (at txn place : ℕ) (old new : List CellNote) (tops : List ℕ) → SetsPlaceAt at txn place old new → AreTops places old tops → AreTops places new tops
-tops_set places at txn place old new tops sets are i note number is there =
-    elim (slice_get-set_cases old at i sets.after note (subst (λ (notes : List CellNote). slice_get notes i ≡ Some note) sets.set_to is)) [
-      | inl here ↦
-          let was : slice_get old i ≡ Some sets.before = ap (λ (j : ℕ). slice_get old j) here.0 ∙ sets.is in
-          let kept : note.committed ≡ sets.before.committed = ap (λ (c : CellNote). c.committed) (sym here.1) ∙ sets.changes.committed in
-          are i sets.before number was (subst (λ (ns : List ℕ). Contains ns number) kept there)
-      | inr other ↦ are i note number other.1 there
-    ]
-
--- a member of a note was one, or is the number, whose place the top of a written cell isn't before
-pub tops_gained : (places of_events writes : List ℕ) (number at : ℕ) (old new : List CellNote) (old_tops new_tops : List ℕ) → GainAmong of_events writes (length writes) number old new →
-    at ≡ get_or places number 0 → RaisesTops of_events writes (length writes) at old_tops new_tops → AreTops places old old_tops → AreTops places new new_tops
-tops_gained places of_events writes number at old new old_tops new_tops gain place raises are i note other is there =
-    let within = slice_get_within new i note is in
-    let count = gain.count in
-    elim (slice_get_cases old i).1 [
-      | inl found ↦
-          let gained : IsGained of_events writes (length writes) number i found.0 note = gain.each i found.0 note found.2 is in
-          elim ((gained.exact other).0 there) [
-            | inl was ↦
-                let low : get_or places other 0 ≤ get_or old_tops i 0 = are i found.0 other found.2 was in
-                let up : get_or old_tops i 0 ≤ get_or new_tops i 0 = raises.grow i in
-                omega arith
-            | inr now ↦
-                let same : get_or places other 0 ≡ get_or places number 0 = ap (λ (m : ℕ). get_or places m 0) now.1 in
-                let reach : at ≤ get_or new_tops (get_or of_events now.0.1 0) 0 = raises.reach now.0.0 now.0.1 now.0.2 now.0.3 in
-                let top : get_or new_tops (get_or of_events now.0.1 0) 0 ≡ get_or new_tops i 0 = ap (λ (j : ℕ). get_or new_tops j 0) now.0.4 in
-                omega arith
-          ]
-      | inr none ↦ let past_end = none.0 in absurd (omega arith)
-    ]
+-- the reader ends, and sees no more with that
+pub settled_now : (places : List ℕ) (events : List Event) (e : Event) (place s : ℕ) (cell : Cell) (w n u : ℕ) (v : Value) (number t : ℕ) → IsSettled events → ForcesNothing e →
+    session_in e ≡ t → is_end e ≡ true → is_begin e ≡ false → IsPending events number t → IsKeptRead places events place s cell w n u v number →
+    IsSettledRead places (events ++ e ∷ []) place s cell w n u v
+settled_now places events e place s cell w n u v number t settled nothing session ends none pending kept =
+    let within : place < length events = slice_get_within events place (Read s cell w n u v) kept.read.of.is in
+    let same : begun (events ++ e ∷ []) ≡ begun events = begun-push_other events e none in
+    let source_in : w ≤ begun events = kept.read.from in
+    let still_in : w ≤ begun (events ++ e ∷ []) = omega arith in
+    let still : IsKeptRead places (events ++ e ∷ []) place s cell w n u v number = record {
+      read = record { of = of_kept events e number place (Read s cell w n u v) kept.read.of; from = still_in };
+      before = kept.before;
+      clear = λ writer low sees writes.
+          let old_sees : IsVisible events number place writer = visible_other events e nothing number place writer (omega arith) sees in
+          elim (writes_back events e writer cell writes) [
+            | inl old ↦ kept.clear writer low old_sees old
+            | inr now ↦ absurd ((visible_ended events settled number place writer low old_sees).over (session_in e) now.1.1)
+          ];
+    } in
+    record { reader = number; kept = still; ended = ended_now events e number t pending session ends none }

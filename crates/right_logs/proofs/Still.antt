@@ -4,19 +4,18 @@ use Rattle.std.specs.List.{slice_get, cons_option}
 use Rattle.std.proofs.lemmas.List.{length_push, take-append-le, take_all}
 use Rattle.std.proofs.lemmas.List.Elements.{filter_map-append}
 use Rattle.std.proofs.lemmas.Option.{slice_get_within}
-use Rattle.graph_base.proofs.Places.{count_by-push}
 use Rattle.txn_buffer.proofs.Lists.{slice_get_push_cases}
 use Rattle.cell_base.specs.declared.level.Level.{Level}
 use Rattle.cell_base.specs.declared.cell.Cell.{Cell}
 use Rattle.cell_base.specs.declared.value.Value.{Value}
 use Rattle.cell_base.specs.declared.value.Value.TheVariants.{Unset}
 use Rattle.history_core.specs.declared.event.Event.{Event}
-use Rattle.history_core.specs.declared.event.Event.TheVariants.{Open, Close, Define, Look, Begin, Read, Write, Commit, Rollback, Show}
-use Rattle.history_core.specs.Events.{opened, begun, names, defined_name, session_in, is_open_event, is_begin}
+use Rattle.history_core.specs.declared.event.Event.TheVariants.{Open, Close, Define, Look, Begin, Write, Commit, Rollback, Show}
+use Rattle.history_core.specs.Events.{opened, names, defined_name, session_in, is_open_event, is_begin}
 use Rattle.history_core.specs.Transactions.{IsPending, HasPending}
 use Rattle.history_core.specs.Legal.{IsOpen}
 use Rattle.history_core.proofs.Places.{slice_get-append_left}
-use Rattle.history_core.proofs.Prefixes.{of_kept, slice_get-at_end}
+use Rattle.history_core.proofs.Prefixes.{slice_get-at_end}
 use Rattle.history_core.proofs.SessionLemmas.{IsPlain, opened-push_other}
 use Rattle.further_reads.specs.Begun.{ForcesNothing}
 use Rattle.further_reads.proofs.Sources.{begins_nothing}
@@ -25,8 +24,8 @@ use Rattle.cell_writers.specs.declared.cell_numbers.CellNumbers.{CellNumbers}
 use Rattle.cell_writers.specs.Numbered.{AreNumberedSo, cell_in}
 use Rattle.cell_writers.proofs.Numbering.{numbered_next}
 use Rattle.order_test.specs.Settled.{IsSettled}
-use Rattle.order_test.specs.Glance.{HoldsLast, AreLimits, IsScan}
-use Rattle.order_test.proofs.GlanceLemmas.{last_still, limits_still, keeps_still}
+use Rattle.order_test.specs.Glance.{HoldsLast, IsScan}
+use Rattle.order_test.proofs.GlanceLemmas.{last_still, keeps_still}
 use Rattle.history_check.specs.Rules.{shape, source, IsRight}
 use Rattle.history_check.specs.Breaches.{AreRight}
 use Rattle.history_check.specs.Notes.{AreOfSessions, IsSessionNoteOf, StandsForSessionNotes, StandsForPendingWrites, StandsForCommits, AreNotesOf}
@@ -39,12 +38,9 @@ use Rattle.history_check.proofs.PendingLemmas.{LeavesPending, pending_other}
 use Rattle.history_check.proofs.CommitLemmas.{commits_other}
 use Rattle.history_check.proofs.CellSteps.{LeavesCells, cells_other}
 use Rattle.right_logs.specs.declared.pass.Pass.{Pass}
-use Rattle.right_logs.specs.declared.pass.ReadNote.{ReadNote}
-use Rattle.right_logs.specs.declared.ends.Ends.{Ends}
-use Rattle.right_logs.specs.Ends.{StandsForEnds}
-use Rattle.right_logs.specs.Passes.{HaveValues, IsReadNoteOf, HoldReads, HaveNoScan, StandsFor}
+use Rattle.right_logs.specs.Passes.{HaveValues, HaveNoScan, StandsForSights, StandsFor}
 use Rattle.right_logs.specs.Seats.{IsNotedAt, IsOpenIn, IsIdleIn, IsPendingIn}
-use Rattle.right_logs.proofs.Settling.{comes_next, settled_push_read, flags_still}
+use Rattle.right_logs.proofs.Sights.{SameSights, KeepsCells, sights_still}
 
 -- ---- what the notes of the sessions say of the events
 
@@ -150,44 +146,9 @@ no_scan_push events e none have k f at scan = elim (slice_get_push_cases events 
   | inr new ↦ none (subst (λ (g : Event). IsScan g) (sym new.1) scan)
 ]
 
--- ---- the reads
-
--- the note of an earlier read, whether cells are added or not
-pub read_kept :
-    (events : List Event) (e : Event) (old new : List Cell) (place s : ℕ) (cell : Cell) (w n u : ℕ) (v : Value) (note : ReadNote) →
-    ((i : ℕ) (c : Cell) → slice_get old i ≡ Some c → slice_get new i ≡ Some c) → IsReadNoteOf events old place s cell w n u v note →
-    IsReadNoteOf (events ++ e ∷ []) new place s cell w n u v note
-read_kept events e old new place s cell w n u v note kept is = record {
-  numbered = kept note.cell cell is.numbered;
-  from = is.from;
-  read = record {
-    of = of_kept events e note.reader place (Read s cell w n u v) is.read.of;
-    from = let more = count_by-push is_begin events e in let before : w ≤ begun events = is.read.from in omega arith;
-  };
-}
-
-pub reads_still :
-    (places : List ℕ) (events : List Event) (e : Event) (old new : List Cell) (reads : List ReadNote) → AreRight [] (events ++ e ∷ []) →
-    ((i : ℕ) (c : Cell) → slice_get old i ≡ Some c → slice_get new i ≡ Some c) → ((s : ℕ) (c : Cell) (w n u : ℕ) (v : Value) → e ≡ Read s c w n u v → ⊥) →
-    HoldReads places events old reads → HoldReads places (events ++ e ∷ []) new reads
-reads_still places events e old new reads right kept none hold place s cell w n u v is =
-    elim (slice_get_push_cases events e place (Read s cell w n u v) is) [
-      | inl there ↦ elim (hold place s cell w n u v there.1) [
-        | inl was ↦ inl (was.0, (was.1.0, (was.1.1.0, read_kept events e old new place s cell w n u v was.1.0 kept was.1.1.1)))
-        | inr settled ↦ inr (settled_push_read places events e place s cell w n u v (comes_next events e right) settled)
-      ]
-      | inr now ↦ absurd (none s cell w n u v now.1)
-    ]
-
--- ---- what has ended
-
-pub ends_still :
-    (places : List ℕ) (events : List Event) (e : Event) (old_notes new_notes : List CellNote) (old new : Ends) → is_begin e ≡ false → new_notes ≡ old_notes → new ≡ old →
-    StandsForEnds places events old_notes old → StandsForEnds places (events ++ e ∷ []) new_notes new
-ends_still places events e old_notes new_notes old new begins notes same stands =
-    subst (λ (ends : Ends). StandsForEnds places (events ++ e ∷ []) new_notes ends) (sym same)
-    (subst (λ (ns : List CellNote). StandsForEnds places (events ++ e ∷ []) ns old) (sym notes)
-    (record { ended = flags_still events e old.ended.items old.upto begins stands.ended; tops = stands.tops }))
+-- where the cells are the same, each keeps its number
+pub cells_kept : (old new : List Cell) → new ≡ old → KeepsCells old new
+cells_kept old new same i cell is = subst (λ (cells : List Cell). slice_get cells i ≡ Some cell) (sym same) is
 
 -- ---- events that neither read nor write a cell, nor begin or commit a transaction
 
@@ -224,31 +185,25 @@ no_commit e leaves s same = subst (λ (f : Event). LeavesCells f) same leaves
 pub no_write : (e : Event) → LeavesCells e → (s : ℕ) (cell : Cell) (v : Value) → e ≡ Write s cell v → ⊥
 no_write e leaves s cell v same = subst (λ (f : Event). LeavesCells f) same leaves
 
-pub no_read : (e : Event) → ForcesNothing e → (s : ℕ) (cell : Cell) (w n u : ℕ) (v : Value) → e ≡ Read s cell w n u v → ⊥
-no_read e nothing s cell w n u v same = subst (λ (f : Event). ForcesNothing f) same nothing
-
--- no cell is at the event, and it has no value; nothing else is noted of cells, transactions and reads
+-- no cell is at the event, and it has no value; nothing else is noted of cells and commits
 pub record NotesPlace (old new : Pass) : Type 0 where
   pub committed : new.committed.items ≡ old.committed.items
   pub keys : new.cells.numbers.cells.keys ≡ old.cells.numbers.cells.keys
   pub of_events : new.cells.numbers.of_events.items ≡ old.cells.numbers.of_events.items ++ 0 ∷ []
   pub notes : new.cells.notes.items ≡ old.cells.notes.items
   pub values : new.values ≡ old.values ++ Unset ∷ []
-  pub limits : new.limits.items ≡ old.limits.items
-  pub reads : new.reads.items ≡ old.reads.items
 
--- the notes of the sessions, the pending writes, the names, the last transactions and what has ended are the caller's
+-- the notes of the sessions, the pending writes, the names, the last transactions and what is noted of transactions and reads are the caller's
 pub quiet_goes :
     (order places : List ℕ) (events : List Event) (e : Event) (old new : Pass) → IsQuiet e → IsRight [] events e → NotesPlace old new →
     StandsForSessionNotes (events ++ e ∷ []) new.session_notes.items → StandsForPendingWrites (events ++ e ∷ []) new.pending.items → new.names.items ≡ names (events ++ e ∷ []) →
-    length new.last.items ≡ opened (events ++ e ∷ []) + 1 → HoldsLast events new.last.items → StandsForEnds places (events ++ e ∷ []) new.cells.notes.items new.ends →
+    length new.last.items ≡ opened (events ++ e ∷ []) + 1 → HoldsLast events new.last.items → StandsForSights places (events ++ e ∷ []) new →
     StandsFor order places events old → StandsFor order places (events ++ e ∷ []) new
-quiet_goes order places events e old new quiet right changes session_notes pending names_are room last ends stands =
+quiet_goes order places events e old new quiet right changes session_notes pending names_are room last sights stands =
     let begins : is_begin e ≡ false = begins_nothing e quiet.forces in
-    let all : AreRight [] (events ++ e ∷ []) = right_push events e stands.right right in
     record {
       placed = stands.placed;
-      right = all;
+      right = right_push events e stands.right right;
       settled = settled_right events e stands.settled right;
       sessions = sessions_right events e stands.sessions right;
       session_notes = session_notes;
@@ -267,16 +222,9 @@ quiet_goes order places events e old new quiet right changes session_notes pendi
           values_push events e old.values new.values Unset changes.values (λ s cell v same. absurd (no_write e quiet.leaves s cell v same)) stands.values;
       room = room;
       last = last_still events e new.last.items begins (room_right events e new.last.items stands.sessions right room) last;
-      limits =
-          subst (λ (limits : List ℕ). AreLimits (events ++ e ∷ []) limits) (sym changes.limits)
-          (limits_still events e old.limits.items quiet.forces stands.limits);
       keeps = keeps_still events e order begins stands.keeps;
       no_scan = no_scan_push events e quiet.scan stands.no_scan;
-      ends = ends;
-      reads =
-          subst (λ (reads : List ReadNote). HoldReads places (events ++ e ∷ []) new.cells.numbers.cells.keys reads) (sym changes.reads)
-          (reads_still places events e old.cells.numbers.cells.keys new.cells.numbers.cells.keys old.reads.items all
-          (λ i cell is. subst (λ (cells : List Cell). slice_get cells i ≡ Some cell) (sym changes.keys) is) (no_read e quiet.forces) stands.reads);
+      sights = sights;
     }
 
 -- ---- what isn't touched
@@ -296,14 +244,14 @@ room_same events e old new other same room = room_still events e new other (ap l
 pub last_same : (events : List Event) (old new : List ℕ) → new ≡ old → HoldsLast events old → HoldsLast events new
 last_same events old new same holds = subst (λ (last : List ℕ). HoldsLast events last) (sym same) holds
 
--- nothing is noted of the sessions either, and nothing ends
+-- nothing is noted of the sessions either, nor of transactions and reads
 pub record NotesNothing (old new : Pass) : Type 0 where
   pub place : NotesPlace old new
   pub session_notes : new.session_notes.items ≡ old.session_notes.items
   pub pending : new.pending.items ≡ old.pending.items
   pub names_are : new.names.items ≡ old.names.items
   pub last : new.last.items ≡ old.last.items
-  pub ends : new.ends ≡ old.ends
+  pub sights : SameSights old new
 
 -- an event that opens, closes, begins and ends nothing, and defines no table
 pub plain_goes :
@@ -317,4 +265,5 @@ plain_goes order places events e old new quiet plain leaves no_name right nothin
     (names_same events e old.names.items new.names.items no_name nothing.names_are stands.names_are)
     (room_same events e old.last.items new.last.items plain.opens_none nothing.last stands.room)
     (last_same events old.last.items new.last.items nothing.last stands.last)
-    (ends_still places events e old.cells.notes.items new.cells.notes.items old.ends new.ends (begins_nothing e quiet.forces) nothing.place.notes nothing.ends stands.ends) stands
+    (sights_still places events e old new (right_push events e stands.right right) quiet.forces plain.opens_none nothing.sights
+    (cells_kept old.cells.numbers.cells.keys new.cells.numbers.cells.keys nothing.place.keys) stands.sights) stands

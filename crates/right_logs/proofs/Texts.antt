@@ -108,14 +108,6 @@ module _ (v : Version) (head : Level) (order places text : List ℕ) (pass : Pas
     numbered = all.stands.numbered.are;
   }
 
-pub fresh_events : (v : Version) (head : Level) (text places : List ℕ) (fresh left : Pass) (seen : Seen) (glimpse : Glimpse)
-    → ((order spots : List ℕ) → ArePlaces (length spots) order spots → StandsFor order spots [] fresh)
-    → ((order : List ℕ) → StandsFor order places [] fresh → HoldsAll (length places) order → IsGlimpseOfEvents v head text order (glimpse_with left.cells seen))
-    → glimpse ≡ glimpse_with left.cells seen
-    → (order : List ℕ) → ArePlaces (length places) order places → HoldsAll (length places) order → IsGlimpseOfEvents v head text order glimpse
-fresh_events v head text places fresh left seen glimpse stands are is = λ order placed holds.
-    subst (λ (g : Glimpse). IsGlimpseOfEvents v head text order g) (sym is) (are order (stands order places placed) holds)
-
 own_places : (order places : List ℕ) → ArePlaces (length order) order places → ArePlaces (length places) order places
 own_places order places placed = subst (λ (n : ℕ). ArePlaces n order places) (sym placed.count) placed
 

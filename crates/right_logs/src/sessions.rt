@@ -14,6 +14,13 @@ use order_test::Places;
 /// The most sessions of a history whose transactions have clocks: each clock has a number for each session.
 const MOST_CLOCKED: u32 = 256;
 
+/// Whether there are clocks, and still are once the session has opened.
+fn keeps_clocks(clocked: bool, session: u32) -> bool
+    ensures { IsTrue result → IsTrue clocked }
+{
+    clocked && session <= MOST_CLOCKED
+}
+
 /// Takes the event that opens a session.
 pub fn take_open(pass: &mut Pass, places: &Places, session: u32) -> Result<bool, Memory>
     requires stands { Stands places.now.at.items pass.old }
@@ -34,7 +41,7 @@ pub fn take_open(pass: &mut Pass, places: &Places, session: u32) -> Result<bool,
     pass.reads.push(SessionReads {
         notes: Vec::new(pass.alloc),
     })?;
-    pass.clocked = pass.clocked && session <= MOST_CLOCKED;
+    pass.clocked = keeps_clocks(pass.clocked, session);
     note_place(&mut pass.cells.numbers.of_events, &mut pass.values)?;
     Ok(true)
 }

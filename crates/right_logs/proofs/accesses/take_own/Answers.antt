@@ -18,4 +18,5 @@ pub returns : goal.returns
 returns c = λ _.
     let shows = c.shows_last.ensures c.if-not-shows_last.false in
     own_goes c.args.places.now.at.items c.args.session c.in-Some.reader c.args.cell.now c.in_ok-at.at c.args.value.now c.args.pass.now _ shows.0 c.in-Some.ensures c.in_ok-at.ensures
-    shows.1.0 shows.1.1 (record { session_notes = refl; committed = refl; tables = refl; last = refl; ends = refl }) refl c.in_ok-push_unset.ensures refl refl
+    shows.1.0 shows.1.1 (record { session_notes = refl; committed = refl; tables = refl; last = refl }) refl c.in_ok-push_unset.ensures
+    (record { txns = refl; clocked = refl; highest = refl; reads = refl; met = refl })

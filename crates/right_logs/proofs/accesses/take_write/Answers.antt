@@ -24,4 +24,5 @@ pub returns : goal.returns
 returns c = λ _.
     write_goes c.args.places.now.at.items c.args.session c.in-Some.writer c.args.cell.now c.in_ok-at.at c.len-place.result c.args.value.now c.args.pass.now _
     c.number_cell.new.cells c.in-Some.ensures (c.is_storable.ensures.0 c.if-not-is_storable.false) c.in_ok-at.ensures refl c.len-place.ensures c.in_ok-set_place.ensures
-    c.in_ok-add_place.ensures c.in_ok-push.ensures (record { session_notes = refl; committed = refl; tables = refl; last = refl; ends = refl }) refl refl
+    c.in_ok-add_place.ensures c.in_ok-push.ensures (record { session_notes = refl; committed = refl; tables = refl; last = refl })
+    (record { txns = refl; clocked = refl; highest = refl; reads = refl; met = refl })

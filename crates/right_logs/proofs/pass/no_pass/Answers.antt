@@ -3,7 +3,7 @@ use Rattle.right_logs.proofs.Beginning.{blank_stands}
 use Rattle.right_logs.proofs.pass.no_pass.Goals as goal
 
 pub returns : goal.returns
-returns c = λ order places placed. blank_stands order places _ placed (record {
+returns c = λ order placed. blank_stands order c.args.places.now.at.items _ placed (record {
   session_notes = search rules;
   pending = search rules;
   committed = search rules;
@@ -13,8 +13,8 @@ returns c = λ order places placed. blank_stands order places _ placed (record {
   notes = search rules;
   values = search rules;
   last = c.in_ok-push.ensures.items ∙ ap (λ (xs : List ℕ). xs ++ 0 ∷ []) c.new-last.ensures.items;
-  limits = c.in_ok-push-2.ensures.items ∙ ap (λ (xs : List ℕ). xs ++ 0 ∷ []) c.new-limits.ensures.items;
-  ended = search rules;
-  upto = search rules;
+  first = c.in_ok-txns.ensures.0;
+  txns = c.in_ok-txns.ensures.1;
+  highest = rw c.deref.ensures.value at c.in_ok-highest.ensures;
   reads = search rules;
 })

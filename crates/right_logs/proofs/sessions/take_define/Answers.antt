@@ -12,14 +12,12 @@ returns c = λ goes order events stands.
       pending = refl;
       names_are = rw c.in_ok-copy.ensures at c.in_ok-push.ensures.items;
       last = refl;
-      ends = refl;
+      sights = record { txns = refl; clocked = refl; highest = refl; reads = refl; met = refl };
       place = record {
         committed = refl;
         keys = refl;
         of_events = c.in_ok-note_place.ensures.number;
         notes = refl;
         values = c.in_ok-note_place.ensures.value;
-        limits = refl;
-        reads = refl;
       };
     }) stands

@@ -14,14 +14,20 @@ returns c = λ goes order events stands.
       pending = c.in_ok-push-2.ensures.items;
       names_are = refl;
       last = c.in_ok-push-3.ensures.items;
-      ends = refl;
+      sights = record {
+        blank = record { notes = c.new-2.result };
+        no_read = c.new-2.ensures.items;
+        reads = c.in_ok-push-4.ensures.items;
+        txns = refl;
+        clocked = c.keeps_clocks-pass.ensures;
+        highest = refl;
+        met = refl;
+      };
       place = record {
         committed = refl;
         keys = refl;
         of_events = c.in_ok-note_place.ensures.number;
         notes = refl;
         values = c.in_ok-note_place.ensures.value;
-        limits = refl;
-        reads = refl;
       };
     }) stands

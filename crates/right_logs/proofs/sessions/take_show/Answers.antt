@@ -12,12 +12,10 @@ returns c = λ goes order events stands.
         of_events = c.in_ok-note_place.ensures.number;
         notes = refl;
         values = c.in_ok-note_place.ensures.value;
-        limits = refl;
-        reads = refl;
       };
       session_notes = refl;
       pending = refl;
       names_are = refl;
       last = refl;
-      ends = refl;
+      sights = record { txns = refl; clocked = refl; highest = refl; reads = refl; met = refl };
     }) stands

@@ -1,11 +1,18 @@
 use Rattle.std.proofs.Common.{refl, ◌∙◌}
 use Rattle.right_logs.proofs.Still.{session_in_place}
-use Rattle.right_logs.proofs.TxnLemmas.{pending_room, flag_room, limit_room, end_room, notes_ascending, writes_within, writes_noted, commit_goes}
+use Rattle.right_logs.proofs.TxnLemmas.{pending_room, reads_room, flag_room, notes_ascending, writes_within, writes_noted, commit_goes}
 use Rattle.right_logs.proofs.txns.take_commit.Goals as goal
 
-pub settled_from-open_reads-requires : goal.settled_from-open_reads-requires
-settled_from-open_reads-requires c =
-    limit_room c.args.places.now.at.items c.args.pass.now c.args.session c.in-Some.number c.requires.stands (rw c.deref.ensures.value at c.in-Some.ensures)
+pub still_met-met-requires-clause-stands : goal.still_met-met-requires-clause-stands
+still_met-met-requires-clause-stands c = c.requires.stands
+
+pub still_met-met-requires-clause-some : goal.still_met-met-requires-clause-some
+still_met-met-requires-clause-some c =
+    (reads_room c.args.places.now.at.items c.args.pass.now c.args.session c.in-Some.number c.requires.stands (rw c.deref.ensures.value at c.in-Some.ensures)).0
+
+pub still_met-met-requires-clause-opened : goal.still_met-met-requires-clause-opened
+still_met-met-requires-clause-opened c =
+    (reads_room c.args.places.now.at.items c.args.pass.now c.args.session c.in-Some.number c.requires.stands (rw c.deref.ensures.value at c.in-Some.ensures)).1
 
 pub places_in-writes-requires-clause-some : goal.places_in-writes-requires-clause-some
 places_in-writes-requires-clause-some c =
@@ -29,11 +36,6 @@ note_all_committed-requires-clause-within c =
     writes_noted c.args.places.now.at.items c.args.pass.now c.args.session c.places_in-writes.result.now c.as_slice-of_events.result.now c.requires.stands
     (rw c.deref-2.ensures.value at c.places_in-writes.ensures) (c.as_slice-of_events.ensures.value ∙ c.in_ok-note_place.ensures.number)
 
-pub raise_tops-requires : goal.raise_tops-requires
-raise_tops-requires c =
-    writes_within c.args.places.now.at.items c.args.pass.now c.args.session c.places_in-writes.result.now c.as_slice-of_events.result.now c.requires.stands
-    (rw c.deref-2.ensures.value at c.places_in-writes.ensures) (c.as_slice-of_events.ensures.value ∙ c.in_ok-note_place.ensures.number)
-
 pub clear_pending-requires-clause-some : goal.clear_pending-requires-clause-some
 clear_pending-requires-clause-some c =
     (pending_room c.args.places.now.at.items c.args.pass.now c.args.session c.in-Some.number c.requires.stands (rw c.deref.ensures.value at c.in-Some.ensures)).0
@@ -50,13 +52,13 @@ pub set_committed-requires-clause-begun : goal.set_committed-requires-clause-beg
 set_committed-requires-clause-begun c =
     (flag_room c.args.places.now.at.items c.args.pass.now c.args.session c.in-Some.number c.requires.stands (rw c.deref.ensures.value at c.in-Some.ensures)).1
 
-pub note_end-requires-clause-some : goal.note_end-requires-clause-some
-note_end-requires-clause-some c =
-    (end_room c.args.places.now.at.items c.args.pass.now c.args.session c.in-Some.number c.requires.stands (rw c.deref.ensures.value at c.in-Some.ensures)).0
+pub clear_reads-requires-clause-some : goal.clear_reads-requires-clause-some
+clear_reads-requires-clause-some c =
+    (reads_room c.args.places.now.at.items c.args.pass.now c.args.session c.in-Some.number c.requires.stands (rw c.deref.ensures.value at c.in-Some.ensures)).0
 
-pub note_end-requires-clause-begun : goal.note_end-requires-clause-begun
-note_end-requires-clause-begun c =
-    (end_room c.args.places.now.at.items c.args.pass.now c.args.session c.in-Some.number c.requires.stands (rw c.deref.ensures.value at c.in-Some.ensures)).1
+pub clear_reads-requires-clause-opened : goal.clear_reads-requires-clause-opened
+clear_reads-requires-clause-opened c =
+    (reads_room c.args.places.now.at.items c.args.pass.now c.args.session c.in-Some.number c.requires.stands (rw c.deref.ensures.value at c.in-Some.ensures)).1
 
 pub set_pending-requires-clause-some : goal.set_pending-requires-clause-some
 set_pending-requires-clause-some c = (session_in_place c.args.pass.now.session_notes.items c.args.session c.in-Some.number (rw c.deref.ensures.value at c.in-Some.ensures)).0
@@ -75,13 +77,5 @@ returns c = λ goes order events stands.
       committed = c.set_committed.ensures;
       cells = rw c.as_slice-of_events.ensures.value at c.in_ok-note_all_committed.ensures;
       last = refl;
-      limits = refl;
-      middle = record { ended = c.args.pass.now.ends.ended; upto = c.args.pass.now.ends.upto; tops = c.raise_tops.new.tops };
-      middle_ended = refl;
-      middle_upto = refl;
-      tops = rw (c.as_slice-of_events.ensures.value, c.place_in-at.ensures, c.deref-3.ensures.value) at c.in_ok-raise_tops.ensures;
-      ends = c.note_end.ensures;
-      from = c.settled_from-open_reads.result;
-      settled = c.settled_from-open_reads.ensures;
-      reads = c.truncate.ensures.items;
+      sights = record { txns = refl; clocked = refl; highest = refl; reads = c.clear_reads.ensures; met = c.still_met-met.ensures };
     }) stands
