@@ -287,8 +287,8 @@ sights_open places events s old new right opens kept sights =
     let count : length old.reads.items ≡ opened events = sights.lists in
     let keep : KeepReads places events (Open s) old.cells.numbers.cells.keys new.cells.numbers.cells.keys old.reads.items (old.reads.items ++ opens.blank ∷ []) =
     λ place t cell w n u v has.
-        inl (note_in events (Open s) old.cells.numbers.cells.keys new.cells.numbers.cells.keys old.reads.items (old.reads.items ++ opens.blank ∷ []) place t cell w n u v
-        kept has has.reads (reads_opened old.reads.items opens.blank t has.reads has.are) has.noted)
+    inl (note_in events (Open s) old.cells.numbers.cells.keys new.cells.numbers.cells.keys old.reads.items (old.reads.items ++ opens.blank ∷ []) place t cell w n u v
+    kept has has.reads (reads_opened old.reads.items opens.blank t has.reads has.are) has.noted)
     in
     record {
       txns =

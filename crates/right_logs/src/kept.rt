@@ -129,12 +129,7 @@ fn has_no_earlier_rival(
 }
 
 /// Whether none of these reads is from a rival.
-fn has_no_source_rival(
-    places: &Places,
-    writers: &Numbers,
-    reads: &[ReadNote],
-    from: usize,
-) -> bool
+fn has_no_source_rival(places: &Places, writers: &Numbers, reads: &[ReadNote], from: usize) -> bool
     requires { IsStrictlyIncreasing writers.now }
     ensures { IsTrue result → HasNoSourceRival places.now.at.items writers.now reads.now from }
 {

@@ -67,12 +67,7 @@ fn has_clocks(level: Level) -> bool {
 }
 
 /// No event yet of a history of the level, beside the order of these places, and room for so many.
-pub fn no_pass(
-    alloc: Global,
-    level: Level,
-    places: &Places,
-    room: usize,
-) -> Result<Pass, Memory>
+pub fn no_pass(alloc: Global, level: Level, places: &Places, room: usize) -> Result<Pass, Memory>
     ensures { IfOk result (λ pass. (order : List ℕ) → ArePlaces (length places.now.at.items) order places.now.at.items → StandsFor order places.now.at.items [] pass) }
 {
     let mut last = Vec::new(alloc);

@@ -83,12 +83,7 @@ fn copy_of(alloc: Global, numbers: &[u32]) -> Result<Vec<u32>, Memory>
 }
 
 /// The clock of the transaction that comes after the one of this number and clock in its session.
-fn clock_after(
-    alloc: Global,
-    clock: &[u32],
-    session: u32,
-    last: u32,
-) -> Result<Vec<u32>, Memory>
+fn clock_after(alloc: Global, clock: &[u32], session: u32, last: u32) -> Result<Vec<u32>, Memory>
     ensures { IfOk result (λ next. Raises session last clock.now next.items) }
 {
     let mut next = copy_of(alloc, clock)?;

@@ -58,7 +58,14 @@ pub fn take_begin(
     if !stands_before(places, last, number) {
         return Ok(false);
     }
-    add_txn(pass.alloc, &mut pass.txns, pass.clocked, session, level, last)?;
+    add_txn(
+        pass.alloc,
+        &mut pass.txns,
+        pass.clocked,
+        session,
+        level,
+        last,
+    )?;
     pass.committed.push(false)?;
     set_last(&mut pass.last, session, number);
     set_pending(&mut pass.session_notes, session, Some(number));
