@@ -6,7 +6,6 @@ use Rattle.history_core.specs.declared.event.Event.TheVariants.{Write}
 use Rattle.further_reads.specs.Begun.{IsLastBegun}
 use Rattle.further_reads.proofs.Lasts.{last_begun_none}
 use Rattle.cell_writers.proofs.Numbering.{numbered_none}
-use Rattle.order_test.specs.Settled.{IsSettled}
 use Rattle.order_test.specs.Places.{ArePlaces}
 use Rattle.order_test.specs.Glance.{HoldsLast}
 use Rattle.order_test.proofs.GlanceLemmas.{keeps_none}

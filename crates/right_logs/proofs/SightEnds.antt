@@ -1,22 +1,18 @@
 -- How the notes of the transactions and of the reads go on standing for the events where a transaction ends: its reads are kept, so no later event can
 -- break them, and they needn't be noted any more.
-use Rattle.std.proofs.Common.{◌≡◌, ℕ, List, [], ◌∷◌, ◌++◌, Bool, true, false, Some, IsTrue, length, ap, sym, ◌∙◌, subst, inl, inr, ◌⊎◌}
+use Rattle.std.proofs.Common.{◌≡◌, ℕ, List, [], ◌∷◌, ◌++◌, Bool, true, false, IsTrue, sym, ◌∙◌, subst, inl, inr}
 use Rattle.std.proofs.lemmas.Bool.{cases_eq}
-use Rattle.cell_base.specs.declared.cell.Cell.{Cell}
-use Rattle.cell_base.specs.declared.value.Value.{Value}
 use Rattle.history_core.specs.declared.event.Event.{Event}
 use Rattle.history_core.specs.Events.{session_in, is_open_event, is_begin, is_end}
 use Rattle.history_core.specs.Transactions.{IsPending}
 use Rattle.history_core.proofs.SessionLemmas.{opened-push_other}
 use Rattle.further_reads.specs.Begun.{ForcesNothing}
 use Rattle.history_check.specs.Breaches.{AreRight}
-use Rattle.right_logs.specs.declared.open_reads.ReadNote.{ReadNote}
-use Rattle.right_logs.specs.declared.open_reads.SessionReads.{SessionReads}
 use Rattle.right_logs.specs.declared.pass.Pass.{Pass}
 use Rattle.right_logs.specs.declared.txn_notes.TxnNote.{TxnNote}
 use Rattle.right_logs.specs.Clocks.{AreTxnNotes}
 use Rattle.right_logs.specs.Judging.{IsKeptNow, AreKeptOf}
-use Rattle.right_logs.specs.OpenReads.{AreReadsOf, ChangesReads, HasReadNote, IsKeptRead, IsSettledRead, HoldReads}
+use Rattle.right_logs.specs.OpenReads.{AreReadsOf, ChangesReads, IsKeptRead}
 use Rattle.right_logs.specs.Passes.{StandsForSights, StandsFor}
 use Rattle.right_logs.specs.Standing.{AreHighest}
 use Rattle.right_logs.proofs.ClockLemmas.{txns_other}

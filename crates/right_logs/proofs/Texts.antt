@@ -23,10 +23,9 @@ use Rattle.history_log.proofs.Written.{whole_append}
 use Rattle.right_logs.specs.declared.pass.Pass.{Pass}
 use Rattle.right_logs.specs.declared.glimpse.Glimpse.{Glimpse}
 use Rattle.right_logs.specs.declared.glimpse.Glimpse.TheVariants.{Right, Judged, Unclear}
-use Rattle.right_logs.specs.declared.glimpse.Seen.{Seen}
 use Rattle.right_logs.specs.Passes.{StandsFor, Stands}
 use Rattle.right_logs.specs.Endings.{IsEnded, IsFirstEvent, IsTaken, AreTaken, AreRightEvents, AreJudgedEvents, AreRightLines, AreJudgedLines}
-use Rattle.right_logs.specs.Glimpses.{IsClearlyRight, IsJudgedLog, IsGlimpseOf, IsGlimpseOfEvents, IsGlimpseOfLines, glimpse_with}
+use Rattle.right_logs.specs.Glimpses.{IsClearlyRight, IsJudgedLog, IsGlimpseOf, IsGlimpseOfEvents, IsGlimpseOfLines}
 
 -- ---- the end
 

@@ -40,7 +40,7 @@ pub record AddsTxn (clocked : Bool) (session : ℕ) (level : Level) (last : ℕ)
   pub level_is : note.level ≡ level
   pub clock : IsTrue clocked → (before : TxnNote) → slice_get old last ≡ Some before → Raises session last before.clock.items note.clock.items
 
--- no number falls, and the clock isn't behind that of the source, nor behind the source itself
+-- no number falls, and the clock reaches as far as that of the source, and to the source itself
 pub record TakesClock (number : ℕ) (source : TxnNote) (old new : List ℕ) : Type 0 where
   pub grow : (i : ℕ) → slice_index old i ≤ slice_index new i
   pub past : (i : ℕ) → slice_index source.clock.items i ≤ slice_index new i

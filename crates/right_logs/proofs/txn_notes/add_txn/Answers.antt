@@ -1,6 +1,9 @@
 use Rattle.std.proofs.Common.{refl}
 use Rattle.right_logs.proofs.txn_notes.add_txn.Goals as goal
 
+pub next_clock-requires : goal.next_clock-requires
+next_clock-requires c = rw c.deref.ensures.value c.requires
+
 pub returns : goal.returns
 returns c =
     record {
