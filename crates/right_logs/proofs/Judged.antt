@@ -1,5 +1,5 @@
 -- What the notes of a pass show of a read of a transaction that is pending.
-use Rattle.std.proofs.Common.{◌≡◌, ℕ, ◌<◌, ◌≤◌, List, [], Bool, Some, get_or, arith, refl, ap, sym, ◌∙◌, subst, inl, inr, IsTrue}
+use Rattle.std.proofs.Common.{◌≡◌, ℕ, ◌<◌, ◌≤◌, List, [], Bool, Some, get_or, arith, refl, sym, ◌∙◌, subst, inl, inr, IsTrue}
 use Rattle.std.specs.List.{Contains, slice_get}
 use Rattle.cell_base.specs.declared.level.Level.{Level}
 use Rattle.cell_base.specs.declared.level.Level.TheVariants.{Rc, Ra, Cc}
@@ -25,18 +25,9 @@ use Rattle.right_logs.specs.Clocks.{IsTxnNoteOf}
 use Rattle.right_logs.specs.OpenReads.{AreReadsOf, IsReadNoteOf, IsKeptRead}
 use Rattle.right_logs.specs.Judging.{IsUnseenAt, IsNoRival, HasNoUnseenRival, HasNoEarlierRival, HasNoSourceRival, IsUnrivalledAt, IsKeptNow}
 use Rattle.right_logs.specs.Passes.{StandsFor}
+use Rattle.right_logs.proofs.JudgeLemmas.{reads_unique}
 
 -- ---- the notes of the reads
-
--- a session has one list of reads
-pub one_list : (lists : List SessionReads) (s : ℕ) (a b : List ReadNote) → AreReadsOf lists s a → AreReadsOf lists s b → a ≡ b
-one_list lists s a b first second =
-    let first_number = first.number in
-    let second_number = second.number in
-    let same : first.place ≡ second.place = omega arith in
-    let both : Some first.list ≡ Some second.list = sym first.is ∙ ap (λ (i : ℕ). slice_get lists i) same ∙ second.is in
-    let one : first.list ≡ second.list = cc in
-    first.reads_are ∙ ap (λ (entry : SessionReads). entry.notes.items) one ∙ sym second.reads_are
 
 -- while all is met, the transaction is pending in the session, whose reads these are
 record IsPendingReader (order places : List ℕ) (events : List Event) (pass : Pass) (s number : ℕ) (reads : List ReadNote) : Type 0 where
@@ -62,7 +53,7 @@ read_among order places events pass s number reads reader place t cell w n u v o
     elim (reader.stands.sights.reads reader.met place t cell w n u v of.is) [
       | inl has ↦
           let are : AreReadsOf pass.reads.items s has.reads = subst (λ (m : ℕ). AreReadsOf pass.reads.items m has.reads) same_session has.are in
-          let same : has.reads ≡ reads = one_list pass.reads.items s has.reads reads are reader.reads_are in
+          let same : has.reads ≡ reads = reads_unique pass.reads.items s has.reads reads are reader.reads_are in
           record {
             k = has.k;
             read = has.note;

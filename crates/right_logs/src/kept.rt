@@ -9,11 +9,11 @@ ghost use Rattle.right_logs.specs.Passes.{Stands};
 use crate::open_reads::{ReadNote, reads_of};
 use crate::pass::Pass;
 use crate::seats::pending_of;
-use crate::standing::{place_in, stand_up_to};
+use crate::standing::stand_up_to;
 use crate::txn_notes::{TxnNote, number_in};
 use cell_base::Level;
 use cell_writers::{CellNote, Numbers};
-use order_test::{Places, stands_before};
+use order_test::{Places, place_at, stands_before};
 
 /// How many writers of a cell are looked at for one read. Where more stand after its source nothing is said of the order.
 const MOST_WRITERS: usize = 1_000;
@@ -56,7 +56,7 @@ fn number_is_unseen(pass: &Pass, own: &TxnNote, number: u32) -> bool
 fn is_clear_of(pass: &Pass, places: &Places, own: &TxnNote, number: u32, from: usize) -> bool
     ensures { IsTrue result → IsClearOf places.now.at.items pass.now own.now number from }
 {
-    place_in(&places.at, number) <= from || number_is_unseen(pass, own, number)
+    place_at(places, number) <= from || number_is_unseen(pass, own, number)
 }
 
 /// Whether so it is with all these writers, which ascend. Of those before one up to which none stands after the place none does.
@@ -92,7 +92,7 @@ fn is_no_rival(places: &Places, writers: &Numbers, number: u32, from: usize) -> 
     requires { IsStrictlyIncreasing writers.now }
     ensures { IsTrue result → IsNoRival places.now.at.items writers.now number from }
 {
-    place_in(&places.at, number) <= from || !writers.contains(number)
+    place_at(places, number) <= from || !writers.contains(number)
 }
 
 /// Whether this read, where it is before the place among the events, is from no rival.
@@ -192,7 +192,7 @@ fn is_kept_now(pass: &Pass, places: &Places, reads: &[ReadNote], read: ReadNote)
         &pass.txns[read.reader as usize],
         &pass.cells.notes[read.cell as usize],
         read.place,
-        place_in(&places.at, read.source),
+        place_at(places, read.source),
     )
 }
 

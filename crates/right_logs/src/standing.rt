@@ -1,19 +1,9 @@
 // Where transactions stand in the order.
-ghost use Rattle.std.specs.Prelude.{◌≡◌, ◌<◌, ◌≤◌, IsTrue, IfOk, length, slice_index};
+ghost use Rattle.std.specs.Prelude.{◌<◌, ◌≤◌, IsTrue, IfOk, length, slice_index};
 ghost use Rattle.right_logs.specs.Standing.{AreHighest};
 
 use cell_base::Memory;
 use std::alloc::Global;
-
-/// The place of the number, 0 where it has none.
-pub fn place_in(places: &[usize], number: u32) -> usize
-    ensures { result ≡ slice_index places.now number }
-{
-    if number as usize >= places.len() {
-        return 0;
-    }
-    places[number as usize]
-}
 
 /// The later of two places.
 fn later(first: usize, second: usize) -> usize

@@ -16,5 +16,5 @@ returns c = λ h. record {
   note = c.index-2.result.now;
   note_is = slice_get_read c.args.pass.now.cells.notes.items (length c.args.pass.now.cells.notes.items) c.args.read.cell c.index-2.result.now refl (omega arith) c.index-2.ensures;
   unrivalled = subst (λ (place : ℕ). IsUnrivalled c.args.places.now.at.items c.args.pass.now c.args.reads.now c.index.result.now c.index-2.result.now c.args.read.place place)
-      (rw c.deref.ensures.value at c.place_in.ensures) (c.is_unrivalled.ensures h);
+      c.place_at.ensures (c.is_unrivalled.ensures h);
 }
