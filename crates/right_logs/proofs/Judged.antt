@@ -18,7 +18,6 @@ use Rattle.order_test.proofs.SearchLemmas.{one_reader}
 use Rattle.history_check.specs.Notes.{IsNoteOf}
 use Rattle.history_check.proofs.Orderly.{orderly_from}
 use Rattle.right_logs.specs.declared.open_reads.ReadNote.{ReadNote}
-use Rattle.right_logs.specs.declared.open_reads.SessionReads.{SessionReads}
 use Rattle.right_logs.specs.declared.txn_notes.TxnNote.{TxnNote}
 use Rattle.right_logs.specs.declared.pass.Pass.{Pass}
 use Rattle.right_logs.specs.Clocks.{IsTxnNoteOf}
