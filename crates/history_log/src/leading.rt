@@ -54,6 +54,7 @@ pub fn leading_begin(version: Version, head: Level, text: &[u8]) -> Option<(Even
 
 /// The read whose line begins before the text, with its keyword, and what stands after its line feed. `None` says nothing of
 /// the text.
+#[inline(never)]
 fn leading_read(text: &[u8]) -> Option<(CompactEvent, &[u8])>
     ensures { IfSome result (λ x. IsLeading (compact_event x.0) (codes "read " ++ text.now) x.1.now) }
 {
@@ -73,6 +74,7 @@ fn leading_read(text: &[u8]) -> Option<(CompactEvent, &[u8])>
 
 /// The write whose line begins before the text, with its keyword, and what stands after its line feed. `None` says nothing of
 /// the text.
+#[inline(never)]
 fn leading_write(text: &[u8]) -> Option<(CompactEvent, &[u8])>
     ensures { IfSome result (λ x. IsLeading (compact_event x.0) (codes "write " ++ text.now) x.1.now) }
 {
@@ -88,6 +90,7 @@ fn leading_write(text: &[u8]) -> Option<(CompactEvent, &[u8])>
 
 /// The own read whose line begins before the text, with its keyword, and what stands after its line feed. `None` says nothing of
 /// the text.
+#[inline(never)]
 fn leading_own(text: &[u8]) -> Option<(CompactEvent, &[u8])>
     ensures { IfSome result (λ x. IsLeading (compact_event x.0) (codes "own " ++ text.now) x.1.now) }
 {

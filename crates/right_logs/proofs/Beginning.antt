@@ -35,6 +35,7 @@ pub record IsBlank (places : List ℕ) (pass : Pass) : Type 0 where
   pub last : pass.last.items ≡ 0 ∷ []
   pub first : TxnNote
   pub txns : pass.txns.items ≡ first ∷ []
+  pub clock : first.clock.items ≡ []
   pub highest : AreHighest places pass.highest.items
   pub reads : pass.reads.items ≡ []
 
@@ -72,5 +73,5 @@ blank_stands order places pass placed blank = record {
   last = none_begun pass.last.items blank.last;
   keeps = keeps_none order;
   no_scan = λ k e is scan. no_event k e is;
-  sights = sights_none places pass blank.first blank.txns blank.reads blank.highest;
+  sights = sights_none places pass blank.first blank.txns blank.clock blank.reads blank.highest;
 }

@@ -155,7 +155,7 @@ clear_at_cc order places events pass s number reads reader own level own_of writ
           let note : TxnNote = knows.0 in
           let note_of : IsTxnNoteOf events pass.clocked writer note = reader.stands.sights.txns.each writer note knows.1.0 in
           let start = note_of.started low in
-          let within : writer ≤ get_or own.clock.items note.session 0 = own_of.clock clocked note.session writer start.0 start.1 causal in
+          let within : writer ≤ get_or own.clock.items note.session 0 = ((own_of.clock clocked).exact note.session writer start.0 start.1).1 causal in
           let beyond : get_or own.clock.items note.session 0 < writer = subst (λ (l : Level). IsUnseenAt l own note writer) level knows.1.1 in
           absurd (omega arith)
     ]

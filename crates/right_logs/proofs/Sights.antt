@@ -235,9 +235,10 @@ reads_push places events old new old_lists new_lists s k cell w n u v note right
 -- ---- all of it
 
 pub sights_none :
-    (places : List ℕ) (pass : Pass) (note : TxnNote) → pass.txns.items ≡ note ∷ [] → pass.reads.items ≡ [] → AreHighest places pass.highest.items → StandsForSights places [] pass
-sights_none places pass note txns none highest = record {
-  txns = txns_none pass.clocked pass.txns.items note txns;
+    (places : List ℕ) (pass : Pass) (note : TxnNote) → pass.txns.items ≡ note ∷ [] → note.clock.items ≡ [] → pass.reads.items ≡ [] → AreHighest places pass.highest.items →
+    StandsForSights places [] pass
+sights_none places pass note txns clock none highest = record {
+  txns = txns_none pass.clocked pass.txns.items note txns clock;
   highest = highest;
   lists = ap length none;
   reads = λ met place s cell w n u v is. absurd (no_event place (Read s cell w n u v) is);

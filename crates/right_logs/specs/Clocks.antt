@@ -1,5 +1,5 @@
 -- What is noted of each transaction, with its vector clock.
-use Rattle.std.specs.Prelude.{◌≡◌, ◌<◌, ◌≤◌, ◌+◌, ◌⊎◌, ℕ, Bool, Some, IsTrue, List, [], ◌∷◌, ◌++◌, length, slice_get, slice_set, slice_index}
+use Rattle.std.specs.Prelude.{◌≡◌, ◌<◌, ◌≤◌, ◌+◌, ◌⊎◌, ◌↔◌, ℕ, Bool, Some, IsTrue, List, [], ◌∷◌, ◌++◌, length, slice_get, slice_set, slice_index}
 use Rattle.cell_base.specs.declared.level.Level.{Level}
 use Rattle.history_core.specs.declared.event.Event.{Event}
 use Rattle.history_core.specs.Events.{begun}
@@ -7,9 +7,10 @@ use Rattle.history_core.specs.Transactions.{IsStart, RunsAt}
 use Rattle.history_core.specs.Relations.{PrecedesCausally}
 use Rattle.right_logs.specs.declared.txn_notes.TxnNote.{TxnNote}
 
--- no transaction of a session in the causal past of the transaction is above what the clock has for the session
-abbrev pub IsClockOf : List Event → ℕ → List ℕ → Type 0
-IsClockOf events number clock = (session writer place : ℕ) → IsStart events writer session place → PrecedesCausally events writer number → writer ≤ slice_index clock session
+-- of each session the transactions up to what the clock has for it are those in the causal past of the transaction
+pub record IsClockOf (events : List Event) (number : ℕ) (clock : List ℕ) : Type 0 where
+  pub bounded : (session : ℕ) → slice_index clock session ≤ begun events
+  pub exact : (session writer place : ℕ) → IsStart events writer session place → (writer ≤ slice_index clock session) ↔ PrecedesCausally events writer number
 
 -- but for the initial transaction the note has the session and the level at which the transaction runs, and its clock where there are clocks
 pub record IsTxnNoteOf (events : List Event) (clocked : Bool) (number : ℕ) (note : TxnNote) : Type 0 where
@@ -22,15 +23,13 @@ pub record AreTxnNotes (events : List Event) (clocked : Bool) (notes : List TxnN
   pub count : length notes ≡ begun events + 1
   pub each : (number : ℕ) (note : TxnNote) → slice_get notes number ≡ Some note → IsTxnNoteOf events clocked number note
 
--- no number falls, and the one at the place isn't below this one
-pub record Raises (at number : ℕ) (old new : List ℕ) : Type 0 where
-  pub grow : (i : ℕ) → slice_index old i ≤ slice_index new i
-  pub reach : number ≤ slice_index new at
+-- the number at the place is raised to this one, where it is below
+abbrev pub Raises : ℕ → ℕ → List ℕ → List ℕ → Type 0
+Raises at number old new = (i n : ℕ) → (n ≤ slice_index new i) ↔ ((n ≤ slice_index old i) ⊎ ((i ≡ at) × (n ≤ number)))
 
--- no number falls, and none is below the other one at its place
-pub record RaisesAll (others old new : List ℕ) : Type 0 where
-  pub grow : (i : ℕ) → slice_index old i ≤ slice_index new i
-  pub reach : (i : ℕ) → slice_index others i ≤ slice_index new i
+-- each number is raised to the other one at its place, where it is below
+abbrev pub RaisesAll : List ℕ → List ℕ → List ℕ → Type 0
+RaisesAll others old new = (i n : ℕ) → (n ≤ slice_index new i) ↔ ((n ≤ slice_index old i) ⊎ (n ≤ slice_index others i))
 
 -- a note of the session and the level comes after the others. Where there are clocks it has one that comes after that of the last transaction
 pub record AddsTxn (clocked : Bool) (session : ℕ) (level : Level) (last : ℕ) (old new : List TxnNote) : Type 0 where
@@ -40,11 +39,10 @@ pub record AddsTxn (clocked : Bool) (session : ℕ) (level : Level) (last : ℕ)
   pub level_is : note.level ≡ level
   pub clock : IsTrue clocked → (before : TxnNote) → slice_get old last ≡ Some before → Raises session last before.clock.items note.clock.items
 
--- no number falls, and the clock reaches as far as that of the source, and to the source itself
-pub record TakesClock (number : ℕ) (source : TxnNote) (old new : List ℕ) : Type 0 where
-  pub grow : (i : ℕ) → slice_index old i ≤ slice_index new i
-  pub past : (i : ℕ) → slice_index source.clock.items i ≤ slice_index new i
-  pub reach : number ≤ slice_index new source.session
+-- each number is raised to that of the source's clock at its place, and the one for the source's session to the source, where they are below
+abbrev pub TakesClock : ℕ → TxnNote → List ℕ → List ℕ → Type 0
+TakesClock number source old new =
+    (i n : ℕ) → (n ≤ slice_index new i) ↔ ((n ≤ slice_index old i) ⊎ ((n ≤ slice_index source.clock.items i) ⊎ ((i ≡ source.session) × (n ≤ number))))
 
 -- the clock of the reader takes in the source, and nothing else changes
 pub record TakesIn (reader source : ℕ) (old new : List TxnNote) : Type 0 where
@@ -58,6 +56,15 @@ pub record TakesIn (reader source : ℕ) (old new : List TxnNote) : Type 0 where
   pub level_is : note.level ≡ own.level
   pub takes : TakesClock source from own.clock.items note.clock.items
 
--- so it is where there are clocks, and else nothing changes
+-- the clock of the reader has the source
+pub record HasSource (reader source : ℕ) (notes : List TxnNote) : Type 0 where
+  pub own : TxnNote
+  pub from : TxnNote
+  pub own_is : slice_get notes reader ≡ Some own
+  pub from_is : slice_get notes source ≡ Some from
+  pub reached : source ≤ slice_index own.clock.items from.session
+
+-- nothing changes where there are no clocks, and where the clock of the reader has the source, and so its past; else it takes in the source
 abbrev pub NotesSource : Bool → ℕ → ℕ → List TxnNote → List TxnNote → Type 0
-NotesSource clocked reader source old new = ((IsTrue clocked → ⊥) × (new ≡ old)) ⊎ TakesIn reader source old new
+NotesSource clocked reader source old new =
+    ((IsTrue clocked → ⊥) × (new ≡ old)) ⊎ ((HasSource reader source old × (new ≡ old)) ⊎ TakesIn reader source old new)

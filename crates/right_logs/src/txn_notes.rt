@@ -1,7 +1,7 @@
 // What is noted of each transaction: its session, its level, and its vector clock, which tells how far each session is in its causal past.
 ghost use Rattle.std.specs.Prelude.{◌≡◌, ◌≢◌, ◌≤◌, ◌<◌, ◌∷◌, [], ℕ, Some, IfOk, OnOk, IsTrue, length, slice_get, slice_set, slice_index};
 ghost use Rattle.right_logs.specs.declared.txn_notes.TxnNote.{TxnNote as NoteOf};
-ghost use Rattle.right_logs.specs.Clocks.{AddsTxn, NotesSource, Raises, RaisesAll, TakesClock, TakesIn};
+ghost use Rattle.right_logs.specs.Clocks.{AddsTxn, HasSource, NotesSource, Raises, RaisesAll, TakesClock, TakesIn};
 
 use cell_base::{Level, Memory};
 use std::alloc::Global;
@@ -12,12 +12,14 @@ use std::mem;
 pub struct TxnNote {
     pub session: u32,
     pub level: Level,
-    /// Its vector clock: for each session a number that none of its transactions in the causal past is above. What isn't there is 0.
+    /// Its vector clock: of each session the transactions up to its number are those in the causal past. What isn't there is 0.
     pub clock: Vec<u32>,
 }
 
 /// A note that says nothing. Takes no memory.
-fn blank_note(alloc: Global) -> TxnNote {
+fn blank_note(alloc: Global) -> TxnNote
+    ensures { result.clock.items ≡ [] }
+{
     TxnNote {
         session: 0,
         level: Level::Rc,
@@ -27,7 +29,7 @@ fn blank_note(alloc: Global) -> TxnNote {
 
 /// The note of the initial transaction alone.
 pub fn initial_txns(alloc: Global) -> Result<Vec<TxnNote>, Memory>
-    ensures { IfOk result (λ notes. (note : NoteOf) × (notes.items ≡ note ∷ [])) }
+    ensures { IfOk result (λ notes. (note : NoteOf) × ((notes.items ≡ note ∷ []) × (note.clock.items ≡ []))) }
 {
     let mut notes = Vec::new(alloc);
     notes.push(blank_note(alloc))?;
@@ -167,7 +169,20 @@ fn take_source(
     Ok(())
 }
 
-/// Notes that the reader reads from the source, where there are clocks.
+/// Whether the clock of the reader has the source.
+fn has_source(notes: &[TxnNote], reader: u32, source: u32) -> bool
+    requires reader { reader < length notes.now }
+    requires source { source < length notes.now }
+    ensures { IsTrue result → HasSource reader source notes.now }
+{
+    source
+        <= number_in(
+            &notes[reader as usize].clock,
+            notes[source as usize].session,
+        )
+}
+
+/// Notes that the reader reads from the source, where there are clocks. One that has the source has its past, too, and stays as it is.
 pub fn note_source(
     alloc: Global,
     notes: &mut Vec<TxnNote>,
@@ -181,6 +196,9 @@ pub fn note_source(
     ensures { OnOk result (NotesSource clocked reader source notes.old.items notes.new.items) }
 {
     if !clocked {
+        return Ok(());
+    }
+    if has_source(notes, reader, source) {
         return Ok(());
     }
     take_source(alloc, notes, reader, source)

@@ -14,7 +14,8 @@ returns c = λ order placed. blank_stands order c.args.places.now.at.items _ pla
   values = search rules;
   last = c.in_ok-push.ensures.items ∙ ap (λ (xs : List ℕ). xs ++ 0 ∷ []) c.new-last.ensures.items;
   first = c.in_ok-txns.ensures.0;
-  txns = c.in_ok-txns.ensures.1;
+  txns = c.in_ok-txns.ensures.1.0;
+  clock = c.in_ok-txns.ensures.1.1;
   highest = rw c.deref.ensures.value at c.in_ok-highest.ensures;
   reads = search rules;
 })

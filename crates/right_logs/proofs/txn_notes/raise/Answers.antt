@@ -7,4 +7,4 @@ pub returns : goal.returns
 returns c =
     let was = value_at c.args.clock.now.items c.args.at c.index.result.now c.requires c.index.ensures in
     let top = c.max.ensures in
-    one_raised c.args.at c.args.number c.max.result c.args.clock.now.items c.requires (omega arith) (omega arith)
+    one_raised c.args.at c.args.number c.max.result c.args.clock.now.items c.requires (omega arith)
