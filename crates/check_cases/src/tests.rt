@@ -19,8 +19,26 @@ order 0 1 2
 end
 ";
 
-/// The same, but that the second session reads one row of two from the initial transaction, and then the other one from the first session. That the
-/// order is right is clear from what each read sees alone.
+/// The same, but that the second session's transaction runs at a higher level than the head says. One pass doesn't show that its order is right, so the
+/// text is read as a history.
+const HIGHER: &str = "\
+monkey-log 2 rc
+open 1
+define 1 x74
+open 2
+begin 1 rc
+write 1 p.0.1 true
+write 1 f.0.1.1 10
+commit 1
+begin 2 cc
+read 2 p.0.1 0 2 0 false
+commit 2
+order 0 1 2
+end
+";
+
+/// The second session reads one row of two from the initial transaction, and then the other one from the first session. That the order is right is
+/// clear from what each read sees alone.
 const PARTLY_STALE: &str = "\
 monkey-log 2 rc
 open 1
@@ -43,6 +61,7 @@ fn says_that_a_log_is_right(rt: HostRuntime) -> Result<(), Fail> {
     let alloc = rt.alloc();
     assert!(rt; prints(alloc, b"monkey-log 2 cc\norder 0\nend\n", 0, b"ok\n")?);
     assert!(rt; prints(alloc, STALE.as_bytes(), 0, b"ok\n")?);
+    assert!(rt; prints(alloc, HIGHER.as_bytes(), 0, b"ok\n")?);
     assert!(rt; prints(alloc, PARTLY_STALE.as_bytes(), 0, b"ok\n")?);
     Ok(())
 }

@@ -15,8 +15,11 @@ use cell_base::Level;
 use cell_writers::{CellNote, Numbers};
 use order_test::{Places, place_at, stands_before};
 
-/// How many writers of a cell are looked at for one read. Where more stand after its source nothing is said of the order.
+/// How many writers of a cell are asked for one read. Where more would have to be nothing is said of the order.
 const MOST_WRITERS: usize = 1_000;
+
+/// How many reads of one transaction are compared with one another. Where there are more nothing is said of the order.
+const MOST_READS: usize = 1_000;
 
 /// Whether none of the writers, which ascend, stands after the place.
 fn none_is_late(pass: &Pass, _places: &Places, writers: &[u32], from: usize) -> bool
@@ -120,6 +123,9 @@ fn has_no_earlier_rival(
     requires { IsStrictlyIncreasing writers.now }
     ensures { IsTrue result → HasNoEarlierRival places.now.at.items writers.now reads.now before from }
 {
+    if reads.len() > MOST_READS {
+        return false;
+    }
     for at in 0..reads.len() {
         if !is_harmless_early(places, writers, reads[at], before, from) {
             return false;
@@ -133,6 +139,9 @@ fn has_no_source_rival(places: &Places, writers: &Numbers, reads: &[ReadNote], f
     requires { IsStrictlyIncreasing writers.now }
     ensures { IsTrue result → HasNoSourceRival places.now.at.items writers.now reads.now from }
 {
+    if reads.len() > MOST_READS {
+        return false;
+    }
     for at in 0..reads.len() {
         if !is_no_rival(places, writers, reads[at].source, from) {
             return false;
