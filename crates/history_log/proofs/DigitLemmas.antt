@@ -1,7 +1,7 @@
 -- How a number is spelled, digit by digit.
-use Rattle.std.proofs.Common.{◌≡◌, ℕ, ◌+◌, ◌-◌, ◌*◌, ◌/◌, ◌%◌, ◌<◌, ◌≤◌, List, [], ◌∷◌, ◌++◌, length, get_or, take, drop, decimal, arith, ap, sym, ◌∙◌}
+use Rattle.std.proofs.Common.{◌≡◌, ℕ, ◌+◌, ◌-◌, ◌*◌, ◌/◌, ◌%◌, ◌<◌, ◌≤◌, List, [], ◌∷◌, ◌++◌, length, get_or, take, drop, decimal, append_assoc, arith, ap, sym, ◌∙◌}
 use Rattle.std.proofs.lemmas.Fmt.{decimal_digit, decimal_step}
-use Rattle.std.proofs.lemmas.List.{take_more, take_all, take_rest, take-append-drop}
+use Rattle.std.proofs.lemmas.List.{take_rest, take-append-drop}
 
 pub first_digit : (word : List ℕ) (digit : ℕ) → digit < 10 → get_or word 0 0 ≡ 48 + digit → decimal digit ≡ take 1 word
 first_digit [] digit small is = absurd (omega arith)
@@ -13,17 +13,15 @@ more_digits number digit byte positive small least is =
     let last : 48 + (number * 10 + digit) % 10 ≡ byte = omega arith in
     decimal_step (number * 10 + digit) (omega arith) (omega arith) ∙ ap (λ (n : ℕ). decimal n ++ (48 + (number * 10 + digit) % 10) ∷ []) front ∙ ap (λ (b : ℕ). decimal number ++ b ∷ []) last
 
-pub next_digits : (word : List ℕ) (at number next : ℕ) → at < length word → decimal number ≡ take at word → decimal next ≡ decimal number ++ get_or word at 0 ∷ [] →
-    decimal next ≡ take (at + 1) word
-next_digits word at number next within before is =
-    is ∙ ap (λ (bytes : List ℕ). bytes ++ get_or word at 0 ∷ []) before ∙ sym (take_more word at 0 within)
-
 -- what stands after the digits
 pub after_digits : (text : List ℕ) (at number : ℕ) → decimal number ≡ take at text → text ≡ decimal number ++ take (length text - at) (drop at text)
 after_digits text at number is =
     sym (take-append-drop at text) ∙ ap (λ (bytes : List ℕ). bytes ++ drop at text) (sym is) ∙ ap (λ (rest : List ℕ). decimal number ++ rest) (sym (take_rest text at))
 
--- where all is digits, nothing
-pub all_digits : (text : List ℕ) (at number : ℕ) → length text ≤ at → decimal number ≡ take at text → text ≡ decimal number ++ take (length text - length text) (drop (length text) text)
-all_digits text at number end is =
-    after_digits text (length text) number (is ∙ take_all at text end ∙ sym (take_all (length text) text (omega arith)))
+-- one digit more is read off the front of what stands after the digits
+pub digit_taken : (text rest : List ℕ) (number more digit : ℕ) → 0 < length rest → get_or rest 0 0 ≡ 48 + digit → decimal more ≡ decimal number ++ (48 + digit) ∷ [] → text ≡ decimal number ++ rest
+    → text ≡ decimal more ++ take (length rest - 1) (drop 1 rest)
+digit_taken text [] number more digit some is spelled before = absurd (omega (arith, some))
+digit_taken text (byte ∷ rest) number more digit some is spelled before =
+    before ∙ ap (λ (b : ℕ). decimal number ++ b ∷ rest) is ∙ sym (append_assoc (decimal number) ((48 + digit) ∷ []) rest)
+    ∙ ap (λ (d : List ℕ). d ++ rest) (sym spelled) ∙ ap (λ (r : List ℕ). decimal more ++ r) (sym (take_rest (byte ∷ rest) 1))

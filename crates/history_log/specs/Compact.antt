@@ -6,11 +6,11 @@ use Rattle.cell_base.specs.declared.key.Key.TheVariants as keys
 use Rattle.cell_base.specs.declared.value.Value.{Value}
 use Rattle.cell_base.specs.declared.value.Value.TheVariants as values
 use Rattle.history_core.specs.declared.event.Event.{Event}
-use Rattle.history_core.specs.declared.event.Event.TheVariants.{Read, Own, Write, Commit}
+use Rattle.history_core.specs.declared.event.Event.TheVariants.{Read, Own, Write}
+use Rattle.history_log.specs.declared.compact.CompactAccess.{CompactAccess}
 use Rattle.history_log.specs.declared.compact.CompactCell.{CompactCell}
 use Rattle.history_log.specs.declared.compact.CompactCell.TheVariants as compact_cells
-use Rattle.history_log.specs.declared.compact.CompactEvent.{CompactEvent}
-use Rattle.history_log.specs.declared.compact.CompactEvent.TheVariants as compact_events
+use Rattle.history_log.specs.declared.compact.CompactRead.{CompactRead}
 use Rattle.history_log.specs.declared.compact.CompactValue.{CompactValue}
 use Rattle.history_log.specs.declared.compact.CompactValue.TheVariants as compact_values
 
@@ -24,8 +24,11 @@ compact_value compact_values.Null = values.Null
 compact_value (compact_values.Flag flag) = values.Flag flag
 compact_value (compact_values.Int number) = values.Int (pos number)
 
-abbrev pub compact_event : CompactEvent → Event
-compact_event (compact_events.Read session cell source count word value) = Read session (compact_cell cell) source count word (compact_value value)
-compact_event (compact_events.Write session cell value) = Write session (compact_cell cell) (compact_value value)
-compact_event (compact_events.Own session cell value) = Own session (compact_cell cell) (compact_value value)
-compact_event (compact_events.Commit session) = Commit session
+abbrev pub compact_read : CompactRead → Event
+compact_read r = Read r.session (compact_cell r.cell) r.source r.count r.word (compact_value r.value)
+
+abbrev pub compact_write : CompactAccess → Event
+compact_write a = Write a.session (compact_cell a.cell) (compact_value a.value)
+
+abbrev pub compact_own : CompactAccess → Event
+compact_own a = Own a.session (compact_cell a.cell) (compact_value a.value)

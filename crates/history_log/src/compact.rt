@@ -1,6 +1,6 @@
 // Events of few digits: they are copied, and need no memory.
 ghost use Rattle.std.specs.Prelude.{◌≡◌};
-ghost use Rattle.history_log.specs.Compact.{compact_cell, compact_value, compact_event};
+ghost use Rattle.history_log.specs.Compact.{compact_cell, compact_value, compact_read, compact_write, compact_own};
 
 use cell_base::{Cell, Key, Value};
 use history_core::Event;
@@ -23,30 +23,23 @@ pub enum CompactValue {
     Int(u32),
 }
 
-/// A read, a write, an own read or a commit of few digits.
+/// An external read of few digits.
 #[derive(Clone, Copy, Debug)]
-pub enum CompactEvent {
-    Read {
-        session: u32,
-        cell: CompactCell,
-        source: u32,
-        count: u32,
-        word: u32,
-        value: CompactValue,
-    },
-    Write {
-        session: u32,
-        cell: CompactCell,
-        value: CompactValue,
-    },
-    Own {
-        session: u32,
-        cell: CompactCell,
-        value: CompactValue,
-    },
-    Commit {
-        session: u32,
-    },
+pub struct CompactRead {
+    pub session: u32,
+    pub cell: CompactCell,
+    pub source: u32,
+    pub count: u32,
+    pub word: u32,
+    pub value: CompactValue,
+}
+
+/// A write or an own read of few digits.
+#[derive(Clone, Copy, Debug)]
+pub struct CompactAccess {
+    pub session: u32,
+    pub cell: CompactCell,
+    pub value: CompactValue,
 }
 
 impl CompactCell {
@@ -77,46 +70,42 @@ impl CompactValue {
     }
 }
 
-impl CompactEvent {
+impl CompactRead {
     /// The event.
     pub fn event(self) -> Event
-        ensures { result ≡ compact_event self }
+        ensures { result ≡ compact_read self }
     {
-        match self {
-            CompactEvent::Read {
-                session,
-                cell,
-                source,
-                count,
-                word,
-                value,
-            } => Event::Read {
-                session,
-                cell: cell.cell(),
-                source,
-                count,
-                word,
-                value: value.value(),
-            },
-            CompactEvent::Write {
-                session,
-                cell,
-                value,
-            } => Event::Write {
-                session,
-                cell: cell.cell(),
-                value: value.value(),
-            },
-            CompactEvent::Own {
-                session,
-                cell,
-                value,
-            } => Event::Own {
-                session,
-                cell: cell.cell(),
-                value: value.value(),
-            },
-            CompactEvent::Commit { session } => Event::Commit { session },
+        Event::Read {
+            session: self.session,
+            cell: self.cell.cell(),
+            source: self.source,
+            count: self.count,
+            word: self.word,
+            value: self.value.value(),
+        }
+    }
+}
+
+impl CompactAccess {
+    /// The event, where it is a write.
+    pub fn as_write(self) -> Event
+        ensures { result ≡ compact_write self }
+    {
+        Event::Write {
+            session: self.session,
+            cell: self.cell.cell(),
+            value: self.value.value(),
+        }
+    }
+
+    /// The event, where it is an own read.
+    pub fn as_own(self) -> Event
+        ensures { result ≡ compact_own self }
+    {
+        Event::Own {
+            session: self.session,
+            cell: self.cell.cell(),
+            value: self.value.value(),
         }
     }
 }

@@ -41,16 +41,18 @@ pub fn leading_number(text: &[u8]) -> Option<(u32, &[u8])>
         return None;
     }
     let mut number = digit_of(text[0])?;
+    let mut rest = &text[1..];
     if number == 0 {
-        return Some((number, &text[1..]));
+        return Some((number, rest));
     }
-    for at in 1..text.len() {
-        let Some(digit) = digit_of(text[at]) else {
-            return Some((number, &text[at..]));
+    while !rest.is_empty() {
+        let Some(digit) = digit_of(rest[0]) else {
+            return Some((number, rest));
         };
         number = with_digit(number, digit)?;
+        rest = &rest[1..];
     }
-    Some((number, &text[text.len()..]))
+    Some((number, rest))
 }
 
 /// The number and this byte after it that the text begins with, and what stands after them. `None` says nothing of the text.

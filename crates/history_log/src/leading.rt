@@ -3,10 +3,10 @@ ghost use Rattle.std.specs.Prelude.{◌≡◌, ◌≢◌, ◌∷◌, ◌++◌, c
 ghost use Rattle.history_log.specs.Spelling.{cell_word, value_word, level_word};
 ghost use Rattle.history_log.specs.Reading.{IsU32, FitsCell, FitsValue};
 ghost use Rattle.history_log.specs.Leading.{IsLeading, IsLeadingIn};
-ghost use Rattle.history_log.specs.Compact.{compact_cell, compact_value, compact_event};
+ghost use Rattle.history_log.specs.Compact.{compact_cell, compact_value, compact_read, compact_write, compact_own};
 
 use crate::cells::leading_cell;
-use crate::compact::{CompactCell, CompactEvent, CompactValue};
+use crate::compact::{CompactAccess, CompactCell, CompactRead, CompactValue};
 use crate::digits::number_before;
 use crate::version::Version;
 use crate::words::{after_byte, after_word};
@@ -18,31 +18,63 @@ use history_core::Event;
 pub fn leading_event(text: &[u8]) -> Option<(Event, &[u8])>
     ensures { IfSome result (λ x. IsLeading x.0 text.now x.1.now) }
 {
-    let (compact, rest) = leading_compact(text)?;
-    Some((compact.event(), rest))
+    if let Some((read, rest)) = leading_read(text) {
+        return Some((read.event(), rest));
+    }
+    if let Some((write, rest)) = leading_write(text) {
+        return Some((write.as_write(), rest));
+    }
+    if let Some((own, rest)) = leading_own(text) {
+        return Some((own.as_own(), rest));
+    }
+    let (session, rest) = leading_commit(text)?;
+    Some((Event::Commit { session }, rest))
 }
 
-/// The same, as an event of few digits.
-pub fn leading_compact(text: &[u8]) -> Option<(CompactEvent, &[u8])>
-    ensures { IfSome result (λ x. IsLeading (compact_event x.0) text.now x.1.now) }
+/// The external read, of few digits, that the text begins with, with its line feed, and what stands after it. `None` says
+/// nothing of the text.
+#[inline(always)]
+pub fn leading_read(text: &[u8]) -> Option<(CompactRead, &[u8])>
+    ensures { IfSome result (λ x. IsLeading (compact_read x.0) text.now x.1.now) }
 {
-    if let Some(rest) = after_word(text, b"read ") {
-        return leading_read(rest);
-    }
-    if let Some(rest) = after_word(text, b"write ") {
-        return leading_write(rest);
-    }
-    if let Some(rest) = after_word(text, b"own ") {
-        return leading_own(rest);
-    }
-    let rest = after_word(text, b"commit ")?;
-    leading_commit(rest)
+    let rest = after_word(text, b"read ")?;
+    read_after(rest)
 }
 
-/// The begin that the text begins with, in a text of this version whose head has this level, with its line feed, and what stands
-/// after it. `None` says nothing of the text.
-pub fn leading_begin(version: Version, head: Level, text: &[u8]) -> Option<(Event, &[u8])>
-    ensures { IfSome result (λ x. IsLeadingIn version head x.0 text.now x.1.now) }
+/// The write, of few digits, that the text begins with, with its line feed, and what stands after it. `None` says nothing of
+/// the text.
+#[inline(always)]
+pub fn leading_write(text: &[u8]) -> Option<(CompactAccess, &[u8])>
+    ensures { IfSome result (λ x. IsLeading (compact_write x.0) text.now x.1.now) }
+{
+    let rest = after_word(text, b"write ")?;
+    write_after(rest)
+}
+
+/// The own read, of few digits, that the text begins with, with its line feed, and what stands after it. `None` says nothing
+/// of the text.
+#[inline(always)]
+pub fn leading_own(text: &[u8]) -> Option<(CompactAccess, &[u8])>
+    ensures { IfSome result (λ x. IsLeading (compact_own x.0) text.now x.1.now) }
+{
+    let rest = after_word(text, b"own ")?;
+    own_after(rest)
+}
+
+/// The session of the commit that the text begins with, with its line feed, and what stands after it. `None` says nothing of
+/// the text.
+#[inline(always)]
+pub fn leading_commit(text: &[u8]) -> Option<(u32, &[u8])>
+    ensures { IfSome result (λ x. IsLeading (Event.Commit x.0) text.now x.1.now) }
+{
+    let rest = after_word(text, b"commit ")?;
+    commit_after(rest)
+}
+
+/// The session and the level of the begin that the text begins with, in a text of this version whose head has this level, with
+/// its line feed, and what stands after it. `None` says nothing of the text.
+pub fn leading_begin(version: Version, head: Level, text: &[u8]) -> Option<(u32, Level, &[u8])>
+    ensures { IfSome result (λ x. IsLeadingIn version head (Event.Begin x.0 x.1) text.now x.2.now) }
 {
     let rest = after_word(text, b"begin ")?;
     match version {
@@ -55,13 +87,13 @@ pub fn leading_begin(version: Version, head: Level, text: &[u8]) -> Option<(Even
 /// The read whose line begins before the text, with its keyword, and what stands after its line feed. `None` says nothing of
 /// the text.
 #[inline(never)]
-fn leading_read(text: &[u8]) -> Option<(CompactEvent, &[u8])>
-    ensures { IfSome result (λ x. IsLeading (compact_event x.0) (codes "read " ++ text.now) x.1.now) }
+fn read_after(text: &[u8]) -> Option<(CompactRead, &[u8])>
+    ensures { IfSome result (λ x. IsLeading (compact_read x.0) (codes "read " ++ text.now) x.1.now) }
 {
     let (session, cell, rest) = session_and_cell(text)?;
     let (source, count, word, rest) = three_numbers(rest)?;
     let (value, rest) = value_and_feed(rest)?;
-    let event = CompactEvent::Read {
+    let read = CompactRead {
         session,
         cell,
         source,
@@ -69,72 +101,67 @@ fn leading_read(text: &[u8]) -> Option<(CompactEvent, &[u8])>
         word,
         value,
     };
-    Some((event, rest))
+    Some((read, rest))
 }
 
-/// The write whose line begins before the text, with its keyword, and what stands after its line feed. `None` says nothing of
-/// the text.
+/// What the write says whose line begins before the text, with its keyword, and what stands after its line feed. `None` says
+/// nothing of the text.
 #[inline(never)]
-fn leading_write(text: &[u8]) -> Option<(CompactEvent, &[u8])>
-    ensures { IfSome result (λ x. IsLeading (compact_event x.0) (codes "write " ++ text.now) x.1.now) }
+fn write_after(text: &[u8]) -> Option<(CompactAccess, &[u8])>
+    ensures { IfSome result (λ x. IsLeading (compact_write x.0) (codes "write " ++ text.now) x.1.now) }
 {
     let (session, cell, rest) = session_and_cell(text)?;
     let (value, rest) = value_and_feed(rest)?;
-    let event = CompactEvent::Write {
+    let write = CompactAccess {
         session,
         cell,
         value,
     };
-    Some((event, rest))
+    Some((write, rest))
 }
 
-/// The own read whose line begins before the text, with its keyword, and what stands after its line feed. `None` says nothing of
-/// the text.
+/// The same of an own read.
 #[inline(never)]
-fn leading_own(text: &[u8]) -> Option<(CompactEvent, &[u8])>
-    ensures { IfSome result (λ x. IsLeading (compact_event x.0) (codes "own " ++ text.now) x.1.now) }
+fn own_after(text: &[u8]) -> Option<(CompactAccess, &[u8])>
+    ensures { IfSome result (λ x. IsLeading (compact_own x.0) (codes "own " ++ text.now) x.1.now) }
 {
     let (session, cell, rest) = session_and_cell(text)?;
     let (value, rest) = value_and_feed(rest)?;
-    let event = CompactEvent::Own {
+    let own = CompactAccess {
         session,
         cell,
         value,
     };
-    Some((event, rest))
+    Some((own, rest))
 }
 
-/// The commit whose line begins before the text, with its keyword, and what stands after its line feed. `None` says nothing of the
-/// text.
-fn leading_commit(text: &[u8]) -> Option<(CompactEvent, &[u8])>
-    ensures { IfSome result (λ x. IsLeading (compact_event x.0) (codes "commit " ++ text.now) x.1.now) }
+/// The session of the commit whose line begins before the text, with its keyword, and what stands after its line feed. `None`
+/// says nothing of the text.
+fn commit_after(text: &[u8]) -> Option<(u32, &[u8])>
+    ensures { IfSome result (λ x. IsLeading (Event.Commit x.0) (codes "commit " ++ text.now) x.1.now) }
 {
     let (session, rest) = number_before(text, b'\n')?;
-    Some((CompactEvent::Commit { session }, rest))
+    Some((session, rest))
 }
 
 /// The begin whose line begins before the text, with its keyword, in version 1, which leaves the level to the head, and what stands
 /// after its line feed. `None` says nothing of the text.
-fn begin_of_head(head: Level, text: &[u8]) -> Option<(Event, &[u8])>
-    ensures { IfSome result (λ x. IsLeadingIn Version.One head x.0 (codes "begin " ++ text.now) x.1.now) }
+fn begin_of_head(head: Level, text: &[u8]) -> Option<(u32, Level, &[u8])>
+    ensures { IfSome result (λ x. IsLeadingIn Version.One head (Event.Begin x.0 x.1) (codes "begin " ++ text.now) x.2.now) }
 {
     let (session, rest) = number_before(text, b'\n')?;
-    let event = Event::Begin {
-        session,
-        level: head,
-    };
-    Some((event, rest))
+    Some((session, head, rest))
 }
 
 /// The begin whose line begins before the text, with its keyword, in a version that says its level, and what stands after its line
 /// feed. `None` says nothing of the text.
-fn begin_of_level(_version: Version, _head: Level, text: &[u8]) -> Option<(Event, &[u8])>
+fn begin_of_level(_version: Version, _head: Level, text: &[u8]) -> Option<(u32, Level, &[u8])>
     requires { _version ≢ Version.One }
-    ensures { IfSome result (λ x. IsLeadingIn _version _head x.0 (codes "begin " ++ text.now) x.1.now) }
+    ensures { IfSome result (λ x. IsLeadingIn _version _head (Event.Begin x.0 x.1) (codes "begin " ++ text.now) x.2.now) }
 {
     let (session, rest) = number_before(text, b' ')?;
     let (level, rest) = level_and_feed(rest)?;
-    Some((Event::Begin { session, level }, rest))
+    Some((session, level, rest))
 }
 
 /// The level and the line feed that the text begins with, and what stands after them. `None` says nothing of the text.

@@ -26,9 +26,9 @@ mod trace;
 mod version;
 mod words;
 
-pub use compact::{CompactCell, CompactEvent, CompactValue};
+pub use compact::{CompactAccess, CompactCell, CompactRead, CompactValue};
 pub use laws::{one_trace, one_word};
-pub use leading::{leading_begin, leading_compact};
+pub use leading::{leading_begin, leading_commit, leading_own, leading_read, leading_write};
 pub use line_event::read_event;
 pub use log_fault::LogFault;
 pub use misread::Misread;

@@ -13,8 +13,8 @@ fn is_so(glimpse: &Glimpse, wanted: &str) -> bool {
     }
 }
 
-// Whether the pass says this of the text.
-fn says(alloc: Global, text: &str, wanted: &str) -> bool {
+/// Whether the pass says this of the text.
+pub fn says(alloc: Global, text: &str, wanted: &str) -> bool {
     match glimpse_of(alloc, text.as_bytes()) {
         Ok(glimpse) => {
             let said = is_so(&glimpse, wanted);

@@ -5,9 +5,9 @@ use Rattle.cell_base.specs.declared.memory.Memory.{Memory}
 use Rattle.cell_base.specs.declared.value.Value.{Value}
 use Rattle.history_core.specs.declared.event.Event.{Event}
 use Rattle.history_core.specs.declared.event.Event.TheVariants.{Read, Own, Write}
-use Rattle.history_log.specs.declared.compact.CompactCell.{CompactCell}
-use Rattle.history_log.specs.declared.compact.CompactValue.{CompactValue}
-use Rattle.history_log.specs.Compact.{compact_cell, compact_value}
+use Rattle.history_log.specs.declared.compact.CompactAccess.{CompactAccess}
+use Rattle.history_log.specs.declared.compact.CompactRead.{CompactRead}
+use Rattle.history_log.specs.Compact.{compact_cell, compact_value, compact_read, compact_write, compact_own}
 use Rattle.right_logs.specs.declared.pass.Pass.{Pass}
 use Rattle.right_logs.specs.Passes.{Goes}
 
@@ -18,20 +18,25 @@ goes_as places event other old new given result is same taken =
     subst (λ (r : Result Bool Memory). IfOk r (λ goes. IsTrue goes → Goes places other old new)) (sym same)
     (subst (λ (e : Event). IfOk given (λ goes. IsTrue goes → Goes places e old new)) is taken)
 
-module _ (places : List ℕ) (s : ℕ) (compact : CompactCell) (cell : Cell) (few : CompactValue) (value : Value) (old new : Pass) (given result : Result Bool Memory)
-    (cell_is : cell ≡ compact_cell compact) (value_is : value ≡ compact_value few) (same : result ≡ given) where
-  pub compact_read : (source count word : ℕ) → IfOk given (λ goes. IsTrue goes → Goes places (Read s cell source count word value) old new)
-      → IfOk result (λ goes. IsTrue goes → Goes places (Read s (compact_cell compact) source count word (compact_value few)) old new)
-  compact_read source count word =
-      goes_as places (Read s cell source count word value) (Read s (compact_cell compact) source count word (compact_value few)) old new given result
-      (ap (λ (c : Cell). Read s c source count word value) cell_is ∙ ap (λ (v : Value). Read s (compact_cell compact) source count word v) value_is) same
+pub taken_read : (places : List ℕ) (read : CompactRead) (cell : Cell) (value : Value) (old new : Pass) (given result : Result Bool Memory)
+    → cell ≡ compact_cell read.cell → value ≡ compact_value read.value → result ≡ given
+    → IfOk given (λ goes. IsTrue goes → Goes places (Read read.session cell read.source read.count read.word value) old new)
+    → IfOk result (λ goes. IsTrue goes → Goes places (compact_read read) old new)
+taken_read places read cell value old new given result cell_is value_is same =
+    goes_as places (Read read.session cell read.source read.count read.word value) (compact_read read) old new given result
+    (ap (λ (c : Cell). Read read.session c read.source read.count read.word value) cell_is
+    ∙ ap (λ (v : Value). Read read.session (compact_cell read.cell) read.source read.count read.word v) value_is) same
 
-  pub compact_write : IfOk given (λ goes. IsTrue goes → Goes places (Write s cell value) old new) → IfOk result (λ goes. IsTrue goes → Goes places (Write s (compact_cell compact) (compact_value few)) old new)
-  compact_write =
-      goes_as places (Write s cell value) (Write s (compact_cell compact) (compact_value few)) old new given result
-      (ap (λ (c : Cell). Write s c value) cell_is ∙ ap (λ (v : Value). Write s (compact_cell compact) v) value_is) same
+pub taken_write : (places : List ℕ) (write : CompactAccess) (cell : Cell) (value : Value) (old new : Pass) (given result : Result Bool Memory)
+    → cell ≡ compact_cell write.cell → value ≡ compact_value write.value → result ≡ given
+    → IfOk given (λ goes. IsTrue goes → Goes places (Write write.session cell value) old new) → IfOk result (λ goes. IsTrue goes → Goes places (compact_write write) old new)
+taken_write places write cell value old new given result cell_is value_is same =
+    goes_as places (Write write.session cell value) (compact_write write) old new given result
+    (ap (λ (c : Cell). Write write.session c value) cell_is ∙ ap (λ (v : Value). Write write.session (compact_cell write.cell) v) value_is) same
 
-  pub compact_own : IfOk given (λ goes. IsTrue goes → Goes places (Own s cell value) old new) → IfOk result (λ goes. IsTrue goes → Goes places (Own s (compact_cell compact) (compact_value few)) old new)
-  compact_own =
-      goes_as places (Own s cell value) (Own s (compact_cell compact) (compact_value few)) old new given result
-      (ap (λ (c : Cell). Own s c value) cell_is ∙ ap (λ (v : Value). Own s (compact_cell compact) v) value_is) same
+pub taken_own : (places : List ℕ) (own : CompactAccess) (cell : Cell) (value : Value) (old new : Pass) (given result : Result Bool Memory)
+    → cell ≡ compact_cell own.cell → value ≡ compact_value own.value → result ≡ given
+    → IfOk given (λ goes. IsTrue goes → Goes places (Own own.session cell value) old new) → IfOk result (λ goes. IsTrue goes → Goes places (compact_own own) old new)
+taken_own places own cell value old new given result cell_is value_is same =
+    goes_as places (Own own.session cell value) (compact_own own) old new given result
+    (ap (λ (c : Cell). Own own.session c value) cell_is ∙ ap (λ (v : Value). Own own.session (compact_cell own.cell) v) value_is) same

@@ -1,7 +1,8 @@
 -- Texts of right histories, put together of their parts.
 use Rattle.std.proofs.Common.{◌≡◌, ◌==◌, ℕ, ◌<◌, List, [], ◌∷◌, ◌++◌, Some, Bool, true, false, Result, Ok, Err, length, refl, sym, ap, ◌∙◌, map, subst, arith, append_assoc, append-nil, length-append}
 use Rattle.std.proofs.lemmas.Bool.Decides.{nat_tests}
-use Rattle.std.specs.Prelude.{IfOk, codes}
+use Rattle.std.specs.Prelude.{IfOk, IfSome, IsTrue, Option, codes}
+use Rattle.std.specs.Bool.{then_some}
 use Rattle.std.specs.List.{AllByRecursion}
 use Rattle.cell_base.specs.declared.level.Level.{Level}
 use Rattle.cell_base.specs.declared.memory.Memory.{Memory}
@@ -43,6 +44,11 @@ begin_first v head event text rest is = (is.fits, (is.own, is.line))
 
 pub line_first : (v : Version) (head : Level) (event : Event) (text line rest : List ℕ) → text ≡ line ++ 10 ∷ rest → IsEventLine v head event line → IsFirstEvent v head text event rest
 line_first v head event text line rest cut is = (is.0, (is.1, cut ∙ ap (λ (l : List ℕ). l ++ 10 ∷ rest) is.2))
+
+-- what is kept where the pass goes on
+pub kept_where : {T : Type 0} (P : T → Type 0) (goes : Bool) (rest : T) (kept : Option T) → kept ≡ then_some goes rest → (IsTrue goes → P rest) → IfSome kept P
+kept_where P true rest kept is holds = subst (λ (o : Option _). IfSome o P) (sym is) (holds refl)
+kept_where P false rest kept is holds = subst (λ (o : Option _). IfSome o P) (sym is) tt
 
 pub taken_shorter : (v : Version) (head : Level) (places text rest : List ℕ) (old new : Pass) → IsTaken v head places text rest old new → length rest < length text
 taken_shorter v head places text rest old new is =

@@ -4,31 +4,21 @@ ghost use Rattle.right_logs.specs.Passes.{Goes, Stands, StandsFor};
 ghost use Rattle.right_logs.specs.Endings.{IsFirstEvent, IsTaken, AreTaken};
 
 use crate::pass::Pass;
-use crate::take::{take, take_compact};
+use crate::places::has_room;
+use crate::take::{take, take_compact_own, take_compact_read, take_compact_write};
+use crate::txns::{take_begin, take_commit};
 use cell_base::{Level, Memory};
 use held_values::without;
 use history_core::Event;
-use history_log::{Misread, Version, first_part, leading_begin, leading_compact, read_event};
+use history_log::{
+    Misread, Version, first_part, leading_begin, leading_commit, leading_own, leading_read,
+    leading_write, read_event,
+};
 use order_test::Places;
 use std::alloc::Global;
 
 /// The event whose line the text begins with, and what stands after its line feed. `None` says nothing of the text.
 fn next_event(
-    alloc: Global,
-    version: Version,
-    level: Level,
-    text: &[u8],
-) -> Result<Option<(Event, &[u8])>, Memory>
-    ensures { IfOk result (λ found. IfSome found (λ x. IsFirstEvent version level text.now x.0 x.1.now)) }
-{
-    match leading_begin(version, level, text) {
-        Some(read) => Ok(Some(read)),
-        None => event_of_line(alloc, version, level, text),
-    }
-}
-
-/// The same, by the first line as a whole.
-fn event_of_line(
     alloc: Global,
     version: Version,
     level: Level,
@@ -67,14 +57,33 @@ fn take_first<'a>(
     requires { Stands places.now.at.items pass.old }
     ensures { IfOk result (λ found. IfSome found (λ rest. IsTaken version level places.now.at.items text.now rest.now pass.old pass.new)) }
 {
-    let Some((compact, rest)) = leading_compact(text) else {
-        return take_other(alloc, version, level, pass, places, text);
-    };
-    let goes = take_compact(pass, places, compact)?;
-    if goes { Ok(Some(rest)) } else { Ok(None) }
+    if !has_room(&pass.values) {
+        return Ok(None);
+    }
+    if let Some((read, rest)) = leading_read(text) {
+        let goes = take_compact_read(pass, places, read)?;
+        return Ok(goes.then_some(rest));
+    }
+    if let Some((write, rest)) = leading_write(text) {
+        let goes = take_compact_write(pass, places, write)?;
+        return Ok(goes.then_some(rest));
+    }
+    if let Some((session, rest)) = leading_commit(text) {
+        let goes = take_commit(pass, places, session)?;
+        return Ok(goes.then_some(rest));
+    }
+    if let Some((session, txn_level, rest)) = leading_begin(version, level, text) {
+        let goes = take_begin(pass, places, session, txn_level)?;
+        return Ok(goes.then_some(rest));
+    }
+    if let Some((own, rest)) = leading_own(text) {
+        let goes = take_compact_own(pass, places, own)?;
+        return Ok(goes.then_some(rest));
+    }
+    take_other(alloc, version, level, pass, places, text)
 }
 
-/// The same, where the event isn't one of few digits.
+/// The same of any event, by its line as a whole.
 fn take_other<'a>(
     alloc: Global,
     version: Version,
@@ -90,7 +99,7 @@ fn take_other<'a>(
         return Ok(None);
     };
     let goes = take_over(pass, places, event)?;
-    if goes { Ok(Some(rest)) } else { Ok(None) }
+    Ok(goes.then_some(rest))
 }
 
 /// Takes the events whose lines the text is, one after another.

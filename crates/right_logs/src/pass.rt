@@ -72,7 +72,9 @@ pub fn no_pass(alloc: Global, level: Level, places: &Places, room: usize) -> Res
 {
     let mut last = Vec::new(alloc);
     last.push(0)?;
-    let txns = initial_txns(alloc)?;
+    let txn_room = room.min(places.at.len());
+    let txns = initial_txns(alloc, txn_room)?;
+    let committed = Vec::with_capacity(alloc, txn_room)?;
     let highest = highest_of(alloc, &places.at)?;
     let guesses = no_guesses(alloc)?;
     let values = NotedValues::with_room(alloc, room)?;
@@ -81,7 +83,7 @@ pub fn no_pass(alloc: Global, level: Level, places: &Places, room: usize) -> Res
         alloc,
         session_notes: Vec::new(alloc),
         pending: Vec::new(alloc),
-        committed: Vec::new(alloc),
+        committed,
         names: Vec::new(alloc),
         cells,
         values,

@@ -1,6 +1,6 @@
 // One event.
 ghost use Rattle.std.specs.Prelude.{◌<◌, IsTrue, IfOk, length};
-ghost use Rattle.history_log.specs.Compact.{compact_cell, compact_value, compact_event};
+ghost use Rattle.history_log.specs.Compact.{compact_read, compact_write, compact_own};
 ghost use Rattle.right_logs.specs.Passes.{Goes, Stands};
 
 use crate::accesses::{take_own, take_read, take_write};
@@ -11,7 +11,7 @@ use crate::txns::{take_begin, take_commit, take_rollback};
 use cell_base::Memory;
 use held_values::without;
 use history_core::Event;
-use history_log::{CompactCell, CompactEvent, CompactValue};
+use history_log::{CompactAccess, CompactRead};
 use order_test::Places;
 
 /// Takes the next event, where the pass shows that it is right. A scan never is.
@@ -53,99 +53,59 @@ pub fn take(pass: &mut Pass, places: &Places, event: &Event) -> Result<bool, Mem
     }
 }
 
-/// Takes the next event, which is of few digits, where the pass shows that it is right.
-pub fn take_compact(pass: &mut Pass, places: &Places, event: CompactEvent) -> Result<bool, Memory>
-    requires { Stands places.now.at.items pass.old }
-    ensures { IfOk result (λ goes. IsTrue goes → Goes places.now.at.items (compact_event event) pass.old pass.new) }
-{
-    if !has_room(&pass.values) {
-        return Ok(false);
-    }
-    match event {
-        CompactEvent::Read {
-            session,
-            cell,
-            source,
-            count,
-            word,
-            value,
-        } => take_compact_read(pass, places, session, cell, source, count, word, value),
-        CompactEvent::Write {
-            session,
-            cell,
-            value,
-        } => take_compact_write(pass, places, session, cell, value),
-        CompactEvent::Own {
-            session,
-            cell,
-            value,
-        } => take_compact_own(pass, places, session, cell, value),
-        CompactEvent::Commit { session } => take_commit(pass, places, session),
-    }
-}
-
 /// Takes an external read of few digits.
-fn take_compact_read(
+pub fn take_compact_read(
     pass: &mut Pass,
     places: &Places,
-    session: u32,
-    cell: CompactCell,
-    source: u32,
-    count: u32,
-    word: u32,
-    value: CompactValue,
+    read: CompactRead,
 ) -> Result<bool, Memory>
     requires stands { Stands places.now.at.items pass.old }
     requires few { length pass.old.values < 4294967295 }
-    ensures { IfOk result (λ goes. IsTrue goes → Goes places.now.at.items (Event.Read session (compact_cell cell) source count word (compact_value value)) pass.old pass.new) }
+    ensures { IfOk result (λ goes. IsTrue goes → Goes places.now.at.items (compact_read read) pass.old pass.new) }
 {
-    let whole_cell = cell.cell();
-    let whole_value = value.value();
+    let cell = read.cell.cell();
+    let value = read.value.value();
     let goes = take_read(
         pass,
         places,
-        session,
-        &whole_cell,
-        source,
-        count,
-        word,
-        &whole_value,
+        read.session,
+        &cell,
+        read.source,
+        read.count,
+        read.word,
+        &value,
     );
-    without((whole_cell, whole_value), goes)
+    without((cell, value), goes)
 }
 
 /// Takes a write of few digits.
-fn take_compact_write(
+pub fn take_compact_write(
     pass: &mut Pass,
     places: &Places,
-    session: u32,
-    cell: CompactCell,
-    value: CompactValue,
+    write: CompactAccess,
 ) -> Result<bool, Memory>
     requires stands { Stands places.now.at.items pass.old }
     requires few { length pass.old.values < 4294967295 }
-    ensures { IfOk result (λ goes. IsTrue goes → Goes places.now.at.items (Event.Write session (compact_cell cell) (compact_value value)) pass.old pass.new) }
+    ensures { IfOk result (λ goes. IsTrue goes → Goes places.now.at.items (compact_write write) pass.old pass.new) }
 {
-    let whole_cell = cell.cell();
-    let whole_value = value.value();
-    let goes = take_write(pass, places, session, &whole_cell, &whole_value);
-    without((whole_cell, whole_value), goes)
+    let cell = write.cell.cell();
+    let value = write.value.value();
+    let goes = take_write(pass, places, write.session, &cell, &value);
+    without((cell, value), goes)
 }
 
 /// Takes an internal read of few digits.
-fn take_compact_own(
+pub fn take_compact_own(
     pass: &mut Pass,
     places: &Places,
-    session: u32,
-    cell: CompactCell,
-    value: CompactValue,
+    own: CompactAccess,
 ) -> Result<bool, Memory>
     requires stands { Stands places.now.at.items pass.old }
     requires few { length pass.old.values < 4294967295 }
-    ensures { IfOk result (λ goes. IsTrue goes → Goes places.now.at.items (Event.Own session (compact_cell cell) (compact_value value)) pass.old pass.new) }
+    ensures { IfOk result (λ goes. IsTrue goes → Goes places.now.at.items (compact_own own) pass.old pass.new) }
 {
-    let whole_cell = cell.cell();
-    let whole_value = value.value();
-    let goes = take_own(pass, places, session, &whole_cell, &whole_value);
-    without((whole_cell, whole_value), goes)
+    let cell = own.cell.cell();
+    let value = own.value.value();
+    let goes = take_own(pass, places, own.session, &cell, &value);
+    without((cell, value), goes)
 }

@@ -27,11 +27,11 @@ fn blank_note(alloc: Global) -> TxnNote
     }
 }
 
-/// The note of the initial transaction alone.
-pub fn initial_txns(alloc: Global) -> Result<Vec<TxnNote>, Memory>
+/// The note of the initial transaction alone, and room for so many.
+pub fn initial_txns(alloc: Global, room: usize) -> Result<Vec<TxnNote>, Memory>
     ensures { IfOk result (λ notes. (note : NoteOf) × ((notes.items ≡ note ∷ []) × (note.clock.items ≡ []))) }
 {
-    let mut notes = Vec::new(alloc);
+    let mut notes = Vec::with_capacity(alloc, room)?;
     notes.push(blank_note(alloc))?;
     Ok(notes)
 }

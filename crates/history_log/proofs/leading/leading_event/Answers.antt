@@ -3,5 +3,5 @@ use Rattle.history_core.specs.declared.event.Event.{Event}
 use Rattle.history_log.specs.Leading.{IsLeading}
 use Rattle.history_log.proofs.leading.leading_event.Goals as goal
 
-pub returns : goal.returns
-returns c = subst (λ (event : Event). IsLeading event c.args.text.now c.in_ok-compact.rest.now) (sym c.event.ensures) c.in_ok-compact.ensures
+pub returns-in-Some : goal.returns-in-Some
+returns-in-Some c = subst (λ (event : Event). IsLeading event c.args.text.now c.in-Some.rest.now) (sym c.event.ensures) c.in-Some.ensures

@@ -1,8 +1,8 @@
-use Rattle.history_log.specs.Compact.{compact_cell, compact_value}
-use Rattle.history_log.proofs.LeadingLemmas.{write_leads}
+use Rattle.std.proofs.Common.{ℕ, List, sym, subst}
+use Rattle.std.specs.Prelude.{IfSome}
+use Rattle.history_log.specs.Leading.{IsLeading}
+use Rattle.history_log.specs.Compact.{compact_write}
 use Rattle.history_log.proofs.leading.leading_write.Goals as goal
 
 pub returns : goal.returns
-returns c =
-    write_leads c.in_ok-session.session (compact_cell c.in_ok-session.cell) (compact_value c.in_ok-value.value) c.args.text.now c.in_ok-session.rest.now c.in_ok-value.rest.now
-    c.in_ok-session.ensures.0 c.in_ok-session.ensures.1 c.in_ok-value.ensures.0 c.in_ok-session.ensures.2 c.in_ok-value.ensures.1
+returns c = subst (λ (t : List ℕ). IfSome c.write_after.result (λ x. IsLeading (compact_write x.0) t x.1.now)) (sym c.in_ok-rest.ensures) c.write_after.ensures

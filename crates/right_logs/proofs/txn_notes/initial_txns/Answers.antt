@@ -5,5 +5,5 @@ use Rattle.right_logs.proofs.txn_notes.initial_txns.Goals as goal
 pub returns : goal.returns
 returns c = (
   c.blank_note.result,
-  (c.in_ok-push.ensures.items ∙ ap (λ (xs : List TxnNote). xs ++ c.blank_note.result ∷ []) c.new-notes.ensures.items, c.blank_note.ensures),
+  (c.in_ok-push.ensures.items ∙ ap (λ (xs : List TxnNote). xs ++ c.blank_note.result ∷ []) c.in_ok-notes.ensures.items, c.blank_note.ensures),
 )
