@@ -24,12 +24,12 @@ AreUnique cells = (i j : ℕ) (cell : Cell) → slice_get cells i ≡ Some cell 
 abbrev pub AddsCell : List Cell → Cell → List Cell → Type 0
 AddsCell old cell new = (new ≡ old) ⊎ ((new ≡ old ++ cell ∷ []) × (¬ Contains old cell))
 
--- the number is that of the event's cell, which is added where it wasn't there
+-- the number is that of the event's cell, where it has one, after one cell more or none
 pub record NumbersNext (event : Event) (old : List Cell) (number : ℕ) (new : List Cell) : Type 0 where
   pub adds : (new ≡ old) ⊎ ((cell : Cell) × AddsCell old cell new)
   pub is : (cell : Cell) → cell_in event ≡ Some cell → slice_get new number ≡ Some cell
 
--- each cell of the events has one number, which stands at each event of the cell
+-- each cell stands once, and the number of an event's cell at the event; there may be more cells and numbers than that
 pub record AreNumbered (events : List Event) (numbers : CellNumbers) : Type 0 where
   pub long : length events ≤ length numbers.of_events.items
   pub unique : AreUnique numbers.cells.keys

@@ -34,7 +34,7 @@ pub record IsLastUpTo (numbers : List ℕ) (limit number : ℕ) : Type 0 where
   pub within : number ≤ limit
   pub greatest : (other : ℕ) → Contains numbers other → other ≤ limit → other ≤ number
 
--- the first number above the limit, or the end, stands at the place
+-- the limit is none of the numbers, and the first one above it, or the end, stands at the place
 pub record IsFirstAbove (numbers : List ℕ) (limit at : ℕ) : Type 0 where
   pub within : at ≤ length numbers
   pub below : (k : ℕ) → k < at → get_or numbers k 0 < limit

@@ -13,11 +13,11 @@ use Rattle.history_core.specs.Legal.{IsKeyBelow, WroteItself}
 abbrev pub IsAscending : List Key → Type 0
 IsAscending keys = (k : ℕ) (a b : Key) → slice_get keys k ≡ Some a → slice_get keys (k + 1) ≡ Some b → IsKeyBelow a b
 
--- a transaction after the initial one writes the cell
+-- a transaction after the initial one has committed a write of the cell
 abbrev pub HasLaterWriter : List Event → Cell → Type 0
 HasLaterWriter events cell = (txn : ℕ) × (0 < txn) × Writes events txn cell
 
--- the presence is true from the start, or a transaction wrote it, or the pending one of the session did
+-- the presence is true from the start, or a later transaction committed a write of it, or the pending one of the session did
 abbrev pub IsPresent : List (Cell × Value) → List Event → ℕ → Cell → Type 0
 IsPresent initial events session cell = Contains initial (cell, Flag true) ⊎ (HasLaterWriter events cell ⊎ WroteItself events session cell)
 

@@ -80,7 +80,7 @@ pub record IsAxiomOf (events : List Event) (order : List ℕ) (place origin riva
   pub is : IsUnmet events order place origin rival reader cell
   pub least : (other : Cell) → IsUnmet events order place origin rival reader other → (cell_order.ghosts).cmp cell other ≢ Greater
 
--- the event at the place is one of the reader
+-- the event at the place is one of the reader, and what it reads from, if it reads, has begun
 pub record IsReadAt (events : List Event) (place : ℕ) (event : Event) (reader : ℕ) : Type 0 where
   pub of : IsOf events reader place event
   pub from : origin_of event ≤ begun events

@@ -27,10 +27,11 @@ pub record IsClearRead (note : CellNote) (values : List Value) (committed : List
   pub some : 0 < count
   pub upto : count ≤ length note.committed + 1
 
--- so it is with the note at the number of the cell
+-- the note at the number of the cell says that the transaction has written the value last
 abbrev pub ShowsLast : Pass → ℕ → ℕ → Value → Type 0
 ShowsLast pass at txn value = (note : CellNote) × ((slice_get pass.cells.notes.items at ≡ Some note) × GivesLast note pass.values txn value)
 
+-- the note at the number of the cell says that the read is right
 abbrev pub ShowsRead : Pass → ℕ → Cell → ℕ → ℕ → ℕ → Value → Type 0
 ShowsRead pass at cell reader source count value =
     (note : CellNote) × ((slice_get pass.cells.notes.items at ≡ Some note) × IsClearRead note pass.values pass.committed.items cell reader source count value)

@@ -64,7 +64,7 @@ pub record HasSource (reader source : ℕ) (notes : List TxnNote) : Type 0 where
   pub from_is : slice_get notes source ≡ Some from
   pub reached : source ≤ slice_index own.clock.items from.session
 
--- nothing changes where there are no clocks, and where the clock of the reader has the source, and so its past; else it takes in the source
+-- nothing changes, as there are no clocks, or as the clock of the reader has the source, and so its past; or it takes in the source
 abbrev pub NotesSource : Bool → ℕ → ℕ → List TxnNote → List TxnNote → Type 0
 NotesSource clocked reader source old new =
     ((IsTrue clocked → ⊥) × (new ≡ old)) ⊎ ((HasSource reader source old × (new ≡ old)) ⊎ TakesIn reader source old new)

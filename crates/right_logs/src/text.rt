@@ -22,8 +22,9 @@ const MOST_BYTES: usize = 268_435_456;
 /// About as few bytes as the line of an event mostly has.
 const EVENT_BYTES: usize = 20;
 
-/// What one pass over the bytes says of them. `Unclear` says nothing: so it is with what isn't the log of right events, with a log of version 3, and
-/// with one that has a scan. `Judged` says nothing of the order, which may be one that only the records of the transactions show to be right.
+/// What one pass over the bytes says of them. `Unclear` says nothing: so it is with what isn't the log of right events, with a log of version 3, with
+/// one that has a scan, and with one whose order isn't of the numbers below its length or turns a session round. `Judged` says nothing of the order,
+/// which may be one that only the records of the transactions show to be right.
 pub fn glimpse_of(alloc: Global, bytes: &[u8]) -> Result<Glimpse, Memory>
     ensures { IfOk result (IsGlimpseOf bytes.now) }
 {
