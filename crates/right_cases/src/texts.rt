@@ -107,6 +107,9 @@ write 1 p.0.-5 true
 write 1 f.0.-5.1 null
 write 1 f.0.-5.2 false
 write 1 f.0.-5.3 -9223372036854775808
+write 1 f.0.-5.4 2147483647
+write 1 f.0.-5.5 2147483648
+write 1 f.0.-5.6 4294967296
 write 1 p.0.x61 true
 write 1 f.0.x61.1 xc3a9
 own 1 f.0.x61.1 xc3a9
@@ -115,6 +118,9 @@ begin 1 cc
 read 1 f.0.-5.1 1 2 4294967295 null
 read 1 f.0.-5.2 1 2 0 false
 read 1 f.0.-5.3 1 2 0 -9223372036854775808
+read 1 f.0.-5.4 1 2 0 2147483647
+read 1 f.0.-5.5 1 2 0 2147483648
+read 1 f.0.-5.6 1 2 0 4294967296
 read 1 f.0.x61.1 1 2 0 xc3a9
 write 1 p.0.x61 false
 rollback 1
@@ -127,6 +133,10 @@ read 1 f.0.-5.1 1 2 4294967295 null | read 1 f.0.-5.1 1 2 4294967295 unset => un
 read 1 f.0.-5.1 1 2 4294967295 null | read 1 f.0.-5.1 1 2 4294967296 null => unclear
 read 1 f.0.-5.2 1 2 0 false | read 1 f.0.-5.2 1 2 0 null => unclear
 read 1 f.0.-5.3 1 2 0 -9223372036854775808 | read 1 f.0.-5.3 1 2 0 -9223372036854775809 => unclear
+read 1 f.0.-5.4 1 2 0 2147483647 | read 1 f.0.-5.4 1 2 0 2147483648 => unclear
+read 1 f.0.-5.5 1 2 0 2147483648 | read 1 f.0.-5.5 1 2 0 unset => unclear
+read 1 f.0.-5.5 1 2 0 2147483648 | read 1 f.0.-5.5 1 2 0 0 => unclear
+read 1 f.0.-5.6 1 2 0 4294967296 | read 1 f.0.-5.6 1 2 0 4294967297 => unclear
 read 1 f.0.x61.1 1 2 0 xc3a9 | read 1 f.0.x61.1 1 2 0 xC3A9 => unclear
 read 1 f.0.x61.1 1 2 0 xc3a9 | read 1 f.0.x61.1 1 2 0 x65 => unclear
 ";

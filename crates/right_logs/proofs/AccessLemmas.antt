@@ -308,7 +308,7 @@ may_touch_if pass s cell notes None same table pending = tt
 
 -- there are few cells
 pub cells_few :
-    (places : List ℕ) (pass : Pass) → Stands places pass → length pass.values < 4294967295 →
+    (places : List ℕ) (pass : Pass) → Stands places pass → length pass.values < 2147483644 →
     (length pass.cells.notes.items ≡ length pass.cells.numbers.cells.keys) × (length pass.cells.numbers.cells.keys < 4294967296)
 cells_few places pass (order, (events, stands)) few =
     let cells = stands.numbered.few in

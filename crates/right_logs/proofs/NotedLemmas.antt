@@ -26,7 +26,7 @@ pub notes_count : (apart : List Value) (noted : List NotedValue) (now : List Val
 notes_count apart noted now shows = sym (length-map noted (means apart)) ∙ ap length shows
 
 pub notes_few :
-    (apart : List Value) (noted : List NotedValue) (now : List Value) → values_in apart noted ≡ now → length now < 4294967295 → length noted < 4294967295
+    (apart : List Value) (noted : List NotedValue) (now : List Value) → values_in apart noted ≡ now → length now < 2147483644 → length noted < 2147483644
 notes_few apart noted now shows bound =
     let count : length noted ≡ length now = notes_count apart noted now shows in
     omega arith

@@ -50,7 +50,7 @@ idle_room places pass s stands idle =
     last_of_session stands.0 places stands.1.0 pass s all seat.0 (omega arith)
 
 -- there are no more transactions than events, the initial one aside
-pub txns_few : (places : List ℕ) (pass : Pass) → Stands places pass → length pass.values < 4294967295 → length pass.txns.items < 4294967296
+pub txns_few : (places : List ℕ) (pass : Pass) → Stands places pass → length pass.values < 2147483644 → length pass.txns.items < 4294967296
 txns_few places pass stands few =
     let count = stands.1.1.sights.txns.count in
     let long = stands.1.1.values.count in

@@ -5,6 +5,7 @@ pub mod Glimpses
 pub mod Judging
 pub mod NotedValues
 pub mod OpenReads
+pub mod PackedValues
 pub mod Passes
 pub mod Seats
 pub mod Standing

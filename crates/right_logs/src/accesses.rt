@@ -137,7 +137,7 @@ pub fn take_read(
     value: &Value,
 ) -> Result<bool, Memory>
     requires stands { Stands places.now.at.items pass.old }
-    requires few { length pass.old.values < 4294967295 }
+    requires few { length pass.old.values < 2147483644 }
     ensures { IfOk result (λ goes. IsTrue goes → Goes places.now.at.items (Event.Read session cell.now source count word value.now) pass.old pass.new) }
 {
     let Some(reader) = owner_of(pass, session, cell) else {
@@ -169,7 +169,7 @@ pub fn take_own(
     value: &Value,
 ) -> Result<bool, Memory>
     requires stands { Stands places.now.at.items pass.old }
-    requires few { length pass.old.values < 4294967295 }
+    requires few { length pass.old.values < 2147483644 }
     ensures { IfOk result (λ goes. IsTrue goes → Goes places.now.at.items (Event.Own session cell.now value.now) pass.old pass.new) }
 {
     let Some(reader) = owner_of(pass, session, cell) else {
@@ -192,7 +192,7 @@ pub fn take_write(
     value: &Value,
 ) -> Result<bool, Memory>
     requires stands { Stands places.now.at.items pass.old }
-    requires few { length pass.old.values < 4294967295 }
+    requires few { length pass.old.values < 2147483644 }
     ensures { IfOk result (λ goes. IsTrue goes → Goes places.now.at.items (Event.Write session cell.now value.now) pass.old pass.new) }
 {
     let Some(writer) = owner_of(pass, session, cell) else {

@@ -14,6 +14,7 @@ mod lines;
 mod met;
 mod noted_values;
 mod open_reads;
+mod packed_value;
 mod pass;
 mod places;
 mod seats;

@@ -1,12 +1,13 @@
 // The values of events, in little room.
-ghost use Rattle.std.specs.Prelude.{◌≡◌, ◌<◌, ◌∷◌, ◌++◌, [], pos, Some, OnOk, OnErr, IfOk, IsTrue, length, slice_get, slice_set};
+ghost use Rattle.std.specs.Prelude.{◌≡◌, ◌<◌, ◌∷◌, ◌++◌, [], pos, Some, OnOk, OnErr, IfOk, IfSome, IsTrue, length, slice_get, slice_set};
 ghost use Rattle.right_logs.specs.NotedValues.{means, values_in, AreApart, compact_number, compact_of};
 
+use crate::packed_value::{PackedValue, packed, packed_apart, packed_unset};
 use cell_base::{Memory, Value};
 use std::alloc::Global;
 use std::marker::Model;
 
-/// A value as it is noted: in eight bytes, or by its number among those that are kept apart.
+/// A value as it is noted: by itself, or by its number among those that are kept apart.
 #[derive(Clone, Copy, Debug)]
 pub enum NotedValue {
     Unset,
@@ -22,7 +23,7 @@ pub enum NotedValue {
 #[derive(Debug, Drop)]
 pub struct NotedValues {
     alloc: Global,
-    notes: Vec<NotedValue>,
+    notes: Vec<PackedValue>,
     apart: Vec<Value>,
 }
 
@@ -63,13 +64,13 @@ impl NotedValues {
     pub fn push_unset(&mut self) -> Result<(), Memory>
         ensures { OnOk result (self.new ≡ self.old ++ Value.Unset ∷ []) }
     {
-        self.notes.push(NotedValue::Unset)?;
+        self.notes.push(packed_unset())?;
         Ok(())
     }
 
     /// Notes the value of the next event.
     pub fn push(&mut self, value: &Value) -> Result<(), Memory>
-        requires { length self.old < 4294967295 }
+        requires { length self.old < 2147483644 }
         ensures { OnOk result (self.new ≡ self.old ++ value.now ∷ []) }
     {
         note_value(self.alloc, &mut self.notes, &mut self.apart, value)
@@ -86,16 +87,16 @@ impl NotedValues {
 /// Notes the value after the others.
 fn note_value(
     alloc: Global,
-    notes: &mut Vec<NotedValue>,
+    notes: &mut Vec<PackedValue>,
     apart: &mut Vec<Value>,
     value: &Value,
 ) -> Result<(), Memory>
     requires held { AreApart apart.old.items notes.old.items }
-    requires few { length notes.old.items < 4294967295 }
+    requires few { length notes.old.items < 2147483644 }
     ensures held { AreApart apart.new.items notes.new.items }
     ensures ok { OnOk result (values_in apart.new.items notes.new.items ≡ values_in apart.old.items notes.old.items ++ value.now ∷ []) }
 {
-    match compact(value) {
+    match packed_value(value) {
         Some(note) => {
             notes.push(note)?;
             Ok(())
@@ -107,18 +108,18 @@ fn note_value(
 /// The same of one that is kept apart. Its note stands for no value until the copy is there.
 fn note_apart(
     alloc: Global,
-    notes: &mut Vec<NotedValue>,
+    notes: &mut Vec<PackedValue>,
     apart: &mut Vec<Value>,
     value: &Value,
 ) -> Result<(), Memory>
     requires held { AreApart apart.old.items notes.old.items }
-    requires few { length notes.old.items < 4294967295 }
+    requires few { length notes.old.items < 2147483644 }
     ensures held { AreApart apart.new.items notes.new.items }
     ensures ok { OnOk result (values_in apart.new.items notes.new.items ≡ values_in apart.old.items notes.old.items ++ value.now ∷ []) }
 {
     let number = apart.len() as u32;
     let last = notes.len();
-    notes.push(NotedValue::Unset)?;
+    notes.push(packed_unset())?;
     keep_apart(alloc, apart, value)?;
     put_number(notes, last, number);
     Ok(())
@@ -135,11 +136,12 @@ fn keep_apart(alloc: Global, apart: &mut Vec<Value>, value: &Value) -> Result<()
 }
 
 /// Makes the note at the place that of the value of the number.
-fn put_number(notes: &mut Vec<NotedValue>, place: usize, number: u32)
-    requires { place < length notes.old.items }
+fn put_number(notes: &mut Vec<PackedValue>, place: usize, number: u32)
+    requires within { place < length notes.old.items }
+    requires few { number < 2147483644 }
     ensures { notes.new.items ≡ slice_set notes.old.items place (NotedValue.Apart number) }
 {
-    notes[place] = NotedValue::Apart(number);
+    notes[place] = packed_apart(number);
 }
 
 /// The note of an integer, where it is compact.
@@ -166,12 +168,19 @@ fn compact(value: &Value) -> Option<NotedValue>
     }
 }
 
+/// The note of the value in four bytes, where it needn't be kept apart.
+fn packed_value(value: &Value) -> Option<PackedValue>
+    ensures { IfSome result (λ note. compact_of value.now ≡ Some note) }
+{
+    packed(compact(value)?)
+}
+
 /// Whether the note at the place is that of the value.
-fn stands_at(apart: &[Value], notes: &[NotedValue], place: u32, value: &Value) -> bool
+fn stands_at(apart: &[Value], notes: &[PackedValue], place: u32, value: &Value) -> bool
     ensures { IsTrue result → slice_get (values_in apart.now notes.now) place ≡ Some value.now }
 {
     match notes.get(place as usize) {
-        Some(note) => is_value(apart, *note, value),
+        Some(note) => is_value(apart, note.note(), value),
         None => false,
     }
 }

@@ -6,11 +6,11 @@ use crate::noted_values::NotedValues;
 use cell_base::Memory;
 
 /// The greatest number of events.
-pub const MOST_EVENTS: usize = 4_294_967_295;
+pub const MOST_EVENTS: usize = 2_147_483_644;
 
 /// Whether there is room for one event more.
 pub fn has_room(values: &NotedValues) -> bool
-    ensures { IsTrue result → length values.now < 4294967295 }
+    ensures { IsTrue result → length values.now < 2147483644 }
 {
     values.len() < MOST_EVENTS
 }

@@ -24,7 +24,7 @@ fn keeps_clocks(clocked: bool, session: u32) -> bool
 /// Takes the event that opens a session.
 pub fn take_open(pass: &mut Pass, places: &Places, session: u32) -> Result<bool, Memory>
     requires stands { Stands places.now.at.items pass.old }
-    requires few { length pass.old.values < 4294967295 }
+    requires few { length pass.old.values < 2147483644 }
     ensures { IfOk result (λ goes. IsTrue goes → Goes places.now.at.items (Event.Open session) pass.old pass.new) }
 {
     if session as usize != pass.session_notes.len() + 1 {
@@ -49,7 +49,7 @@ pub fn take_open(pass: &mut Pass, places: &Places, session: u32) -> Result<bool,
 /// Takes the event that closes a session.
 pub fn take_close(pass: &mut Pass, places: &Places, session: u32) -> Result<bool, Memory>
     requires stands { Stands places.now.at.items pass.old }
-    requires few { length pass.old.values < 4294967295 }
+    requires few { length pass.old.values < 2147483644 }
     ensures { IfOk result (λ goes. IsTrue goes → Goes places.now.at.items (Event.Close session) pass.old pass.new) }
 {
     if !is_idle(&pass.session_notes, session) {
@@ -75,7 +75,7 @@ pub fn take_define(
     name: &Text,
 ) -> Result<bool, Memory>
     requires stands { Stands places.now.at.items pass.old }
-    requires few { length pass.old.values < 4294967295 }
+    requires few { length pass.old.values < 2147483644 }
     ensures { IfOk result (λ goes. IsTrue goes → Goes places.now.at.items (Event.Define session name.now) pass.old pass.new) }
 {
     if !is_open(&pass.session_notes, session) {
@@ -97,7 +97,7 @@ pub fn take_look(
     tables: u32,
 ) -> Result<bool, Memory>
     requires stands { Stands places.now.at.items pass.old }
-    requires few { length pass.old.values < 4294967295 }
+    requires few { length pass.old.values < 2147483644 }
     ensures { IfOk result (λ goes. IsTrue goes → Goes places.now.at.items (Event.Look session tables) pass.old pass.new) }
 {
     if !is_open(&pass.session_notes, session) {
@@ -118,7 +118,7 @@ pub fn take_show(
     number: u32,
 ) -> Result<bool, Memory>
     requires stands { Stands places.now.at.items pass.old }
-    requires few { length pass.old.values < 4294967295 }
+    requires few { length pass.old.values < 2147483644 }
     ensures { IfOk result (λ goes. IsTrue goes → Goes places.now.at.items (Event.Show session number) pass.old pass.new) }
 {
     if !is_open(&pass.session_notes, session) {

@@ -60,7 +60,7 @@ pub fn take_compact_read(
     read: CompactRead,
 ) -> Result<bool, Memory>
     requires stands { Stands places.now.at.items pass.old }
-    requires few { length pass.old.values < 4294967295 }
+    requires few { length pass.old.values < 2147483644 }
     ensures { IfOk result (λ goes. IsTrue goes → Goes places.now.at.items (compact_read read) pass.old pass.new) }
 {
     let cell = read.cell.cell();
@@ -85,7 +85,7 @@ pub fn take_compact_write(
     write: CompactAccess,
 ) -> Result<bool, Memory>
     requires stands { Stands places.now.at.items pass.old }
-    requires few { length pass.old.values < 4294967295 }
+    requires few { length pass.old.values < 2147483644 }
     ensures { IfOk result (λ goes. IsTrue goes → Goes places.now.at.items (compact_write write) pass.old pass.new) }
 {
     let cell = write.cell.cell();
@@ -101,7 +101,7 @@ pub fn take_compact_own(
     own: CompactAccess,
 ) -> Result<bool, Memory>
     requires stands { Stands places.now.at.items pass.old }
-    requires few { length pass.old.values < 4294967295 }
+    requires few { length pass.old.values < 2147483644 }
     ensures { IfOk result (λ goes. IsTrue goes → Goes places.now.at.items (compact_own own) pass.old pass.new) }
 {
     let cell = own.cell.cell();

@@ -47,7 +47,7 @@ pub fn take_begin(
     level: Level,
 ) -> Result<bool, Memory>
     requires stands { Stands places.now.at.items pass.old }
-    requires few { length pass.old.values < 4294967295 }
+    requires few { length pass.old.values < 2147483644 }
     ensures { IfOk result (λ goes. IsTrue goes → Goes places.now.at.items (Event.Begin session level) pass.old pass.new) }
 {
     if !is_idle(&pass.session_notes, session) {
@@ -85,7 +85,7 @@ fn places_in(pending: &[PendingWrites], session: u32) -> &[u32]
 /// Takes the event that commits the pending transaction of a session.
 pub fn take_commit(pass: &mut Pass, places: &Places, session: u32) -> Result<bool, Memory>
     requires stands { Stands places.now.at.items pass.old }
-    requires few { length pass.old.values < 4294967295 }
+    requires few { length pass.old.values < 2147483644 }
     ensures { IfOk result (λ goes. IsTrue goes → Goes places.now.at.items (Event.Commit session) pass.old pass.new) }
 {
     let Some(number) = pending_of(&pass.session_notes, session) else {
@@ -107,7 +107,7 @@ pub fn take_commit(pass: &mut Pass, places: &Places, session: u32) -> Result<boo
 /// Takes the event that rolls the pending transaction of a session back.
 pub fn take_rollback(pass: &mut Pass, places: &Places, session: u32) -> Result<bool, Memory>
     requires stands { Stands places.now.at.items pass.old }
-    requires few { length pass.old.values < 4294967295 }
+    requires few { length pass.old.values < 2147483644 }
     ensures { IfOk result (λ goes. IsTrue goes → Goes places.now.at.items (Event.Rollback session) pass.old pass.new) }
 {
     let Some(number) = pending_of(&pass.session_notes, session) else {
