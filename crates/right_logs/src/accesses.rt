@@ -148,7 +148,7 @@ pub fn take_read(
         return Ok(false);
     }
     let place = pass.values.len() as u32;
-    note_source(pass.alloc, &mut pass.txns, pass.clocked, reader, source)?;
+    note_source(pass.clocks, &mut pass.txns, pass.clocked, reader, source)?;
     let note = ReadNote {
         cell: at,
         source,

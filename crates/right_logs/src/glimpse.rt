@@ -27,14 +27,14 @@ pub enum Seen {
 
 /// The notes of the cells, once all else is let go.
 fn cells_of(pass: Pass) -> CellNotes
-    ensures { result ≡ pass.cells }
+    ensures { result ≡ pass.entry.cells }
 {
     pass.cells
 }
 
 /// What was seen, with the notes of the cells where these are told.
 pub fn glimpse_by(pass: Pass, seen: Seen) -> Glimpse
-    ensures { result ≡ glimpse_with pass.cells seen }
+    ensures { result ≡ glimpse_with pass.entry.cells seen }
 {
     match seen {
         Seen::Right => without(pass, Glimpse::Right),

@@ -8,6 +8,7 @@ use crate::noted_values::NotedValues;
 use crate::open_reads::SessionReads;
 use crate::standing::highest_of;
 use crate::txn_notes::{TxnNote, initial_txns};
+use bumpalo::Bump;
 use cell_base::{Level, Memory, Text};
 use cell_writers::{CellNotes, no_cells};
 use held_values::kept;
@@ -18,8 +19,10 @@ use std::alloc::Global;
 /// What the events so far come to. Session s has its notes at s - 1 and its last transaction at s, and transaction k its flag at k - 1 and its note
 /// at k.
 #[derive(Debug, Drop)]
-pub struct Pass {
+pub struct Pass<'b> {
     pub alloc: Global,
+    /// Where the clocks stand.
+    pub clocks: &'b Bump,
     pub session_notes: Vec<SessionNote>,
     /// The places of the writes that are pending in each session.
     pub pending: Vec<PendingWrites>,
@@ -34,7 +37,7 @@ pub struct Pass {
     /// The last transaction of each session, 0 where it has begun none.
     pub last: Vec<u32>,
     /// What is noted of each transaction, the initial one first.
-    pub txns: Vec<TxnNote>,
+    pub txns: Vec<TxnNote<'b>>,
     /// Whether they have clocks.
     pub clocked: bool,
     /// Beside each number the last place in the order of the numbers up to it.
@@ -67,13 +70,19 @@ fn has_clocks(level: Level) -> bool {
 }
 
 /// No event yet of a history of the level, beside the order of these places, and room for so many.
-pub fn no_pass(alloc: Global, level: Level, places: &Places, room: usize) -> Result<Pass, Memory>
+pub fn no_pass<'b>(
+    alloc: Global,
+    clocks: &'b Bump,
+    level: Level,
+    places: &Places,
+    room: usize,
+) -> Result<Pass<'b>, Memory>
     ensures { IfOk result (λ pass. (order : List ℕ) → ArePlaces (length places.now.at.items) order places.now.at.items → StandsFor order places.now.at.items [] pass) }
 {
     let mut last = Vec::new(alloc);
     last.push(0)?;
     let txn_room = room.min(places.at.len());
-    let txns = initial_txns(alloc, txn_room)?;
+    let txns = initial_txns(alloc, clocks, txn_room)?;
     let committed = Vec::with_capacity(alloc, txn_room)?;
     let highest = highest_of(alloc, &places.at)?;
     let guesses = no_guesses(alloc)?;
@@ -81,6 +90,7 @@ pub fn no_pass(alloc: Global, level: Level, places: &Places, room: usize) -> Res
     let cells = roomy_cells(alloc, room)?;
     Ok(Pass {
         alloc,
+        clocks,
         session_notes: Vec::new(alloc),
         pending: Vec::new(alloc),
         committed,

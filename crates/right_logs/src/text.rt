@@ -10,6 +10,7 @@ use crate::glimpse::{Glimpse, Seen, glimpse_by};
 use crate::lines::take_lines;
 use crate::met::order_is_met;
 use crate::pass::{Pass, no_pass};
+use bumpalo::Bump;
 use cell_base::{Level, Memory};
 use held_values::without;
 use history_log::{Misread, Version, first_part, head_of, read_order};
@@ -101,7 +102,8 @@ fn glimpse_at(
     ensures { IfOk result (λ glimpse. (order : List ℕ) → ArePlaces (length places.now.at.items) order places.now.at.items →
         HoldsAll (length places.now.at.items) order → IsGlimpseOfEvents version level text.now order glimpse) }
 {
-    let mut pass = no_pass(alloc, level, places, text.len() / EVENT_BYTES)?;
+    let clocks = Bump::new(alloc);
+    let mut pass = no_pass(alloc, &clocks, level, places, text.len() / EVENT_BYTES)?;
     match seen_by(alloc, version, level, text, places, &mut pass) {
         Ok(seen) => Ok(glimpse_by(pass, seen)),
         Err(memory) => without(pass, Err(memory)),

@@ -59,7 +59,7 @@ pub fn take_begin(
         return Ok(false);
     }
     add_txn(
-        pass.alloc,
+        pass.clocks,
         &mut pass.txns,
         pass.clocked,
         session,
