@@ -59,7 +59,12 @@ fn number_is_unseen(pass: &Pass, own: &TxnNote, number: u32) -> bool
 fn is_clear_of(pass: &Pass, places: &Places, own: &TxnNote, number: u32, from: usize) -> bool
     ensures { IsTrue result → IsClearOf places.now.at.items pass.now own.now number from }
 {
-    place_at(places, number) <= from || number_is_unseen(pass, own, number)
+    // (what is asked first is what mostly decides, and costs less)
+    match own.level {
+        Level::Ra => number_is_unseen(pass, own, number) || place_at(places, number) <= from,
+        Level::Rc => place_at(places, number) <= from || number_is_unseen(pass, own, number),
+        Level::Cc => place_at(places, number) <= from || number_is_unseen(pass, own, number),
+    }
 }
 
 /// Whether so it is with all these writers, which ascend. Of those before one up to which none stands after the place none does.
