@@ -59,7 +59,7 @@ fn number_is_unseen(pass: &Pass, own: &TxnNote, number: u32) -> bool
 fn is_clear_of(pass: &Pass, places: &Places, own: &TxnNote, number: u32, from: usize) -> bool
     ensures { IsTrue result → IsClearOf places.now.at.items pass.now own.now number from }
 {
-    // (what is asked first is what mostly decides, and costs less)
+    // (at Read Atomic most writers are of another session, which one number tells; a clock takes more than a place)
     match own.level {
         Level::Ra => number_is_unseen(pass, own, number) || place_at(places, number) <= from,
         Level::Rc => place_at(places, number) <= from || number_is_unseen(pass, own, number),

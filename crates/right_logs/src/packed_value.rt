@@ -5,7 +5,7 @@ ghost use Rattle.right_logs.specs.PackedValues.{noted_by, upper_note};
 use crate::noted_values::NotedValue;
 use std::marker::Model;
 
-/// The first number that stands for no integer.
+/// The first number that stands for no integer, but for a value that has a name, or one that is kept apart.
 const UPPER: u32 = 2_147_483_648;
 
 /// A noted value in four bytes. Contracts see the noted value.
@@ -75,7 +75,7 @@ pub fn packed(note: NotedValue) -> Option<PackedValue>
     }
 }
 
-/// The note that the number stands for, from `UPPER` on.
+/// The note that the number `UPPER` + `place` stands for.
 fn upper(place: u32) -> NotedValue
     ensures { result ≡ upper_note place }
 {

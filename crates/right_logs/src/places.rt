@@ -5,7 +5,7 @@ ghost use Rattle.cell_base.specs.declared.value.Value.TheVariants.{Unset};
 use crate::noted_values::NotedValues;
 use cell_base::Memory;
 
-/// The greatest number of events.
+/// The greatest number of events: so the number of each value that is kept apart fits a note of four bytes (`packed_apart`).
 pub const MOST_EVENTS: usize = 2_147_483_644;
 
 /// Whether there is room for one event more.
